@@ -1,37 +1,38 @@
-//! The card above its end of the line.
+//! The card behind its end of the line.
 
 use std::alloc::AllocError;
 
 /// The requests that a card makes before it responds to a command.
 #[derive(Clone, Copy, Debug, PartialEq, Eq)]
 pub struct Requests {
-    /// S(WTX request): how many.
+    /// The number of S(WTX request).
     pub extensions: u8,
-    /// The multiple of BWT that each of them wants.
+    /// The multiple of BWT that each of them asks for.
     pub multiple: u8,
-    /// S(IFS request): the IFSC that it announces, 1 to 254.
+    /// The IFSC that S(IFS request) announces, 1 to 254; `None` for no such request.
     pub size: Option<u8>,
 }
 
-/// The card above its end of the line.
+/// The card behind its end of the line. The end calls `carry_out` once for each command.
 pub trait Applet {
     ghost use Rattle.std.specs.Prelude.{◌≡◌, MatchResult};
     ghost use Rattle.t1_core.specs.CardSide.{Did};
 
-    /// What the card may be in.
+    /// The type of the card's states.
     ghost State: { Type 0 };
 
-    /// The state in which it is.
+    /// The state of the card.
     ghost standing: { Self → State };
 
-    /// What carrying out a command does. The card may choose: two responses, two states.
+    /// What carrying out a command does. It is a relation, so the card may choose among several
+    /// responses and states.
     ghost Does: { State → Did → State → Type 0 };
 
-    /// Carries out a command, leaves its response alone in `response`, and returns the requests
-    /// before that response.
+    /// Carries out a command, replaces the contents of `response` with its response, and returns
+    /// the requests to make before that response.
     ///
     /// # Errors
-    /// - `AllocError`: memory ran out; nothing is carried out.
+    /// - `AllocError`: memory ran out; the command is not carried out.
     fn carry_out(&mut self, command: &[u8], response: &mut Vec<u8>) -> Result<Requests, AllocError>
         ensures { MatchResult result
             (λ asks. Does (standing self.old) (record {

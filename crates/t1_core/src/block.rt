@@ -11,7 +11,7 @@ pub enum Block<'a> {
         more: bool,
         info: &'a [u8],
     },
-    /// An R-block: N(R). Which error it reports decides nothing.
+    /// An R-block: N(R). The error that it reports has no effect.
     Ready(bool),
     /// An S-block with a request.
     Request(Control),

@@ -3,12 +3,12 @@
 /// What an S-block controls (ISO/IEC 7816-3, clause 11).
 #[derive(Clone, Copy, Debug, PartialEq, Eq)]
 pub enum Control {
-    /// Both ends begin anew.
+    /// Both ends start again.
     Resynch,
-    /// The sender of the request takes fields of so many bytes, 1 to 254, from now on.
+    /// The sender of the request takes fields of this size, 1 to 254 bytes, from now on.
     Ifs(u8),
     /// The chain in progress ends.
     Abort,
-    /// The card wants so many times BWT for the next block.
+    /// The card asks for this multiple of BWT for the next block.
     Wtx(u8),
 }

@@ -1,4 +1,4 @@
-//! One exchange: a block of the terminal and the card's answer, over a line.
+//! One exchange: a block of the terminal and the card's reply, over a line.
 
 ghost use Rattle.std.specs.Prelude.{OnOk, IfOk, ◌≡◌};
 ghost use Rattle.std.specs.Option.{option_map};
@@ -15,7 +15,7 @@ use crate::line::{Fate, Fates};
 use crate::terminal::TerminalEnd;
 use std::alloc::AllocError;
 
-/// Sends the terminal's block to the card, and the card's answer to the terminal.
+/// Sends the terminal's block to the card, and the card's reply to the terminal.
 ///
 /// # Errors
 /// - `AllocError`: memory ran out; each end is as its own `take` leaves it.
@@ -34,7 +34,7 @@ pub(crate) fn pass<C: Applet>(
     bring(terminal, card, fates.up, reply)
 }
 
-/// A block of the terminal comes to the card, or does not. Returns the card's reply.
+/// A block of the terminal reaches the card, or does not. Returns the card's reply.
 fn hear<C: Applet>(
     card: &mut CardEnd<C>,
     fate: Fate,
@@ -53,7 +53,7 @@ fn hear<C: Applet>(
     }
 }
 
-/// The card's reply, if it made one, comes to the terminal, or does not.
+/// The card's reply, if any, reaches the terminal, or does not.
 fn bring<C: Applet>(
     terminal: &mut TerminalEnd,
     card: &CardEnd<C>,

@@ -5,21 +5,21 @@ ghost use Rattle.t1_core.specs.Receiving.{is_whole, received};
 
 use std::marker::Model;
 
-/// What a byte leads to.
+/// The result of one byte.
 #[derive(Clone, Copy, Debug, PartialEq, Eq)]
 pub enum Received {
-    /// The block is not whole yet.
+    /// The block is not complete yet.
     More,
-    /// The block is whole, as its LEN says.
+    /// The block is complete, as its LEN states.
     Whole,
-    /// The block was whole before: the byte is none of it.
+    /// The block was complete before: the byte does not belong to it.
     TooMany,
 }
 
-/// The bytes of a block so far (ISO/IEC 7816-3, clause 11).
+/// Collects the bytes of a block (ISO/IEC 7816-3, clause 11).
 ///
-/// Call `take` with each byte. At `Whole` hand `bytes` to an end's `take_bytes`; after a parity
-/// error, or a pause of more than CWT, call its `damaged`. Then `clear`.
+/// Call `take` with each byte. At `Whole`, pass `bytes` to an end's `take_bytes`. After a parity
+/// error, or a pause longer than CWT, call the end's `damaged`. Then call `clear`.
 #[derive(Drop)]
 pub struct Receiver {
     block: [u8; 259],
@@ -37,7 +37,7 @@ impl Model for Receiver {
 }
 
 impl Receiver {
-    /// No byte of a block.
+    /// Makes a receiver without bytes.
     pub fn new() -> Receiver
         ensures { result ≡ [] }
     {
@@ -54,21 +54,21 @@ impl Receiver {
         &self.block[..self.len]
     }
 
-    /// Drops the block.
+    /// Drops the bytes of the block.
     pub fn clear(&mut self)
         ensures { self.new ≡ [] }
     {
         self.len = 0;
     }
 
-    /// Whether the block is whole.
+    /// Whether the block is complete.
     pub fn is_whole(&self) -> bool
         ensures { result ≡ is_whole self.now }
     {
         self.len >= 4 && self.len >= usize::from(self.block[2]) + 4
     }
 
-    /// Takes a byte of the line. A byte after a whole block changes nothing.
+    /// Takes a byte of the line. A byte after a complete block changes nothing.
     pub fn take(&mut self, byte: u8) -> Received
         ensures result { result ≡ received self.old byte }
         ensures after { self.new
@@ -85,8 +85,8 @@ impl Receiver {
         }
     }
 
-    /// Takes bytes of the line up to the end of the block. Returns how many; those behind them
-    /// change nothing.
+    /// Takes bytes of the line up to the end of the block, and returns how many. The others change
+    /// nothing.
     pub fn take_bytes(&mut self, bytes: &[u8]) -> usize
         ensures after { self.new ≡ self.old ++ take result bytes.now }
         ensures all { (result ≡ length bytes.now) ⊎ (is_whole self.new ≡ true) }

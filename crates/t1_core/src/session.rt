@@ -15,7 +15,7 @@ use crate::terminal::{Fault, TerminalEnd};
 use std::alloc::{AllocError, Global};
 use std::marker::Model;
 
-/// Both ends, the commands, `begun` of which were begun, and the answers so far.
+/// Both ends, the commands and how many of them were begun, and the answers so far.
 #[derive(Drop)]
 struct Session<'a, C: Applet> {
     terminal: TerminalEnd,
@@ -84,8 +84,8 @@ impl<'a, C: Applet + Drop> Session<'a, C> {
         Ok(())
     }
 
-    /// Passes a block of the terminal and the card's answer. Behind an answer the next command
-    /// begins.
+    /// Passes a block of the terminal and the card's reply. If that completes an answer, the next
+    /// command begins.
     fn exchange(&mut self, alloc: Global, fates: Fates) -> Result<(), AllocError>
         requires { has_stopped self.old.at.terminal.phase ≡ false }
         ensures { OnOk result (Exchanges C.Applet fates self.old self.new) }
@@ -119,26 +119,26 @@ impl<'a, C: Applet + Drop> Session<'a, C> {
     }
 }
 
-/// What a dialogue leads to.
+/// The result of a dialogue.
 #[derive(Drop)]
 pub struct Conversation<C> {
     /// The card.
     pub applet: C,
-    /// The responses, one for each of the first commands.
+    /// The responses, one for each of the first commands, in order.
     pub answers: Vec<Vec<u8>>,
     /// Why the terminal gave up, if it did.
     pub fault: Option<Fault>,
 }
 
-/// Sends commands to a card over a line, from a reset on, until all are answered or the terminal
+/// Resets a card, and sends it commands over a line until all have their answers or the terminal
 /// gives up.
 ///
-/// Whatever the line damages or loses: the card carries out the first of the commands, in order and
-/// each once; each answer is its response; what a fault says of the command in progress is true.
-/// It ends. On a line that is mild enough for the settings there is no fault.
+/// Whatever the line damages or loses, the card carries out the first of the commands, in order,
+/// each once. Each answer is the card's response, and the outcome in a fault is true. The dialogue
+/// ends. On a line that is mild enough for the settings there is no fault.
 ///
 /// # Errors
-/// - `AllocError`: memory ran out; both ends are gone.
+/// - `AllocError`: memory ran out; both ends and the card are dropped.
 pub fn converse<C: Applet + Drop, L: Line>(
     alloc: Global,
     applet: C,

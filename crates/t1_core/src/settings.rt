@@ -1,15 +1,15 @@
-//! What a terminal's end is set to.
+//! The settings of a terminal's end.
 
 ghost use Rattle.std.specs.Prelude.{◌≡◌, ◌<◌, IfOk};
 ghost use Rattle.std.specs.Result.{result_err};
 ghost use Rattle.t1_core.specs.Settings.{fault_of};
 
-/// How many receptions in a row without a step forward a terminal survives, unless it is told
-/// otherwise: the fifth is a fault. EMV has 2.
+/// The default number of receptions in a row without progress that a terminal survives: the fifth
+/// is a fault (profile). EMV has 2.
 pub const TRIES: u8 = 4;
 
-/// How many S(WTX request) and S(IFS request) of one command a terminal grants, unless it is told
-/// otherwise.
+/// The default number of S(WTX request) and S(IFS request) that a terminal grants per command
+/// (profile).
 pub const EXTENSIONS: u8 = 16;
 
 /// The error detection code that an answer to reset announces.
@@ -19,7 +19,7 @@ pub enum Edc {
     Crc,
 }
 
-/// Settings that this crate refuses.
+/// Why settings are refused.
 #[derive(Clone, Copy, Debug, PartialEq, Eq)]
 pub enum SettingsFault {
     /// The card uses CRC, and only LRC is supported (profile).
@@ -28,26 +28,26 @@ pub enum SettingsFault {
     Ifsc,
 }
 
-/// What a terminal's end is set to.
+/// The settings of a terminal's end.
 #[derive(Clone, Copy, Debug, PartialEq, Eq)]
 pub struct Settings {
-    /// IFSC, the longest field that the card takes: 1 to 254.
+    /// IFSC, the longest field in bytes that the card takes: 1 to 254.
     pub ifsc: u8,
-    /// Receptions in a row without a step forward that the terminal survives.
+    /// The number of receptions in a row without progress that the terminal survives.
     pub tries: u8,
-    /// Requests of the card that it grants in one command.
+    /// The number of requests of the card that the terminal grants per command.
     pub extensions: u8,
-    /// The longest response that it takes, in bytes.
+    /// The longest response that the terminal takes, in bytes.
     pub limit: usize,
     ghost inside: { (0 < ifsc) × (ifsc < 255) },
 }
 
 impl Settings {
-    /// Makes settings from EDC and IFSC of an answer to reset, and from the terminal's limits.
+    /// Makes settings from the EDC and IFSC of an answer to reset, and from the terminal's limits.
     ///
     /// # Errors
-    /// - `Crc`: the card uses CRC.
-    /// - `Ifsc`: `ifsc` is 0 or 255.
+    /// - `Crc`: the card uses CRC, which is not supported (profile).
+    /// - `Ifsc`: `ifsc` is 0 or 255, which are reserved.
     pub fn new(
         edc: Edc,
         ifsc: u8,

@@ -25,10 +25,10 @@ pub fn lrc(bytes: &[u8]) -> u8
     sum
 }
 
-/// Returns the bytes of a block, 4 to 258.
+/// Returns the bytes of a block, 4 to 258. Its field has at most 254 bytes.
 ///
 /// # Errors
-/// - `AllocError`: memory ran out; nothing changes.
+/// - `AllocError`: memory ran out; nothing has changed.
 pub fn write(alloc: Global, block: Block<'_>) -> Result<Vec<u8>, AllocError>
     requires { length (info_of (said block)) ≤ 254 }
     ensures { IfOk result (λ v. v.items ≡ bytes_of (said block.entry)) }
@@ -89,13 +89,13 @@ fn spell(alloc: Global, pcb: Pcb, info: &[u8]) -> Result<Vec<u8>, AllocError>
     Ok(out)
 }
 
-/// Reads a whole block, or returns `None` if a byte of it is wrong: NAD, PCB, LEN, the LRC, or the
-/// field of an R-block or an S-block. An I-block without a field that says that more follows is
-/// wrong too (profile). The owner of the line then calls `damaged`.
+/// Decodes a whole block. `None` if a byte of it is wrong: NAD, PCB, LEN, the LRC, or the field of an
+/// R-block or an S-block. An empty I-block with the more-data bit is wrong too (profile). The owner
+/// of the line then calls `damaged`.
 pub fn read(bytes: &[u8]) -> Option<Block<'_>>
     ensures exact { option_map said result ≡ block_of bytes.now }
 
-    // What is written so is read.
+    // A block that was written is decoded.
     ensures written { (block : Sent) → length (info_of block) ≤ 254 → is_filled block ≡ true →
         bytes.now ≡ bytes_of block → option_map said result ≡ Some block }
     ensures filled { IfSome result (λ b. is_filled (said b) ≡ true) }
@@ -112,11 +112,11 @@ fn read_whole(bytes: &[u8]) -> Option<Block<'_>>
     }
 }
 
-/// The PCB and the field of a whole block.
+/// Returns the PCB and the field of a whole block. `None` if NAD, PCB, LEN or LRC is wrong.
 pub fn parts(bytes: &[u8]) -> Option<(Pcb, &[u8])>
     ensures exact { Reads (λ b. (b.0, b.1.now)) result (parts_of bytes.now) }
 
-    // What is read is spelled so, each byte of it.
+    // A block that was decoded is written again, byte for byte.
     ensures spelled { IfSome result (λ b. (length b.1.now ≤ 254)
         × (bytes.now ≡ spelled b.0 b.1.now)) }
 {

@@ -1,5 +1,5 @@
-"""Cuts a source into its code and its comments, in each language of the repository. The check of
-style reads the comments; `same` compares the code."""
+"""Cuts a source into its code and its comments, in each language of the repository. words.py reads
+the comments, `same` compares the code."""
 
 import ast
 import io
@@ -25,11 +25,11 @@ def is_python(path, text):
 
 
 def is_shell(path, text):
-    return path.endswith(".sh") or text.startswith("#!/bin/sh") or text.startswith("#!/bin/bash")
+    return path.endswith(".sh") or re.match(r"#!\S*(?:/| )(?:env )?(?:ba)?sh\b", text) is not None
 
 
 def is_cut(path, text):
-    """Whether comments of this file can be told from its code."""
+    """Whether this file is in a language that can be cut."""
     return path.endswith((*C_LIKE, ".antt")) or is_python(path, text) or is_shell(path, text)
 
 

@@ -1,12 +1,11 @@
-"""What the check finds, and the list of what must stay all the same."""
+"""Findings of the check, and the list of findings that are allowed."""
 
 from dataclasses import dataclass
 
 
 @dataclass(frozen=True)
 class Finding:
-    """What stands where it should not: its kind, its place, the name that the list of what must
-    stay goes by, and what is told of it."""
+    """A finding: its kind, its place, the name that the list allows it by, and its text."""
 
     kind: str
     path: str
@@ -20,8 +19,8 @@ class Finding:
 
 @dataclass
 class Stay:
-    """An entry of the list: a kind, a file (or a folder, with a stroke at its end) or a name or
-    both, and the reason."""
+    """An entry of the list: a kind, and a file, a folder (with a stroke at its end), a name, or a
+    place and a name."""
 
     line: int
     kind: str
@@ -37,8 +36,8 @@ class Stay:
 
 
 def read_stays(path, text):
-    """The entries of the list, and what is wrong with it. An entry is a line `KIND PLACE: REASON`,
-    where PLACE is a file, a file and a name, or a name; a line that is indented goes on with it."""
+    """The entries of the list, and its errors. An entry is a line `KIND PLACE: REASON`. PLACE is a
+    file, a file and a name, or a name. An indented line continues the reason."""
     stays, wrong = [], []
     for number, line in enumerate(text.splitlines(), 1):
         if not line.strip() or line.startswith(("#", " ")):
@@ -55,8 +54,7 @@ def read_stays(path, text):
 
 
 def without_stays(path, text, found):
-    """What is left of what was found without what the list lets stay, and the entries of the list
-    that fit nothing."""
+    """The findings that the list does not allow, and the entries of the list that fit nothing."""
     stays, wrong = read_stays(path, text)
     left = []
     for finding in found:

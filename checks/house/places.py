@@ -1,6 +1,6 @@
-"""Files that stand in the wrong folder, and what each file has to keep to: laws are files of
-`specs/`, a file of `specs/` is needed by a clause, by a crate above, or by another such file, code
-has 100 columns, and a source file says first what is in it."""
+"""Files in the wrong folder, and rules for each file. Laws are files of `specs/`. A file of
+`specs/` is needed by a clause, by a crate above, or by another such file. Code has 100 columns. A
+source file says first what it contains."""
 
 import re
 
@@ -9,7 +9,7 @@ from sources import IN_CODE, code_without_comments, crate_of
 
 COLUMNS = 100
 LONG_LINES = (".rt", ".antt", ".c", ".h", ".rs", ".py")
-# Lines that rt fmt joins, however long they get: imports and attributes.
+# Lines that rt fmt joins, of any length: imports and attributes.
 JOINED = re.compile(r"\s*(?:(?:ghost|pub|pub\(crate\)) )*use |\s*#!?\[")
 
 
@@ -18,7 +18,7 @@ def is_of_specs(path):
 
 
 def needed(repository):
-    """The files of `specs/` that code needs, or a crate above, and those that these need."""
+    """The files of `specs/` that code or a crate above needs, and those that these need."""
     left = []
     for path, text in repository.code():
         own = f"crates/{crate_of(path)}/specs/"

@@ -1,5 +1,5 @@
-"""A repository of a few lines in which nothing is wrong, and for each kind of fault an edit of it
-that the check has to find, at a file and a line: so the check itself is tried."""
+"""Tests of the check itself: a small repository without findings, and for each kind of finding an
+edit that the check must find, with file and line."""
 
 from comments import code
 from sources import Repository
@@ -73,8 +73,8 @@ LONG = "x" * 101
 PAGE = "docs/LAMPS.md"
 MOST = " ".join(["Word"] + ["word"] * 34)
 
-# What is planted: the kind of the finding, the file and the line of it, and an edit: a file with an
-# old text and a new one, or a file that is new.
+# Planted faults: the kind of the finding, its file and line, and the edits. An edit is a file with
+# an old and a new text, or a new file.
 FAULTS = [
     ("private", HOUSE, 1, [(HOUSE, "use Rattle.low.specs.Lamp.", "use Rattle.low.proofs.Lamps.")]),
     ("private", HOUSE, 1, [
@@ -117,7 +117,7 @@ FAULTS = [
     ("list", LIST, 2, [(LIST, "stay\n", "stay\nlong crates/low/src/lamp.rt\n")]),
 ]
 
-# What is no fault: words that are code, or in a file that is not listed, 35 words, 300 characters.
+# No faults: words that are code or in a file that is not listed, 35 words, 300 characters.
 PLAIN = [
     (LAMP, "Lights it.", "Lights `what is told`. Who is, told him."),
     (HOUSE, "IsDark :", "IsDark : -- is told\n  "),
@@ -125,7 +125,7 @@ PLAIN = [
     (PAGE, "red", "x" * 300),
 ]
 
-# What the list lets stay: a fault, and the entry for it.
+# A fault, and the entry of the list that allows it.
 LETS_STAY = [
     (LAMP, "//! A lamp.\n", "// A lamp.\n"),
     (LIST, "stay\n", "stay\nfirst crates/low/src/lamp.rt: it is dark\n"),
@@ -145,8 +145,8 @@ def edited(edits):
 
 
 def tried(find):
-    """For each fault whether it is found as what it is, where it is, and nothing else of its kind;
-    that nothing is found where none is; and that the list lets stay what it names."""
+    """Whether each fault is found with its kind and place, and nothing else of its kind. Also
+    whether nothing is found in the sound repository, and the list allows what it names."""
     rows = [("nothing is wrong", find(Repository(SOUND)), None)]
     rows += [("what is plain", find(Repository(edited(PLAIN))), None)]
     rows += [("what the list lets stay", find(Repository(edited(LETS_STAY))), None)]
@@ -170,7 +170,7 @@ CODE = [
 
 
 def compared():
-    """Whether `same` passes over other comments, and sees other code."""
+    """Whether `same` ignores other comments, and finds other code."""
     for path, text, commented, coded in CODE:
         yield f"comments of {path}", code(path, text) == code(path, commented), [path]
         yield f"code of {path}", code(path, text) != code(path, coded), [path]

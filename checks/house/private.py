@@ -1,5 +1,5 @@
-"""Names that a crate above has no business with: of a `proofs` module, of a type or a constant that
-the crate does not show, and what looks into a value of such a type."""
+"""Names that a crate above must not use: those of a `proofs` module, and of a type or a constant
+that the crate does not export. It must not look into a value of such a type either."""
 
 import re
 
@@ -15,7 +15,7 @@ ARGUMENTS = re.compile(r"\(([^():]+) : ([^()]*)\)|([^→]+)→?")
 
 
 def shown(repository, crate):
-    """The names that a crate shows: those of `pub use` in its root, and all of its `pub mod`."""
+    """The names that a crate exports: those of `pub use` in its root, and all of its `pub mod`."""
     root = repository.texts.get(f"crates/{crate}/src/lib.rt", "")
     names = set()
     for used in re.findall(r"\bpub use ([^;]*);", root):
@@ -27,7 +27,7 @@ def shown(repository, crate):
 
 
 def private_types(repository, crate):
-    """The types of a crate that it does not show, each with its fields."""
+    """The types that a crate does not export, each with its fields."""
     seen = shown(repository, crate)
     fields = {}
     for path, text in repository.code(".rt"):
@@ -40,8 +40,8 @@ def private_types(repository, crate):
 
 
 def private_in(after, names, seen):
-    """What is private of what stands behind `Rattle.BELOW.specs`, and of the names in braces behind
-    that, where these are shown; None where nothing is."""
+    """The private name in a path after `Rattle.BELOW.specs`, or among the names in braces after it,
+    given the exported names. None if all are exported."""
     parts = after.strip(".").split(".")
     if "declared" not in parts:
         return None
@@ -78,8 +78,8 @@ def of_paths(repository):
 
 
 def stand_ins(repository):
-    """The constructors of definitions that hold a value of a private type: of the file and name of
-    each, its type, and at which place such a value stands and what its fields are."""
+    """The constructors of definitions that contain a value of a private type. For the file and name
+    of each: its type, the place of such a value, and the value's fields."""
     found = {}
     for crate in repository.below:
         private = private_types(repository, crate)
@@ -109,7 +109,7 @@ def arguments(text):
 
 
 def of_cases(repository):
-    """Cases on a definition that holds a value of a private type, and fields of such a value."""
+    """Cases on a definition that contains a value of a private type, and fields of such a value."""
     held = stand_ins(repository)
     for path, imports in repository.imports.items():
         for called, found in imports.items():
@@ -131,7 +131,7 @@ def of_cases(repository):
 
 
 def lines_with_cases(text, constructor, place):
-    """The lines with a constructor and names for its values, and the name at a place of them."""
+    """The lines with a constructor and names for its values, and the name at this place."""
     pattern = re.compile(rf"\b{constructor}((?: (?:\w+|_))+)")
     found = []
     for number, line in enumerate(text.splitlines(), 1):

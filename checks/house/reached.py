@@ -1,16 +1,16 @@
 """Lemmas and definitions that nothing reaches.
 
-What is reached from code, from answers and invariants (the prover itself takes these up), and from
-vectors (rows that are computed once, for their own sake) is needed. A name reaches the declaration
-of that name in its own file, or in the file that it is imported from. That is a reading by names
-alone, so it can miss what two names in one file hide; what it lists does go."""
+A declaration is needed if it is reached from code, from answers and invariants (which the prover
+finds by itself), or from vectors (rows that are computed for their own sake). A name reaches the
+declaration of that name in its own file, or in the file that it is imported from. Since this goes
+by names alone, equal names can hide an unreached declaration. What it lists can be removed."""
 
 from collections import defaultdict
 
 from findings import Finding
 from sources import IN_CODE, WORD, code_without_comments, crate_of
 
-# Files of proofs that the prover takes up without a name.
+# Files of proofs that the prover finds without a name.
 TAKEN_UP = ("/Answers.antt", "/Invariants.antt", "/Proof.antt", "/TheSendSync/Send.antt")
 
 
@@ -40,7 +40,7 @@ def reached(repository):
             for it in imports.get(word, ()):
                 if it.name is not None:
                     reach(repository.path_of(it.module), it.name)
-        # a module that is imported whole, and its names behind a dot
+        # a module that is imported whole, and its names after a dot
         for name, found in imports.items():
             for it in found:
                 if it.name is None and name in words:

@@ -1,9 +1,9 @@
 """Whether docs/RULES.md and the definitions say the same things: each rule names a definition, and
 each definition that a public clause cites is named by a rule.
 
-A public clause is one of a `pub fn` that its library shows, of a trait that it shows, or of
-`main_status`. A rule names a definition in a code span; a constructor stands for its type. Behind a
-rule stand names alone in parentheses, and each of them is a definition's."""
+A public clause is one of a `pub fn` or a trait that its library exports, or of `main_status`. A
+rule names a definition in a code span; a constructor counts as its type. Names alone in parentheses
+after a rule must all be names of definitions."""
 
 import re
 from collections import defaultdict
@@ -23,12 +23,13 @@ FIRST_WORDS = 5
 
 
 def libraries(repository):
-    """The crates with a root that shows something: a program has none."""
+    """The crates with a root that can export something; a program has none."""
     return [it for it in repository.below if f"crates/{it}/src/lib.rt" in repository.texts]
 
 
 def impl_type(text, place):
-    """The type whose `impl` stands around a place, or None; of a trait's, no method is public."""
+    """The type of the `impl` around a place, or None; methods of a trait's `impl` are not
+    public."""
     before = text[:place]
     start = max(before.rfind("\nimpl"), 0 if before.startswith("impl") else -1)
     if start < 0 or re.search(r"^\}", before[start:], re.M):
@@ -45,7 +46,7 @@ def impl_type(text, place):
 
 
 def public_modules(repository, crate):
-    """The files whose functions are shown since all modules around them are."""
+    """The files whose functions are exported because all modules around them are."""
     root = f"crates/{crate}/src/lib.rt"
     found, left = set(), [(root, f"crates/{crate}/src/")]
     while left:
@@ -97,7 +98,7 @@ def cited(repository):
 
 
 def words_of(declaration):
-    """What a declaration is named by: its name, and of a type by cases its constructors."""
+    """The words that name a declaration: its name, and for a type by cases its constructors."""
     is_data = re.search(r"\bdata\b", declaration.lines[0])
     return declaration.names if is_data else {declaration.name}
 

@@ -1,5 +1,5 @@
-"""The files of the repository as text, and what a reading by names alone can say of them: which
-declarations a file of definitions or proofs has, and from where each name in it comes."""
+"""The files of the repository as text, and what names alone tell about them: the declarations of a
+file of definitions or proofs, and the origin of each name in it."""
 
 import os
 import re
@@ -7,7 +7,7 @@ from collections import defaultdict
 from dataclasses import dataclass
 from pathlib import Path
 
-# What is built or kept, and no part of the repository.
+# Built or cached files, which are not part of the repository.
 NOT_READ = re.compile(
     r"(.*/)?(\.git|__pycache__)|(crates/\w+/)?out|bindings/(c/build|rust/target)"
 )
@@ -23,13 +23,13 @@ MODIFIERS = r"(?:(?:unfoldable|opaque|pub|private|abbrev|data|record|def|rec|mut
 DECLARED = re.compile(MODIFIERS + r'([^\s(){}\[\],;.:"]+)')
 IS_TYPE = re.compile(r"(?:(?:unfoldable|opaque|pub|private)\s+)*(?:data|record)\b")
 MEMBER = re.compile(r"\s+(?:pub\s+)?([^\s(){}\[\],;.:]+)\s*:")
-# Words that begin a line which goes on with the declaration above it.
+# Words that begin a line which continues the declaration above it.
 GOES_ON = {None, "unfolding", "where", "let", "in"}
 
 
 @dataclass
 class Import:
-    """A name, as the file calls it: `name` of `module`, or all of it where that is None."""
+    """An imported name: `name` of `module`, or the whole module if `name` is missing."""
 
     module: str
     name: str | None
@@ -38,8 +38,8 @@ class Import:
 
 @dataclass
 class Declaration:
-    """A lemma or a definition: where it begins, its names (a type's with its constructors or
-    fields), its lines, and those of the heads of the modules around it."""
+    """A lemma or a definition: its first line, its names (for a type also its constructors or
+    fields), its lines, and the heads of the modules around it."""
 
     path: str
     line: int
@@ -57,12 +57,12 @@ class Declaration:
 
 
 def without_comments(text):
-    """The text of definitions or proofs without what stands behind `--`."""
+    """The text of definitions or proofs without comments."""
     return re.sub(r"(?m)(^|\s)--( .*)?$", "", text)
 
 
 def code_without_comments(text):
-    """The text of code, its lines as they were, with what stands behind `//` left out."""
+    """The text of code without comments, with the same lines."""
     return re.sub(r"(?m)(^|\s)//.*$", "", text)
 
 
@@ -71,7 +71,7 @@ def line_of(text, place):
 
 
 class Repository:
-    """All that is read, as a text for each path."""
+    """All files that the check reads: a text for each path."""
 
     def __init__(self, texts):
         self.texts = texts
@@ -125,7 +125,7 @@ def crate_of(path):
 
 
 def imports_of(text):
-    """From where each name of a file comes that it imports."""
+    """The origin of each name that a file imports."""
     found = defaultdict(list)
     for it in IMPORT.finditer(text):
         line = line_of(text, it.start())
@@ -139,8 +139,8 @@ def imports_of(text):
 
 
 def declarations(path, text):
-    """Cuts a file into its declarations: each begins at the margin, which in a module with
-    parameters is that module's, with a name that is not the one before, as equations repeat it."""
+    """Cuts a file into its declarations. Each begins at the margin (inside a module with
+    parameters, at that module's) with a new name, since equations repeat the name before."""
     found = []
     margins = [0]
     heads = [[]]

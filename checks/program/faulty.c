@@ -1,12 +1,12 @@
-/* For checks/program, which loads it before the C library: memory, reads and writes of the program
- * that are refused. Each limit is a variable of the environment, and without it there is none:
+/* Refuses the program memory, reads and writes. checks/program loads it before the C library. Each
+ * limit is a variable of the environment; without the variable there is no limit:
  *
- * ROOM     so many bytes of memory may be in use at one time
- * LACKS    the request for memory with this number, counted from 1, is refused
- * TAKES    a read of standard input gives at most so many bytes
- * GIVES    standard input gives so many bytes, and then fails
- * WRITES_1 standard output takes so many bytes, one at a time, and then fails
- * WRITES_2 standard error, likewise
+ * - ROOM: the most bytes of memory in use at one time
+ * - LACKS: the number of the allocation that is refused, from 1
+ * - TAKES: the most bytes that a read of standard input returns
+ * - GIVES: the number of bytes that standard input returns before it fails
+ * - WRITES_1: the number of bytes that standard output takes, one at a time, before it fails
+ * - WRITES_2: the same for standard error
  */
 #define _GNU_SOURCE
 #include <dlfcn.h>
@@ -26,7 +26,7 @@ extern void *__libc_malloc(size_t);
 extern void *__libc_realloc(void *, size_t);
 extern void __libc_free(void *);
 
-/* What stays in use beside `more` bytes fits, and this request is not the one that is refused. */
+/* Whether `more` bytes fit beside the ones in use, and this allocation is not the refused one. */
 static int has_room(size_t more, size_t freed) {
     size_t room = limit("ROOM");
     requests++;

@@ -1,16 +1,16 @@
-"""Runs a program under callgrind, and reads what each of its functions has cost."""
+"""Runs a program under callgrind, and reads the cost of each of its functions."""
 
 import re
 import subprocess
 from collections import Counter
 from pathlib import Path
 
-# The C library chooses its functions by what a processor has: these are those of any x86-64.
+# The C library chooses functions by the processor: this leaves those of any x86-64.
 PLAIN = "glibc.cpu.hwcaps=-AVX512VL,-AVX512F,-AVX2,-AVX_Fast_Unaligned_Load,-ERMS,-FSRM"
 
 
 class Names:
-    """Callgrind writes a name once, with a number, and from then on the number alone."""
+    """Callgrind writes a name once, with a number, and afterwards only the number."""
 
     def __init__(self):
         self.names = {}
@@ -21,7 +21,7 @@ class Names:
 
 
 def costs(file):
-    """What each function has cost by itself, by its object's file name and its own."""
+    """The cost of each function itself, by its object's file name and its own name."""
     objects, functions, found = Names(), Names(), Counter()
     place = function = None
     is_call = False
@@ -38,7 +38,7 @@ def costs(file):
         elif key == "calls":
             is_call = True
         elif re.match(r"[+\-*\d]\S* \d+$", line):
-            # the line behind `calls` is what the called function has cost
+            # the line after `calls` is the cost of the called function
             if not is_call:
                 found[(place, function)] += int(line.split()[1])
             is_call = False
@@ -51,15 +51,14 @@ def run(words, file, *options):
 
 
 def of_all(words, folder):
-    """What a whole run costs."""
+    """The cost of a whole run."""
     file = Path(folder) / "callgrind.out"
     run(words, file)
     return costs(file)
 
 
 def of_repeat(program, way, times, folder):
-    """What an operation costs, for each of the calls of `repeat` in which it is carried out so
-    often."""
+    """The cost of one operation, for each call of `repeat`, which carries it out `times` times."""
     file = Path(folder) / f"{Path(program).name}.{way}"
     run([program, way, str(times)], file, "--zero-before=repeat", "--dump-after=repeat")
     files = sorted(file.parent.glob(f"{file.name}.[0-9]*"), key=lambda it: int(it.suffix[1:]))

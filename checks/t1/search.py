@@ -10,12 +10,18 @@ nothing), delays it until after the terminal's time-out, or doubles it."""
 
 from collections import namedtuple
 
-# mode: start ifs send recv resync idle done broken; k: command; i: block of it; air: the last block
-# of the command may have reached the card; res: results so far, one for each command
+# The terminal.
+# - mode: start ifs send recv resync idle done broken
+# - k: the command; i: its block
+# - air: the last block of the command may have reached the card
+# - res: the results so far, one for each command
 T = namedtuple('T', 'mode k i got ns nr fails naks resy wtx air ifsd res')
-# vr: N(S) due from the terminal; vs: N(S) of the card's next I-block; coll: the received part of a
-# command; ans: blocks of the response (None: none yet), j: the newest sent; pend: the card's
-# S(request) that waits for its response; busy: WTX requests still to make; ran: carried out
+# The card.
+# - vr: the next N(S) of the terminal; vs: N(S) of the card's next I-block
+# - coll: the received part of a command
+# - ans: the blocks of the response (None: none yet); j: the latest sent
+# - pend: the card's S(request) that waits for its response; busy: WTX requests still to make
+# - ran: the commands that were carried out
 C = namedtuple('C', 'vr vs coll ans j pend busy ifsd ran fresh bads')
 Cfg = namedtuple('Cfg', """
     cmds limit nak resync wtx_limit wtx_asks ifs ack_r first_r dup late term_after_last ifs_fail
@@ -24,38 +30,38 @@ Cfg = namedtuple('Cfg', """
 
 def default(cmds, **kw):
     d = dict(cmds=cmds,      # a list of (blocks of the command, symbols of the response)
-             limit=3,        # n receptions without a step forward, and the terminal gives up
-             nak='count',    # R with the own number: 'count', 'reset' or 'keep' the failures
+             limit=3,        # the terminal gives up after n receptions without progress
+             nak='count',    # R with its own number: 'count', 'reset' or 'keep' the failures
              resync='none',  # 'none' | 'resend' | 'careful'
              wtx_limit=3, wtx_asks=0,
              ifs=False,      # S(IFS) first
              # the card, when R acknowledges its last block: 'R' | 'repeat' | 'silent'
              ack_r='R',
              first_r='R',    # the card, R before any I: 'R' | 'silent'
-             # the card, I-block that came already: 'R' (invalid) | 'take' (no test of N(S))
+             # the card, I-block that it has already: 'R' (invalid) | 'take' (no test of N(S))
              dup='R',
              late=False,
              # the terminal, R(other number) after its last block: 'R' | 'ack'
              term_after_last='R',
              ifs_fail='giveup',     # S(IFS) not answered: 'giveup' | 'goon'
-             ifs_step=False,        # the response to S(IFS) is a step forward
+             ifs_step=False,        # the response to S(IFS) is progress
              card_ifs_value=1,
-             most=100,       # symbols of a response: a longer one is a fault
-             # the terminal takes blocks up to the IFSD it has asked for, from then on
+             most=100,       # most symbols of a response: a longer one is a fault
+             # the terminal takes blocks up to its IFSD once it has asked for it
              accept_max=True,
              budget=None,    # at most n bad blocks between two steps
              # once the last block was sent the terminal never again says 'not carried out'
              sticky=False,
              wtx_counts=True,       # a WTX request is progress: it clears the counter of failures
              timeout_i=False,       # a terminal that repeats its I-block after a time-out
-             ifs_limit=None,        # tries of S(IFS), where they are others
-             # after it has given up the terminal begins the next command all the same
+             ifs_limit=None,        # tries of S(IFS), if their number differs
+             # the terminal begins the next command even after it has given up
              go_on=False,
              # the card sends S(IFS request) before it answers the first I-block
              card_ifs=False,
              double_down=False,     # the line doubles a block to the card
              double_up=False,       # the line doubles a block to the terminal
-             card_limit=None)       # after n damaged blocks in a row the card only listens
+             card_limit=None)       # after n damaged blocks in a row the card sends nothing
     d.update(kw)
     return Cfg(**d)
 
@@ -103,7 +109,7 @@ def gives_up(cfg, t):
     return t._replace(mode='broken', res=t.res + (fault(t),), fails=0, naks=0, i=0, air=False,
         got=()), None
 
-def again(t):                # what is sent after something that is no progress
+def again(t):                # the next block after a reception without progress
     if t.mode == 'ifs':
         return t, ('S', 'IFS', 'q', LARGE)
     if t.mode == 'resync':
@@ -163,8 +169,8 @@ def terminal(cfg, t, e):
                 if f >= cfg.limit or n >= cfg.limit:
                     return (*gives_up(cfg, t._replace(air=t.air and (cfg.sticky or not last))),
                         False)
-                # the card asks for the last block: it had not come yet, but now it is in the air
-                # again
+                # the card asks for the last block: it had not received it, but now it is in the
+                # air again
                 return (*sends_i(cfg, t._replace(fails=f, naks=n, air=t.air and cfg.sticky)),
                     False)
             if not last:
@@ -235,7 +241,7 @@ def card(cfg, c, b):
                 c = c._replace(j=c.j + 1, vs=1 - c.vs)
                 return c, c_iblock(c)
             if cfg.ack_r == 'R':
-                # a gap of the rules: its response has come; it asks
+                # a gap in the rules: its response was complete; it asks
                 return c, ('R', c.vr)
             if cfg.ack_r == 'repeat':
                 return c, c_iblock(c)
@@ -258,12 +264,12 @@ def card(cfg, c, b):
         return c._replace(pend=('S', 'WTX', 'q', 2), busy=cfg.wtx_asks - 1), ('S', 'WTX', 'q', 2)
     return c_answer(c)
 
-# ---- what is asked of both
+# ---- what both must keep to
 # ----------------------------------------------------------------------
 def claims(cfg, t, c):
     sent = [tuple(command(cfg, k)) for k in range(len(cfg.cmds))]
     out = []
-    # (i) what was carried out are commands that were sent, in order, each at most once
+    # (i) the card carried out commands that were sent, in order, each at most once
     allowed = sent[:t.k + 1] if t.mode not in ('done',) else sent
     pos = 0
     for ran in c.ran:
@@ -273,13 +279,13 @@ def claims(cfg, t, c):
             out.append('(i) carried out: %r' % (c.ran,))
             break
         pos += 1
-    # (v) with no RESYNCH: what was carried out are the first commands, those answered and at
+    # (v) without RESYNCH: the card carried out the first commands, those with an answer and at
     # most one more
     oks = sum(1 for r in t.res if r[0] == 'ok')
     in_order = list(c.ran) == sent[:len(c.ran)] and oks <= len(c.ran) <= oks + 1
     if cfg.resync == 'none' and not in_order:
         out.append('(v) carried out %r after %d answers' % (c.ran, oks))
-    # (ii) each answer is that of the card, which carried the command out once
+    # (ii) each answer is the card's, which carried out the command once
     for k, r in enumerate(t.res):
         times = sum(1 for ran in c.ran if ran == sent[k])
         if r[0] == 'ok' and (times != 1 or tuple(r[1]) != response(cfg, sent[k])):
@@ -295,7 +301,7 @@ def search(cfg, most=400000):
     c0 = C(0, 0, (), None, 0, None, 0, SMALL, (), True, 0)
     bud0 = cfg.budget if cfg.budget is not None else 0
     # a state: terminal, card, block for the card or None, blocks for the terminal (at most two),
-    # bad ones left
+    # number of bad blocks left
     def feed(t, c, e, queue, bud):
         t, out, progress = terminal(cfg, t, e)
         if progress and cfg.budget is not None:
@@ -373,7 +379,7 @@ def search(cfg, most=400000):
             if cfg.budget is not None and gave_up:
                 if '(iii)' not in found or len(path(s)) < len(found['(iii)'][1]):
                     found['(iii)'] = ('(iii) no answer', path(s))
-    # (iv) a cycle: the terminal goes on for ever
+    # (iv) a cycle: the dialogue never ends
     color, longest = {}, {}
     stack = [(first, iter(graph[first]))]
     color[first] = 1

@@ -2,7 +2,7 @@
 more than 35 words, and cells of tables of more than 300 characters.
 
 It looks at the files that plain.txt lists: those that have been rewritten. Code in fences and
-spans is passed over; a span counts as one word."""
+spans is ignored; a span, or a row of them, counts as one word."""
 
 import re
 
@@ -15,7 +15,7 @@ MOST_WORDS = 35
 MOST_CHARACTERS = 300
 FIRST_WORDS = 5
 
-# A full stop, and what begins the next sentence. Two dots leave something out and end nothing.
+# A full stop, and the start of the next sentence. Two dots are an omission, not an end.
 SENTENCE_END = re.compile(r"""(?<!\.)[.!?][)"'*_]*\s+(?=[^a-z\s])""")
 SPAN = re.compile(r"(`+).+?\1")
 LINK = re.compile(r"\[([^\]]*)\]\([^)]*\)")
@@ -23,7 +23,7 @@ ITEM = re.compile(r"\s*(?:[-*+]|\d+\.)\s+")
 
 
 def listed(text):
-    """The lines of a list that are no comments, each with its number."""
+    """The lines of a list, without comments, each with its number."""
     for number, line in enumerate(text.splitlines(), 1):
         if line.strip() and not line.startswith("#"):
             yield number, line.strip()
@@ -35,7 +35,7 @@ def is_in(path, place):
 
 def paragraphs(first, lines):
     """The first line and the text of each paragraph, heading, item and cell, and whether it is a
-    cell. Code in fences is passed over."""
+    cell. Code in fences is ignored."""
     fenced, found = False, []
     after = None
     for number, line in enumerate(lines, first):
@@ -58,7 +58,7 @@ def paragraphs(first, lines):
 
 
 def cells(row):
-    """The cells of a row. A stroke in a span of code, or behind a backslash, ends none."""
+    """The cells of a row. A stroke in a span of code, or after a backslash, is part of a cell."""
     hidden = SPAN.sub(lambda it: "\0" * len(it[0]), row.replace("\\|", "\0\0"))
     places = [at for at, sign in enumerate(hidden) if sign == "|"] + [len(row)]
     return [row[a + 1 : b].strip() for a, b in zip(places, places[1:]) if row[a + 1 : b].strip()]
@@ -81,6 +81,7 @@ def sentences(text):
 
 
 def count_words(text):
+    text = re.sub(r"`x`(?:[\s,;:/.]+(?:and |or )?`x`)+", "`x`", text)
     return sum(any(sign.isalnum() for sign in word) for word in text.split())
 
 
@@ -104,7 +105,7 @@ def of_paragraph(path, line, text, is_cell, phrases):
 
 
 def read_phrases(text):
-    """The patterns of the list: `PHRASE: WHAT TO WRITE`, by whole words, over the ends of lines."""
+    """The patterns of the list: `PHRASE: WHAT TO WRITE`. They match whole words, over lines too."""
     found = []
     for _, line in listed(text):
         phrase, _, better = line.partition(": ")

@@ -41,7 +41,7 @@ pub fn a_piece_changes_no_entry()
         tpdu.header.cla ≡ 0x10 → new.applications ≡ old.applications }
 {}
 
-/// A SELECT that finds no application keeps the selection.
+/// A SELECT that finds no application (`6A82`) keeps the selection.
 pub fn not_found_keeps_the_selection()
     ensures { (old new : CardState) (cut : ℕ) (tpdu : Tpdu) → Does old cut tpdu new →
         tpdu.status ≡ (0x6A, 0x82) → new.selected ≡ old.selected }
@@ -101,13 +101,14 @@ pub fn a_command_has_one_outcome()
         × (t.status ≡ u.status) × (a ≡ b) }
 {}
 
-/// Unless memory runs out, a put has one status.
+/// A put of a value among given entries has one status, unless memory runs out.
 pub fn a_put_has_one_status()
     ensures { (entries : List Entry) (tag value : List ℕ) (s t : StatusWord) →
         PutStatus entries tag value s → PutStatus entries tag value t → s ≡ t }
 {}
 
-/// Only a PUT DATA with CLA `00` gets `6581` (memory ran out), which changes no table.
+/// Only a PUT DATA with CLA `00` gets `6581` (memory ran out). The tables and the selection are then
+/// unchanged.
 pub fn only_a_put_wants_memory()
     ensures { (old new : CardState) (cut : ℕ) (tpdu : Tpdu) → Does old cut tpdu new →
         tpdu.status ≡ (0x65, 0x81) → (tpdu.header.cla ≡ 0x00) × (tpdu.header.ins ≡ 0xDA)

@@ -138,7 +138,8 @@ impl<'a> HostEnd<'a> {
         mark_of(self.request, self.stage)
     }
 
-    /// Makes the end with this progress, over the data of its command.
+    /// Makes the end with this progress again. `content` is the data that the end sends, with the
+    /// same length as before; it is ignored if the end asks the card for data.
     pub fn at(mark: HostMark, content: &'a [u8]) -> HostEnd<'a>
         requires { IsInRange (with_data mark content.now) }
         ensures { result ≡ with_data mark content.now }

@@ -130,8 +130,8 @@ pub struct Conversation<C> {
     pub fault: Option<Fault>,
 }
 
-/// Resets a card, and sends it commands over a line until all have their answers or the terminal
-/// gives up.
+/// Sends commands to a card over a line, from a reset of both ends on, until all have their answers
+/// or the terminal gives up. The card itself starts in the state of `applet`.
 ///
 /// Whatever the line damages or loses, the card carries out the first of the commands, in order,
 /// each once. Each answer is the card's response, and the outcome in a fault is true. The dialogue

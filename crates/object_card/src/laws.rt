@@ -107,8 +107,8 @@ pub fn a_put_has_one_status()
         PutStatus entries tag value s → PutStatus entries tag value t → s ≡ t }
 {}
 
-/// Only a PUT DATA with CLA `00` gets `6581` (memory ran out). The tables and the selection are then
-/// unchanged.
+/// Only a PUT DATA with CLA `00` gets `6581` (memory ran out). The tables and the selection are
+/// then unchanged.
 pub fn only_a_put_wants_memory()
     ensures { (old new : CardState) (cut : ℕ) (tpdu : Tpdu) → Does old cut tpdu new →
         tpdu.status ≡ (0x65, 0x81) → (tpdu.header.cla ≡ 0x00) × (tpdu.header.ins ≡ 0xDA)

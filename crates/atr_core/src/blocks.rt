@@ -135,6 +135,7 @@ fn characters_of_t1(named: &[TypedGroup]) -> Group
 {
     let mut first = Group::default();
     let mut place = named.len();
+    // For the proof: the label names the loop's goals.
     'groups: while place > 0 {
         place -= 1;
         first = with_group(named[place], first);

@@ -85,6 +85,7 @@ pub(crate) fn typed_groups(
     let mut place = start;
     let mut y = y;
     let mut last = None;
+    // For the proof: the label names the loop's goals.
     'groups: while y >= 8 {
         let td = character(bytes, place)?;
         let t = td % 16;

@@ -75,6 +75,7 @@ fn compact_status(bytes: &[u8]) -> Option<CardStatus>
     ensures { result ≡ compact_status 0 bytes.now }
 {
     let mut place = 0;
+    // For the proof: the label names the loop's goals.
     'objects: while place < bytes.len() {
         let head = bytes[place];
         let behind = bytes.len() - place - 1;

@@ -33,6 +33,7 @@ pub(crate) fn written(
     out.push(convention.ts());
     let mut low = historical.len() as u8;
     let mut group = first;
+    // For the proof: the labels name the goals of both loops.
     'groups: for named in others {
         push_indicator(&mut out, low, group, 8);
         low = named.t;

@@ -58,7 +58,7 @@ pub taken_stays : (stage : Stage) (plan : Course) (byte : ℕ)
 taken_stays (Taking_header bytes) plan byte = refl
 taken_stays _ _ _ = refl
 
--- the characters left before a plan is taken
+-- the measure just before a plan is taken
 pub before_plan : (stage : Stage) (plan : Course) → takes_plan stage ≡ true
     → still_to_go stage plan ≡ length plan.steps + 300
 before_plan (Taking_header bytes) plan e = let five : length bytes ≡ 5 =

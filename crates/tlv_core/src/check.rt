@@ -36,6 +36,7 @@ pub(crate) fn first_fault(bytes: &[u8], level: usize) -> Option<TlvFault>
     let mut open = 0;
     let mut place = 0;
     let mut end = bytes.len();
+    // For the proof: the labels name the goals of both loops.
     'reading: loop {
         'closing: while place == end {
             if open == 0 {

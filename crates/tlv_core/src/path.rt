@@ -57,6 +57,7 @@ fn find_in<'a>(bytes: &'a [u8], path: &[Tag]) -> Option<(usize, Obj<'a>)>
     let mut open = 0u8;
     let mut place = 0;
     let mut end = bytes.len();
+    // For the proof: the label names the loop's goals.
     'seeking: loop {
         if place == end {
             if open == 0 {

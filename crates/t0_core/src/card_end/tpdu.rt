@@ -152,6 +152,7 @@ impl<C: TpduCard> CardEnd<C> {
             (λ fault. Sticks C.TpduCard first (plan_kept plans.old) (asked_of tpdu.now) before
             gather.new self.new fault) }
     {
+        // For the proof: the label names the loop's goals.
         'talk: loop {
             if let Some(status) = self.pass(tpdu, plans, gather)? {
                 return Ok(status);

@@ -89,9 +89,9 @@ fn spell(alloc: Global, pcb: Pcb, info: &[u8]) -> Result<Vec<u8>, AllocError>
     Ok(out)
 }
 
-/// Decodes a whole block. `None` if a byte of it is wrong: NAD, PCB, LEN, the LRC, or the field of an
-/// R-block or an S-block. An empty I-block with the more-data bit is wrong too (profile). The owner
-/// of the line then calls `damaged`.
+/// Decodes a whole block. `None` if a byte of it is wrong: NAD, PCB, LEN, the LRC, or the field of
+/// an R-block or an S-block. An empty I-block with the more-data bit is wrong too (profile). The
+/// owner of the line then calls `damaged`.
 pub fn read(bytes: &[u8]) -> Option<Block<'_>>
     ensures exact { option_map said result ≡ block_of bytes.now }
 

@@ -122,7 +122,7 @@ impl<C: TpduCard> CardEnd<C> {
         }
     }
 
-    /// The card.
+    /// Returns the card behind the end.
     pub fn card(&self) -> &C
         ensures { result.now ≡ self.now.card }
     {
@@ -235,7 +235,7 @@ impl<C: TpduCard> CardEnd<C> {
         take_run(&mut self.phase, bytes, &mut self.came)
     }
 
-    /// Returns the card's next character if it is the card's turn. Otherwise nothing changes.
+    /// Returns the card's next character, or `Listens`, with no change, if the terminal sends next.
     ///
     /// The first character after a header takes the next plan. Later ones continue that plan, by
     /// the number of steps done so far. With SW2 the card's state changes.

@@ -24,7 +24,7 @@ const WAIT: &[u8] = b"\x00\xC3\x01\x02\xC0";
 
 const WAITS: &[u8] = b"\x00\xE3\x01\x02\xE0";
 
-/// No block comes.
+/// No block arrives.
 const NONE: &[u8] = b"";
 
 /// IFSC 3, and a limit of 4 bytes.
@@ -32,14 +32,14 @@ fn settings(rt: &impl Abort, tries: u8, extensions: u8) -> Settings {
     Settings::new(Edc::Lrc, 3, tries, extensions, 4).expect(rt, "settings")
 }
 
-/// The terminal sends this block.
+/// Checks that the terminal sends this block.
 fn sends(rt: &impl Abort, alloc: Global, end: &TerminalEnd, bytes: &[u8]) {
     let block = end.next().expect(rt, "a block");
     let sent = write(alloc, block).expect(rt, "memory");
     assert!(rt; sent.as_slice() == bytes, "{sent:?}");
 }
 
-/// The terminal sends the first block of each row, and takes the second.
+/// Checks that the terminal sends the first block of each row; it then takes the second.
 fn goes(rt: &(impl Abort + AllocGlobal), end: &mut TerminalEnd, rows: &[[&[u8]; 2]]) {
     for [sent, taken] in rows {
         sends(rt, rt.alloc(), end, sent);
@@ -71,7 +71,7 @@ fn a_terminal_in_a_chain(rt: HostRuntime) {
     assert!(&rt; end.is_ready() && end.response() == b"\x41\x42\x90\x00".as_slice());
 }
 
-/// These blocks lead to this fault, and a reset leads out of it.
+/// Checks that these blocks lead to this fault, and that a reset ends it.
 fn fails(rt: &(impl Abort + AllocGlobal), rows: &[[&[u8]; 2]], cause: Cause, outcome: Outcome) {
     let mut end = TerminalEnd::new(rt.alloc(), settings(rt, 2, 1));
     assert!(rt; end.begin(b"\xB0").is_ok());
@@ -116,7 +116,7 @@ fn a_card_answers(rt: HostRuntime) {
         [b"\x00\x40\x01\x42\x03", waits],
         [b"\x00\xE3\x01\x03\xE1", waits],
         [b"\x00\xE3\x01\x03\xE1", b"\x00\x00\x02\x41\x42\x01"],
-        // It repeats its block, and carries out no command whose N(S) is old.
+        // It repeats its block, and does not carry out a command with an old N(S).
         [R0, b"\x00\x00\x02\x41\x42\x01"],
         [b"\x00\x40\x01\x42\x03", R0],
         [b"\x00\xC2\x00\xC2", b"\x00\xE2\x00\xE2"],
@@ -130,7 +130,7 @@ fn a_card_answers(rt: HostRuntime) {
     assert!(&rt; end.into_applet().ran.len() == 1);
 }
 
-/// Of each four blocks of the terminal one is lost, and the answer to the next one is damaged.
+/// Loses one of each four blocks of the terminal, and damages the reply to the next one.
 #[derive(Drop)]
 struct Lossy<'r, R: Abort> {
     rt: &'r R,

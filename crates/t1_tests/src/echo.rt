@@ -1,4 +1,4 @@
-//! A card that sends back each command, and keeps what it carried out.
+//! A card that sends back each command, and records what it carried out.
 
 ghost use Rattle.std.specs.Prelude.{◌≡◌, List, ℕ, map};
 ghost use Rattle.t1_tests.specs.Echo.{echoes, size_at, requests_at};
@@ -10,7 +10,7 @@ use t1_core::{Applet, Requests};
 #[derive(Drop)]
 pub struct Echo {
     alloc: Global,
-    /// What it carried out, the newest last.
+    /// The commands that it carried out, the latest last.
     pub ran: Vec<Vec<u8>>,
 }
 
@@ -44,7 +44,7 @@ impl Applet for Echo {
     }
 }
 
-/// Every second command waits twice, every third one announces 20 as IFSC.
+/// Every second command waits twice, and every third one announces IFSC 20.
 fn requests_at(count: usize) -> Requests
     ensures { result ≡ requests_at count }
 {

@@ -1,4 +1,5 @@
-//! Tests of `t1_core`, by its public calls alone: no proof of it is made once more.
+//! Tests of `t1_core` through its public calls. A crate of its own, so that `t1_core` is not proved
+//! again for its tests.
 #![tactic(auto)]
 
 #[cfg(test)]

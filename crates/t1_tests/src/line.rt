@@ -13,15 +13,15 @@ enum Way {
     Delivers,
     /// A byte other than LEN is wrong.
     Damages,
-    /// The block stops within, or a parity is wrong.
+    /// The block stops before its end, or a parity is wrong.
     Stops,
     Loses,
     Doubles,
-    /// The block comes after the time-out of the end that waits for it.
+    /// The block arrives after the time-out of the end that waits for it.
     Delays,
 }
 
-/// Both ends, and what is on the line between them.
+/// Both ends, and the blocks on the line between them.
 #[derive(Drop)]
 pub struct Line {
     alloc: Global,
@@ -36,7 +36,7 @@ pub struct Line {
 }
 
 impl Line {
-    /// One block in `one_in` meets a fault of the line.
+    /// Makes a line with a fault in one of `one_in` blocks.
     pub fn new(alloc: Global, settings: Settings, random: Random, one_in: usize) -> Line {
         Line {
             alloc,
@@ -50,7 +50,7 @@ impl Line {
         }
     }
 
-    /// Begins a command; false if the terminal refuses it.
+    /// Begins a command. Returns false if the terminal refuses it.
     pub fn begin(&mut self, command: &[u8]) -> bool {
         self.terminal.begin(command).is_ok()
     }
@@ -68,7 +68,7 @@ impl Line {
         self.terminal.fault()
     }
 
-    /// What the card carried out.
+    /// Returns the commands that the card carried out.
     pub fn finish(self) -> Vec<Vec<u8>> {
         self.card.into_applet().ran
     }
@@ -86,12 +86,12 @@ impl Line {
         }
     }
 
-    /// The terminal sends its block, and takes what comes then. False if it sends none.
+    /// The terminal sends its block, and takes what arrives then. Returns false if it sends none.
     pub fn exchange(&mut self, rt: &impl Abort) -> bool {
         let Some(bytes) = self.sent(rt) else {
             return false;
         };
-        // After a time-out or an invalid block it asks, and repeats no I-block.
+        // After a time-out or an invalid block it asks for the block, and repeats no I-block.
         assert!(rt; !self.has_missed || bytes.get(1).is_some_and(|pcb| *pcb >= 128));
         if let Some(late) = self.late.take() {
             self.card_hears(rt, &late);
@@ -109,7 +109,7 @@ impl Line {
         }
     }
 
-    /// A block of the terminal.
+    /// Passes a block of the terminal to the card.
     fn down(&mut self, rt: &impl Abort, mut bytes: Vec<u8>) {
         match self.way() {
             Way::Delivers => self.card_hears(rt, &bytes),
@@ -142,7 +142,7 @@ impl Line {
         self.on_the_way.push(bytes).expect(rt, "memory");
     }
 
-    /// The first block on its way to the terminal, or a time-out.
+    /// Passes the first block on its way to the terminal, or reports a time-out.
     fn up(&mut self, rt: &impl Abort) {
         self.has_missed = true;
         if self.on_the_way.is_empty() {
@@ -180,7 +180,7 @@ impl Line {
     }
 }
 
-/// Makes a byte wrong that is not LEN.
+/// Changes a byte other than LEN.
 fn damage(random: &mut Random, bytes: &mut Vec<u8>) {
     let at = random.below(bytes.len());
     let wrong = random.byte() | 1;
@@ -191,7 +191,7 @@ fn damage(random: &mut Random, bytes: &mut Vec<u8>) {
     }
 }
 
-/// The bytes come one at a time, and the last of them ends the block.
+/// The bytes arrive one at a time, and the last of them completes the block.
 fn received(rt: &impl Abort, bytes: &[u8]) -> Receiver {
     let mut receiver = Receiver::new();
     let mut last = Received::More;
@@ -203,7 +203,7 @@ fn received(rt: &impl Abort, bytes: &[u8]) -> Receiver {
     receiver
 }
 
-/// The first of the bytes come, and end no block.
+/// Only the first bytes arrive, and complete no block.
 fn stop(rt: &impl Abort, random: &mut Random, bytes: &[u8]) {
     let count = random.below(bytes.len());
     let mut receiver = Receiver::new();

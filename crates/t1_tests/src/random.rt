@@ -1,4 +1,4 @@
-//! Numbers that look random, the same in each run.
+//! Pseudo-random numbers, the same in each run.
 
 /// A linear congruential generator (Knuth, MMIX).
 #[derive(Clone, Copy)]
@@ -25,7 +25,7 @@ impl Random {
         (self.below(256) % 256) as u8
     }
 
-    /// Whether one in `many` comes.
+    /// True with probability one in `many`.
     pub fn one_in(&mut self, many: usize) -> bool {
         self.below(many) == 0
     }

@@ -9,7 +9,7 @@ use t1_core::{Cause, Edc, Fault, Outcome, Settings};
 /// The limit of a response in some sessions.
 const SHORT: usize = 300;
 
-/// How many sessions ended how.
+/// The number of sessions with each ending.
 #[derive(Clone, Copy)]
 struct Ends {
     answered: usize,
@@ -39,7 +39,7 @@ impl Ends {
     }
 }
 
-/// One to four commands of up to 400 bytes. The first byte is the command's number.
+/// Makes one to four commands of up to 400 bytes. The first byte is the command's number.
 fn commands(rt: &impl Abort, alloc: Global, random: &mut Random) -> Vec<Vec<u8>> {
     let mut commands = Vec::new(alloc);
     for number in 0..=random.below(4) {
@@ -61,7 +61,7 @@ fn settings(rt: &impl Abort, random: &mut Random) -> Settings {
     Settings::new(Edc::Lrc, ifsc, tries, extensions, limit).expect(rt, "settings")
 }
 
-/// Sends the commands until one is not answered. Returns how many are.
+/// Sends the commands until one has no answer. Returns the number of answers.
 fn answered(rt: &impl Abort, line: &mut Line, commands: &[Vec<u8>]) -> usize {
     let mut count = 0usize;
     for command in commands {
@@ -80,7 +80,8 @@ fn answered(rt: &impl Abort, line: &mut Line, commands: &[Vec<u8>]) -> usize {
     count
 }
 
-/// The card carried out the first of the commands, each once, and a fault says what is true.
+/// Checks that the card carried out the first of the commands, each once, and that the outcome in a
+/// fault is true.
 fn is_true(
     rt: &impl Abort,
     commands: &[Vec<u8>],
@@ -105,7 +106,7 @@ fn is_true(
     assert!(rt; is_true, "{fault:?}");
 }
 
-/// One session. Returns how it ended.
+/// Runs one session. Returns its fault, if any.
 fn session(rt: &(impl Abort + AllocGlobal), seed: u64) -> Option<Fault> {
     let mut random = Random::new(seed);
     let commands = commands(rt, rt.alloc(), &mut random);
@@ -132,7 +133,7 @@ fn session(rt: &(impl Abort + AllocGlobal), seed: u64) -> Option<Fault> {
     fault
 }
 
-/// After a fault no command begins, and no block is sent.
+/// Checks that after a fault no command begins, and no block is sent.
 fn is_dead(rt: &impl Abort, line: &mut Line, commands: &[Vec<u8>], fault: Option<Fault>) {
     if fault.is_some() {
         for command in commands {
@@ -153,7 +154,7 @@ fn no_command_is_carried_out_twice(rt: HostRuntime) {
     for seed in 0..10_000 {
         ends.add(session(&rt, seed));
     }
-    // Each way to end came.
+    // Each ending occurred.
     assert!(rt; ends.answered > 2_000 && ends.too_long > 100);
     assert!(rt; ends.not_carried_out > 100 && ends.unknown > 100 && ends.in_part > 100);
 }

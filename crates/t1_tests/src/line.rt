@@ -109,7 +109,7 @@ impl Line {
         }
     }
 
-    /// Passes a block of the terminal to the card.
+    /// Sends a block of the terminal towards the card.
     fn down(&mut self, rt: &impl Abort, mut bytes: Vec<u8>) {
         match self.way() {
             Way::Delivers => self.card_hears(rt, &bytes),

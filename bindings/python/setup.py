@@ -1,28 +1,60 @@
-"""Installs the package: its version is the header's, its extension module comes from
-build_library.py, and a source distribution takes header and archives with it."""
+"""Builds and installs the package. Its extension module `galliumtoad._library` has the functions of
+`galliumtoad.h`, each with its NULL checks, linked with the archive for this processor."""
 
-import sys
+import os
+import platform
+import re
 from pathlib import Path
 
+import cffi
 from setuptools import setup
 from setuptools.command.sdist import sdist
 
-sys.path.insert(0, str(Path(__file__).resolve().parent))
-import build_library  # noqa: E402
+HERE = Path(__file__).resolve().parent
+# A source distribution has copies of the files beside it; in the repository they are one level up.
+COPY = "native"
+BINDINGS = HERE / COPY if (HERE / COPY).is_dir() else HERE.parent
+HEADER = BINDINGS / "c" / "include" / "galliumtoad.h"
+TEXT = HEADER.read_text(encoding="utf-8")
+VERSION = re.findall(r"^#define GT_VERSION_(?:MAJOR|MINOR|PATCH) (\d+)$", TEXT, re.M)
+
+
+def declarations():
+    """The types, numbers and functions of the header, in the words that cffi reads."""
+    text = re.sub(r"/\*.*?\*/", "", TEXT, flags=re.DOTALL)
+    numbers = re.findall(r"^#define (GT_[A-Z_]+) (?:\d|\(GT_)", text, re.M)
+    text = re.sub(r"^#.*$", "", text, flags=re.M).replace('extern "C" {', "")
+    text = re.sub(r"\) \{\n.*?\n\}", ");", text, flags=re.DOTALL)  # a function's body
+    text = re.sub(r"\b(GT_MUST_CHECK|GT_FUNCTION|static inline)\b", "", text)
+    items = re.findall(r"[^;{}]*(?:\{[^{}]*\}[^;{}]*)?;", text)
+    public = [it.strip() for it in items if not re.search(r"\b(galliumtoad_|gt_bytes_)", it)]
+    return "\n".join([f"#define {name} ..." for name in numbers] + public)
+
+
+def builder():
+    """The extension module, for cffi's hook in setuptools."""
+    archive = BINDINGS / "lib" / f"{platform.machine()}-linux-gnu" / "libcard_c.a"
+    if not archive.is_file():
+        raise SystemExit(f"galliumtoad: there is no archive for Linux on {platform.machine()}")
+    heap = os.path.relpath(BINDINGS / "c" / "src" / "heap.c", HERE)
+    parts = {"sources": [heap], "extra_objects": [str(archive)]}
+    made = cffi.FFI()
+    made.cdef(declarations())
+    parts["include_dirs"] = [str(HEADER.parent)]
+    made.set_source("galliumtoad._library", '#include "galliumtoad.h"\n', **parts)
+    return made
 
 
 class SourceDistribution(sdist):
-    """Copies what is built from into the distribution, where build_library.py looks first."""
+    """Copies what is built from into the distribution."""
 
     def make_release_tree(self, base_dir, files):
         super().make_release_tree(base_dir, files)
         for part in ("c/include", "c/src", "lib"):
-            there = f"{base_dir}/{build_library.COPY}/{part}"
-            self.copy_tree(str(build_library.BINDINGS / part), there)
+            self.copy_tree(str(BINDINGS / part), f"{base_dir}/{COPY}/{part}")
 
 
-setup(
-    version=build_library.version(),
-    cffi_modules=["build_library.py:builder"],
-    cmdclass={"sdist": SourceDistribution},
-)
+# The hook reads this file, too, under another name.
+if __name__ == "__main__":
+    made_from = {"cffi_modules": ["setup.py:builder"], "cmdclass": {"sdist": SourceDistribution}}
+    setup(version=".".join(VERSION), **made_from)

@@ -1,6 +1,7 @@
 """Cards by the hundred, over a stand-in for pyscard whose cards come and go: killed at random, with
 a full disk, a journal that was cut, two runs at once, and cards of another profile."""
 
+import fcntl
 import json
 import os
 import random
@@ -111,6 +112,7 @@ def test_each_row_goes_to_one_card(tmp_path):
     room = Room(tmp_path, 60, readers=2)
     status, out, error = room.run("--id=9F7F", *room.readers)
     while status == 1:
+        assert error == ""
         # cards were pulled after the first put had begun
         assert set(listed(out).values()) <= {"unsure", "failed"}
         room.decide()
@@ -127,7 +129,7 @@ def test_a_row_is_on_disk_before_its_cards_first_byte(tmp_path, monkeypatch):
     monkeypatch.setenv("STANDIN", str(tmp_path))
     room = Room(tmp_path, 1)
     from galliumtoad import batch, journal
-    from smartcard.System import Connection
+    from smartcard.pcsc.PCSCCardConnection import PCSCCardConnection as Connection
 
     steps, sync, transmit = [], os.fsync, Connection.transmit
     monkeypatch.setattr(
@@ -139,7 +141,8 @@ def test_a_row_is_on_disk_before_its_cards_first_byte(tmp_path, monkeypatch):
     monkeypatch.chdir(tmp_path)
     given = batch.parsed(["script", "--rows=rows.csv", "--journal=journal"])
     batch.serve(batch.Batch(given), room.names[0])
-    assert steps[:2] == ["on disk"] * 2 and set(steps[2:-1]) == {"card"}
+    # the heading, the folder and the row
+    assert steps[:3] == ["on disk"] * 3 and set(steps[3:-1]) == {"card"}
     assert steps[-1] == "on disk"
 
 
@@ -308,6 +311,16 @@ def test_a_card_that_stores_another_byte_has_failed(tmp_path):
         ("put 5F20 41*8193\n", None, (), "script:1: no `put` for row 1"),
         ("put 5F20 @{name}.jpg\n", None, (), "script:1: no `put` for row 1: No such file or dir"),
         ("send 00\n", None, (), "script:1: no `send` for row 1: command too short"),
+        ("put 50 @{name}\nput 50 {code}*0\n", None, (), "script:2: no `put` for row 1"),
+        ("put 50 41*-5\n", None, (), "script:1: no `put` for row 1"),
+        ("put 0x50 41\n", None, (), "script:1: no `put` for row 1"),
+        ("# get 50\n\n", None, (), "script has no operation"),
+        (None, "name,code\nA,00\nB,\n", (), "script:4: no `put` for row 2"),
+        (None, "name,code\nA,00\n" + "\xe9,01\n", (), "script:3: no `put` for row 2"),
+        (None, "name,code,name\nA,00,B\n", (), "script:3: the table has 2 columns `name`"),
+        (None, "name,code\n", (), "rows.csv has no row"),
+        (None, "", (), "script:3: the table has no column `name`"),
+        (None, 'name,code\nA,00\n"B"C,00\n', (), "rows.csv:3: ',' expected after '\"'"),
         (None, "name,code\nA,00\nB,0\n", (), "script:4: no `put` for row 2"),
         (None, "name,code\nA\n", (), "rows.csv: row 1 has too many columns, or too few"),
         (None, "name,code\nA,00,1\n", (), "rows.csv: row 1 has too many columns, or too few"),
@@ -321,8 +334,8 @@ def test_a_card_that_stores_another_byte_has_failed(tmp_path):
 def test_bad_input_is_named_before_any_card(tmp_path, script, rows, words, text):
     room = Room(tmp_path, 2, readers=2)
     room.write("script", script or SCRIPT)
-    if rows:
-        room.write("rows.csv", rows)
+    if rows is not None:
+        (tmp_path / "rows.csv").write_text(rows, encoding="latin-1")
     status, out, error = room.run(*words)
     assert status == 2 and error.startswith(f"galliumtoad.batch: {text}"), error
     assert out == "" and not list(tmp_path.glob("cards/*")) and "PERSON" not in error
@@ -340,6 +353,106 @@ def test_a_journal_of_another_table_is_refused(tmp_path):
     assert room.run()[0] == 0
     room.write("script", SCRIPT + "get 50\n")
     assert room.run()[2].endswith("journal is the journal of another table or script\n")
+
+
+def test_another_file_is_no_journal_and_stays(tmp_path):
+    room = Room(tmp_path, 1)
+    for text in (b"name,code\nA,00", b"\xff\xfe", b"# rows of another table", b"# rows\n"):
+        (tmp_path / "journal").write_bytes(text)
+        status, _, error = room.run()
+        assert status == 2
+        assert error.endswith("journal is the journal of another table or script\n")
+        assert (tmp_path / "journal").read_bytes() == text
+
+
+@pytest.mark.parametrize("line", ["d\0ne 1", "done", "done x", "done 0", "done 3", "done -1", ""])
+def test_a_damaged_journal_is_refused(tmp_path, line):
+    room = Room(tmp_path, 2)
+    room.run("--status")
+    whole = (tmp_path / "journal").read_text() + f"done 2\n{line}\ndone 1"
+    (tmp_path / "journal").write_text(whole)
+    status, out, error = room.run()
+    assert status == 2 and out == "" and "journal is damaged: no line of a journal: " in error
+    assert (tmp_path / "journal").read_text() == whole
+
+
+def test_a_row_is_decided_under_one_lock(tmp_path, monkeypatch):
+    room = Room(tmp_path, 1)
+    room.run("--status")
+    journal = Journal(str(tmp_path / "journal"), room.journal()[0], 1)
+    journal.take("Slot0")
+    journal.note(1, "unsure", "")
+    steps, lockf, pwrite = [], fcntl.lockf, os.pwrite
+    monkeypatch.setattr(fcntl, "lockf", lambda *it: (steps.append(it[1:]), lockf(*it))[1])
+    monkeypatch.setattr(os, "pwrite", lambda *it: (steps.append("written"), pwrite(*it))[1])
+    journal.decide(1, "again")
+    mine = [it for it in steps if it == "written" or it[2] == 0]
+    assert mine == [(fcntl.LOCK_EX, 1, 0), "written", (fcntl.LOCK_UN, 1, 0)]
+
+
+def test_a_table_as_a_spreadsheet_writes_it(tmp_path):
+    room = Room(tmp_path, 2)
+    text = '\ufeff"name","code",\r\n"PERSON 1","00000001",\r\n\r\nPERSON 2,00000002,more\r\n'
+    (tmp_path / "rows.csv").write_bytes(text.encode())
+    room.write("script", SCRIPT.replace("\n", "\r\n"))
+    assert room.run()[0] == 0
+    assert [room.cards_of(row) for row in (1, 2)] == [(1, 1)] * 2
+
+
+def test_texts_are_stored_as_they_are(tmp_path):
+    room = Room(tmp_path, 1)
+    text = 'name,code\n" \u00c5SA, ""X""\r\n\u2028 ",-\n'
+    (tmp_path / "rows.csv").write_bytes(text.encode())
+    assert room.run()[0] == 0
+    [held] = [json.loads(it.read_text()) for it in tmp_path.glob("cards/*")]
+    assert bytes.fromhex(held["24352"]).decode() == ' \u00c5SA, "X"\r\n\u2028 '
+    assert held["40758"] == ""
+
+
+def test_a_file_that_went_away_takes_no_row(tmp_path):
+    room = Room(tmp_path, 1)
+    room.write("script", "select A0000000031010\nput 5F20 @{name}.jpg\n")
+    photo = tmp_path / "PERSON 1.jpg"
+    photo.write_bytes(b"1")
+    room.environment["SLOW"] = "0.5"
+    (tmp_path / room.names[0] / "card").write_text("5")
+    run = room.start()
+    begun(room)
+    photo.unlink()
+    told = run.stdout.readline(), run.stdout.readline()
+    run.kill()
+    run.communicate(timeout=300)
+    assert told[1] == (
+        f"{room.names[0]}: row 1 unused: script:2: no `put` for row 1: No such file or directory\n"
+    )
+
+
+def test_an_interrupted_run_lists_its_row(tmp_path):
+    room = Room(tmp_path, 3)
+    room.environment["SLOW"] = "0.2"
+    run = room.start()
+    begun(room)
+    os.kill(run.pid, signal.SIGINT)
+    out, error = run.communicate(timeout=300)
+    assert (run.returncode, error) == (1, "")
+    assert listed(out) == {1: "unsure"}
+    assert out.endswith("0 of 3 rows done, 1 to decide\n")
+
+
+def test_a_reader_that_goes_away_is_named(tmp_path):
+    room = Room(tmp_path, 3)
+    room.environment["SLOW"] = "0.1"
+    run = room.start()
+    begun(room)
+    (tmp_path / "gone").touch()
+    out, error = run.communicate(timeout=300)
+    assert error == f"{room.names[0]}: error 9\n" and run.returncode == 1
+
+
+def test_without_a_pcscd_no_reader_is_chosen(tmp_path):
+    room = Room(tmp_path, 1)
+    (tmp_path / "gone").touch()
+    assert room.run() == (2, "", "galliumtoad.batch: error 9\n")
 
 
 def test_a_missing_file_is_named(tmp_path):

@@ -27,6 +27,7 @@ from galliumtoad import (
     Send,
     Session,
     Status,
+    T1,
     Terminal,
     TransportError,
     find,
@@ -35,6 +36,7 @@ from galliumtoad import (
 )
 from galliumtoad._library import ffi, lib
 from galliumtoad.errors import checked
+from galliumtoad.handle import Handle
 
 AID = bytes.fromhex("A0000000031010")
 SELECT = bytes.fromhex("00A4040007A000000003101000")
@@ -101,6 +103,44 @@ def test_what_is_no_bytes_is_a_type_error(wrong):
     for call in calls:
         with pytest.raises(TypeError):
             call()
+
+
+@pytest.mark.parametrize("wrong", ["9000", 5, None, [1, 2], memoryview(b"P.A.")[::2]])
+def test_a_list_of_objects_is_bytes(wrong):
+    zeros = Card({bytes(5): {}})
+    for call in (lambda: objects(wrong), lambda: find(wrong, 0x50), lambda: zeros.entries(wrong)):
+        with pytest.raises(TypeError):
+            call()
+
+
+def test_what_is_wrong_is_refused_before_a_call(monkeypatch):
+    terminal, held, session = Terminal(), card(), Session(card())
+    terminal.run(held.tpdu, Select(AID))
+    begun = terminal.answer()
+    calls = []
+    monkeypatch.setattr(Handle, "_call", lambda *words, **more: calls.append(words))
+    for call in [
+        lambda: Session(5),
+        lambda: Session(session),
+        lambda: T1(5),
+        lambda: terminal.run(5, Get(0x50)),
+        lambda: terminal.run(held.tpdu, Get),
+        lambda: terminal.run(held.tpdu, Status(0x9000)),
+        lambda: Card(5),
+        lambda: Card({AID: 5}),
+        lambda: Card({AID: {0x50: b"", 0x5F20: 5}}),
+        lambda: Card({AID: {"50": b""}}),
+        lambda: Card({AID: {0x50: b""}}, locked=5),
+        lambda: Terminal(None),
+        lambda: Exchange(5),
+        lambda: Exchange(SELECT, None),
+        lambda: held.plan(5),
+    ]:
+        with pytest.raises(TypeError):
+            call()
+    assert calls == []
+    monkeypatch.undo()
+    assert terminal.answer() == begun
 
 
 @pytest.mark.parametrize("wrong", ["50", 5.0, None])

@@ -10,14 +10,11 @@ and a card that holds them, over a proved library.
 What Python holds is not wiped: `bytes` can't be. What the library holds is wiped when it is freed.
 """
 
-from .answers import Answer, Object, Status, find, head, objects
-from .atr import Atr, Pps
-from .card import Card, Entry
+from .answers import Answer, Atr, Object, Pps, Status, find, head, objects
+from .card import Card, Character, Entry, Session
 from .errors import AtrError, BlockError, BuildError, CallError, CommandError, Error, LineError
 from .errors import ObjectsError, OutOfMemory, PpsError, TransportError
-from .session import Character, Session
-from .t1 import T1
-from .terminal import Due, Exchange, Get, Level, Put, Select, Send, Terminal, Transport
+from .terminal import T1, Due, Exchange, Get, Level, Put, Select, Send, Terminal, Transport
 
 __all__ = ["Answer", "Atr", "AtrError", "BlockError", "BuildError", "CallError", "Card"]
 __all__ += ["Character", "CommandError", "Due", "Entry", "Error", "Exchange", "Get", "Level"]

@@ -1,11 +1,13 @@
-"""Statuses, answers and data objects."""
+"""What a card answers: statuses, data objects, answers to reset."""
 
-from dataclasses import dataclass
+from types import SimpleNamespace
 from typing import Any, NamedTuple, Optional
 
 from ._library import ffi, lib
 from .errors import checked
-from .handle import Bytes, copied, readable, tag_number, within, writable
+from .handle import Bytes, copied, plain, readable, tag_number, within, writable
+
+Byte = Optional[int]
 
 
 class Status(int):
@@ -24,15 +26,14 @@ class Status(int):
     @property
     def text(self) -> str:
         """What it means at a card of this library, in a few words; else `unknown status`."""
-        found: bytes = ffi.string(lib.gt_status_text(within(int(self), 0, 0xFFFF, "a status")))
-        return found.decode()
+        number = within(int(self), 0, 0xFFFF, "a status")
+        return str(ffi.string(lib.gt_status_text(number)).decode())
 
     def __repr__(self) -> str:
         return f"Status(0x{int(self):04X})"
 
 
-@dataclass(frozen=True)
-class Object:
+class Object(NamedTuple):
     """A data object. `level` is 1 for the outermost; `place` is that of its first byte, from 0."""
 
     tag: int
@@ -60,7 +61,7 @@ def objects(data: Bytes) -> list[Object]:
     ...  galliumtoad.objects(bytes.fromhex("6F0584034A4F45"))]
     [('0x6f', 1, '84034a4f45'), ('0x84', 2, '4a4f45')]
     """
-    kept, count, place = bytes(data), ffi.new("size_t *"), ffi.new("size_t *")
+    kept, count, place = plain(data), ffi.new("size_t *"), ffi.new("size_t *")
     found = ffi.new("gt_object[]", len(kept))
     checked(lib.gt_objects(kept, len(kept), found, len(found), count, place), place)
     return [_object(it, kept) for it in found[0 : count[0]]]
@@ -75,13 +76,10 @@ def find(data: Bytes, *path: int) -> Optional[Object]:
     >>> galliumtoad.find(bytes.fromhex("6F0584034A4F45"), 0x6F, 0x84).value
     b'JOE'
     """
-    kept, found, place = bytes(data), ffi.new("gt_object *"), ffi.new("size_t *")
+    kept, found, place = plain(data), ffi.new("gt_object *"), ffi.new("size_t *")
     steps = [tag_number(tag) for tag in path]
     code = lib.gt_find(kept, len(kept), steps, len(steps), found, place)
-    if code == lib.GT_NOT_FOUND:
-        return None
-    checked(code, place)
-    return _object(found, kept)
+    return None if checked(code, place, [lib.GT_NOT_FOUND]) else _object(found, kept)
 
 
 def head(tag: int, length: int) -> bytes:
@@ -108,3 +106,60 @@ class Answer(NamedTuple):
         """The one object that the data are, if its tag is this and nothing else is there."""
         is_it = lib.gt_is_object(*readable(self.data), tag_number(tag))
         return find(self.data, tag) if is_it else None
+
+
+class Atr:
+    """What an answer to reset says (ISO/IEC 7816-3, clause 8): the fields of `gt_atr` in the
+    header, as attributes.
+
+    What it says of T=1 is in `t1`. `protocols` is a tuple, in the order offered; `historical` are
+    the historical bytes. Raises `AtrError` if the bytes are no answer to reset, with the place of
+    the first fault.
+
+    >>> from galliumtoad import Atr
+    >>> Atr(bytes.fromhex("3B0214"))
+    Traceback (most recent call last):
+    galliumtoad.errors.AtrError: answer to reset cut at byte 3
+    >>> atr = Atr(bytes.fromhex("3B02144E"))
+    >>> atr.protocols, atr.fi, atr.di, atr.historical.hex()
+    ((0,), 372, 1, '144e')
+    """
+
+    def __init__(self, data: Bytes) -> None:
+        atr, place = ffi.new("gt_atr *"), ffi.new("size_t *")
+        checked(lib.gt_atr_read(*readable(data), atr, place), place)
+        self.__dict__.update(_fields(atr[0]))
+        self.protocols = tuple(atr.protocols[0 : atr.protocol_count])
+        self.historical = bytes(data)[atr.historical :][: atr.historical_count]
+
+    def __getattr__(self, name: str) -> Any:
+        raise AttributeError(f"an answer to reset has no {name}")
+
+
+def _fields(record: Any) -> dict[str, Any]:
+    """The fields of a record of the library, of a record in it as one of Python's."""
+    found = {name: getattr(record, name) for name, _ in ffi.typeof(record).fields}
+    inner = {name for name, it in ffi.typeof(record).fields if it.type.kind == "struct"}
+    return {**found, **{name: SimpleNamespace(**_fields(found[name])) for name in inner}}
+
+
+class Pps:
+    """A terminal's PPS request (ISO/IEC 7816-3, clause 9) for protocol `t`, and the bytes of PPS1
+    to PPS3, if they are asked for. Raises `CallError` for a number out of range.
+
+    >>> from galliumtoad import Pps
+    >>> pps = Pps(0, pps1=0x95)
+    >>> pps.request.hex(), pps.is_agreed(bytes.fromhex("FF10957A"))
+    ('ff10957a', True)
+    """
+
+    def __init__(self, t: int, pps1: Byte = None, pps2: Byte = None, pps3: Byte = None) -> None:
+        made, count = writable(lib.GT_PPS_LIMIT)
+        given = (pps1, pps2, pps3)
+        asked = (lib.GT_ABSENT if it is None else within(it, 0, 255, "a PPS byte") for it in given)
+        checked(lib.gt_pps_request(within(t, 0, 15, "T"), *asked, made, count))
+        self.request = copied(made, count)
+
+    def is_agreed(self, response: Bytes) -> bool:
+        """Whether the card's response accepts the request. Raises `PpsError` if it is none."""
+        return checked(lib.gt_pps_agreed(*readable(self.request), *readable(response))) == 1

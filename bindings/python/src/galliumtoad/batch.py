@@ -14,17 +14,16 @@ import multiprocessing
 import socket
 import sys
 from pathlib import Path
-from typing import Any, Iterator, Optional
+from typing import Any, Optional
 
 from smartcard import scard
 from smartcard.Exceptions import SmartcardException
-from smartcard.System import readers
+from smartcard.pcsc.PCSCCardConnection import PCSCCardConnection
 
-from .answers import head
-from .errors import CallError, Error
+from . import script
+from .errors import Error
 from .journal import Journal
 from .pyscard import transport
-from .script import Script
 from .terminal import Get, Put, Send, Terminal, Transport
 
 _HELP = "`@{column}` in a script is a column's text, `{column}` its digits: put 5F20 @{name}"
@@ -35,17 +34,22 @@ class Batch:
     `OSError`, before any card."""
 
     def __init__(self, words: argparse.Namespace) -> None:
-        with open(words.rows, newline="", encoding="utf-8-sig") as file:
-            self.rows = list(csv.DictReader(file, strict=True))
-        self.script = Script(words.script, list(self.rows[0]) if self.rows else [])
+        with script.opened(words.rows) as rows, script.opened(words.script) as lines:
+            table = csv.DictReader(rows, strict=True)
+            try:
+                self.rows = list(table)
+            except csv.Error as error:
+                raise ValueError(f"{words.rows}:{table.reader.line_num}: {error}") from None
+            self.script = script.Script(words.script, lines, list(table.fieldnames or ()))
         for number, row in enumerate(self.rows, 1):
             if None in row or None in row.values():
                 raise ValueError(f"{words.rows}: row {number} has too many columns, or too few")
-            self.script.check(number, row)
+            self.script.operations(number, row)
+        if not self.rows:
+            raise ValueError(f"{words.rows} has no row")
         sums = (hashlib.sha256(Path(it).read_bytes()) for it in (words.rows, words.script))
         heading = "# rows {} script {}".format(*(it.hexdigest() for it in sums))
         self.id_tag, self.journal = words.id, (words.journal, heading, len(self.rows))
-        self.is_begun = Journal(*self.journal).is_begun
 
 
 class Refused(Exception):
@@ -57,11 +61,11 @@ def carry_out(batch: Batch, journal: Journal, number: int, reader: Transport) ->
     nothing, `failed` or `unsure`, and why."""
     terminal, has_written = Terminal(), False
     try:
-        for line, operation in batch.script.operations(batch.rows[number - 1]):
+        for line, operation in batch.script.operations(number, batch.rows[number - 1]).items():
             if isinstance(operation, (Put, Send)) and not has_written:
                 if batch.id_tag is not None:
-                    card = stored(terminal, reader, batch.id_tag)
-                    journal.note(number, "card", card.hex().upper())
+                    value = stored(terminal, reader, batch.id_tag)
+                    journal.note(number, "card", value.hex().upper())
                 has_written = True
             status = terminal.run(reader, operation).status
             if not status.is_ok:
@@ -69,7 +73,7 @@ def carry_out(batch: Batch, journal: Journal, number: int, reader: Transport) ->
             if isinstance(operation, Put):
                 if stored(terminal, reader, operation.tag) != operation.value:
                     raise Refused(f"line {line}: {operation.tag:X} was not stored as sent")
-    except (SmartcardException, Error, Refused) as error:
+    except (SmartcardException, ValueError, Error, Refused) as error:
         word = "failed" if isinstance(error, Refused) else "unsure"
         return (word if has_written else "unused"), " ".join(str(error).split())
     return "done", ""
@@ -78,84 +82,76 @@ def carry_out(batch: Batch, journal: Journal, number: int, reader: Transport) ->
 def stored(terminal: Terminal, reader: Transport, tag: int) -> bytes:
     """The value under a tag. Raises `Refused` if the card has none."""
     answer = terminal.run(reader, Get(tag))
-    found = answer.object(tag)
-    if found is None:
-        raise Refused(f"no {tag:X}: {answer.status:04X} {answer.status.text}")
-    return found.value
+    if found := answer.object(tag):
+        return found.value
+    raise Refused(f"no {tag:X}: {answer.status:04X} {answer.status.text}")
 
 
 def say(name: str, what: object) -> None:
     """Prints a line about a reader, whole: other processes print there too."""
-    sys.stdout.write(f"{name}: {what}\n")
-    sys.stdout.flush()
+    print(f"{name}: {what}\n", end="", flush=True)
+
+
+def told(answer: tuple[int, Any]) -> Any:
+    """What a call of PC/SC says. Raises `OSError` if it failed, but not if its time is over."""
+    code, found = answer
+    if code not in (scard.SCARD_S_SUCCESS, scard.SCARD_E_TIMEOUT):
+        raise OSError(scard.SCardGetErrorMessage(code))
+    return found
 
 
 def state_of(context: Any, name: str, known: int, wait: int) -> int:
     """A reader's state, when it is another than the known one, or after so many milliseconds."""
-    code, found = scard.SCardGetStatusChange(context, wait, [(name, known)])
-    if code not in (scard.SCARD_S_SUCCESS, scard.SCARD_E_TIMEOUT):
-        raise OSError(scard.SCardGetErrorMessage(code))
+    found = told(scard.SCardGetStatusChange(context, wait, [(name, known)]))
     return int(found[0][1] & ~scard.SCARD_STATE_CHANGED) if found else known
 
 
-def cards(name: str, is_begun: bool) -> Iterator[Any]:
-    """Yields a connection, for this program alone, to each card that is put into a reader, and None
-    twice a second. In a batch that was begun it passes over the card that is in the reader: that
-    may have a row already. Raises `OSError`, also if another run on this machine serves it."""
-    reader, mark = next(it for it in readers() if str(it) == name), socket.socket(socket.AF_UNIX)
-    try:
-        mark.bind(f"\0galliumtoad.batch {name}")
-    except OSError:
-        raise OSError("another run serves this reader") from None
-    _, context = scard.SCardEstablishContext(scard.SCARD_SCOPE_USER)
-    known, used, said = state_of(context, name, scard.SCARD_STATE_UNAWARE, 0), -1, ""
-    if is_begun and known & scard.SCARD_STATE_PRESENT:
-        used = known >> 16
-        say(name, "take out the card that is in it")
-    while True:
-        yield None
-        # The upper half counts the cards that came and went.
-        if not known & scard.SCARD_STATE_PRESENT or known >> 16 == used:
-            known = state_of(context, name, known, 500)
-            continue
-        connection = reader.createConnection()
-        try:
-            connection.connect(mode=scard.SCARD_SHARE_EXCLUSIVE, disposition=scard.SCARD_RESET_CARD)
-            # Asked again: the card may be another one than that which was seen.
-            known = state_of(context, name, known, 0)
-            used = known >> 16
-            yield connection
-        except SmartcardException as error:
-            if str(error) != said:
-                say(name, error)
-            said = str(error)
-            known = state_of(context, name, known, 500)
-
-
-def serve(batch: Batch, name: str) -> None:
-    """Serves one reader until no row is free, or the journal can't be written."""
+def serve(batch: Batch, name: str, is_begun: bool = False) -> None:
+    """Serves one reader, with a row for each card that is put in, until no row is free. In a batch
+    that was begun it passes over the card that is in the reader: that may have a row already. Ends
+    the process if the journal can't be written, the reader is gone or another run serves it."""
     program = multiprocessing.parent_process()
     try:
-        journal = Journal(*batch.journal)
-        for connection in cards(name, batch.is_begun):
-            if not journal.count("free") or (program and not program.is_alive()):
-                break
-            number = journal.take(name) if connection else None
-            if number:
-                outcome, why = carry_out(batch, journal, number, transport(connection))
-                journal.note(number, outcome, why)
-                say(name, f"row {number} {outcome}{why and ': ' + why}")
-                with contextlib.suppress(SmartcardException):
-                    connection.disconnect()
-    except OSError as error:
-        sys.exit(f"{name}: {error}")
-    except KeyboardInterrupt:
-        sys.exit(1)
+        journal, mark = Journal(*batch.journal), socket.socket(socket.AF_UNIX)
+        try:
+            mark.bind(f"\0galliumtoad.batch {name}")
+        except OSError:
+            raise OSError("another run serves this reader") from None
+        context = told(scard.SCardEstablishContext(scard.SCARD_SCOPE_USER))
+        known, used, said = state_of(context, name, scard.SCARD_STATE_UNAWARE, 0), -1, ""
+        if is_begun and known & scard.SCARD_STATE_PRESENT:
+            used = known >> 16
+            say(name, "take out the card that is in it")
+        while journal.count("free") and (not program or program.is_alive()):
+            # The upper half counts the cards that came and went.
+            if known & scard.SCARD_STATE_PRESENT and known >> 16 != used:
+                try:
+                    card = PCSCCardConnection(name)
+                    card.connect(None, scard.SCARD_SHARE_EXCLUSIVE, scard.SCARD_RESET_CARD)
+                    # Asked again: the card may be another one than that which was seen.
+                    known = state_of(context, name, known, 0)
+                    used = known >> 16
+                    if number := journal.take(name):
+                        outcome, why = carry_out(batch, journal, number, transport(card))
+                        journal.note(number, outcome, why)
+                        say(name, f"row {number} {outcome}{why and ': ' + why}")
+                    with contextlib.suppress(SmartcardException):
+                        card.disconnect()
+                    continue
+                except SmartcardException as error:
+                    if str(error) != said:
+                        say(name, error)
+                    said = str(error)
+            known = state_of(context, name, known, 500)
+    except (OSError, ValueError, KeyboardInterrupt) as error:
+        sys.exit(f"{name}: {str(error) or 'interrupted'}")
 
 
 def chosen(names: list[str]) -> list[str]:
     """The readers that are named, each by a part of its name; without names the only one."""
-    found = {name: [str(it) for it in readers() if name in str(it)] for name in names or [""]}
+    context = told(scard.SCardEstablishContext(scard.SCARD_SCOPE_USER))
+    here = told(scard.SCardListReaders(context, []))
+    found = {name: [it for it in here if name in it] for name in names or [""]}
     for name, named in found.items():
         if len(named) != 1:
             what = f"`{name}` names" if name else "name one of"
@@ -174,11 +170,8 @@ def summary(journal: Journal, rows: int) -> int:
 
 def tag(text: str) -> int:
     """A tag of these digits. Raises `ValueError` if it is none."""
-    try:
-        head(int(text, 16), 0)
-    except CallError:
-        raise ValueError from None
-    return int(text, 16)
+    script.Script("--id", [f"get {text}"], []).operations(0, {})
+    return script.tag(text, {})
 
 
 def parsed(words: Optional[list[str]]) -> argparse.Namespace:
@@ -206,14 +199,18 @@ def main(words: Optional[list[str]] = None) -> int:
         if not (given.status or given.done or given.again):
             # A forked process would share this one's connection to pcscd.
             new = multiprocessing.get_context("spawn")
-            at_work = [new.Process(target=serve, args=(batch, it)) for it in chosen(given.reader)]
+            names, is_begun = chosen(given.reader), journal.is_begun
+            at_work = [new.Process(target=serve, args=(batch, it, is_begun)) for it in names]
             for it in at_work:
                 it.start()
             with contextlib.suppress(KeyboardInterrupt):
                 for it in at_work:
                     it.join()
+            for it in at_work:
+                it.terminate()
+                it.join()
         return summary(journal, len(batch.rows))
-    except (ValueError, OSError, csv.Error, SmartcardException) as error:
+    except (ValueError, OSError) as error:
         print(f"galliumtoad.batch: {error}", file=sys.stderr)
         return 2
 

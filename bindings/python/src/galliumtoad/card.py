@@ -1,9 +1,11 @@
-"""A card of data objects, and what a card holds."""
+"""A card of data objects, and a session of it with a terminal."""
 
-from typing import Collection, Mapping, NamedTuple, Optional
+from typing import Any, Collection, Mapping, NamedTuple, Optional
 
 from ._library import ffi, lib
-from .handle import Bytes, Handle, copied, readable, tag_number, within, writable
+from .answers import Answer, Status
+from .handle import Bytes, Lasting, copied, plain, readable, tag_number, within, writable
+from .terminal import Operation, Put, call_of
 
 Tables = Mapping[bytes, Mapping[int, Bytes]]
 
@@ -16,7 +18,7 @@ class Entry(NamedTuple):
     is_locked: bool
 
 
-class Holder(Handle):
+class Holder(Lasting):
     """What holds data objects: a card, or a session with its card."""
 
     def _aid(self, name: str, *words: int) -> Optional[bytes]:
@@ -42,10 +44,8 @@ class Holder(Handle):
 
         Raises `KeyError` if the card does not hold the application.
         """
-        applications = self.applications
-        if bytes(aid) not in applications:
-            raise KeyError(bytes(aid).hex())
-        app, found = applications.index(bytes(aid)), list[Entry]()
+        places = {it.hex(): place for place, it in enumerate(self.applications)}
+        app, found = places[plain(aid).hex()], list[Entry]()
         tag, locked, room = ffi.new("uint32_t *"), ffi.new("int32_t *"), lib.GT_VALUE_LIMIT
         value, count = writable(room)
         words = (tag, locked, value, room, count)
@@ -59,12 +59,7 @@ class Holder(Handle):
 
         Raises `CallError` for another letter, or if too many plans wait.
         """
-        self._call("plan", steps.encode("ascii"), within(cut, 0, 0xFFFF, "a cut"))
-
-    def reset(self) -> None:
-        """Resets the card: nothing is selected or pending. Data objects and plans stay."""
-        self._call("reset")
-
+        self._call("plan", str.encode(steps, "ascii"), within(cut, 0, 0xFFFF, "a cut"))
 
 class Card(Holder):
     """A card with these applications, each with its data objects; `locked` names pairs of
@@ -80,17 +75,14 @@ class Card(Holder):
     '610b'
     """
 
-    _kind = "card"
-
     def __init__(self, tables: Tables, locked: Collection[tuple[bytes, int]] = ()) -> None:
-        super().__init__()
-        self._call("new")
-        for aid, values in tables.items():
-            self._call("app", *readable(aid))
-            for tag, value in values.items():
-                is_locked = (bytes(aid), tag) in locked
-                self._call("object", tag_number(tag), *readable(value), is_locked)
-        self._call("finish")
+        calls: list[tuple[Any, ...]] = [("new",)]
+        for aid, values in dict(tables).items():
+            calls.append(("app", *readable(aid)))
+            for tag, value in dict(values).items():
+                words = tag_number(tag), *readable(value), (plain(aid), tag) in locked
+                calls.append(("object", *words))
+        super().__init__("card", *calls, ("finish",))
 
     def tpdu(self, tpdu: Bytes) -> bytes:
         """Carries out a whole TPDU, and returns the data from the card and SW1 SW2.
@@ -116,3 +108,70 @@ class Card(Holder):
     def send_bytes(self, room: int = 1024) -> bytes:
         """Returns the characters that the card sends now, at most `room`: none if it waits."""
         return self._copied("send_bytes", room=within(room, 0, 1 << 30, "the room"))
+
+
+class Character(NamedTuple):
+    """A character that went over the line."""
+
+    is_card: bool
+    byte: int
+
+
+class Session(Holder):
+    """Takes a card over, resets it, and carries out operations with it.
+
+    The card's own handle is then empty; `end` gives the card back.
+
+    >>> from galliumtoad import Card, Get, Select, Session
+    >>> aid = bytes.fromhex("A0000000031010")
+    >>> with Session(Card({aid: {0x5F20: b"JOE"}})) as session:
+    ...     session.run(Select(aid)).status, session.run(Get(0x5F20)).data.hex()
+    (Status(0x9000), '5f20034a4f45')
+    """
+
+    def __init__(self, card: Card) -> None:
+        if not isinstance(card, Card):
+            raise TypeError(f"{type(card).__name__} is no card")
+        with card._alone():
+            super().__init__("session", ("start", card._handle))
+
+    def run(self, operation: Operation) -> Answer:
+        """Carries out an operation to its answer. Any status is an answer.
+
+        Raises `CallError` or `CommandError`; nothing was sent then.
+        """
+        status, room = ffi.new("uint16_t *"), lib.GT_RESPONSE_LIMIT
+        data, count = writable(room)
+        words = () if isinstance(operation, Put) else (data, room, count)
+        self._call(*call_of(operation), status, *words)
+        return Answer(Status(status[0]), copied(data, count))
+
+    @property
+    def is_idle(self) -> bool:
+        """Whether no chain is pending at the card, so that an operation may begin."""
+        return self._call("idle") == 1
+
+    def listen(self) -> None:
+        """Notes the characters of each operation from now on, for `heard`.
+
+        Those noted before are dropped. Noting takes memory and time in each operation.
+        """
+        self._call("listen")
+
+    def heard(self) -> list[Character]:
+        """The characters of the last operation, from its first to its last.
+
+        Raises `CallError` if nobody listens, and `OutOfMemory` if there was no memory to note them.
+        """
+        count = ffi.new("size_t *")
+        self._call("heard", ffi.NULL, 0, count, but=[lib.GT_BUFFER])
+        line = ffi.new("gt_character[]", count[0])
+        self._call("heard", line, count[0], count)
+        return [Character(getattr(it, "from") == lib.GT_CARD, it.byte) for it in line]
+
+    def end(self) -> Card:
+        """Ends the session, and returns its card, reset."""
+        card = Card.__new__(Card)
+        Holder.__init__(card, "card")
+        self._call("end", card._handle)
+        return card

@@ -1,6 +1,6 @@
 """What a call of the library raises."""
 
-from typing import Any, Optional
+from typing import Any, Collection, Optional
 
 from ._library import ffi, lib
 
@@ -73,17 +73,15 @@ class BlockError(Error):
         self.outcome = names.get(outcome)
 
 
-# The header numbers its codes by kind, ten for each, and CallError has twenty.
-_KINDS: list[type[Error]] = [CallError, CallError, BuildError, LineError, ObjectsError]
-_KINDS += [CommandError, TransportError, AtrError, PpsError, BlockError]
+# The header numbers its codes by kind, ten for each, in the order above; CallError has twenty.
+_KINDS = [CallError, *Error.__subclasses__()]
 
 
-def checked(code: int, place: Any = None) -> int:
-    """Returns a code of 0 or above, and raises any other, with the place that `place` points to."""
-    if code >= 0:
+def checked(code: int, place: Any = None, but: Collection[int] = ()) -> int:
+    """Returns a code of 0 or above, or one of these, and raises any other, with the place that
+    `place` points to."""
+    if code >= 0 or code in but:
         return code
-    kind = _KINDS[-code // 10]
-    if code == lib.GT_MEMORY:
-        kind = OutOfMemory
+    kind = OutOfMemory if code == lib.GT_MEMORY else _KINDS[-code // 10]
     has_place = place is not None and kind in (ObjectsError, AtrError, LineError)
     raise kind(code, place[0] if has_place else None)

@@ -2,7 +2,7 @@
 
 import contextlib
 import threading
-from typing import Any, Collection, Iterator, Tuple, TypeVar, Union
+from typing import Any, Collection, Iterator, TypeVar, Union
 
 from ._library import ffi, lib
 from .errors import checked
@@ -11,20 +11,21 @@ Bytes = Union[bytes, bytearray, memoryview]
 Self = TypeVar("Self", bound="Handle")
 
 
-def readable(data: Bytes) -> Tuple[Any, int]:
-    """The bytes of a bytes-like object, for the library to read, and how many they are. Raises
+def plain(data: Bytes) -> bytes:
+    """A copy of a bytes-like object. Raises `TypeError` for other objects."""
+    return bytes(memoryview(data).cast("B"))
+
+
+def readable(data: Bytes) -> tuple[Any, int]:
+    """The bytes of a bytes-like object, for the library to read, and their number. Raises
     `TypeError` for other objects."""
-    if isinstance(data, (bytes, bytearray)):
-        return ffi.from_buffer("uint8_t[]", data), len(data)
-    # A copy: the collector may clear a memoryview that an exception's frames keep, before cffi
-    # gives its buffer back.
-    view = memoryview(data).cast("B")
-    copy = ffi.new("uint8_t[]", len(view))
-    ffi.memmove(copy, view, len(view))
-    return copy, len(view)
+    # The collector may clear a memoryview that an exception's frames keep, before cffi gives its
+    # buffer back.
+    kept = data if isinstance(data, (bytes, bytearray)) else plain(data)
+    return ffi.from_buffer("uint8_t[]", kept), len(kept)
 
 
-def writable(room: int) -> Tuple[Any, Any]:
+def writable(room: int) -> tuple[Any, Any]:
     """A buffer for the library, and the count of what it writes there."""
     return ffi.new("uint8_t[]", room), ffi.new("size_t *")
 
@@ -53,19 +54,18 @@ class Handle:
     `RuntimeError`, and nothing happens. A call after `close` raises `CallError`, GT_EMPTY.
     """
 
-    _kind: str
-
-    def __init__(self) -> None:
-        handle = ffi.new(f"gt_{self._kind} *")
-        self._handle = ffi.gc(handle, getattr(lib, f"gt_{self._kind}_free"))
-        self._lock = threading.Lock()
+    def __init__(self, kind: str, *calls: tuple[Any, ...]) -> None:
+        self._handle = ffi.gc(ffi.new(f"gt_{kind} *"), getattr(lib, f"gt_{kind}_free"))
+        self._kind, self._lock = kind, threading.Lock()
+        for words in calls:
+            self._call(*words)
 
     def _call(self, name: str, *words: Any, but: Collection[int] = (), place: Any = None) -> int:
-        """Calls the library's function of this name with the handle. Returns its code, and raises
-        its faults but for these."""
+        """Calls the library's function of this name with the handle. Returns its code, 0 if it has
+        none, and raises its faults but for these."""
         with self._alone():
-            code = int(getattr(lib, f"gt_{self._kind}_{name}")(self._handle, *words))
-        return code if code in but else checked(code, place)
+            code = getattr(lib, f"gt_{self._kind}_{name}")(self._handle, *words)
+        return checked(code or 0, place, but)
 
     @contextlib.contextmanager
     def _alone(self) -> Iterator[None]:
@@ -85,11 +85,19 @@ class Handle:
 
     def close(self) -> None:
         """Frees what the handle holds, and wipes that; again, it does nothing."""
-        with self._alone():
-            getattr(lib, f"gt_{self._kind}_free")(self._handle)
+        self._call("free")
 
     def __enter__(self: Self) -> Self:
         return self
 
     def __exit__(self, *_: object) -> None:
         self.close()
+
+
+class Lasting(Handle):
+    """A handle that lasts longer than one command."""
+
+    def reset(self) -> None:
+        """Drops what is in progress, as a reset of the card does: an operation, a command, what is
+        selected or pending. A card's data objects and plans stay."""
+        self._call("reset")

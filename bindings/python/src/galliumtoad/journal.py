@@ -10,24 +10,27 @@ import fcntl
 import os
 from typing import Iterator, Optional
 
-# How a row stands after a line's word, where that is not the word itself: a row that was begun is
-# unsure unless its process lives.
-_STANDS = {"begin": "unsure", "card": "unsure", "unused": "free", "again": "free"}
+# How a row stands after a line's word: one that was begun is unsure unless its process lives.
+_STANDS = {"begin": "unsure", "card": "unsure", "unsure": "unsure", "failed": "failed"}
+_STANDS |= {"unused": "free", "again": "free", "done": "done"}
 
 
 class Journal:
-    """An open journal for the rows 1 to `rows`. `heading` names the table and the script: a file
-    that begins with another one is refused by `ValueError`."""
+    """An open journal for the rows 1 to `rows`. `heading` names the table and the script. Raises
+    `ValueError` for a file that begins with another one, or has a line that is none of a journal;
+    such a file stays as it is."""
 
     def __init__(self, path: str, heading: str, rows: int) -> None:
         self._file = os.open(path, os.O_RDWR | os.O_CREAT, 0o600)
-        self._read, self._heading, self.is_begun = 0, "", False
+        self._path, self._heading = path, f"{heading}\n".encode()
+        self._read, self.is_begun = 0, False
         self._rows = dict.fromkeys(range(1, rows + 1), "free")
         with self._locked():
-            if not self._heading:
+            if not self._read:
                 self._append(heading)
-        if self._heading != heading:
-            raise ValueError(f"{path} is the journal of another table or script")
+                folder = os.open(os.path.dirname(path) or ".", os.O_RDONLY)
+                os.fsync(folder)
+                os.close(folder)
 
     def take(self, reader: str) -> Optional[int]:
         """Takes the next row for a card in this reader, or returns None if no row is free."""
@@ -47,29 +50,31 @@ class Journal:
 
     def decide(self, row: int, word: str) -> None:
         """Writes what somebody says of a row. Raises `ValueError` if it is not to be decided."""
-        if row not in self.undecided():
-            raise ValueError(f"row {row} is not to be decided")
-        self.note(row, word, "decided")
+        with self._locked():
+            if row not in self._left():
+                raise ValueError(f"row {row} is not to be decided")
+            self._append(f"{word} {row} decided")
 
     def undecided(self) -> dict[int, str]:
         """The rows that ended neither well nor unused, each with `failed` or `unsure`."""
         with self._locked():
-            left = {it: word for it, word in self._rows.items() if word in ("failed", "unsure")}
-            return {it: word for it, word in left.items() if not self._is_held(it)}
+            return self._left()
 
     def count(self, word: str) -> int:
         """How many rows stand so; `free` are those that may be taken."""
         with self._locked():
             return list(self._rows.values()).count(word)
 
-    def _is_held(self, row: int) -> bool:
-        """Whether another living process holds the row."""
-        try:
-            fcntl.lockf(self._file, fcntl.LOCK_EX | fcntl.LOCK_NB, 1, row)
-        except OSError:
-            return True
-        fcntl.lockf(self._file, fcntl.LOCK_UN, 1, row)
-        return False
+    def _left(self) -> dict[int, str]:
+        """The rows that are to be decided: no living process holds them."""
+        left = {it: word for it, word in self._rows.items() if word in ("failed", "unsure")}
+        for row in list(left):
+            try:
+                fcntl.lockf(self._file, fcntl.LOCK_EX | fcntl.LOCK_NB, 1, row)
+                fcntl.lockf(self._file, fcntl.LOCK_UN, 1, row)
+            except OSError:
+                del left[row]
+        return left
 
     @contextlib.contextmanager
     def _locked(self) -> Iterator[None]:
@@ -83,15 +88,17 @@ class Journal:
 
     def _catch_up(self) -> None:
         text = os.pread(self._file, os.fstat(self._file).st_size - self._read, self._read)
+        if not self._read and text[: len(self._heading)] != self._heading[: len(text)]:
+            raise ValueError(f"{self._path} is the journal of another table or script")
         whole = text[: text.rfind(b"\n") + 1]
+        for line in whole.splitlines()[0 if self._read else 1 :]:
+            word, row, *_ = [*line.decode(errors="replace").split(" "), "", ""]
+            if word not in _STANDS or not row.isdecimal() or int(row) not in self._rows:
+                raise ValueError(f"{self._path} is damaged: no line of a journal: {word} {row}")
+            self._rows[int(row)], self.is_begun = _STANDS[word], True
         self._read += len(whole)
         if whole != text:
             os.ftruncate(self._file, self._read)
-        for line in whole.decode().splitlines():
-            if self._heading:
-                word, row, *_ = line.split()
-                self._rows[int(row)], self.is_begun = _STANDS.get(word, word), True
-            self._heading = self._heading or line
 
     def _append(self, line: str) -> None:
         data = f"{line}\n".encode()

@@ -1,12 +1,15 @@
-"""A terminal's operations, and the exchange of one command, over any line or transport."""
+"""A terminal's operations, and the exchange of one command, over any line or transport; T=1."""
 
 import enum
 from dataclasses import dataclass, field
-from typing import Any, NamedTuple, Optional, Protocol, Union
+from typing import Any, Callable, NamedTuple, Optional, Protocol, Union
 
 from ._library import ffi, lib
 from .answers import Answer, Status
-from .handle import Bytes, Handle, copied, readable, tag_number, within, writable
+from .errors import BlockError
+from .handle import Bytes, Handle, Lasting, copied, readable, tag_number, within, writable
+
+Line = Callable[[bytes, int], Bytes]
 
 
 class Level(enum.Enum):
@@ -55,17 +58,15 @@ class Send:
 Operation = Union[Select, Get, Put, Send]
 
 
-def call_of(operation: Operation) -> tuple[Any, ...]:
+def call_of(operation: Operation) -> list[Any]:
     """The library's word for an operation, with its arguments. Raises `TypeError` for others."""
-    if isinstance(operation, Get):
-        return "get", tag_number(operation.tag)
-    if isinstance(operation, Put):
-        return "put", tag_number(operation.tag), *readable(operation.value)
-    if isinstance(operation, Select):
-        return "select", *readable(operation.aid)
-    if isinstance(operation, Send):
-        return "send", *readable(operation.command)
-    raise TypeError(f"{type(operation).__name__} is no operation")
+    kind = type(operation)
+    if kind not in (Select, Get, Put, Send):
+        raise TypeError(f"{kind.__name__} is no operation")
+    words: list[Any] = [kind.__name__.lower()]
+    for name, value in vars(operation).items():
+        words += [tag_number(value)] if name == "tag" else readable(value)
+    return words
 
 
 class Due(NamedTuple):
@@ -129,14 +130,12 @@ class Exchange(Machine):
     Raises `CommandError` if the bytes are no command, `CallError` for a limit out of range.
     """
 
-    _kind = "exchange"
-
     def __init__(self, command: Bytes, limit: int = lib.GT_RESPONSE_LIMIT) -> None:
-        super().__init__()
-        self._call("start_within", *readable(command), within(limit, 0, 1 << 63, "a limit"))
+        limit = within(limit, 0, 1 << 63, "a limit")
+        super().__init__("exchange", ("start_within", *readable(command), limit))
 
 
-class Terminal(Machine):
+class Terminal(Machine, Lasting):
     """Carries out one operation after another; a response has at most `limit` bytes.
 
     >>> from galliumtoad import Card, Get, Select, Terminal
@@ -148,11 +147,8 @@ class Terminal(Machine):
     b'JOE'
     """
 
-    _kind = "terminal"
-
     def __init__(self, limit: int = lib.GT_RESPONSE_LIMIT) -> None:
-        super().__init__()
-        self._call("new_within", within(limit, 0, 1 << 63, "a limit"))
+        super().__init__("terminal", ("new_within", within(limit, 0, 1 << 63, "a limit")))
 
     def begin(self, operation: Operation) -> None:
         """Begins an operation. Raises `CallError` or `CommandError`; nothing has changed then."""
@@ -164,6 +160,8 @@ class Terminal(Machine):
         Raises what `begin` raises; nothing was sent. Raises what the transport or `answered`
         raises: then the terminal is reset, and what the card has done is unknown: reset it, too.
         """
+        if not callable(transport):
+            raise TypeError("the transport is no callable")
         self.begin(operation)
         is_whole = getattr(transport, "level", Level.TPDU) is Level.APDU
         due, take = (self.apdu, self.responded) if is_whole else (self.tpdu, self.answered)
@@ -177,8 +175,51 @@ class Terminal(Machine):
         assert answer is not None, "an operation with nothing due is over"
         return answer
 
-    def reset(self) -> None:
-        """Drops the operation, if any, and gives its memory back."""
-        self._call("reset")
 
+class T1(Lasting):
+    """A terminal's end of a line at T=1 (ISO/IEC 7816-3, clause 11), as a transport.
 
+    It carries whole commands as blocks over a line that may damage and lose them. `edc` and `ifsc`
+    are those of `Atr.t1`.
+
+    The line is a callable. It sends the bytes, if there are any, and returns what came since: no
+    bytes if nothing came in time, which is BWT times its second argument after a block, and CWT
+    within one. Raises `CallError` for another EDC than LRC, or an IFSC out of range.
+
+    >>> from galliumtoad import T1, BlockError
+    >>> with T1(lambda data, waits: b"") as no_card:
+    ...     try:
+    ...         no_card(bytes.fromhex("00CA005000"))
+    ...     except BlockError as error:
+    ...         print(f"{error}: carried out: {error.outcome}")
+    no valid block, too often: carried out: no
+    """
+
+    level = Level.APDU
+
+    def __init__(self, line: Line, edc: int = lib.GT_LRC, ifsc: int = 32) -> None:
+        if not callable(line):
+            raise TypeError("the line is no callable")
+        self.line, limits = line, (lib.GT_T1_TRIES, lib.GT_T1_EXTENSIONS, lib.GT_ANSWER_LIMIT)
+        said = within(edc, 0, 255, "EDC"), within(ifsc, 0, 255, "IFSC")
+        super().__init__("t1", ("new", *said, *limits))
+
+    def __call__(self, command: Bytes, /) -> bytes:
+        """Carries a command to the card, and returns the response.
+
+        Raises `BlockError` if the end gave up, with what is known of the command. After it, and
+        after what the line raises, reset the card and this end.
+        """
+        self._call("begin", *readable(command))
+        waits, taken, room = ffi.new("uint8_t *"), ffi.new("size_t *"), lib.GT_BLOCK_LIMIT
+        made, count = writable(room)
+        while not self._call("send_bytes", made, room, count, waits, but=[lib.GT_FAILED]):
+            came = self.line(copied(made, count), waits[0])
+            while came and not self._call("receive_bytes", *readable(came), taken):
+                came = self.line(b"", 1)
+            if not came:
+                self._call("missed")
+        cause, outcome = ffi.new("int32_t *"), ffi.new("int32_t *")
+        if not self._call("fault", cause, outcome, but=[lib.GT_NOT_FOUND]):
+            raise BlockError(cause[0], outcome[0])
+        return self._copied("response", room=lib.GT_ANSWER_LIMIT)

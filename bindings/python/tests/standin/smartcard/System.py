@@ -1,32 +1,5 @@
-import os
-
 import smartcard
-from smartcard.Exceptions import SmartcardException
-
-
-class Connection:
-    def __init__(self, reader):
-        self.reader = reader
-
-    def connect(self, mode=None, disposition=None):
-        if "SWAPS" in os.environ and smartcard.number_in(self.reader) % 2 == 0:
-            smartcard.put_in(self.reader, smartcard.number_in(self.reader) + 1)
-        self.inside = smartcard.InReader(self.reader)
-
-    def getProtocol(self):
-        return 1
-
-    def transmit(self, sent):
-        try:
-            answer = self.inside.transmit(sent)
-        except ConnectionError as error:
-            raise SmartcardException(str(error)) from None
-        return answer[:-2], answer[-2], answer[-1]
-
-    def disconnect(self):
-        is_in = smartcard.number_in(self.reader) == self.inside.number
-        if is_in and "STAYS" not in os.environ:
-            smartcard.put_in(self.reader, self.inside.number + 1)
+from smartcard.pcsc.PCSCCardConnection import PCSCCardConnection
 
 
 class Reader:
@@ -37,7 +10,7 @@ class Reader:
         return self.name
 
     def createConnection(self):
-        return Connection(self.name)
+        return PCSCCardConnection(self.name)
 
 
 def readers():

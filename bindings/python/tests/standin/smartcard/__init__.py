@@ -5,7 +5,7 @@ tables in `cards/`, written anew after each command that changes them. When a co
 card is taken out and the next one put in; if STAYS is set, only after a while. If SWAPS is set,
 half of the cards are changed just before a connection. An answer takes SLOW seconds, or none. Some
 cards are of another profile, some are taken out in the middle, and some store another byte than
-was sent.
+was sent. While there is a file `gone`, nothing answers.
 """
 
 import json

@@ -10,7 +10,7 @@ SCARD_SHARE_EXCLUSIVE, SCARD_RESET_CARD = 1, 1
 
 
 def SCardEstablishContext(scope):
-    return SCARD_S_SUCCESS, 1
+    return 9 if (smartcard.ROOM / "gone").exists() else SCARD_S_SUCCESS, 1
 
 
 def SCardGetErrorMessage(code):
@@ -19,6 +19,8 @@ def SCardGetErrorMessage(code):
 
 def SCardGetStatusChange(context, timeout, states):
     [(reader, known)] = states
+    if (smartcard.ROOM / "gone").exists():
+        return 9, []
     state = smartcard.number_in(reader) << 16 | SCARD_STATE_PRESENT
     if state == known and timeout:
         time.sleep(min(timeout, 20) / 1000)
@@ -30,3 +32,7 @@ def SCardGetStatusChange(context, timeout, states):
     if state == known:
         return SCARD_E_TIMEOUT, [(reader, state, [])]
     return SCARD_S_SUCCESS, [(reader, state | SCARD_STATE_CHANGED, [])]
+
+
+def SCardListReaders(context, groups):
+    return SCARD_S_SUCCESS, smartcard.readers()

@@ -1,0 +1,29 @@
+import os
+
+import smartcard
+from smartcard.Exceptions import SmartcardException
+
+
+class PCSCCardConnection:
+    def __init__(self, reader):
+        self.reader = reader
+
+    def connect(self, protocol=None, mode=None, disposition=None):
+        if "SWAPS" in os.environ and smartcard.number_in(self.reader) % 2 == 0:
+            smartcard.put_in(self.reader, smartcard.number_in(self.reader) + 1)
+        self.inside = smartcard.InReader(self.reader)
+
+    def getProtocol(self):
+        return 1
+
+    def transmit(self, sent):
+        try:
+            answer = self.inside.transmit(sent)
+        except ConnectionError as error:
+            raise SmartcardException(str(error)) from None
+        return answer[:-2], answer[-2], answer[-1]
+
+    def disconnect(self):
+        is_in = smartcard.number_in(self.reader) == self.inside.number
+        if is_in and "STAYS" not in os.environ:
+            smartcard.put_in(self.reader, self.inside.number + 1)

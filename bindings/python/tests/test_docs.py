@@ -30,6 +30,14 @@ def test_examples_of_a_module(name):
     assert result.attempted > 0 or name in WITHOUT
 
 
+@pytest.mark.parametrize(
+    "name",
+    "Answer Atr Card Error Exchange Pps Session Status T1 Terminal find head objects".split(),
+)
+def test_has_an_example(name):
+    assert ">>> " in getattr(galliumtoad, name).__doc__
+
+
 def run(name, **more):
     """What an example prints."""
     program = [sys.executable, str(EXAMPLES / name)]

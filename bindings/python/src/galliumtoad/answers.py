@@ -97,7 +97,12 @@ def head(tag: int, length: int) -> bytes:
 
 
 class Answer(NamedTuple):
-    """What a card answered: its status, and its data."""
+    """What a card answered: its status, and its data.
+
+    >>> from galliumtoad import Answer, Status
+    >>> Answer(Status(0x9000), bytes.fromhex("5F20034A4F45")).object(0x5F20).value
+    b'JOE'
+    """
 
     status: Status
     data: bytes

@@ -128,6 +128,14 @@ class Exchange(Machine):
     """The terminal's end of one command, begun; its response has at most `limit` bytes.
 
     Raises `CommandError` if the bytes are no command, `CallError` for a limit out of range.
+
+    >>> from galliumtoad import Card, Exchange
+    >>> with Card({bytes(5): {}}) as card:
+    ...     with Exchange(bytes.fromhex("00A4040005000000000000")) as exchange:
+    ...         while (due := exchange.tpdu()) is not None:
+    ...             exchange.answered(card.tpdu(due.data))
+    ...         print(exchange.answer())
+    Answer(status=Status(0x9000), data=b'o\\x07\\x84\\x05\\x00\\x00\\x00\\x00\\x00')
     """
 
     def __init__(self, command: Bytes, limit: int = lib.GT_RESPONSE_LIMIT) -> None:

@@ -365,6 +365,16 @@ def test_another_file_is_no_journal_and_stays(tmp_path):
         assert (tmp_path / "journal").read_bytes() == text
 
 
+def test_a_journal_that_can_not_be_written_is_named(tmp_path):
+    room = Room(tmp_path, 1)
+    (tmp_path / "journal").mkdir()
+    assert room.run() == (2, "", "galliumtoad.batch: [Errno 21] Is a directory: 'journal'\n")
+    (tmp_path / "journal").rmdir()
+    (tmp_path / "journal").symlink_to("/dev/full")
+    assert room.run() == (2, "", "galliumtoad.batch: [Errno 28] No space left on device\n")
+    assert not list(tmp_path.glob("cards/*"))
+
+
 @pytest.mark.parametrize("line", ["d\0ne 1", "done", "done x", "done 0", "done 3", "done -1", ""])
 def test_a_damaged_journal_is_refused(tmp_path, line):
     room = Room(tmp_path, 2)

@@ -1,4 +1,4 @@
-"""What a card answers: statuses, data objects, answers to reset."""
+"""What a card sends: statuses, answers, data objects, answers to reset and PPS responses."""
 
 from types import SimpleNamespace
 from typing import Any, NamedTuple, Optional
@@ -25,7 +25,7 @@ class Status(int):
 
     @property
     def text(self) -> str:
-        """What it means at a card of this library, in a few words; else `unknown status`."""
+        """What a card of this library means by it, in a few words; else `unknown status`."""
         number = within(int(self), 0, 0xFFFF, "a status")
         return str(ffi.string(lib.gt_status_text(number)).decode())
 
@@ -34,7 +34,7 @@ class Status(int):
 
 
 class Object(NamedTuple):
-    """A data object. `level` is 1 for the outermost; `place` is that of its first byte, from 0."""
+    """A data object. `level` is 1 outside of any other. `place` is the index of its first byte."""
 
     tag: int
     level: int
@@ -45,16 +45,16 @@ class Object(NamedTuple):
 
 
 def _object(found: Any, data: bytes) -> Object:
-    """The object at the library's places in the data."""
+    """Returns the object that the library found in the data."""
     encoded = data[found.place : found.place + found.size]
     value = data[found.value : found.value + found.length]
     return Object(found.tag, found.level, bool(found.constructed), found.place, encoded, value)
 
 
 def objects(data: Bytes) -> list[Object]:
-    """All objects of a list, a template before the objects in it (EMV Book 3, Annex B).
+    """Returns all objects of a list, a template before the objects in it (EMV Book 3, Annex B).
 
-    Raises `ObjectsError` if the bytes are no list, with the place of its first fault.
+    Raises `ObjectsError` with the place of the first fault if the bytes are no list.
 
     >>> import galliumtoad
     >>> [(hex(it.tag), it.level, it.value.hex()) for it in
@@ -68,7 +68,7 @@ def objects(data: Bytes) -> list[Object]:
 
 
 def find(data: Bytes, *path: int) -> Optional[Object]:
-    """The first object whose tags from level 1 down to its own are this path, or None.
+    """Returns the first object whose tags, from level 1 to its own, are this path, or None.
 
     Raises `ObjectsError` as `objects`, and `CallError` if a step is no tag.
 
@@ -83,7 +83,7 @@ def find(data: Bytes, *path: int) -> Optional[Object]:
 
 
 def head(tag: int, length: int) -> bytes:
-    """The tag and the length in its shortest spelling, as an object begins.
+    """Returns how an object begins: its tag, and its length in the shortest form.
 
     Raises `CallError` if no tag has this number.
 
@@ -97,7 +97,7 @@ def head(tag: int, length: int) -> bytes:
 
 
 class Answer(NamedTuple):
-    """What a card answered: its status, and its data.
+    """The status of a card, and its data.
 
     >>> from galliumtoad import Answer, Status
     >>> Answer(Status(0x9000), bytes.fromhex("5F20034A4F45")).object(0x5F20).value
@@ -108,7 +108,7 @@ class Answer(NamedTuple):
     data: bytes
 
     def object(self, tag: int) -> Optional[Object]:
-        """The one object that the data are, if its tag is this and nothing else is there."""
+        """Returns the object if the data are exactly one, with this tag; else None."""
         is_it = lib.gt_is_object(*readable(self.data), tag_number(tag))
         return find(self.data, tag) if is_it else None
 
@@ -117,9 +117,9 @@ class Atr:
     """What an answer to reset says (ISO/IEC 7816-3, clause 8): the fields of `gt_atr` in the
     header, as attributes.
 
-    What it says of T=1 is in `t1`. `protocols` is a tuple, in the order offered; `historical` are
-    the historical bytes. Raises `AtrError` if the bytes are no answer to reset, with the place of
-    the first fault.
+    `protocols` is a tuple, in the order offered. `historical` has the historical bytes, `t1` the
+    values for T=1. Raises `AtrError` with the place of the first fault if the bytes are no answer
+    to reset.
 
     >>> from galliumtoad import Atr
     >>> Atr(bytes.fromhex("3B0214"))
@@ -142,15 +142,16 @@ class Atr:
 
 
 def _fields(record: Any) -> dict[str, Any]:
-    """The fields of a record of the library, of a record in it as one of Python's."""
+    """Returns the fields of a record of the library. A record in it becomes a namespace."""
     found = {name: getattr(record, name) for name, _ in ffi.typeof(record).fields}
     inner = {name for name, it in ffi.typeof(record).fields if it.type.kind == "struct"}
     return {**found, **{name: SimpleNamespace(**_fields(found[name])) for name in inner}}
 
 
 class Pps:
-    """A terminal's PPS request (ISO/IEC 7816-3, clause 9) for protocol `t`, and the bytes of PPS1
-    to PPS3, if they are asked for. Raises `CallError` for a number out of range.
+    """A terminal's PPS request (ISO/IEC 7816-3, clause 9) for protocol `t`, 0 to 15.
+
+    `pps1` to `pps3` are numbers from 0 to 255, or None for a byte that is not sent.
 
     >>> from galliumtoad import Pps
     >>> pps = Pps(0, pps1=0x95)
@@ -166,5 +167,5 @@ class Pps:
         self.request = copied(made, count)
 
     def is_agreed(self, response: Bytes) -> bool:
-        """Whether the card's response accepts the request. Raises `PpsError` if it is none."""
+        """Whether the card's response accepts the request. Raises `PpsError` for other bytes."""
         return checked(lib.gt_pps_agreed(*readable(self.request), *readable(response))) == 1

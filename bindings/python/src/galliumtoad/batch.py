@@ -2,8 +2,8 @@
 
     python3 -m galliumtoad.batch SCRIPT --rows FILE.csv --journal FILE [--reader NAME ..]
 
-It waits for a card in each reader, carries out the script with the next row, and reads each put
-back. A row is in the journal, on disk, before its card's first byte.
+Waits for a card in each reader, carries out the script with the next row, and reads each put back.
+A row is in the journal, on disk, before its card's first byte.
 """
 
 import argparse
@@ -26,12 +26,14 @@ from .journal import Journal
 from .pyscard import transport
 from .terminal import Get, Put, Send, Terminal, Transport
 
-_HELP = "`@{column}` in a script is a column's text, `{column}` its digits: put 5F20 @{name}"
+_HELP = "In a script `@{column}` is a column's text, `{column}` its digits: put 5F20 @{name}"
 
 
 class Batch:
-    """What all readers share: the script, the rows, and the journal's file. Raises `ValueError` and
-    `OSError`, before any card."""
+    """What all readers share: the script, the rows, and the journal's file.
+
+    Raises `ValueError` or `OSError` if a row can't be carried out.
+    """
 
     def __init__(self, words: argparse.Namespace) -> None:
         with script.opened(words.rows) as rows, script.opened(words.script) as lines:
@@ -53,12 +55,17 @@ class Batch:
 
 
 class Refused(Exception):
-    """The card does not do what it is asked for."""
+    """The card refused an operation, or stored another value."""
 
 
 def carry_out(batch: Batch, journal: Journal, number: int, reader: Transport) -> tuple[str, str]:
-    """Carries out the script with a card for this row. Returns `done`, `unused` if the card got
-    nothing, `failed` or `unsure`, and why."""
+    """Carries out the script for a row. Returns how the row ended, and why.
+
+    - done: each status was 9000, and each value reads back as sent.
+    - unused: it stopped before the first put or send.
+    - failed: the card refused an operation, or stored another value.
+    - unsure: the card did not answer.
+    """
     terminal, has_written = Terminal(), False
     try:
         for line, operation in batch.script.operations(number, batch.rows[number - 1]).items():
@@ -80,7 +87,7 @@ def carry_out(batch: Batch, journal: Journal, number: int, reader: Transport) ->
 
 
 def stored(terminal: Terminal, reader: Transport, tag: int) -> bytes:
-    """The value under a tag. Raises `Refused` if the card has none."""
+    """Reads the value under a tag. Raises `Refused` if the card has none."""
     answer = terminal.run(reader, Get(tag))
     if found := answer.object(tag):
         return found.value
@@ -88,12 +95,12 @@ def stored(terminal: Terminal, reader: Transport, tag: int) -> bytes:
 
 
 def say(name: str, what: object) -> None:
-    """Prints a line about a reader, whole: other processes print there too."""
+    """Prints a line about a reader in one write, since other processes print too."""
     print(f"{name}: {what}\n", end="", flush=True)
 
 
 def told(answer: tuple[int, Any]) -> Any:
-    """What a call of PC/SC says. Raises `OSError` if it failed, but not if its time is over."""
+    """Returns the result of a PC/SC call. Raises `OSError` if it failed, but not at a timeout."""
     code, found = answer
     if code not in (scard.SCARD_S_SUCCESS, scard.SCARD_E_TIMEOUT):
         raise OSError(scard.SCardGetErrorMessage(code))
@@ -101,15 +108,18 @@ def told(answer: tuple[int, Any]) -> Any:
 
 
 def state_of(context: Any, name: str, known: int, wait: int) -> int:
-    """A reader's state, when it is another than the known one, or after so many milliseconds."""
+    """Returns a reader's state once it differs from `known`, or after `wait` milliseconds."""
     found = told(scard.SCardGetStatusChange(context, wait, [(name, known)]))
     return int(found[0][1] & ~scard.SCARD_STATE_CHANGED) if found else known
 
 
 def serve(batch: Batch, name: str, is_begun: bool = False) -> None:
-    """Serves one reader, with a row for each card that is put in, until no row is free. In a batch
-    that was begun it passes over the card that is in the reader: that may have a row already. Ends
-    the process if the journal can't be written, the reader is gone or another run serves it."""
+    """Serves one reader until no row is free: each new card gets a row.
+
+    In a batch that was begun, the card in the reader may have a row already: it is passed over.
+    Ends the process if the journal can't be written, the reader is gone, or another run on this
+    machine serves it.
+    """
     program = multiprocessing.parent_process()
     try:
         journal, mark = Journal(*batch.journal), socket.socket(socket.AF_UNIX)
@@ -123,12 +133,12 @@ def serve(batch: Batch, name: str, is_begun: bool = False) -> None:
             used = known >> 16
             say(name, "take out the card that is in it")
         while journal.count("free") and (not program or program.is_alive()):
-            # The upper half counts the cards that came and went.
+            # The upper 16 bits count insertions and removals.
             if known & scard.SCARD_STATE_PRESENT and known >> 16 != used:
                 try:
                     card = PCSCCardConnection(name)
                     card.connect(None, scard.SCARD_SHARE_EXCLUSIVE, scard.SCARD_RESET_CARD)
-                    # Asked again: the card may be another one than that which was seen.
+                    # The card may have changed between the last look and this connection.
                     known = state_of(context, name, known, 0)
                     used = known >> 16
                     if number := journal.take(name):
@@ -148,7 +158,7 @@ def serve(batch: Batch, name: str, is_begun: bool = False) -> None:
 
 
 def chosen(names: list[str]) -> list[str]:
-    """The readers that are named, each by a part of its name; without names the only one."""
+    """Returns the readers with these parts of names, or the only one. Raises `ValueError`."""
     context = told(scard.SCardEstablishContext(scard.SCARD_SCOPE_USER))
     here = told(scard.SCardListReaders(context, []))
     found = {name: [it for it in here if name in it] for name in names or [""]}
@@ -160,7 +170,7 @@ def chosen(names: list[str]) -> list[str]:
 
 
 def summary(journal: Journal, rows: int) -> int:
-    """Prints how all rows stand; returns the exit status."""
+    """Prints the rows that await a decision, and the sum. Returns the exit status."""
     left, done = journal.undecided(), journal.count("done")
     for row, word in left.items():
         print(f"row {row} {word}: decide by --done {row} or --again {row}")
@@ -169,26 +179,26 @@ def summary(journal: Journal, rows: int) -> int:
 
 
 def tag(text: str) -> int:
-    """A tag of these digits. Raises `ValueError` if it is none."""
+    """Returns the tag with these digits. Raises `ValueError` if a command can't name it."""
     script.Script("--id", [f"get {text}"], []).operations(0, {})
     return script.tag(text, {})
 
 
 def parsed(words: Optional[list[str]]) -> argparse.Namespace:
     parser = argparse.ArgumentParser(prog="galliumtoad.batch", description=__doc__, epilog=_HELP)
-    parser.add_argument("script", help="operations of gt_pcsc, a line each")
-    parser.add_argument("--rows", required=True, help="the table, with the columns' names on top")
-    parser.add_argument("--journal", required=True, help="what became of each row")
+    parser.add_argument("script", help="operations as gt_pcsc takes them, one a line")
+    parser.add_argument("--rows", required=True, help="the table; its first line names the columns")
+    parser.add_argument("--journal", required=True, help="the file that records each row")
     parser.add_argument("--reader", action="append", default=[], help="a part of its name")
-    parser.add_argument("--id", type=tag, help="the tag of what is noted for each card")
-    parser.add_argument("--status", action="store_true", help="says how the rows stand, no more")
+    parser.add_argument("--id", type=tag, help="the tag of a data object to record for each card")
+    parser.add_argument("--status", action="store_true", help="print how the rows stand, and end")
     for word in ("--done", "--again"):
         parser.add_argument(word, type=int, action="append", default=[], metavar="N")
     return parser.parse_args(words)
 
 
 def main(words: Optional[list[str]] = None) -> int:
-    """Runs the program, and returns its exit status."""
+    """Runs the program. Returns its exit status."""
     given = parsed(words)
     try:
         batch = Batch(given)
@@ -197,7 +207,7 @@ def main(words: Optional[list[str]] = None) -> int:
             for row in getattr(given, word):
                 journal.decide(row, word)
         if not (given.status or given.done or given.again):
-            # A forked process would share this one's connection to pcscd.
+            # Not a fork: that would share this process's connection to pcscd.
             new = multiprocessing.get_context("spawn")
             names, is_begun = chosen(given.reader), journal.is_begun
             at_work = [new.Process(target=serve, args=(batch, it, is_begun)) for it in names]

@@ -1,4 +1,4 @@
-"""A card of data objects, and a session of it with a terminal."""
+"""`Card`, which holds data objects, and `Session`, which joins a card and a terminal."""
 
 from typing import Any, Collection, Mapping, NamedTuple, Optional
 
@@ -11,7 +11,7 @@ Tables = Mapping[bytes, Mapping[int, Bytes]]
 
 
 class Entry(NamedTuple):
-    """One data object of an application; no command changes a locked one."""
+    """A data object of an application. No command changes a locked one."""
 
     tag: int
     value: bytes
@@ -19,7 +19,7 @@ class Entry(NamedTuple):
 
 
 class Holder(Lasting):
-    """What holds data objects: a card, or a session with its card."""
+    """A handle that holds data objects: a card, or a session with its card."""
 
     def _aid(self, name: str, *words: int) -> Optional[bytes]:
         aid, count = writable(lib.GT_AID_LIMIT)
@@ -33,14 +33,14 @@ class Holder(Lasting):
 
     @property
     def applications(self) -> list[bytes]:
-        """The identifiers of all applications, in the order of building."""
+        """The identifiers of all applications, in the order in which the card was built."""
         found: list[bytes] = []
         while (aid := self._aid("app_at", len(found))) is not None:
             found.append(aid)
         return found
 
     def entries(self, aid: Bytes) -> list[Entry]:
-        """The data objects of an application, in the order of first storing.
+        """Returns the data objects of an application, in the order in which they were first stored.
 
         Raises `KeyError` if the card does not hold the application.
         """
@@ -54,19 +54,22 @@ class Holder(Lasting):
         return found
 
     def plan(self, steps: str, cut: int = 256) -> None:
-        """How the card answers one more TPDU to come: procedure bytes `n`, `o`, `a`, and the most
-        bytes that a status 61XX announces, 1 to 256.
+        """Adds a plan: how the card answers one more TPDU.
 
-        Raises `CallError` for another letter, or if too many plans wait.
+        `steps` are its procedure bytes: `n` (NULL), `o` (one byte), `a` (all bytes). `cut`, 1 to
+        256, is the most that a status 61XX announces. Errors, after which nothing has changed:
+        - CallError, GT_ARGUMENT: another letter, or a cut out of range.
+        - CallError, GT_PLANS: too many plans wait.
         """
         self._call("plan", str.encode(steps, "ascii"), within(cut, 0, 0xFFFF, "a cut"))
 
-class Card(Holder):
-    """A card with these applications, each with its data objects; `locked` names pairs of
-    identifier and tag that no command changes.
 
-    Raises `BuildError` or `CallError` for tables that a card can't have. Use `tpdu` or `apdu` as
-    the transport of a `Terminal`, or pass characters by `receive_bytes` and `send_bytes`.
+class Card(Holder):
+    """A card with these applications and their data objects. `locked` lists the pairs of identifier
+    and tag that no command changes.
+
+    `tpdu` is a transport for a `Terminal`. A line passes characters by `receive_bytes` and
+    `send_bytes`. Raises `BuildError` or `CallError` for tables that a card can't have.
 
     >>> from galliumtoad import Card
     >>> aid = bytes.fromhex("A0000000031010")
@@ -85,28 +88,30 @@ class Card(Holder):
         super().__init__("card", *calls, ("finish",))
 
     def tpdu(self, tpdu: Bytes) -> bytes:
-        """Carries out a whole TPDU, and returns the data from the card and SW1 SW2.
+        """Carries out a whole TPDU, and returns the card's data and SW1 SW2.
 
-        Raises `TransportError` if the bytes are no TPDU. If the card takes data that are not there,
-        or sends data where none may come, it raises that too, and the card was reset.
+        Errors:
+        - TransportError, GT_NO_TPDU: the bytes are no TPDU; nothing has changed.
+        - TransportError, GT_WANTS_DATA or GT_SENDS_DATA: the TPDU lacks data that the card takes,
+          or asks for none of those that it sends; the card is reset.
         """
         return self._copied("tpdu", *readable(tpdu), room=lib.GT_ANSWER_LIMIT)
 
     def apdu(self, command: Bytes) -> bytes:
         """Carries out a whole command, as a card at T=1, and returns the data and SW1 SW2.
 
-        Raises `CommandError` or `TransportError` if the bytes are no command.
+        Raises `CommandError` or `TransportError` if the bytes are no command; nothing has changed.
         """
         return self._copied("apdu", *readable(command), room=lib.GT_ANSWER_LIMIT)
 
     def receive_bytes(self, data: Bytes) -> int:
-        """Takes characters of the terminal, as many as the card waits for; returns how many."""
+        """Takes characters of the terminal while the card listens. Returns how many it took."""
         taken = ffi.new("size_t *")
         self._call("receive_bytes", *readable(data), taken, but=[lib.GT_NOT_LISTENING])
         return int(taken[0])
 
     def send_bytes(self, room: int = 1024) -> bytes:
-        """Returns the characters that the card sends now, at most `room`: none if it waits."""
+        """Returns the next characters of the card, at most `room`. There are none if it listens."""
         return self._copied("send_bytes", room=within(room, 0, 1 << 30, "the room"))
 
 
@@ -118,9 +123,9 @@ class Character(NamedTuple):
 
 
 class Session(Holder):
-    """Takes a card over, resets it, and carries out operations with it.
+    """Takes a card, resets it, and carries out operations with it.
 
-    The card's own handle is then empty; `end` gives the card back.
+    The card's own handle is empty until `end` returns the card.
 
     >>> from galliumtoad import Card, Get, Select, Session
     >>> aid = bytes.fromhex("A0000000031010")
@@ -136,9 +141,9 @@ class Session(Holder):
             super().__init__("session", ("start", card._handle))
 
     def run(self, operation: Operation) -> Answer:
-        """Carries out an operation to its answer. Any status is an answer.
+        """Carries out an operation, and returns the card's answer, whatever its status.
 
-        Raises `CallError` or `CommandError`; nothing was sent then.
+        Raises `CallError` or `CommandError`; nothing was sent.
         """
         status, room = ffi.new("uint16_t *"), lib.GT_RESPONSE_LIMIT
         data, count = writable(room)
@@ -148,20 +153,20 @@ class Session(Holder):
 
     @property
     def is_idle(self) -> bool:
-        """Whether no chain is pending at the card, so that an operation may begin."""
+        """Whether an operation may begin: no chain is pending at the card."""
         return self._call("idle") == 1
 
     def listen(self) -> None:
-        """Notes the characters of each operation from now on, for `heard`.
+        """Records the characters of each later operation, for `heard`.
 
-        Those noted before are dropped. Noting takes memory and time in each operation.
+        Earlier records are dropped. Recording takes memory and time in each operation.
         """
         self._call("listen")
 
     def heard(self) -> list[Character]:
-        """The characters of the last operation, from its first to its last.
+        """Returns all characters of the last operation.
 
-        Raises `CallError` if nobody listens, and `OutOfMemory` if there was no memory to note them.
+        Raises `CallError` before `listen`, and `OutOfMemory` if the record ran out of memory.
         """
         count = ffi.new("size_t *")
         self._call("heard", ffi.NULL, 0, count, but=[lib.GT_BUFFER])
@@ -170,7 +175,7 @@ class Session(Holder):
         return [Character(getattr(it, "from") == lib.GT_CARD, it.byte) for it in line]
 
     def end(self) -> Card:
-        """Ends the session, and returns its card, reset."""
+        """Ends the session, resets its card and returns it."""
         card = Card.__new__(Card)
         Holder.__init__(card, "card")
         self._call("end", card._handle)

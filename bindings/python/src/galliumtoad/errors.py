@@ -1,4 +1,4 @@
-"""What a call of the library raises."""
+"""The exceptions that calls of the library raise: one class for each kind of code."""
 
 from typing import Any, Collection, Optional
 
@@ -8,10 +8,10 @@ _NAMES = {getattr(lib, it): it for it in dir(lib) if isinstance(getattr(lib, it)
 
 
 class Error(Exception):
-    """A call that the library refused; its text is the library's.
+    """The library refused a call. The text is the library's.
 
-    `code` is the number in `galliumtoad.h`, below 0, and `name` its name there. `place` is the
-    place of the fault in the bytes, from 0, if the call has one.
+    `code` is the number in `galliumtoad.h`, below 0; `name` is its name there. `place` is the
+    index of the faulty byte, from 0, or None if the call has no such place.
 
     >>> import galliumtoad
     >>> try:
@@ -28,7 +28,7 @@ class Error(Exception):
 
 
 class CallError(Error):
-    """The call does not fit: its state, its arguments, its room. Nothing has changed."""
+    """The state or the arguments do not fit the call. Nothing has changed."""
 
 
 class OutOfMemory(CallError, MemoryError):
@@ -36,15 +36,15 @@ class OutOfMemory(CallError, MemoryError):
 
 
 class BuildError(Error):
-    """A card's tables are refused."""
+    """A card can't have these tables. There is no card."""
 
 
 class LineError(Error):
-    """A character does not fit, or the exchange has failed."""
+    """A received character does not fit, or the response is too long: the exchange has failed."""
 
 
 class ObjectsError(Error):
-    """The bytes are no list of objects."""
+    """The bytes are no list of data objects."""
 
 
 class CommandError(Error):
@@ -52,7 +52,7 @@ class CommandError(Error):
 
 
 class TransportError(Error):
-    """A whole TPDU or command, or what came back for it, does not fit."""
+    """A whole TPDU or command, or the answer to it, does not fit."""
 
 
 class AtrError(Error):
@@ -64,8 +64,8 @@ class PpsError(Error):
 
 
 class BlockError(Error):
-    """An end at T=1 gave up. `outcome` says whether the card has carried out the command: `no`,
-    `unknown` or `in part`."""
+    """A terminal's end at T=1 gave up. `outcome` tells whether the card carried out the command:
+    `no`, `unknown`, or `in part` if a part of the response came."""
 
     def __init__(self, code: int, outcome: Optional[int] = None) -> None:
         super().__init__(code)
@@ -78,7 +78,7 @@ _KINDS = [CallError, *Error.__subclasses__()]
 
 
 def checked(code: int, place: Any = None, but: Collection[int] = ()) -> int:
-    """Returns a code of 0 or above, or one of these, and raises any other, with the place that
+    """Returns a code if it is 0 or above, or in `but`. Raises every other, with the place that
     `place` points to."""
     if code >= 0 or code in but:
         return code

@@ -1,8 +1,8 @@
-"""The journal of a batch: which row of a table went to which card, whatever happens meanwhile.
+"""The journal of a batch: which row of a table went to a card, and how it ended.
 
-Each line is flushed to disk before the next step. A row is taken under a lock on the file, and its
-taker keeps a lock of its own on it, which the system drops if the taker dies. A last line without
-its end was cut off by a crash: it counts for nothing, and what it was to announce did not begin.
+Each line is on disk before the next step. A process takes a row under a lock on the file's byte 0,
+and holds it by a lock on the byte of the row's number; the system drops both if the process dies.
+A crash may cut the last line. Such a line is removed: the step that it announces did not begin.
 """
 
 import contextlib
@@ -10,15 +10,17 @@ import fcntl
 import os
 from typing import Iterator, Optional
 
-# How a row stands after a line's word: one that was begun is unsure unless its process lives.
+# The state of a row after a line with this word. A begun row is unsure once its process is gone.
 _STANDS = {"begin": "unsure", "card": "unsure", "unsure": "unsure", "failed": "failed"}
 _STANDS |= {"unused": "free", "again": "free", "done": "done"}
 
 
 class Journal:
-    """An open journal for the rows 1 to `rows`. `heading` names the table and the script. Raises
-    `ValueError` for a file that begins with another one, or has a line that is none of a journal;
-    such a file stays as it is."""
+    """Opens or creates the journal of the rows 1 to `rows`. Its first line is `heading`.
+
+    Raises `OSError`. Raises `ValueError` for a file with another heading or a damaged line; that
+    file does not change.
+    """
 
     def __init__(self, path: str, heading: str, rows: int) -> None:
         self._file = os.open(path, os.O_RDWR | os.O_CREAT, 0o600)
@@ -33,7 +35,7 @@ class Journal:
                 os.close(folder)
 
     def take(self, reader: str) -> Optional[int]:
-        """Takes the next row for a card in this reader, or returns None if no row is free."""
+        """Takes the next free row for a card in this reader. Returns None if no row is free."""
         with self._locked():
             row = next((it for it, word in self._rows.items() if word == "free"), None)
             if row is not None:
@@ -42,31 +44,31 @@ class Journal:
             return row
 
     def note(self, row: int, word: str, note: str) -> None:
-        """Writes a line about a row; any word but `card` is its last, and lets the row go."""
+        """Writes a line about a row of this process. Any word but `card` gives the row up."""
         with self._locked():
             self._append(f"{word} {row} {note}".rstrip())
         if word != "card":
             fcntl.lockf(self._file, fcntl.LOCK_UN, 1, row)
 
     def decide(self, row: int, word: str) -> None:
-        """Writes what somebody says of a row. Raises `ValueError` if it is not to be decided."""
+        """Writes the decision `done` or `again`. Raises `ValueError` for a row that awaits none."""
         with self._locked():
             if row not in self._left():
                 raise ValueError(f"row {row} is not to be decided")
             self._append(f"{word} {row} decided")
 
     def undecided(self) -> dict[int, str]:
-        """The rows that ended neither well nor unused, each with `failed` or `unsure`."""
+        """Returns the rows that await a decision, each with `failed` or `unsure`."""
         with self._locked():
             return self._left()
 
     def count(self, word: str) -> int:
-        """How many rows stand so; `free` are those that may be taken."""
+        """Counts the rows in a state: `free`, `done`, `failed` or `unsure`."""
         with self._locked():
             return list(self._rows.values()).count(word)
 
     def _left(self) -> dict[int, str]:
-        """The rows that are to be decided: no living process holds them."""
+        """Returns the failed and unsure rows that no living process holds. Needs the lock."""
         left = {it: word for it, word in self._rows.items() if word in ("failed", "unsure")}
         for row in list(left):
             try:
@@ -78,7 +80,7 @@ class Journal:
 
     @contextlib.contextmanager
     def _locked(self) -> Iterator[None]:
-        """Keeps other processes out, and reads what they wrote since."""
+        """Holds the lock on the file, after it read what other processes wrote."""
         fcntl.lockf(self._file, fcntl.LOCK_EX, 1, 0)
         try:
             self._catch_up()

@@ -1,4 +1,4 @@
-"""A pyscard connection as a transport of a terminal."""
+"""Makes a pyscard connection a transport of a terminal."""
 
 from typing import Any
 
@@ -9,7 +9,7 @@ _T1 = 2
 
 
 class transport:
-    """Carries whole TPDUs at T=0, and whole commands at T=1, over a connection that is connected.
+    """Carries whole TPDUs at T=0, and whole commands at T=1, over an open pyscard connection.
 
     >>> from galliumtoad import Card, Select, Terminal
     >>> from galliumtoad.pyscard import transport

@@ -1,4 +1,4 @@
-"""Scripts of a batch: the operations of gt_pcsc, with columns of a table in them."""
+"""Scripts of a batch: operations as gt_pcsc takes them, with columns of a table in the words."""
 
 import re
 from pathlib import Path
@@ -14,13 +14,13 @@ Row = Mapping[str, str]
 
 
 def opened(path: str) -> IO[str]:
-    """A file's text. A byte that is not UTF-8 becomes a character that is no digit and no bytes."""
+    """Opens a text in UTF-8. Any other byte becomes a character that no value can contain."""
     return open(path, newline="", encoding="utf-8-sig", errors="surrogateescape")
 
 
 def digits(word: str, row: Row) -> bytes:
-    """The bytes of a word, `-`, digits or `HH*N`, in which this row fills the columns. Raises
-    `ValueError` for others."""
+    """Returns the bytes of a word, after its columns are filled from the row: `-` for none, pairs
+    of digits, or `HH*N` with N from 1 to 99999. Raises `ValueError` for other words."""
     found = _DIGITS.fullmatch(_COLUMN.sub(lambda it: row[it[1]], word))
     if not found:
         raise ValueError
@@ -28,12 +28,12 @@ def digits(word: str, row: Row) -> bytes:
 
 
 def tag(word: str, row: Row) -> int:
-    """The tag of these digits."""
+    """Returns the number of a tag's digits. Raises `ValueError` as `digits`."""
     return int.from_bytes(digits(word, row), "big")
 
 
 def _value(word: str, row: Row) -> bytes:
-    """The bytes of a value: those of digits, of the file `@NAME`, or of the text `@{column}`."""
+    """Returns the bytes of a value: digits, the file `@NAME`, or the text `@{column}`."""
     if word[0] != "@":
         return digits(word, row)
     if column := _COLUMN.fullmatch(word[1:]):
@@ -41,14 +41,16 @@ def _value(word: str, row: Row) -> bytes:
     return Path(_COLUMN.sub(lambda it: row[it[1]], word[1:])).read_bytes()
 
 
-# An operation by its first word, and what reads its other words.
+# The operation of each first word, and what reads its other words.
 _KINDS: dict[str, tuple[Any, ...]] = {"select": (Select, digits), "send": (Send, digits)}
 _KINDS |= {"get": (Get, tag), "put": (Put, tag, _value)}
 
 
 class Script:
-    """The lines of a file, all of which fit the columns. Raises `ValueError`, which names the file,
-    the line and the word."""
+    """The operations of a file, one a line, in words that use these columns.
+
+    Raises `ValueError` with the file's name, the line and the word.
+    """
 
     def __init__(self, path: str, lines: Iterable[str], columns: list[str]) -> None:
         self.path, self.lines = path, dict[int, list[str]]()
@@ -67,8 +69,10 @@ class Script:
             raise ValueError(f"{path} has no operation")
 
     def operations(self, number: int, row: Row) -> dict[int, Operation]:
-        """The operations for a row of the table, by the numbers of their lines; each can begin.
-        Raises `ValueError`, which names the row and the line, and no value."""
+        """Returns the operations for a row of the table, by line number. A terminal can begin each.
+
+        Raises `ValueError` with the row and the line, without any value.
+        """
         found = dict[int, Operation]()
         for line, words in self.lines.items():
             kind, *fields = _KINDS[words[0]]

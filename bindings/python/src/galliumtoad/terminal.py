@@ -1,4 +1,4 @@
-"""A terminal's operations, and the exchange of one command, over any line or transport; T=1."""
+"""The terminal: `Terminal` for operations, `Exchange` for one command, `T1` for a line at T=1."""
 
 import enum
 from dataclasses import dataclass, field
@@ -13,15 +13,17 @@ Line = Callable[[bytes, int], Bytes]
 
 
 class Level(enum.Enum):
-    """What a transport carries: whole TPDUs, as PC/SC at T=0, or whole commands, as at T=1."""
+    """What a transport carries: whole TPDUs, as PC/SC does at T=0, or whole commands, as at T=1."""
 
     TPDU = "tpdu"
     APDU = "apdu"
 
 
 class Transport(Protocol):
-    """Any callable that carries bytes to a card and returns what came back, data and SW1 SW2. Its
-    attribute `level` says what it carries; a callable without one carries TPDUs."""
+    """Any callable that carries bytes to a card and returns the card's data and SW1 SW2.
+
+    Its attribute `level` is a `Level`. A callable without one carries TPDUs.
+    """
 
     def __call__(self, data: bytes, /) -> Bytes: ...
 
@@ -35,14 +37,14 @@ class Select:
 
 @dataclass(frozen=True)
 class Get:
-    """Reads a data object: the data are its tag, length and value."""
+    """Reads a data object. The answer's data are its tag, length and value."""
 
     tag: int
 
 
 @dataclass(frozen=True)
 class Put:
-    """Stores a value under a tag, in as many chained commands as it takes."""
+    """Stores a value under a tag, in a chain of commands of at most 255 bytes of data each."""
 
     tag: int
     value: Bytes = field(repr=False)
@@ -50,7 +52,7 @@ class Put:
 
 @dataclass(frozen=True)
 class Send:
-    """Sends any one command, and fetches its answer."""
+    """Sends one command, and fetches the whole response."""
 
     command: Bytes = field(repr=False)
 
@@ -59,7 +61,7 @@ Operation = Union[Select, Get, Put, Send]
 
 
 def call_of(operation: Operation) -> list[Any]:
-    """The library's word for an operation, with its arguments. Raises `TypeError` for others."""
+    """Returns the library's name of an operation, and its arguments. Raises `TypeError`."""
     kind = type(operation)
     if kind not in (Select, Get, Put, Send):
         raise TypeError(f"{kind.__name__} is no operation")
@@ -70,45 +72,48 @@ def call_of(operation: Operation) -> list[Any]:
 
 
 class Due(NamedTuple):
-    """What goes to the card now, and how many bytes of data may come back at most."""
+    """What goes to the card now, and the most bytes of data that may come back."""
 
     data: bytes
     most: int
 
 
 class Machine(Handle):
-    """What a terminal and an exchange share: the ways to the card and back."""
+    """What a terminal and an exchange share: characters, TPDUs and commands, and the answer."""
 
     def send_bytes(self) -> bytes:
-        """Returns all characters that go to the card now; none if it waits for the card's, or is
-        over. Raises `CallError`, GT_FAILED, after a fault."""
-        # a header, or the data of one command: it never has more before it waits
+        """Returns all characters that go to the card now. There are none if the card's are next, or
+        after the end. Raises `CallError`, GT_FAILED, after a fault."""
+        # It never sends more than a header, or the data of one command, before it listens.
         return self._copied("send_bytes", room=lib.GT_TPDU_LIMIT + 1)
 
     def receive_bytes(self, data: Bytes) -> None:
-        """Takes characters of the card. Raises `LineError` at the first that does not fit, with its
-        place; those before it were taken."""
+        """Takes characters of the card.
+
+        Raises `LineError` with the place of the first that does not fit. Those before it are taken.
+        """
         taken = ffi.new("size_t *")
         self._call("receive_bytes", *readable(data), taken, place=taken)
 
     def tpdu(self) -> Optional[Due]:
-        """The whole TPDU that goes to the card now, or None."""
+        """Returns the whole TPDU that goes to the card now, or None."""
         return self._due("tpdu", lib.GT_TPDU_LIMIT)
 
     def answered(self, answer: Bytes) -> None:
-        """Takes what came back for that TPDU: data and SW1 SW2.
+        """Takes the answer to that TPDU: data and SW1 SW2.
 
-        Raises `TransportError` if it does not fit; nothing has changed. Raises `LineError` if the
-        response is too long or stalls; the operation has failed.
+        Errors:
+        - TransportError: it does not fit; nothing has changed.
+        - LineError: the response is too long, or stalls; the operation has failed.
         """
         self._call("answered", *readable(answer))
 
     def apdu(self) -> Optional[Due]:
-        """The whole command that goes to the card now, for a card at T=1, or None."""
+        """Returns the whole command that goes to a card at T=1 now, or None."""
         return self._due("apdu", lib.GT_APDU_LIMIT)
 
     def responded(self, response: Bytes) -> None:
-        """Takes the response to that command, as `answered`."""
+        """Takes the response to that command. Errors as `answered`."""
         self._call("responded", *readable(response))
 
     def _due(self, name: str, room: int) -> Optional[Due]:
@@ -117,7 +122,7 @@ class Machine(Handle):
         return None if is_missing else Due(copied(made, count), most[0])
 
     def answer(self) -> Optional[Answer]:
-        """The answer, or None before the end. It can be asked for again."""
+        """Returns the answer, as often as it is asked for. Returns None before the end."""
         status, room = ffi.new("uint16_t *"), lib.GT_RESPONSE_LIMIT
         data, count = writable(room)
         code = self._call("answer", status, data, room, count, but=[lib.GT_STATE, lib.GT_NOT_FOUND])
@@ -125,9 +130,9 @@ class Machine(Handle):
 
 
 class Exchange(Machine):
-    """The terminal's end of one command, begun; its response has at most `limit` bytes.
+    """Begins the terminal's end of one command. `limit`, up to 16,384, bounds the response's bytes.
 
-    Raises `CommandError` if the bytes are no command, `CallError` for a limit out of range.
+    Raises `CommandError` if the bytes are no command, `CallError` for another limit.
 
     >>> from galliumtoad import Card, Exchange
     >>> with Card({bytes(5): {}}) as card:
@@ -144,7 +149,7 @@ class Exchange(Machine):
 
 
 class Terminal(Machine, Lasting):
-    """Carries out one operation after another; a response has at most `limit` bytes.
+    """Carries out one operation after another. `limit`, up to 16,384, bounds a response's bytes.
 
     >>> from galliumtoad import Card, Get, Select, Terminal
     >>> aid = bytes.fromhex("A0000000031010")
@@ -159,14 +164,16 @@ class Terminal(Machine, Lasting):
         super().__init__("terminal", ("new_within", within(limit, 0, 1 << 63, "a limit")))
 
     def begin(self, operation: Operation) -> None:
-        """Begins an operation. Raises `CallError` or `CommandError`; nothing has changed then."""
+        """Begins an operation. Raises `CallError` or `CommandError`; nothing has changed."""
         self._call(*call_of(operation))
 
     def run(self, transport: Transport, operation: Operation) -> Answer:
-        """Carries out an operation over a transport, to the card's answer.
+        """Carries out an operation over a transport, and returns the card's answer.
 
-        Raises what `begin` raises; nothing was sent. Raises what the transport or `answered`
-        raises: then the terminal is reset, and what the card has done is unknown: reset it, too.
+        Errors:
+        - as `begin`: nothing was sent.
+        - what the transport raises, or as `answered`: the terminal is reset. What the card has done
+          is unknown, so reset it too.
         """
         if not callable(transport):
             raise TypeError("the transport is no callable")
@@ -188,11 +195,11 @@ class T1(Lasting):
     """A terminal's end of a line at T=1 (ISO/IEC 7816-3, clause 11), as a transport.
 
     It carries whole commands as blocks over a line that may damage and lose them. `edc` and `ifsc`
-    are those of `Atr.t1`.
+    are those of `Atr.t1`. Raises `CallError` for an EDC other than LRC, or an IFSC out of range.
 
-    The line is a callable. It sends the bytes, if there are any, and returns what came since: no
-    bytes if nothing came in time, which is BWT times its second argument after a block, and CWT
-    within one. Raises `CallError` for another EDC than LRC, or an IFSC out of range.
+    The line is a callable with two arguments. It sends the bytes of the first, if there are any,
+    and returns the bytes that came since. It returns none if nothing came in time: within BWT times
+    the second argument after a block was sent, and within CWT inside a block.
 
     >>> from galliumtoad import T1, BlockError
     >>> with T1(lambda data, waits: b"") as no_card:
@@ -215,8 +222,8 @@ class T1(Lasting):
     def __call__(self, command: Bytes, /) -> bytes:
         """Carries a command to the card, and returns the response.
 
-        Raises `BlockError` if the end gave up, with what is known of the command. After it, and
-        after what the line raises, reset the card and this end.
+        Raises `BlockError` if the end gave up, and what the line raises. Then reset the card and
+        this end.
         """
         self._call("begin", *readable(command))
         waits, taken, room = ffi.new("uint8_t *"), ffi.new("size_t *"), lib.GT_BLOCK_LIMIT

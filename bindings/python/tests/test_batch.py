@@ -440,7 +440,10 @@ def test_a_file_that_went_away_takes_no_row(tmp_path):
 def test_an_interrupted_run_lists_its_row(tmp_path):
     room = Room(tmp_path, 3)
     room.environment["SLOW"] = "0.2"
+    # a test in the background of a shell ignores the signal, and so would the run
+    before = signal.signal(signal.SIGINT, signal.default_int_handler)
     run = room.start()
+    signal.signal(signal.SIGINT, before)
     begun(room)
     os.kill(run.pid, signal.SIGINT)
     out, error = run.communicate(timeout=300)

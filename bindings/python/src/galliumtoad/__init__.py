@@ -14,10 +14,11 @@ from .answers import Answer, Atr, Object, Pps, Status, find, head, objects
 from .card import Card, Character, Entry, Session
 from .errors import AtrError, BlockError, BuildError, CallError, CommandError, Error, LineError
 from .errors import ObjectsError, OutOfMemory, PpsError, TransportError
-from .terminal import T1, Due, Exchange, Get, Level, Put, Select, Send, Terminal, Transport
+from .terminal import T1, Due, Exchange, Get, Level, Operation, Put, Select, Send, Terminal
+from .terminal import Transport
 
 __all__ = ["Answer", "Atr", "AtrError", "BlockError", "BuildError", "CallError", "Card"]
 __all__ += ["Character", "CommandError", "Due", "Entry", "Error", "Exchange", "Get", "Level"]
-__all__ += ["LineError", "Object", "ObjectsError", "OutOfMemory", "Pps", "PpsError", "Put"]
-__all__ += ["Select", "Send", "Session", "Status", "T1", "Terminal", "Transport", "TransportError"]
-__all__ += ["find", "head", "objects"]
+__all__ += ["LineError", "Object", "ObjectsError", "Operation", "OutOfMemory", "Pps", "PpsError"]
+__all__ += ["Put", "Select", "Send", "Session", "Status", "T1", "Terminal", "Transport"]
+__all__ += ["TransportError", "find", "head", "objects"]

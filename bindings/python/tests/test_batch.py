@@ -41,6 +41,15 @@ os.write(file, b"begin 1 other\\n")
 """
 
 
+def ended(run, seconds=100):
+    """What a run printed. One that does not end is killed, with its readers."""
+    try:
+        return run.communicate(timeout=seconds)
+    except subprocess.TimeoutExpired:
+        os.killpg(run.pid, signal.SIGKILL)
+        raise
+
+
 class Room:
     """A folder with readers, a table and a script."""
 
@@ -77,7 +86,7 @@ class Room:
 
     def run(self, *words):
         run = self.start(*words)
-        out, error = run.communicate(timeout=300)
+        out, error = ended(run)
         return run.returncode, out, error
 
     def journal(self):
@@ -182,7 +191,7 @@ def test_two_runs_at_one_reader(tmp_path):
     out, error = room.run()[1:]
     assert error == f"{room.names[0]}: another run serves this reader\n"
     assert out.endswith(" of 3 rows done, 0 to decide\n") and "row" not in out.split(" of 3 ")[0]
-    assert first.communicate(timeout=300)[0].endswith("3 of 3 rows done, 0 to decide\n")
+    assert ended(first)[0].endswith("3 of 3 rows done, 0 to decide\n")
 
 
 def test_readers_end_with_their_program(tmp_path):
@@ -192,7 +201,7 @@ def test_readers_end_with_their_program(tmp_path):
     begun(room)
     run.kill()
     # its output ends with the last of them
-    run.communicate(timeout=300)
+    ended(run)
     words = [it.split()[0] for it in room.journal()[1:]]
     assert 0 < words.count("begin") < 40 and words[-1] in ("done", "unused", "unsure")
 
@@ -431,7 +440,7 @@ def test_a_file_that_went_away_takes_no_row(tmp_path):
     photo.unlink()
     told = run.stdout.readline(), run.stdout.readline()
     run.kill()
-    run.communicate(timeout=300)
+    ended(run)
     assert told[1] == (
         f"{room.names[0]}: row 1 unused: script:2: no `put` for row 1: No such file or directory\n"
     )
@@ -446,7 +455,7 @@ def test_an_interrupted_run_lists_its_row(tmp_path):
     signal.signal(signal.SIGINT, before)
     begun(room)
     os.kill(run.pid, signal.SIGINT)
-    out, error = run.communicate(timeout=300)
+    out, error = ended(run)
     assert (run.returncode, error) == (1, "")
     assert listed(out) == {1: "unsure"}
     assert out.endswith("0 of 3 rows done, 1 to decide\n")
@@ -458,7 +467,7 @@ def test_a_reader_that_goes_away_is_named(tmp_path):
     run = room.start()
     begun(room)
     (tmp_path / "gone").touch()
-    out, error = run.communicate(timeout=300)
+    out, error = ended(run)
     assert error == f"{room.names[0]}: error 9\n" and run.returncode == 1
 
 
@@ -478,7 +487,7 @@ def test_two_runs_at_once(tmp_path):
     room = Room(tmp_path, 60, readers=2)
     runs = [room.start(it) for it in room.readers]
     for run in runs:
-        assert run.communicate(timeout=300)[1] == ""
+        assert ended(run)[1] == ""
     while room.run("--status")[0] == 1:
         room.decide()
         room.run()
@@ -489,14 +498,14 @@ def test_killed_at_random(tmp_path):
     room, at_random, kills = Room(tmp_path, CARDS, readers=4), random.Random(7), 0
     # slow enough that rows are left for each kill
     room.environment["SLOW"] = "0.015"
-    ended = ""
-    while not ended.endswith(f"{CARDS} of {CARDS} rows done, 0 to decide\n"):
+    out = ""
+    while not out.endswith(f"{CARDS} of {CARDS} rows done, 0 to decide\n"):
         run = room.start()
         if kills < KILLS:
             time.sleep(at_random.uniform(0.15, 0.6))
             os.killpg(run.pid, signal.SIGKILL)
             kills += 1
-        ended = run.communicate(timeout=600)[0]
+        out = ended(run, 600)[0]
         room.decide()
     assert [room.cards_of(row)[0] for row in range(1, CARDS + 1)] == [1] * CARDS
     assert kills == KILLS

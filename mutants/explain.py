@@ -1,7 +1,7 @@
-"""Tries the faults of explain.faults, for `try`: of each, a case of checks/explain is told
-otherwise, or not at all. What trace_explain words is not proved, so this shows that its cases guard
-it. All copies are built as modules of one program, by `rt try` and without proofs, beside a copy
-with no fault, in which every case has to pass."""
+"""Tries the faults of explain.faults, for `try`: for each fault, a case of checks/explain must get
+another output, or none. No proof covers the words of trace_explain, so its cases must. `rt try`
+builds all copies as modules of one program, without proofs. In one copy, without a fault, every
+case must pass."""
 
 import re
 import subprocess
@@ -15,19 +15,19 @@ from cases import all_cases  # noqa: E402
 
 BELOW = ("apdu_core", "tlv_core", "t0_core", "atr_core")
 SOURCE = TOP / "crates" / "trace_explain" / "src"
-# what takes words and streams, which the program below does in its place
+# The files that read arguments and streams. The program below replaces them.
 LEFT_OUT = ("main", "main_status", "command_line", "help")
-# the names of the forms, in the order of FORM_NAMES
+# The names of the forms, in the order of FORM_NAMES.
 FORMS = "angle angles arrow double TX TX: Tx: T: IFD IFD:".split()
-# how many runs a module's cases are divided among, since one may write a mebibyte
+# The number of runs for a module's cases. A run may write a mebibyte at most.
 BATCHES = 3
-# stands between the cases that a program is given, and between what it says of them
+# Separates the cases in the program's input, and its outputs.
 MARK = "\x1e"
 DECLARED = re.compile(r"^ *(?:ghost use [^;]*;|#\[tactic\(auto, using\(.*)\n", re.M)
 
 
 def write_program(folder, faults):
-    """The crate with a module for the program as it is, and for each fault."""
+    """Writes a crate with one module for the program as it is, and one for each fault."""
     crates = folder / "crates"
     for name in BELOW:
         (crates / name).mkdir(parents=True)
@@ -51,12 +51,12 @@ def write_program(folder, faults):
 
 
 def texts_with(fault, texts):
-    """The files with the fault in one of them."""
+    """Returns the files, one of them with the fault."""
     return {**texts, fault.file: fault.put(texts[fault.file])} if fault else texts
 
 
 def write_module(source, module, texts):
-    """A copy of the crate as a module."""
+    """Writes a copy of the crate as a module."""
     (source / module).mkdir(parents=True)
     for name, text in texts.items():
         text = DECLARED.sub("", text).replace("crate::", f"crate::{module}::")
@@ -66,7 +66,7 @@ def write_module(source, module, texts):
 
 
 def main_text(count):
-    """The program: its input is the number of a module, and then each case with its words."""
+    """Returns the program. Its input is the number of a module, then each case with its words."""
     modules = "".join(f"mod m{number};\n" for number in range(count))
     arms = "".join(f"            {number} => run{number}(&rt, part),\n" for number in range(count))
     return HEAD.format(modules=modules, arms=arms) + WORDS + "".join(
@@ -196,7 +196,7 @@ fn diff{number}(
 
 
 def write_inputs(folder, cases, count):
-    """For each module a file with its number and the cases of each batch."""
+    """Writes for each module and batch a file with the module's number and the cases."""
     folder.mkdir()
     for batch in range(BATCHES):
         given = b"".join(input_of(case) for case in cases[batch::BATCHES])
@@ -205,7 +205,7 @@ def write_inputs(folder, cases, count):
 
 
 def input_of(case):
-    """What a module is given of a case."""
+    """Returns a case as a module reads it."""
     words = "".join(
         word[2] if word in case.words else "-" for word in ("--html", "--resume", "--summary")
     )
@@ -223,21 +223,21 @@ def input_of(case):
 
 
 def lines_of(words):
-    """What lines are: without signs, of a log of TPDUs, or with signs."""
+    """Returns the kind of the lines: without signs, of a log of TPDUs, or with signs."""
     if "--unsigned" in words:
         return "u"
     return "t" if "--tpdu" in words else "-"
 
 
 def form_of(words):
-    """The place of the form that is said, and `-` where none is."""
+    """Returns the place of the named form, or `-` without one."""
     if "--form" not in words:
         return "-"
     return str(FORMS.index(words[words.index("--form") + 1]))
 
 
 def run_all(crate, folder):
-    """What each module says of the cases of each batch; None where it ended otherwise."""
+    """Returns each module's output for each batch, or None if it ended with a fault."""
     run = subprocess.run(
         ["rt", "try", "--steps", "1", "--cases", str(folder)],
         cwd=crate,
@@ -253,13 +253,13 @@ def run_all(crate, folder):
 
 
 def faults_in(texts, number, cases):
-    """Each case in which this module says something else, or that the program ended."""
+    """Yields each case with another output of this module, or in which the program ended."""
     for batch in range(BATCHES):
         yield from faults_of(texts.get(f"{number:03}_{batch}"), cases[batch::BATCHES])
 
 
 def faults_of(text, cases):
-    """The same of the cases of a batch."""
+    """Yields the same for the cases of a batch."""
     if text is None:
         yield "the program ended"
         return
@@ -273,7 +273,7 @@ def faults_of(text, cases):
 
 
 def outcomes(folder, faults):
-    """Each fault with the case that is told otherwise, begun with that of none."""
+    """Yields each fault with the first case that refuses it, after the copy without a fault."""
     cases = all_cases()
     crate = write_program(folder, faults)
     write_inputs(folder / "cases", cases, len(faults) + 1)

@@ -391,7 +391,8 @@ def test_a_second_thread_in_a_handle_is_refused():
     def stay():
         with held._alone():
             inside.set()
-            leave.wait()
+            # not for ever: a call that waits for this thread goes on then, and the test fails
+            leave.wait(10)
 
     first = threading.Thread(target=stay)
     first.start()

@@ -117,8 +117,11 @@ def test_what_is_wrong_is_refused_before_a_call(monkeypatch):
     terminal, held, session = Terminal(), card(), Session(card())
     terminal.run(held.tpdu, Select(AID))
     begun = terminal.answer()
-    calls = []
-    monkeypatch.setattr(Handle, "_call", lambda *words, **more: calls.append(words))
+
+    def called(*words, **more):
+        raise AssertionError(words)
+
+    monkeypatch.setattr(Handle, "_call", called)
     for call in [
         lambda: Session(5),
         lambda: Session(session),
@@ -138,7 +141,6 @@ def test_what_is_wrong_is_refused_before_a_call(monkeypatch):
     ]:
         with pytest.raises(TypeError):
             call()
-    assert calls == []
     monkeypatch.undo()
     assert terminal.answer() == begun
 

@@ -15,8 +15,11 @@ from cases import all_cases  # noqa: E402
 
 BELOW = ("apdu_core", "tlv_core", "t0_core", "atr_core")
 SOURCE = TOP / "crates" / "trace_explain" / "src"
-# The files that read arguments and streams. The program below replaces them.
-LEFT_OUT = ("main", "main_status", "command_line", "help")
+FOLDERS = ("read", "follow", "describe", "write")
+# The files that read arguments and streams, which the program below replaces, and the folders' own.
+LEFT_OUT = ("main", "main_status", "command_line", "help", *FOLDERS)
+# A copy is one flat module.
+PATH = re.compile(rf"\bcrate::(?:(?:{'|'.join(FOLDERS)})::)?")
 # The names of the forms, in the order of FORM_NAMES.
 FORMS = "angle angles arrow double TX TX: Tx: T: IFD IFD:".split()
 # The number of runs for a module's cases. A run may write a mebibyte at most.
@@ -42,7 +45,7 @@ def write_program(folder, faults):
     for part in ("specs", "proofs"):
         (crate / part).mkdir(parents=True)
         (crate / part / "Lib.antt").write_text("", encoding="utf-8")
-    texts = {it.stem: it.read_text(encoding="utf-8") for it in SOURCE.glob("*.rt")}
+    texts = {it.stem: it.read_text(encoding="utf-8") for it in SOURCE.rglob("*.rt")}
     texts = {name: text for name, text in texts.items() if name not in LEFT_OUT}
     for number, fault in enumerate([None, *faults]):
         write_module(crate / "src", f"m{number}", texts_with(fault, texts))
@@ -59,7 +62,7 @@ def write_module(source, module, texts):
     """Writes a copy of the crate as a module."""
     (source / module).mkdir(parents=True)
     for name, text in texts.items():
-        text = DECLARED.sub("", text).replace("crate::", f"crate::{module}::")
+        text = PATH.sub(f"crate::{module}::", DECLARED.sub("", text))
         (source / module / f"{name}.rt").write_text(text, encoding="utf-8")
     names = "".join(f"pub mod {name};\n" for name in texts)
     (source / f"{module}.rt").write_text(f"//! A copy.\n{names}", encoding="utf-8")

@@ -6,12 +6,12 @@ use Rattle.std.proofs.KnownBytes.{Appends-trans}
 use Rattle.std.specs.Io.KnownBytes.{Appends}
 use Rattle.std.specs.String.{string_bytes}
 use Rattle.trace_explain.specs.declared.explainer.Explainer.{Explainer}
-use Rattle.trace_explain.specs.declared.layout.Layout.{Layout}
-use Rattle.trace_explain.specs.declared.layout.Medium.{Medium}
-use Rattle.trace_explain.specs.declared.listener.Listener.{Listener}
-use Rattle.trace_explain.specs.declared.mask.Mask.{Mask}
-use Rattle.trace_explain.specs.declared.reading.Reading.{Reading}
-use Rattle.trace_explain.specs.declared.sheet.Sheet.{Sheet}
+use Rattle.trace_explain.specs.declared.write.layout.Layout.{Layout}
+use Rattle.trace_explain.specs.declared.write.layout.Medium.{Medium}
+use Rattle.trace_explain.specs.declared.follow.listener.Listener.{Listener}
+use Rattle.trace_explain.specs.declared.describe.mask.Mask.{Mask}
+use Rattle.trace_explain.specs.declared.read.reading.Reading.{Reading}
+use Rattle.trace_explain.specs.declared.write.sheet.Sheet.{Sheet}
 use Rattle.trace_explain.specs.Account.{Account, AddsBox, AddsBoxes, AddsText, AreBoxes, Boxed, HasWritten, Out, Shows, ShowsTold, WritesOut, WritesTold, number_after, out_with, parts_in, told_in}
 use Rattle.trace_explain.specs.Boxes.{PutsBox}
 use Rattle.trace_explain.specs.Noted.{as_ended, bared, ended_by, is_bare}

@@ -18,9 +18,9 @@ use Rattle.t0_core.specs.declared.unheard.Unheard.{Unheard}
 use Rattle.t0_core.specs.History.{Event, Passed, Reset, Whole, events_of, passed}
 use Rattle.t0_core.specs.TapSide.{Place, TapStandsAt, afresh, heard_at, unheard_at}
 use Rattle.t0_core.specs.TapHistory.{HasHeard, HearsOn}
-use Rattle.trace_explain.specs.declared.listener.Listener.{Listener}
-use Rattle.trace_explain.specs.declared.tally.Tally.{Tally}
-use Rattle.trace_explain.specs.declared.tpdu.Tpdu.{Tpdu}
+use Rattle.trace_explain.specs.declared.follow.listener.Listener.{Listener}
+use Rattle.trace_explain.specs.declared.follow.tally.Tally.{Tally}
+use Rattle.trace_explain.specs.declared.follow.tpdu.Tpdu.{Tpdu}
 use Rattle.trace_explain.specs.Told.{Told, told_by, counted, uncounted, untold, noted, is_last, Tells, TellsFront}
 use Rattle.trace_explain.specs.Noted.{AreStatus, HasNoted, IsBare, IsNoted, bared, ended_by, is_bare}
 use Rattle.trace_explain.proofs.ExplainedLemmas.{both_hold}

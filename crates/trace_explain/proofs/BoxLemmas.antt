@@ -1,11 +1,11 @@
 -- Parts of a box, one after another.
 use Rattle.std.proofs.Common.{◌≡◌, ℕ, List, [], ◌∷◌, ◌++◌, ◌∙◌, ap, append-nil, append_assoc, refl, subst, sym}
 use Rattle.std.specs.String.{string_bytes}
-use Rattle.trace_explain.specs.declared.layout.Layout.{Layout}
-use Rattle.trace_explain.specs.declared.layout.Medium.{Medium}
-use Rattle.trace_explain.specs.declared.layout.Side.{Side}
-use Rattle.trace_explain.specs.declared.mask.Mask.{Mask}
-use Rattle.trace_explain.specs.declared.sheet.Sheet.{Sheet}
+use Rattle.trace_explain.specs.declared.write.layout.Layout.{Layout}
+use Rattle.trace_explain.specs.declared.write.layout.Medium.{Medium}
+use Rattle.trace_explain.specs.declared.write.layout.Side.{Side}
+use Rattle.trace_explain.specs.declared.describe.mask.Mask.{Mask}
+use Rattle.trace_explain.specs.declared.write.sheet.Sheet.{Sheet}
 use Rattle.trace_explain.specs.Boxes.{DataText, Puts, PutsBox, PutsDataOf, PutsStatus, status_side}
 use Rattle.trace_explain.specs.Sheets.{Adds, Joins}
 use Rattle.trace_explain.specs.Told.{Told}

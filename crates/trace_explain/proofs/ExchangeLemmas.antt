@@ -1,8 +1,8 @@
 -- The TPDU of a command and its answer, made of its parts.
 use Rattle.std.proofs.Common.{◌≡◌, ℕ, List, [], ◌∷◌, ◌++◌, Option, ap, ◌∙◌}
 use Rattle.t0_core.specs.declared.direction.Direction.{Direction}
-use Rattle.trace_explain.specs.declared.tally.Tally.{Tally}
-use Rattle.trace_explain.specs.declared.tpdu.Tpdu.{Tpdu}
+use Rattle.trace_explain.specs.declared.follow.tally.Tally.{Tally}
+use Rattle.trace_explain.specs.declared.follow.tpdu.Tpdu.{Tpdu}
 use Rattle.trace_explain.specs.Exchanges.{TellsExchange, beside, moved_of, way_of}
 use Rattle.trace_explain.specs.Told.{Told, uncounted}
 

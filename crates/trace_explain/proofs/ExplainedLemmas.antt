@@ -10,13 +10,13 @@ use Rattle.t0_core.specs.History.{Event, Passed, Reset, events_of, passed}
 use Rattle.trace_explain.specs.declared.explain_fault.ExplainFault.{ExplainFault}
 use Rattle.trace_explain.specs.declared.explain_fault.ExplainFault.TheVariants as fault
 use Rattle.trace_explain.specs.declared.explainer.Explainer.{Explainer}
-use Rattle.trace_explain.specs.declared.listener.Listener.{Listener}
-use Rattle.trace_explain.specs.declared.reading.Reading.{Reading}
-use Rattle.trace_explain.specs.declared.trace_line.BadLine.{BadLine}
-use Rattle.trace_explain.specs.declared.trace_line.BadLine.TheVariants as bad
-use Rattle.trace_explain.specs.declared.trace_line.Source.{Source}
-use Rattle.trace_explain.specs.declared.trace_line.Source.TheVariants.{Sign, Turn}
-use Rattle.trace_explain.specs.declared.trace_line.TraceLine.{TraceLine}
+use Rattle.trace_explain.specs.declared.follow.listener.Listener.{Listener}
+use Rattle.trace_explain.specs.declared.read.reading.Reading.{Reading}
+use Rattle.trace_explain.specs.declared.read.trace_line.BadLine.{BadLine}
+use Rattle.trace_explain.specs.declared.read.trace_line.BadLine.TheVariants as bad
+use Rattle.trace_explain.specs.declared.read.trace_line.Source.{Source}
+use Rattle.trace_explain.specs.declared.read.trace_line.Source.TheVariants.{Sign, Turn}
+use Rattle.trace_explain.specs.declared.read.trace_line.TraceLine.{TraceLine}
 use Rattle.trace_explain.specs.Told.{Told, told_by, TellsFront}
 use Rattle.trace_explain.specs.Openings.{Opening, begins_answer, has_begun, is_dialogue, opening_of, role_of, unopened}
 use Rattle.trace_explain.specs.Lines.{AreOver, IsBadLine, Says, Standing, TakesCharacters, TakesLine, after_character, heard_of, read_on}

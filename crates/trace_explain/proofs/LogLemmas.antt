@@ -2,10 +2,10 @@
 use Rattle.std.proofs.Common.{◌≡◌, ℕ, List, [], ◌∷◌, ◌++◌, Option, map, ap, subst, ◌∙◌, append_assoc}
 use Rattle.std.proofs.lemmas.List.{map-append}
 use Rattle.t0_core.specs.declared.end.End.TheVariants as end
-use Rattle.trace_explain.specs.declared.log.Log.{Log}
-use Rattle.trace_explain.specs.declared.log.Logged.{Logged}
-use Rattle.trace_explain.specs.declared.log.Open.{Open}
-use Rattle.trace_explain.specs.declared.log_line.LogLine.{LogLine}
+use Rattle.trace_explain.specs.declared.read.log.Log.{Log}
+use Rattle.trace_explain.specs.declared.read.log.Logged.{Logged}
+use Rattle.trace_explain.specs.declared.read.log.Open.{Open}
+use Rattle.trace_explain.specs.declared.read.log_line.LogLine.{LogLine}
 use Rattle.trace_explain.specs.Logs.{LogAt, Took, behind_answer, came_by, closed, log_at, taken}
 
 pub came_more : (before after : List Logged) (one : Logged) → after ≡ before ++ one ∷ []

@@ -15,7 +15,7 @@ use Rattle.t0_core.specs.History.{Event, Passed, Reset, Item, Whole, Cut_off, ev
 use Rattle.t0_core.specs.TapSide.{Place, TapStandsAt, Makes, Concludes, turned, turned_body, afresh}
 use Rattle.t0_core.specs.TapHistory.{HasHeard, HearsOn, IsOverheard}
 use Rattle.t0_core.specs.TapLaws as law
-use Rattle.trace_explain.specs.declared.listener.Listener.{Listener}
+use Rattle.trace_explain.specs.declared.follow.listener.Listener.{Listener}
 use Rattle.trace_explain.specs.Told.{Told, told_by, counted, uncounted, untold, noted, is_last, TellsBody, TellsFront, Tells}
 use Rattle.trace_explain.specs.Noted.{HasNoted, IsNoted, TellsItems}
 

@@ -3,7 +3,7 @@ use Rattle.std.proofs.Common.{◌≡◌, ℕ, List, [], ◌∷◌, ◌++◌, ◌
 use Rattle.std.proofs.lemmas.List.{drop_more, length-drop, nil_from_length}
 use Rattle.std.proofs.lemmas.List.Concat.{flat_map-append}
 use Rattle.std.specs.String.{string_bytes}
-use Rattle.trace_explain.specs.declared.sheet.Sheet.{Sheet}
+use Rattle.trace_explain.specs.declared.write.sheet.Sheet.{Sheet}
 use Rattle.trace_explain.specs.Sheets.{Adds, PutsLines}
 use Rattle.trace_explain.specs.Written.{AreLines, character_text, content, lines_text, named}
 

@@ -4,13 +4,13 @@ use Rattle.std.proofs.lemmas.List.{take_more}
 use Rattle.t0_core.specs.declared.end.End.{End}
 use Rattle.t0_core.specs.History.{Event}
 use Rattle.t0_core.specs.TapSide.{due_at}
-use Rattle.trace_explain.specs.declared.complaint.Complaint.{Complaint}
+use Rattle.trace_explain.specs.declared.describe.complaint.Complaint.{Complaint}
 use Rattle.trace_explain.specs.declared.explain_fault.ExplainFault.{ExplainFault}
 use Rattle.trace_explain.specs.declared.explain_fault.ExplainFault.TheVariants as fault
 use Rattle.trace_explain.specs.declared.explainer.Explainer.{Explainer}
-use Rattle.trace_explain.specs.declared.listener.Listener.{Listener}
-use Rattle.trace_explain.specs.declared.trace_line.Source.{Source}
-use Rattle.trace_explain.specs.declared.turn.NoTurn.{NoTurn}
+use Rattle.trace_explain.specs.declared.follow.listener.Listener.{Listener}
+use Rattle.trace_explain.specs.declared.read.trace_line.Source.{Source}
+use Rattle.trace_explain.specs.declared.follow.turn.NoTurn.{NoTurn}
 use Rattle.trace_explain.specs.Explained.{HasExplained, ExplainsCharacter, ExplainsCharacters, IsReachedAt, IsRight, StopsAmong, Stopped, TakesOrStops, answers_again, standing_of}
 use Rattle.trace_explain.specs.Lines.{IsSent, Standing, TakesCharacter, TakesCharacters}
 use Rattle.trace_explain.specs.Openings.{is_dialogue, opening_of, role_of}

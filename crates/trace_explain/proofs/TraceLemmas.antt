@@ -11,8 +11,8 @@ use Rattle.t0_core.specs.History.{Event}
 use Rattle.trace_explain.specs.declared.explain_fault.ExplainFault.{ExplainFault}
 use Rattle.trace_explain.specs.declared.explain_fault.ExplainFault.TheVariants as fault
 use Rattle.trace_explain.specs.declared.explainer.Explainer.{Explainer}
-use Rattle.trace_explain.specs.declared.listener.Listener.{Listener}
-use Rattle.trace_explain.specs.declared.reading.Reading.{Reading}
+use Rattle.trace_explain.specs.declared.follow.listener.Listener.{Listener}
+use Rattle.trace_explain.specs.declared.read.reading.Reading.{Reading}
 use Rattle.trace_explain.specs.Account.{HasWritten, Out, WritesOut, out_with}
 use Rattle.trace_explain.specs.Told.{Told}
 use Rattle.trace_explain.specs.Lines.{IsHeard, Standing, first_of_all}

@@ -4,7 +4,7 @@ use Rattle.std.specs.List.{Contains}
 use Rattle.tlv_core.specs.Object.{ObjectList}
 use Rattle.tlv_core.specs.Spelling.{Begins}
 use Rattle.tlv_core.specs.TagForm.{is_constructed}
-use Rattle.trace_explain.specs.declared.sheet.Sheet.{Sheet}
+use Rattle.trace_explain.specs.declared.write.sheet.Sheet.{Sheet}
 use Rattle.trace_explain.specs.Sheets.{Adds, PutsAny, PutsLines, PutsValue, has_lines}
 use Rattle.trace_explain.specs.Trees.{AreTree, IsValue, indent, listed, masked, object, primitive, template, value_width}
 use Rattle.trace_explain.specs.Written.{AreLines, content, is_text, lines_text}

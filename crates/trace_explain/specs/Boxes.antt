@@ -4,17 +4,17 @@ use Rattle.std.specs.Fmt.{decimal}
 use Rattle.std.specs.String.{string_bytes}
 use Rattle.t0_core.specs.declared.direction.Direction.{Direction}
 use Rattle.t0_core.specs.declared.direction.Direction.TheVariants.{ToCard, FromCard}
-use Rattle.trace_explain.specs.declared.layout.Medium.{Medium}
-use Rattle.trace_explain.specs.declared.layout.Side.{Side}
-use Rattle.trace_explain.specs.declared.layout.Side.TheVariants as side
-use Rattle.trace_explain.specs.declared.links.Links.{Links}
-use Rattle.trace_explain.specs.declared.links.Whole.{Whole}
-use Rattle.trace_explain.specs.declared.links.Whole.TheVariants as whole
-use Rattle.trace_explain.specs.declared.mask.Mask.{Mask}
-use Rattle.trace_explain.specs.declared.mask.Origin.{Origin}
-use Rattle.trace_explain.specs.declared.mask.Shown.{Shown}
-use Rattle.trace_explain.specs.declared.mask.Shown.TheVariants.{All, Objects, Nothing}
-use Rattle.trace_explain.specs.declared.sheet.Sheet.{Sheet}
+use Rattle.trace_explain.specs.declared.write.layout.Medium.{Medium}
+use Rattle.trace_explain.specs.declared.write.layout.Side.{Side}
+use Rattle.trace_explain.specs.declared.write.layout.Side.TheVariants as side
+use Rattle.trace_explain.specs.declared.follow.links.Links.{Links}
+use Rattle.trace_explain.specs.declared.follow.links.Whole.{Whole}
+use Rattle.trace_explain.specs.declared.follow.links.Whole.TheVariants as whole
+use Rattle.trace_explain.specs.declared.describe.mask.Mask.{Mask}
+use Rattle.trace_explain.specs.declared.describe.mask.Origin.{Origin}
+use Rattle.trace_explain.specs.declared.describe.mask.Shown.{Shown}
+use Rattle.trace_explain.specs.declared.describe.mask.Shown.TheVariants.{All, Objects, Nothing}
+use Rattle.trace_explain.specs.declared.write.sheet.Sheet.{Sheet}
 use Rattle.trace_explain.specs.Noted.{are_status}
 use Rattle.trace_explain.specs.Secrets.{Shows}
 use Rattle.trace_explain.specs.Sheets.{Adds}

@@ -5,17 +5,17 @@ use Rattle.t0_core.specs.declared.end.End.{End}
 use Rattle.t0_core.specs.History as history
 use Rattle.t0_core.specs.History.{Event}
 use Rattle.t0_core.specs.TapSide.{due_at}
-use Rattle.trace_explain.specs.declared.complaint.Complaint.{Complaint}
+use Rattle.trace_explain.specs.declared.describe.complaint.Complaint.{Complaint}
 use Rattle.trace_explain.specs.declared.explain_fault.ExplainFault.{ExplainFault}
 use Rattle.trace_explain.specs.declared.explain_fault.ExplainFault.TheVariants as fault
 use Rattle.trace_explain.specs.declared.explainer.Explainer.{Explainer}
-use Rattle.trace_explain.specs.declared.listener.Listener.{Listener}
-use Rattle.trace_explain.specs.declared.trace_line.BadLine.{BadLine}
-use Rattle.trace_explain.specs.declared.trace_line.BadLine.TheVariants as bad
-use Rattle.trace_explain.specs.declared.trace_line.Source.{Source}
-use Rattle.trace_explain.specs.declared.trace_line.TraceLine.{TraceLine}
-use Rattle.trace_explain.specs.declared.trace_line.TraceLine.TheVariants as said
-use Rattle.trace_explain.specs.declared.turn.NoTurn.{NoTurn}
+use Rattle.trace_explain.specs.declared.follow.listener.Listener.{Listener}
+use Rattle.trace_explain.specs.declared.read.trace_line.BadLine.{BadLine}
+use Rattle.trace_explain.specs.declared.read.trace_line.BadLine.TheVariants as bad
+use Rattle.trace_explain.specs.declared.read.trace_line.Source.{Source}
+use Rattle.trace_explain.specs.declared.read.trace_line.TraceLine.{TraceLine}
+use Rattle.trace_explain.specs.declared.read.trace_line.TraceLine.TheVariants as said
+use Rattle.trace_explain.specs.declared.follow.turn.NoTurn.{NoTurn}
 use Rattle.trace_explain.specs.Account.{AddsBoxes}
 use Rattle.trace_explain.specs.Lines.{IsBadLine, IsHeard, Says, Standing, TakesCharacter, TakesCharacters, read_on}
 use Rattle.trace_explain.specs.Noted.{HasNoted, NoneGoesOn}

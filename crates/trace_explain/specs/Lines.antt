@@ -6,17 +6,17 @@ use Rattle.t0_core.specs.declared.end.End.{End}
 use Rattle.t0_core.specs.declared.end.End.TheVariants as end
 use Rattle.t0_core.specs.History as history
 use Rattle.t0_core.specs.History.{Event, Item, events_of}
-use Rattle.trace_explain.specs.declared.form.Form.{Form}
-use Rattle.trace_explain.specs.declared.form.Form.TheVariants as form
-use Rattle.trace_explain.specs.declared.reading.Reading.{Reading}
-use Rattle.trace_explain.specs.declared.listener.Listener.{Listener}
-use Rattle.trace_explain.specs.declared.trace_line.BadLine.{BadLine}
-use Rattle.trace_explain.specs.declared.trace_line.BadLine.TheVariants as bad
-use Rattle.trace_explain.specs.declared.trace_line.Source.{Source}
-use Rattle.trace_explain.specs.declared.trace_line.Source.TheVariants.{Sign, Turn}
-use Rattle.trace_explain.specs.declared.trace_line.TraceLine.{TraceLine}
-use Rattle.trace_explain.specs.declared.trace_line.TraceLine.TheVariants as said
-use Rattle.trace_explain.specs.declared.ways.Ways.{Ways}
+use Rattle.trace_explain.specs.declared.read.form.Form.{Form}
+use Rattle.trace_explain.specs.declared.read.form.Form.TheVariants as form
+use Rattle.trace_explain.specs.declared.read.reading.Reading.{Reading}
+use Rattle.trace_explain.specs.declared.follow.listener.Listener.{Listener}
+use Rattle.trace_explain.specs.declared.read.trace_line.BadLine.{BadLine}
+use Rattle.trace_explain.specs.declared.read.trace_line.BadLine.TheVariants as bad
+use Rattle.trace_explain.specs.declared.read.trace_line.Source.{Source}
+use Rattle.trace_explain.specs.declared.read.trace_line.Source.TheVariants.{Sign, Turn}
+use Rattle.trace_explain.specs.declared.read.trace_line.TraceLine.{TraceLine}
+use Rattle.trace_explain.specs.declared.read.trace_line.TraceLine.TheVariants as said
+use Rattle.trace_explain.specs.declared.read.ways.Ways.{Ways}
 use Rattle.trace_explain.specs.Noted.{HasNoted, IsNoted, NoneGoesOn}
 use Rattle.trace_explain.specs.Openings.{Opening, begins_answer, has_begun, is_dialogue, opens, role_of, unopened}
 use Rattle.trace_explain.specs.Times.{behind_clock, behind_time, place_of}

@@ -1,14 +1,14 @@
 -- The lines of a log of whole TPDUs or APDUs, and what each says.
 use Rattle.std.specs.Prelude.{◌≡◌, ℕ, ◌+◌, ◌-◌, ◌*◌, min, List, [], ◌∷◌, take, drop, codes, length, Option, Some, None, Bool, true, false, not, nat_lt, ◌==◌, ◌&&◌, ◌||◌, if◌then◌else◌}
 use Rattle.t0_core.specs.declared.end.End.TheVariants as end
-use Rattle.trace_explain.specs.declared.log_line.LineKind.{LineKind}
-use Rattle.trace_explain.specs.declared.log_line.LineKind.TheVariants as kind
-use Rattle.trace_explain.specs.declared.log_line.LogLine.{LogLine}
-use Rattle.trace_explain.specs.declared.log_line.LogLine.TheVariants as said
-use Rattle.trace_explain.specs.declared.log_line.Rest.{Rest}
-use Rattle.trace_explain.specs.declared.log_line.Rest.TheVariants as rest
-use Rattle.trace_explain.specs.declared.trace_line.BadLine.{BadLine}
-use Rattle.trace_explain.specs.declared.trace_line.BadLine.TheVariants as bad
+use Rattle.trace_explain.specs.declared.read.log_line.LineKind.{LineKind}
+use Rattle.trace_explain.specs.declared.read.log_line.LineKind.TheVariants as kind
+use Rattle.trace_explain.specs.declared.read.log_line.LogLine.{LogLine}
+use Rattle.trace_explain.specs.declared.read.log_line.LogLine.TheVariants as said
+use Rattle.trace_explain.specs.declared.read.log_line.Rest.{Rest}
+use Rattle.trace_explain.specs.declared.read.log_line.Rest.TheVariants as rest
+use Rattle.trace_explain.specs.declared.read.trace_line.BadLine.{BadLine}
+use Rattle.trace_explain.specs.declared.read.trace_line.BadLine.TheVariants as bad
 use Rattle.trace_explain.specs.Lines.{begins_with, bytes_in, is_in}
 use Rattle.trace_explain.specs.Times.{behind_time, place_of}
 

@@ -2,16 +2,16 @@
 use Rattle.std.specs.Prelude.{◌≡◌, ℕ, ◌-◌, List, [], ◌∷◌, ◌++◌, length, map, Option, Some, None, ◌==◌, if◌then◌else◌}
 use Rattle.t0_core.specs.declared.end.End.{End}
 use Rattle.t0_core.specs.declared.end.End.TheVariants as end
-use Rattle.trace_explain.specs.declared.log.Log.{Log}
-use Rattle.trace_explain.specs.declared.log.Logged.{Logged}
-use Rattle.trace_explain.specs.declared.log.Logged.TheVariants as logged
-use Rattle.trace_explain.specs.declared.log.Open.{Open}
-use Rattle.trace_explain.specs.declared.log.Open.TheVariants as going
-use Rattle.trace_explain.specs.declared.log_line.LogLine.{LogLine}
-use Rattle.trace_explain.specs.declared.log_line.LogLine.TheVariants as said
-use Rattle.trace_explain.specs.declared.log_line.Rest.{Rest}
-use Rattle.trace_explain.specs.declared.log_line.Rest.TheVariants as left
-use Rattle.trace_explain.specs.declared.trace_line.BadLine.{BadLine}
+use Rattle.trace_explain.specs.declared.read.log.Log.{Log}
+use Rattle.trace_explain.specs.declared.read.log.Logged.{Logged}
+use Rattle.trace_explain.specs.declared.read.log.Logged.TheVariants as logged
+use Rattle.trace_explain.specs.declared.read.log.Open.{Open}
+use Rattle.trace_explain.specs.declared.read.log.Open.TheVariants as going
+use Rattle.trace_explain.specs.declared.read.log_line.LogLine.{LogLine}
+use Rattle.trace_explain.specs.declared.read.log_line.LogLine.TheVariants as said
+use Rattle.trace_explain.specs.declared.read.log_line.Rest.{Rest}
+use Rattle.trace_explain.specs.declared.read.log_line.Rest.TheVariants as left
+use Rattle.trace_explain.specs.declared.read.trace_line.BadLine.{BadLine}
 use Rattle.trace_explain.specs.LogLines.{IsBadDump, IsBadLogLine, SaysLog, SaysRest, dumped_in}
 
 -- what comes of a line

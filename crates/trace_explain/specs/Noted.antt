@@ -13,9 +13,9 @@ use Rattle.t0_core.specs.Front.{Front, IsFront, GoesOn, Ends, front_characters}
 use Rattle.t0_core.specs.TapSide.{TapStandsAt, IsRead, IsReadFront, unheard_at}
 use Rattle.t0_core.specs.History.{Event, Item, Whole, Cut_off, events_of, passed}
 use Rattle.t0_core.specs.TapHistory.{IsOverheard}
-use Rattle.trace_explain.specs.declared.listener.Listener.{Listener}
-use Rattle.trace_explain.specs.declared.refusal.Refusal.{Refusal}
-use Rattle.trace_explain.specs.declared.refusal.Refusal.TheVariants.{NoDialogue, OutOfMemory}
+use Rattle.trace_explain.specs.declared.follow.listener.Listener.{Listener}
+use Rattle.trace_explain.specs.declared.follow.refusal.Refusal.{Refusal}
+use Rattle.trace_explain.specs.declared.follow.refusal.Refusal.TheVariants.{NoDialogue, OutOfMemory}
 use Rattle.trace_explain.specs.Told.{Told, told_by, Tells, TellsFront}
 
 -- this much is told of a dialogue of which these characters came before a reset

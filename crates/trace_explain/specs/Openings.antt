@@ -11,11 +11,11 @@ use Rattle.atr_core.specs.declared.fault.Reason.{Reason}
 use Rattle.atr_core.specs.declared.fault.Reason.TheVariants.{NoTs, Cut, TooLong, OutOfOrder, Surplus, CheckMissing, CheckNotDue, CheckWrong}
 use Rattle.t0_core.specs.declared.end.End.{End}
 use Rattle.t0_core.specs.declared.end.End.TheVariants.{Terminal, Card}
-use Rattle.trace_explain.specs.declared.opening.Stage.{Stage}
-use Rattle.trace_explain.specs.declared.opening.Stage.TheVariants as stage
-use Rattle.trace_explain.specs.declared.opening.Role.{Role}
-use Rattle.trace_explain.specs.declared.opening.Role.TheVariants as role
-use Rattle.trace_explain.specs.declared.preface.Preface.{Preface}
+use Rattle.trace_explain.specs.declared.follow.opening.Stage.{Stage}
+use Rattle.trace_explain.specs.declared.follow.opening.Stage.TheVariants as stage
+use Rattle.trace_explain.specs.declared.follow.opening.Role.{Role}
+use Rattle.trace_explain.specs.declared.follow.opening.Role.TheVariants as role
+use Rattle.trace_explain.specs.declared.follow.preface.Preface.{Preface}
 
 -- What has come since the trace began or the card was reset: how far it is; how the characters of
 -- the answer are turned; the answer; the last PPS request and the response to it.

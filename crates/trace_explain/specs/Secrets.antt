@@ -6,9 +6,9 @@ use Rattle.t0_core.specs.declared.direction.Direction.{Direction}
 use Rattle.t0_core.specs.declared.direction.Direction.TheVariants.{ToCard, FromCard}
 use Rattle.tlv_core.specs.Address.{NamesTag}
 use Rattle.tlv_core.specs.TagForm.{is_constructed}
-use Rattle.trace_explain.specs.declared.mask.Origin.{Origin}
-use Rattle.trace_explain.specs.declared.mask.Shown.{Shown}
-use Rattle.trace_explain.specs.declared.mask.Shown.TheVariants.{All, Objects, Nothing}
+use Rattle.trace_explain.specs.declared.describe.mask.Origin.{Origin}
+use Rattle.trace_explain.specs.declared.describe.mask.Shown.{Shown}
+use Rattle.trace_explain.specs.declared.describe.mask.Shown.TheVariants.{All, Objects, Nothing}
 use Rattle.trace_explain.specs.WaysOf.{is_among}
 
 -- Reference data: VERIFY, CHANGE REFERENCE DATA, DISABLE and ENABLE VERIFICATION REQUIREMENT, and

@@ -10,8 +10,8 @@ use Rattle.t0_core.specs.declared.heard.Heard.TheVariants as heard
 use Rattle.t0_core.specs.Dialogue.{Body, Dialogue}
 use Rattle.t0_core.specs.Front.{Front, In_header, In_body, After_first}
 use Rattle.t0_core.specs.TapSide.{Shows}
-use Rattle.trace_explain.specs.declared.tally.Tally.{Tally}
-use Rattle.trace_explain.specs.declared.tpdu.Tpdu.{Tpdu}
+use Rattle.trace_explain.specs.declared.follow.tally.Tally.{Tally}
+use Rattle.trace_explain.specs.declared.follow.tpdu.Tpdu.{Tpdu}
 
 -- the characters of the header, how many procedure bytes, which way data moved, the data, and the
 -- characters of the status

@@ -4,8 +4,8 @@ use Rattle.std.specs.Str.Lines.{strip_carriage_return}
 use Rattle.t0_core.specs.History.{Event}
 use Rattle.trace_explain.specs.declared.explain_fault.ExplainFault.{ExplainFault}
 use Rattle.trace_explain.specs.declared.explain_fault.ExplainFault.TheVariants as fault
-use Rattle.trace_explain.specs.declared.listener.Listener.{Listener}
-use Rattle.trace_explain.specs.declared.reading.Reading.{Reading}
+use Rattle.trace_explain.specs.declared.follow.listener.Listener.{Listener}
+use Rattle.trace_explain.specs.declared.read.reading.Reading.{Reading}
 use Rattle.trace_explain.specs.Explained.{StopsRightly, line_of}
 use Rattle.trace_explain.specs.Lines.{IsHeard, Standing, first_of_all}
 use Rattle.trace_explain.specs.Noted.{HasNoted}

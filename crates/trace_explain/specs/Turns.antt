@@ -8,15 +8,15 @@ use Rattle.t0_core.specs.declared.end.End.TheVariants.{Terminal, Card}
 use Rattle.t0_core.specs.declared.heard.Due.{Due}
 use Rattle.t0_core.specs.declared.heard.Due.TheVariants as due
 use Rattle.t0_core.specs.TapSide.{due_at, other_end}
-use Rattle.trace_explain.specs.declared.listener.Listener.{Listener}
-use Rattle.trace_explain.specs.declared.opening.Stage.{Stage}
-use Rattle.trace_explain.specs.declared.opening.Stage.TheVariants as stage
-use Rattle.trace_explain.specs.declared.turn.NoTurn.{NoTurn}
-use Rattle.trace_explain.specs.declared.turn.NoTurn.TheVariants as unknown
-use Rattle.trace_explain.specs.declared.reading.Reading.{Reading}
-use Rattle.trace_explain.specs.declared.trace_line.Source.{Source}
-use Rattle.trace_explain.specs.declared.trace_line.Source.TheVariants.{Sign, Turn}
-use Rattle.trace_explain.specs.declared.ways.Ways.{Ways}
+use Rattle.trace_explain.specs.declared.follow.listener.Listener.{Listener}
+use Rattle.trace_explain.specs.declared.follow.opening.Stage.{Stage}
+use Rattle.trace_explain.specs.declared.follow.opening.Stage.TheVariants as stage
+use Rattle.trace_explain.specs.declared.follow.turn.NoTurn.{NoTurn}
+use Rattle.trace_explain.specs.declared.follow.turn.NoTurn.TheVariants as unknown
+use Rattle.trace_explain.specs.declared.read.reading.Reading.{Reading}
+use Rattle.trace_explain.specs.declared.read.trace_line.Source.{Source}
+use Rattle.trace_explain.specs.declared.read.trace_line.Source.TheVariants.{Sign, Turn}
+use Rattle.trace_explain.specs.declared.read.ways.Ways.{Ways}
 use Rattle.trace_explain.specs.Openings.{Opening, has_answered, has_begun, turned_by}
 use Rattle.trace_explain.specs.Told.{Told, told_by}
 use Rattle.trace_explain.specs.WaysOf.{way_of}

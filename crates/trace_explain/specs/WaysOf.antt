@@ -2,7 +2,7 @@
 use Rattle.std.specs.Prelude.{ℕ, List, [], ◌∷◌, Option, Some, None, Bool, false, ◌==◌, ◌||◌, nat_lt, if◌then◌else◌, get_or}
 use Rattle.t0_core.specs.declared.direction.Direction.{Direction}
 use Rattle.t0_core.specs.declared.direction.Direction.TheVariants.{ToCard, FromCard}
-use Rattle.trace_explain.specs.declared.ways.Ways.{Ways}
+use Rattle.trace_explain.specs.declared.read.ways.Ways.{Ways}
 
 abbrev pub is_among : ℕ → List ℕ → Bool
 is_among ins [] = false

@@ -1,11 +1,11 @@
 //! The command line.
 
-use crate::form::{FORM_NAMES, Form};
+use crate::describe::mask::{BadTags, Mask};
 use crate::help;
-use crate::layout::{Layout, Medium};
-use crate::mask::{BadTags, Mask};
-use crate::reading::Reading;
-use crate::ways::Ways;
+use crate::read::form::{FORM_NAMES, Form};
+use crate::read::reading::Reading;
+use crate::read::ways::Ways;
+use crate::write::layout::{Layout, Medium};
 use clap::error::ErrorKind;
 use clap::{Arg, ArgAction, ArgMatches, Command, Error};
 use std::alloc::{AllocError, Global};

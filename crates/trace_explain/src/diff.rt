@@ -1,15 +1,15 @@
 //! Two traces compared, TPDU by TPDU. Procedure bytes are left out: how many NULLs come is a matter
 //! of time, and hides what differs.
 
+use crate::describe::mask::Mask;
 use crate::diff_fault::{DiffFault, Which};
 use crate::explain::{CHUNK, TRACE_LIMIT, explain_chunk, explain_last};
 use crate::explain_fault::ExplainFault;
 use crate::explainer::Explainer;
-use crate::layout::{Layout, Medium};
-use crate::mask::Mask;
-use crate::reading::Reading;
-use crate::sheet::Sheet;
-use crate::tpdu::Tpdu;
+use crate::follow::tpdu::Tpdu;
+use crate::read::reading::Reading;
+use crate::write::layout::{Layout, Medium};
+use crate::write::sheet::Sheet;
 use std::alloc::{AllocError, Global};
 use std::io;
 use std::io::{Read, Write};

@@ -3,19 +3,19 @@ ghost use Rattle.std.specs.Prelude.{◌≡◌, ◌++◌, List, [], ℕ, false, I
 ghost use Rattle.std.specs.Io.KnownBytes.{Appends};
 ghost use Rattle.std.specs.String.{string_bytes};
 ghost use Rattle.std.specs.Str.Lines.{strip_carriage_return};
-ghost use Rattle.trace_explain.specs.declared.reading.Reading.{Reading};
+ghost use Rattle.trace_explain.specs.declared.read.reading.Reading.{Reading};
 ghost use Rattle.trace_explain.specs.Account.{HasWritten, Out, WritesOut, WritesTold, out_with};
 ghost use Rattle.trace_explain.specs.Explained.{HasExplained, KeepsAll, standing_of};
 ghost use Rattle.trace_explain.specs.Lines.{first_of_all};
 ghost use Rattle.trace_explain.specs.Trace.{IsExplained, IsOfWriting, IsWhole, KeepsLimit, StopsIn, lines_of};
 ghost use Rattle.trace_explain.specs.UnderWay.{HasCome, IsOfLines};
 
-use crate::digits::push;
+use crate::describe::mask::Mask;
 use crate::explain_fault::ExplainFault;
 use crate::explainer::Explainer;
-use crate::layout::Layout;
-use crate::mask::Mask;
-use crate::reading::Reading;
+use crate::read::digits::push;
+use crate::read::reading::Reading;
+use crate::write::layout::Layout;
 use std::alloc::Global;
 use std::io::{Read, Write};
 

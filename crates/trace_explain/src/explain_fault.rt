@@ -2,10 +2,10 @@
 
 ghost use Rattle.trace_explain.specs.Trace.{IsOfWriting};
 
-use crate::complaint::Complaint;
-use crate::exchange::BadExchange;
-use crate::form::Form;
-use crate::turn::NoTurn;
+use crate::describe::complaint::Complaint;
+use crate::follow::exchange::BadExchange;
+use crate::follow::turn::NoTurn;
+use crate::read::form::Form;
 use std::alloc::AllocError;
 use std::io;
 use thiserror::Error;

@@ -3,13 +3,13 @@ ghost use Rattle.std.specs.Prelude.{◌≡◌, ◌≤◌, OnOk, IfErr};
 ghost use Rattle.trace_explain.specs.Trace.{status_of};
 
 use crate::command_line::{Request, parsed};
+use crate::describe::mask::Mask;
 use crate::diff::diff;
 use crate::diff_fault::{DiffFault, Which};
 use crate::explain::explain;
 use crate::explain_fault::ExplainFault;
 use crate::help;
-use crate::mask::Mask;
-use crate::reading::Reading;
+use crate::read::reading::Reading;
 use clap::Error;
 use clap::error::ErrorKind;
 use std::alloc::Global;

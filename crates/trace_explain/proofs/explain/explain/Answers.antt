@@ -1,6 +1,6 @@
 use Rattle.std.proofs.Common.{◌≡◌, ℕ, List, ◌∙◌, IfSome, ap, refl, subst, sym}
 use Rattle.std.specs.Io.KnownBytes.{Appends}
-use Rattle.trace_explain.specs.declared.listener.Listener.{Listener}
+use Rattle.trace_explain.specs.declared.follow.listener.Listener.{Listener}
 use Rattle.trace_explain.specs.Account.{HasWritten, WritesTold, first_out, out_with}
 use Rattle.trace_explain.specs.Lines.{Standing}
 use Rattle.trace_explain.specs.Told.{Told}

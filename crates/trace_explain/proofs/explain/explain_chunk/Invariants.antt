@@ -1,5 +1,5 @@
 use Rattle.std.proofs.Common.{◌++◌, ℕ, List, drop}
-use Rattle.trace_explain.specs.declared.reading.Reading.{Reading}
+use Rattle.trace_explain.specs.declared.read.reading.Reading.{Reading}
 use Rattle.trace_explain.specs.Account.{Out}
 use Rattle.trace_explain.specs.UnderWay.{HasCome}
 use Rattle.trace_explain.proofs.explain.explain_chunk.Given as goal

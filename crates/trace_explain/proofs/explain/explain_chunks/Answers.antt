@@ -2,7 +2,7 @@ use Rattle.std.proofs.Common.{ℕ, List, [], ◌++◌, ◌∙◌, append_assoc, 
 use Rattle.std.proofs.KnownBytes.{Appends-nil, Appends-trans, Consumes-nil, Consumes-trans}
 use Rattle.std.specs.Io.KnownBytes.{Appends}
 use Rattle.std.specs.String.{string_bytes}
-use Rattle.trace_explain.specs.declared.listener.Listener.{Listener}
+use Rattle.trace_explain.specs.declared.follow.listener.Listener.{Listener}
 use Rattle.trace_explain.specs.Account.{HasWritten, out_with}
 use Rattle.trace_explain.specs.Told.{Told}
 use Rattle.trace_explain.specs.Explained.{standing_of}

@@ -1,6 +1,6 @@
 use Rattle.std.proofs.Common.{ℕ, List, ◌≡◌, ◌+◌, ◌-◌, ◌++◌, [], length}
 use Rattle.std.specs.Io.KnownBytes.{Appends, Consumes}
-use Rattle.trace_explain.specs.declared.reading.Reading.{Reading}
+use Rattle.trace_explain.specs.declared.read.reading.Reading.{Reading}
 use Rattle.trace_explain.specs.Account.{HasWritten, Out, out_with}
 use Rattle.trace_explain.specs.Lines.{first_of_all}
 use Rattle.trace_explain.specs.Explained.{HasExplained, standing_of}

@@ -1,6 +1,6 @@
 use Rattle.std.proofs.Common.{◌≡◌, List, ◌++◌, ◌∷◌, [], ◌∙◌, if◌then◌else◌, append-nil, ap, refl, subst, sym}
 use Rattle.t0_core.specs.History.{Reset}
-use Rattle.trace_explain.specs.declared.listener.Listener.{Listener}
+use Rattle.trace_explain.specs.declared.follow.listener.Listener.{Listener}
 use Rattle.trace_explain.specs.Noted.{HasNoted, as_ended}
 use Rattle.trace_explain.specs.Openings.{Opening, opening_of, opens, role_of}
 use Rattle.trace_explain.specs.Told.{Told, told_by}

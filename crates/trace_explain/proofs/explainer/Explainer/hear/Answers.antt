@@ -1,8 +1,8 @@
 use Rattle.std.proofs.Common.{◌++◌, ◌∷◌, [], ◌∙◌, Option, subst, sym}
 use Rattle.t0_core.specs.History.{Passed}
-use Rattle.trace_explain.specs.declared.listener.Listener.{Listener}
-use Rattle.trace_explain.specs.declared.refusal.Refusal.{Refusal}
-use Rattle.trace_explain.specs.declared.tpdu.Tpdu.{Tpdu}
+use Rattle.trace_explain.specs.declared.follow.listener.Listener.{Listener}
+use Rattle.trace_explain.specs.declared.follow.refusal.Refusal.{Refusal}
+use Rattle.trace_explain.specs.declared.follow.tpdu.Tpdu.{Tpdu}
 use Rattle.trace_explain.specs.Noted.{HasNoted, IsRefused, NoneGoesOn}
 use Rattle.trace_explain.specs.Told.{told_by, told_of}
 use Rattle.trace_explain.proofs.AccountLemmas.{boxes_from, boxes_stay}

@@ -1,8 +1,8 @@
 use Rattle.std.proofs.Common.{List, ℕ, [], ◌∷◌, ◌∙◌, ap, refl, subst}
 use Rattle.t0_core.specs.History.{Reset}
-use Rattle.trace_explain.specs.declared.reading.Reading.{Reading}
-use Rattle.trace_explain.specs.declared.trace_line.TraceLine.{TraceLine}
-use Rattle.trace_explain.specs.declared.trace_line.TraceLine.TheVariants as said
+use Rattle.trace_explain.specs.declared.read.reading.Reading.{Reading}
+use Rattle.trace_explain.specs.declared.read.trace_line.TraceLine.{TraceLine}
+use Rattle.trace_explain.specs.declared.read.trace_line.TraceLine.TheVariants as said
 use Rattle.trace_explain.specs.Explained.{standing_of}
 use Rattle.trace_explain.specs.Lines.{Says, TakesCharacters}
 use Rattle.trace_explain.specs.Openings.{unopened}

@@ -1,0 +1,10 @@
+//! What is said of a TPDU, in words, and what of its data is shown.
+pub mod command_name;
+pub mod complaint;
+pub mod instructions;
+pub mod mask;
+pub mod meaning;
+pub mod outline;
+pub mod parts;
+pub mod phrases;
+pub mod statuses;

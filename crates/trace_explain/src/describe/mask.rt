@@ -1,0 +1,291 @@
+//! What of a trace is not shown: a trace gets passed around.
+
+ghost use Rattle.std.specs.Prelude.{◌≡◌, ◌↔◌, ℕ, List, [], None, false, length, true, IfOk, IfSome, IsSome, IsTrue};
+ghost use Rattle.std.specs.List.{Contains};
+ghost use Rattle.t0_core.specs.declared.direction.Direction.TheVariants.{ToCard};
+ghost use Rattle.trace_explain.specs.Secrets.{Names, Shows, ShowsTagged, ShowsValue, is_name, may_be_cut, whole_or_nothing};
+ghost use Rattle.trace_explain.specs.Told.{IsOfCommand};
+
+use crate::describe::instructions::is_secret;
+use crate::follow::links::{Links, Whole};
+use crate::follow::story::header_of;
+use crate::follow::tpdu::Tpdu;
+use crate::write::ascii::push_hex_lines;
+use crate::write::sheet::Sheet;
+use apdu_core::Header;
+use std::alloc::{AllocError, Global};
+use t0_core::Direction;
+use tlv_core::{ObjectTag, Tag};
+
+/// What stands in the place of what is not shown.
+pub const HIDDEN: &str = "**";
+
+/// What is not shown.
+#[derive(Drop)]
+pub struct Mask {
+    hides: bool,
+    tags: Vec<Tag>,
+}
+
+/// Why words are no list of tags.
+#[derive(Clone, Copy)]
+pub enum BadTags {
+    /// One of them is no tag of one to three bytes.
+    Form,
+    /// Memory was wanting.
+    OutOfMemory,
+}
+
+impl From<AllocError> for BadTags {
+    fn from(_error: AllocError) -> BadTags {
+        BadTags::OutOfMemory
+    }
+}
+
+/// Whose data a TPDU moves.
+#[derive(Clone, Copy)]
+pub struct Origin {
+    /// The header of the command: of the first one, where a response comes in parts.
+    pub header: Header,
+    /// Which way they go.
+    pub way: Direction,
+    /// Whether others of them came before.
+    pub goes_on: bool,
+}
+
+impl Origin {
+    /// That of the data that go this way in a TPDU; `None` where no whole header came.
+    pub fn of(tpdu: &Tpdu, links: Links, way: Direction) -> Option<Origin>
+        ensures way { IfSome result (λ origin. origin.way ≡ way) }
+        ensures own { IfSome result (λ origin. way ≡ ToCard →
+            IsOfCommand tpdu.now.header.items origin.header) }
+        ensures asked { IfSome links.asker (IsOfCommand tpdu.now.header.items) →
+            IfSome result (λ origin. IsOfCommand tpdu.now.header.items origin.header) }
+        ensures whole { length tpdu.now.header.items ≡ 5 → IsSome result }
+    {
+        let (header, _) = header_of(tpdu)?;
+        let header = match (way, links.asker) {
+            (Direction::FromCard, Some(asker)) => asker,
+            _ => header,
+        };
+        let goes_on = links.goes_on;
+        Some(Origin {
+            header,
+            way,
+            goes_on,
+        })
+    }
+
+    /// That of the data of the card that came beside those of the terminal.
+    pub fn of_answer(tpdu: &Tpdu, links: Links) -> Option<Origin> {
+        let origin = Origin::of(tpdu, links, Direction::FromCard)?;
+        let goes_on = links.answer_goes_on;
+        Some(Origin { goes_on, ..origin })
+    }
+
+    /// That of what has come together with a TPDU, if anything has.
+    pub fn of_whole(tpdu: &Tpdu, links: Links) -> Option<Origin> {
+        let way = match links.whole {
+            Whole::None => return None,
+            Whole::Value(_) => Direction::ToCard,
+            Whole::Response(_) => Direction::FromCard,
+        };
+        let origin = Origin::of(tpdu, links, way)?;
+        Some(Origin {
+            goes_on: false,
+            ..origin
+        })
+    }
+}
+
+/// What of data is shown.
+#[derive(Clone, Copy)]
+pub enum Shown {
+    /// All of them.
+    All,
+    /// Objects, but for the values of those that are not shown.
+    Objects,
+    /// None of them.
+    Nothing,
+}
+
+impl Mask {
+    /// All is shown.
+    pub fn none(alloc: Global) -> Mask
+        ensures { result.hides ≡ false }
+    {
+        Mask {
+            hides: false,
+            tags: Vec::new(alloc),
+        }
+    }
+
+    /// Reference data are not shown, nor objects with these tags, of which each stands between
+    /// commas as hexadecimal digits. No tag is asked for where there are no words.
+    pub fn of(alloc: Global, words: &str) -> Result<Mask, BadTags>
+        ensures hides { IfOk result (λ mask. mask.hides ≡ true) }
+        ensures no_tags { words.now ≡ [] → IfOk result (λ mask. mask.tags.items ≡ []) }
+    {
+        let mut tags = Vec::new(alloc);
+        if words.is_empty() {
+            return Ok(Mask { hides: true, tags });
+        }
+        for word in words.split(',') {
+            let tag = tag_of(alloc, word)?;
+            tags.push(tag).map_err(AllocError::from)?;
+        }
+        Ok(Mask { hides: true, tags })
+    }
+
+    /// The same once more. The error is want of memory.
+    pub fn copied(&self, alloc: Global) -> Result<Mask, AllocError>
+        ensures { IfOk result (λ mask. (mask.hides ≡ self.now.hides)
+            × (mask.tags.items ≡ self.now.tags.items)) }
+    {
+        let mut tags = Vec::new(alloc);
+        tags.extend_from_slice(self.tags.as_slice())?;
+        let hides = self.hides;
+        Ok(Mask { hides, tags })
+    }
+
+    /// Whether anything is not shown. Then nothing is of which it can't be known what it is: notes,
+    /// characters out of turn, and a line that may be a header.
+    pub fn hides(&self) -> bool
+        ensures { result ≡ self.now.hides }
+    {
+        self.hides
+    }
+
+    /// Whether an object with this tag is not shown.
+    pub fn has(&self, tag: Tag) -> bool
+        ensures { IsTrue result ↔ Contains self.now.tags.items tag }
+    {
+        for other in &self.tags {
+            if is_same(*other, tag) {
+                return true;
+            }
+        }
+        false
+    }
+
+    /// What of these data is shown.
+    pub fn shown(&self, origin: Origin) -> Shown
+        ensures { Shows self.now.hides self.now.tags.items origin result }
+    {
+        if !self.hides {
+            return Shown::All;
+        }
+        if is_secret(origin.header.ins) {
+            return Shown::Nothing;
+        }
+        if self.tags.is_empty() {
+            return Shown::All;
+        }
+        self.shown_by_tags(origin)
+    }
+
+    /// What of data that are no secret is shown by the tags.
+    fn shown_by_tags(&self, origin: Origin) -> Shown
+        ensures { ShowsTagged self.now.tags.items origin result }
+    {
+        if is_name(origin.header.ins, origin.way) {
+            return Shown::All;
+        }
+        match named(origin.header) {
+            Some(tag) => self.shown_of(tag, origin.goes_on),
+            None => whole_or_nothing(origin.goes_on || may_be_cut(origin.header)),
+        }
+    }
+
+    /// What is shown of an object with this tag, which P1-P2 name.
+    fn shown_of(&self, named: Tag, goes_on: bool) -> Shown
+        ensures { ShowsValue self.now.tags.items named goes_on result }
+    {
+        if self.has(named) {
+            Shown::Nothing
+        } else if named.is_constructed() {
+            whole_or_nothing(goes_on)
+        } else {
+            Shown::All
+        }
+    }
+
+    /// Adds bytes of which it can't be known what they are, as lines of digits.
+    pub fn push_unknown(&self, text: &mut Sheet, bytes: &[u8]) {
+        if self.hides {
+            push_hidden_line(text);
+        } else {
+            push_hex_lines(text, bytes);
+        }
+    }
+}
+
+/// Whether these are one tag.
+fn is_same(tag: Tag, other: Tag) -> bool
+    ensures { IsTrue result ↔ (tag ≡ other) }
+{
+    tag.bytes() == other.bytes()
+}
+
+/// Whether the data are the name or path that SELECT has.
+fn is_name(ins: u8, way: Direction) -> bool
+    ensures { result ≡ is_name ins way }
+{
+    match way {
+        Direction::ToCard => ins == 0xA4,
+        Direction::FromCard => false,
+    }
+}
+
+/// The tag of the object that P1-P2 of GET DATA or PUT DATA name.
+fn named(header: Header) -> Option<Tag>
+    ensures some { IfSome result (Names header) }
+    ensures none { result ≡ None → (tag : List ℕ) → Names header tag → ⊥ }
+{
+    match header.ins {
+        0xCA | 0xDA => Some(ObjectTag::from_p1p2(header.p1, header.p2)?.tag()),
+        _ => None,
+    }
+}
+
+/// What is shown of objects, or of parts of some.
+fn whole_or_nothing(is_part: bool) -> Shown
+    ensures { result ≡ whole_or_nothing is_part }
+{
+    if is_part {
+        Shown::Nothing
+    } else {
+        Shown::Objects
+    }
+}
+
+/// Whether the data of a command may begin or end within an object: parts of a file or record that
+/// do not begin with it, what is fetched with nothing known before it, and ENVELOPE.
+fn may_be_cut(header: Header) -> bool
+    ensures { result ≡ may_be_cut header }
+{
+    let Header { ins, p1, p2, .. } = header;
+    match ins {
+        0x0E | 0xB0 | 0xD0 | 0xD6 => p2 != 0 || (p1 < 0x80 && p1 != 0),
+        0xB1 | 0xB3 | 0xC0 | 0xC2 | 0xC3 | 0xD1 | 0xD7 | 0xDD => true,
+        _ => false,
+    }
+}
+
+/// The tag that these hexadecimal digits are.
+fn tag_of(alloc: Global, digits: &str) -> Result<Tag, BadTags> {
+    let bytes = match hex::decode(alloc, digits.as_bytes()) {
+        Ok(bytes) => bytes,
+        Err(hex::FromHexError::OutOfMemory) => return Err(BadTags::OutOfMemory),
+        Err(_) => return Err(BadTags::Form),
+    };
+    match Tag::read(bytes.as_slice()) {
+        Ok((tag, size)) if size == bytes.len() => Ok(tag),
+        _ => Err(BadTags::Form),
+    }
+}
+
+/// Adds a line that shows nothing.
+pub fn push_hidden_line(text: &mut Sheet) {
+    writeln!(text, "{HIDDEN}");
+}

@@ -1,0 +1,114 @@
+//! What is said of a status word (ISO/IEC 7816-4, 5.1.3).
+
+use crate::describe::instructions::{SIM_CLASS, counts_tries};
+use crate::describe::phrases::unit_of;
+use crate::describe::statuses::{KINDS, SIM_WORDS, WORDS};
+use crate::write::sheet::Sheet;
+use apdu_core::{Header, Status, count};
+
+/// How many bytes of the response wait after this status of a command: `count(XX)` of `61XX`, and
+/// of `9FXX` in the class of a SIM card (3GPP TS 51.011, 9.4.1).
+pub fn waiting(header: Header, status: Status) -> Option<u16> {
+    match status.sw1() {
+        0x61 => Some(count(status.sw2())),
+        0x9F if header.cla == SIM_CLASS => Some(count(status.sw2())),
+        _ => None,
+    }
+}
+
+/// Whether a command went well, or asks for one more: also `91XX` and `920X` of a SIM card.
+pub fn is_well(header: Header, status: Status) -> bool {
+    match (header.cla, status.sw1(), status.sw2()) {
+        (_, 0x6C, _) | (SIM_CLASS, 0x91, _) | (SIM_CLASS, 0x92, 0x00..=0x0F) => true,
+        _ => status.is_ok() || waiting(header, status).is_some(),
+    }
+}
+
+/// Adds what the status of a command means; of a SIM card also by 3GPP TS 51.011, 9.4.
+pub fn push_meaning(text: &mut Sheet, header: Header, status: Status) {
+    if let Some(bytes) = waiting(header, status) {
+        return push_waiting(text, status, bytes);
+    }
+    if let Some(bytes) = status.corrects() {
+        let unit = unit_of(u64::from(bytes));
+        return write!(text, "wrong Le: {bytes} {unit} should have been asked for");
+    }
+    match (header.cla, status.sw1(), status.sw2()) {
+        (_, 0x63, 0xC0..=0xCF) => push_counter(text, header, status.sw2() & 0x0F),
+        (_, 0x62, 0x02..=0x80) => push_query(text, "a warning", status.sw2()),
+        (_, 0x64, 0x02..=0x80) => push_query(text, "an error of execution", status.sw2()),
+        (SIM_CLASS, 0x91, bytes) => {
+            write!(
+                text,
+                "normal processing: a command of the card waits, of {bytes} bytes"
+            );
+        }
+        (SIM_CLASS, 0x92, retries @ 0x00..=0x0F) => {
+            write!(
+                text,
+                "normal processing, with {retries} retries of an update"
+            );
+        }
+        (SIM_CLASS, 0x9E, bytes) => {
+            write!(
+                text,
+                "an error of data download: {bytes} bytes of the response wait"
+            );
+        }
+        _ => text.push_str(fixed_meaning(header, status)),
+    }
+}
+
+/// Adds how many bytes wait: `6100` says that they are 256 or more (ISO/IEC 7816-3, 12).
+fn push_waiting(text: &mut Sheet, status: Status, bytes: u16) {
+    let least = if status.sw1() == 0x61 && bytes == 256 {
+        "at least "
+    } else {
+        ""
+    };
+    let (unit, verb) = if bytes == 1 {
+        ("byte", "waits")
+    } else {
+        ("bytes", "wait")
+    };
+    write!(text, "{least}{bytes} {unit} of the response {verb}");
+}
+
+/// Adds what `63CX` says: the tries that are left, where the command has such a counter.
+fn push_counter(text: &mut Sheet, header: Header, left: u8) {
+    if !counts_tries(header) {
+        return write!(text, "a warning: a counter stands at {left}");
+    }
+    match left {
+        0 => text.push_str("a warning: no try is left"),
+        1 => text.push_str("a warning: 1 try is left"),
+        _ => write!(text, "a warning: {left} tries are left"),
+    }
+}
+
+/// Adds that the card has a question of so many bytes.
+fn push_query(text: &mut Sheet, kind: &str, bytes: u8) {
+    write!(text, "{kind}: the card has a query of {bytes} bytes");
+}
+
+/// What a status word means that counts nothing, in the class of a header.
+fn fixed_meaning(header: Header, status: Status) -> &'static str {
+    let word = u16::from_be_bytes([status.sw1(), status.sw2()]);
+    let own = match header.cla {
+        SIM_CLASS => meaning_in(&SIM_WORDS, word),
+        _ => None,
+    };
+    own.or(meaning_in(&WORDS, word))
+        .or(meaning_in(&KINDS, word & 0xFF00))
+        .unwrap_or("no meaning that is known here")
+}
+
+/// The meaning that a table gives a word.
+fn meaning_in(table: &'static [(u16, &'static str)], word: u16) -> Option<&'static str> {
+    for &(other, meaning) in table {
+        if other == word {
+            return Some(meaning);
+        }
+    }
+    None
+}

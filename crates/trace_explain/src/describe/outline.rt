@@ -1,0 +1,53 @@
+//! What words tell of a TPDU: all of it but its data, which are not here.
+
+ghost use Rattle.std.specs.Prelude.{◌≡◌, ◌≢◌, [], get_or};
+
+use crate::follow::story::{header_of, sent, status_of};
+use crate::follow::tally::Tally;
+use crate::follow::tpdu::Tpdu;
+use apdu_core::{Header, Status};
+use t0_core::Direction;
+
+/// A TPDU without its data.
+#[derive(Clone, Copy)]
+pub struct Outline {
+    /// The header and P3, if all of it has come.
+    pub header: Option<(Header, u8)>,
+    /// How many characters of the header have come.
+    pub came: usize,
+    /// The procedure bytes.
+    pub tally: Tally,
+    /// Which way the data went, if there are any.
+    pub way: Option<Direction>,
+    /// How many data have come.
+    pub moved: usize,
+    /// The status, if all of it has come.
+    pub status: Option<Status>,
+    /// Whether SW1 has come.
+    pub has_sw1: bool,
+}
+
+impl Outline {
+    /// That of a TPDU.
+    pub fn of(tpdu: &Tpdu) -> Outline {
+        Outline {
+            header: header_of(tpdu),
+            came: tpdu.header.len(),
+            tally: tpdu.tally,
+            way: tpdu.way,
+            moved: tpdu.moved.len(),
+            status: status_of(tpdu),
+            has_sw1: !tpdu.status.is_empty(),
+        }
+    }
+}
+
+/// The name or path that SELECT has; nothing for any other command, whose data may be hidden.
+pub fn name_of(tpdu: &Tpdu) -> &[u8]
+    ensures { get_or tpdu.now.header.items 1 0 ≢ 0xA4 → result.now ≡ [] }
+{
+    match header_of(tpdu) {
+        Some((header, _)) if header.ins == 0xA4 => sent(tpdu),
+        _ => &[],
+    }
+}

@@ -1,0 +1,172 @@
+//! What P1 and P2 say of a command, in words.
+
+use crate::write::sheet::Sheet;
+use apdu_core::Header;
+use tlv_core::ObjectTag;
+
+/// The most bytes of an identifier or a path that stands in a title.
+const LONGEST_NAME: usize = 16;
+
+/// Bit 8 of P1 in commands of bytes: a short file identifier stands in its bits 5 to 1.
+const SHORT: u8 = 0x80;
+
+/// The short file identifier that names none.
+const NO_FILE: u8 = 0x1F;
+
+/// Adds P1 and P2 as they are.
+pub fn push_parameters(text: &mut Sheet, header: Header) {
+    let p1 = header.p1;
+    let p2 = header.p2;
+    write!(text, " with P1-P2 {p1:02X}{p2:02X}");
+}
+
+/// Adds P1 and P2, where they are not `0000`.
+pub fn push_others(text: &mut Sheet, header: Header) {
+    if header.p1 == 0 && header.p2 == 0 {
+        return;
+    }
+    push_parameters(text, header);
+}
+
+/// Adds the tag of the object that P1-P2 name, or P1 and P2 if they name none.
+pub fn push_object(text: &mut Sheet, header: Header) {
+    match ObjectTag::from_p1p2(header.p1, header.p2) {
+        Some(tag) => {
+            text.push_str(" of ");
+            text.push_hex(tag.tag().bytes());
+        }
+        None => push_others(text, header),
+    }
+}
+
+/// Adds what SELECT selects: P1 says what its data name, bits 2-1 of P2 which of several
+/// (ISO/IEC 7816-4, 7.1.1).
+pub fn push_selected(text: &mut Sheet, header: Header, name: &[u8]) {
+    let (what, unnamed) = match header.p1 {
+        0x00 => ("file ", "file"),
+        0x01 => ("child DF ", "child DF"),
+        0x02 => ("EF ", "EF"),
+        0x03 => ("parent DF ", "parent DF"),
+        0x04 => ("", "by identifier"),
+        0x08 => ("by path from the MF ", "by path from the MF"),
+        0x09 => (
+            "by path from the current DF ",
+            "by path from the current DF",
+        ),
+        _ => return push_parameters(text, header),
+    };
+    text.push(' ');
+    match name.len() {
+        0 => text.push_str(unnamed),
+        1..=LONGEST_NAME => {
+            text.push_str(what);
+            text.push_hex(name);
+        }
+        _ => {
+            text.push_str(unnamed);
+            text.push_str(", a long one");
+        }
+    }
+    text.push_str(match header.p2 & 0x03 {
+        0 => "",
+        1 => ", the last one",
+        2 => ", the next one",
+        _ => ", the previous one",
+    });
+}
+
+/// Adds where the bytes stand: P1-P2 are the offset, or P1 has a short file identifier and P2 is
+/// the offset (ISO/IEC 7816-4, 7.2.2).
+pub fn push_place(text: &mut Sheet, header: Header) {
+    let Header { p1, p2, .. } = header;
+    if p1 & SHORT == 0 {
+        let offset = u16::from_be_bytes([p1, p2]);
+        return write!(text, " from byte {offset} on");
+    }
+    let file = p1 & NO_FILE;
+    if p1 & 0x60 != 0 || file == 0 || file == NO_FILE {
+        return push_parameters(text, header);
+    }
+    write!(text, " of file {file} from byte {p2} on");
+}
+
+/// Adds which records: P1 is a number or an identifier, bits 3-1 of P2 say which and bits 8-4 are a
+/// short file identifier (ISO/IEC 7816-4, 7.3.2).
+pub fn push_records(text: &mut Sheet, header: Header) {
+    let Header { ins, p1, p2, .. } = header;
+    let file = p2 >> 3;
+    if file == NO_FILE {
+        return push_parameters(text, header);
+    }
+    match (ins, p2 & 0x07, p1) {
+        (0xE2, 0, 0) => {}
+        (0xE2, _, _) => return push_parameters(text, header),
+        (_, 4, 0) => text.push_str(", the current one"),
+        (_, 4, _) => write!(text, " {p1}"),
+        (0xB2 | 0x0C, 5, 1..) => write!(text, "S {p1} to the last"),
+        (0xB2, 6, 1..) => write!(text, "S from the last to {p1}"),
+        (0xB2 | 0xD2 | 0xDC, which @ 0..=3, 0) => text.push_str(occurrence(which)),
+        (0xB2, which @ 0..=3, _) => {
+            text.push_str(occurrence(which));
+            write!(text, " with identifier {p1:02X}");
+        }
+        _ => return push_parameters(text, header),
+    }
+    if file == 0 {
+        return;
+    }
+    write!(text, " of file {file}");
+}
+
+/// Which of several records, by bits 2-1 of P2.
+fn occurrence(which: u8) -> &'static str {
+    match which {
+        0 => ", the first one",
+        1 => ", the last one",
+        2 => ", the next one",
+        _ => ", the previous one",
+    }
+}
+
+/// Adds the reference in P2: bit 8 says whether it is the application's own, bits 5-1 are a number
+/// (ISO/IEC 7816-4, 7.5.1).
+pub fn push_reference(text: &mut Sheet, header: Header) {
+    let p2 = header.p2;
+    let number = p2 & 0x1F;
+    let kind = if p2 & 0x80 == 0 { "global" } else { "specific" };
+    match (p2 & 0x60, number) {
+        (0, 0) if p2 == 0 => {}
+        (0, 0) => write!(text, ", {kind} reference"),
+        (0, _) => write!(text, ", {kind} reference {number}"),
+        _ => write!(text, ", reference {p2:02X}"),
+    }
+}
+
+/// Adds what MANAGE CHANNEL does (ISO/IEC 7816-4, 7.1.2).
+pub fn push_channel(text: &mut Sheet, header: Header) {
+    let Header { p1, p2, .. } = header;
+    match (p1, p2) {
+        (0x00, 0x00) => text.push_str(", opens one"),
+        (0x00, 0x01..=0x13) => write!(text, ", opens channel {p2}"),
+        (0x80, 0x00) => text.push_str(", closes its own"),
+        (0x80, 0x01..=0x13) => write!(text, ", closes channel {p2}"),
+        _ => push_parameters(text, header),
+    }
+}
+
+/// Adds which cryptogram GENERATE AC asks for, by bits 8-7 of P1, and whether it is to be signed,
+/// by bit 5 (EMV 4.3, Book 3, 6.5.5).
+pub fn push_cryptogram(text: &mut Sheet, header: Header) {
+    let signed = match header.p1 & 0x3F {
+        0x00 => "",
+        0x10 => ", signed",
+        _ => return push_parameters(text, header),
+    };
+    text.push_str(match header.p1 >> 6 {
+        0 => ", an AAC",
+        1 => ", a TC",
+        2 => ", an ARQC",
+        _ => return push_parameters(text, header),
+    });
+    text.push_str(signed);
+}

@@ -1,0 +1,133 @@
+//! What is said of a TPDU, in plain words.
+
+ghost use Rattle.std.specs.Prelude.{◌++◌};
+ghost use Rattle.std.specs.Fmt.{decimal};
+ghost use Rattle.trace_explain.specs.Boxes.{size_words, whole_words};
+ghost use Rattle.trace_explain.specs.Sheets.{Adds};
+
+use crate::describe::command_name::push_command;
+use crate::describe::outline::Outline;
+use crate::follow::links::{Link, Links, Whole};
+use crate::follow::tally::Tally;
+use crate::write::sheet::Sheet;
+use apdu_core::count;
+use t0_core::Direction;
+
+/// Adds the title of a TPDU: its command by name, with its parts, and what it selects.
+pub fn push_title(text: &mut Sheet, outline: &Outline, selected: &[u8]) {
+    match outline.header {
+        Some((header, _)) => push_command(text, header, selected),
+        None => text.push_str("part of a header"),
+    }
+}
+
+/// Adds how a TPDU goes on with those before it.
+pub fn push_links(text: &mut Sheet, links: Links) {
+    match links.link {
+        Link::None => {}
+        Link::AskedAgain(count) => {
+            let unit = unit_of(u64::from(count));
+            write!(text, ", asked again for {count} {unit}");
+        }
+        Link::Fetches(count) => write!(text, ", fetches {count}"),
+        Link::FetchesMore(count) => write!(text, ", fetches {count} more"),
+        Link::Piece(number) => write!(text, ", piece {number} of a chain"),
+        Link::LastPiece(number) => write!(text, ", piece {number} of a chain, the last"),
+        Link::LaterPiece => text.push_str(", a piece of a chain"),
+        Link::LastOfLater => text.push_str(", the last piece of a chain"),
+    }
+}
+
+/// Adds how many procedure bytes came, in words; nothing where none came.
+pub fn push_procedure(text: &mut Sheet, tally: Tally) {
+    let Tally { nulls, ones, alls } = tally;
+    if nulls > 0 {
+        let unit = if nulls == 1 { "NULL" } else { "NULLs" };
+        let comma = comma_where(ones > 0 || alls > 0);
+        write!(text, "{nulls} {unit}{comma}");
+    }
+    if ones > 0 {
+        let unit = if ones == 1 {
+            "single byte"
+        } else {
+            "single bytes"
+        };
+        let comma = comma_where(alls > 0);
+        write!(text, "{ones} {unit}{comma}");
+    }
+    match alls {
+        0 => {}
+        1 if ones == 0 => text.push_str("all at once"),
+        1 => text.push_str("the rest at once"),
+        alls => write!(text, "{alls} times all that is left"),
+    }
+}
+
+/// Adds Le behind the data of a command, in words.
+pub fn push_most(text: &mut Sheet, le: u8) {
+    let most = count(le);
+    let unit = unit_of(u64::from(most));
+    writeln!(text, "{le:02X} up to {most} {unit}");
+}
+
+/// Adds how far a TPDU came that was cut off: behind SW1, or within its header, or after how many
+/// of the bytes that P3 foresees, where some have come.
+pub fn push_cut_off(text: &mut Sheet, outline: &Outline) {
+    text.push_str("cut off");
+    match (outline.header, outline.way) {
+        _ if outline.has_sw1 => {}
+        (None, _) => {
+            let came = outline.came;
+            write!(text, " after {came} of 5 characters");
+        }
+        (Some(_), None) => {}
+        (Some((_, p3)), Some(way)) => {
+            let came = outline.moved;
+            let foreseen = match way {
+                Direction::ToCard => u16::from(p3),
+                Direction::FromCard => count(p3),
+            };
+            let unit = unit_of(u64::from(foreseen));
+            write!(text, " after {came} of {foreseen} {unit}");
+        }
+    }
+    text.push('\n');
+}
+
+/// A comma where more follows.
+fn comma_where(more: bool) -> &'static str {
+    if more { ", " } else { "" }
+}
+
+/// Adds the size of what has come together, and in how many TPDUs it did.
+pub fn push_whole(lines: &mut Sheet, whole: Whole, size: u64)
+    ensures { Adds lines.old (whole_words whole size) lines.new }
+{
+    match whole {
+        Whole::None => {}
+        Whole::Response(parts) => push_size(lines, size, parts, " parts:"),
+        Whole::Value(pieces) => push_size(lines, size, pieces, " pieces:"),
+    }
+}
+
+/// Adds a size, and in how many of these it came.
+fn push_size(lines: &mut Sheet, size: u64, count: u64, parts: &str)
+    ensures { Adds lines.old (size_words size count parts.now) lines.new }
+{
+    lines.push_number(size);
+    lines.push_str(" bytes in ");
+    push_count(lines, count, parts);
+}
+
+/// Adds a count of these.
+fn push_count(lines: &mut Sheet, count: u64, parts: &str)
+    ensures { Adds lines.old (decimal count ++ parts.now) lines.new }
+{
+    lines.push_number(count);
+    lines.push_str(parts);
+}
+
+/// What is counted.
+pub fn unit_of(count: u64) -> &'static str {
+    if count == 1 { "byte" } else { "bytes" }
+}

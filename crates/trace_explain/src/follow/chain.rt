@@ -1,0 +1,115 @@
+//! Chains of commands (ISO/IEC 7816-4, 5.1.1.1).
+
+use crate::follow::links::Link;
+use apdu_core::Header;
+use std::alloc::{AllocError, Global};
+
+/// The least bytes of a value that is not told as a whole (this project's profile): a hostile
+/// trace can't make the program hold more.
+pub const VALUE_LIMIT: usize = 65_536;
+
+/// Bit 5 of CLA: more commands of the chain follow.
+const MORE: u8 = 0x10;
+
+/// Bit 8 of CLA: a class of its own, where bit 5 says nothing of chains.
+const PROPRIETARY: u8 = 0x80;
+
+/// The chain that is pending, if one is, as the characters show it.
+#[derive(Drop)]
+pub struct ChainHeard {
+    pending: Option<Header>,
+    pieces: u64,
+    is_whole: bool,
+    value: Vec<u8>,
+}
+
+impl ChainHeard {
+    /// None is pending.
+    pub fn new(alloc: Global) -> ChainHeard {
+        ChainHeard {
+            pending: None,
+            pieces: 0,
+            is_whole: true,
+            value: Vec::new(alloc),
+        }
+    }
+
+    /// Whether a chain is pending.
+    pub fn is_pending(&self) -> bool {
+        self.pending.is_some()
+    }
+
+    /// The bytes of the pieces; only the first of them where they are `VALUE_LIMIT` or more.
+    pub fn value(&self) -> &[u8] {
+        self.value.as_slice()
+    }
+
+    /// Drops the chain.
+    pub fn drop_all(&mut self) {
+        self.pending = None;
+        self.pieces = 0;
+        self.is_whole = true;
+        self.value.clear();
+    }
+
+    /// Some of what came was not heard, so that pieces of the chain may lack.
+    pub fn lose_some(&mut self) {
+        self.is_whole = false;
+    }
+
+    /// Whether each piece of the chain was heard whole.
+    pub fn is_whole(&self) -> bool {
+        self.is_whole
+    }
+
+    /// Whether a command with this header goes on with the chain that is pending.
+    pub fn goes_on_with(&self, header: Header) -> bool {
+        self.pending == Some(as_last(header))
+    }
+
+    /// Which piece a command with this header is, if it goes on with the chain or begins one.
+    pub fn link_of(&self, header: Header) -> Link {
+        let goes_on = self.goes_on_with(header);
+        let before = if goes_on { self.pieces } else { 0 };
+        let number = before.saturating_add(1);
+        match (goes_on, has_more(header)) {
+            (false, false) => Link::None,
+            (true, true) if !self.is_whole => Link::LaterPiece,
+            (true, false) if !self.is_whole => Link::LastOfLater,
+            (_, true) => Link::Piece(number),
+            (true, false) => Link::LastPiece(number),
+        }
+    }
+
+    /// Takes a command that goes on with the chain, or begins one; `has_come` says whether all its
+    /// data have come.
+    pub fn take(&mut self, header: Header, piece: &[u8], has_come: bool) -> Result<(), AllocError> {
+        let goes_on = self.goes_on_with(header);
+        if !goes_on {
+            self.drop_all();
+        }
+        if !goes_on && !has_more(header) {
+            return Ok(());
+        }
+        self.pieces = self.pieces.saturating_add(1);
+        self.is_whole = self.is_whole && has_come;
+        if self.value.len() < VALUE_LIMIT {
+            self.value.extend_from_slice(piece)?;
+        }
+        self.pending = has_more(header).then(|| as_last(header));
+        Ok(())
+    }
+}
+
+/// The header without the bit that says that more follow.
+fn as_last(header: Header) -> Header {
+    Header {
+        cla: header.cla & !MORE,
+        ..header
+    }
+}
+
+/// Whether the header says that more commands of the chain follow.
+fn has_more(header: Header) -> bool {
+    header.cla & PROPRIETARY == 0 && header.cla & MORE != 0
+}

@@ -1,0 +1,136 @@
+//! A tap that keeps what it has heard of the TPDU under way.
+
+ghost use Rattle.std.specs.Prelude.{◌≡◌, ◌++◌, ◌∷◌, [], List, true, IfOk, IfErr};
+ghost use Rattle.t0_core.specs.declared.end.End.TheVariants.{Terminal};
+ghost use Rattle.t0_core.specs.History.{Event, Passed, Reset};
+ghost use Rattle.t0_core.specs.TapSide.{due_at};
+ghost use Rattle.trace_explain.specs.Told.{Told, told_by, told_of, untold, is_last};
+ghost use Rattle.trace_explain.specs.Noted.{AreStatus, HasNoted, IsRefused, as_ended, ended_by, is_bare};
+
+use crate::follow::refusal::Refusal;
+use crate::follow::tpdu::Tpdu;
+use std::alloc::{AllocError, Global};
+use std::mem;
+use t0_core::{Due, End, Heard, Tap};
+
+/// A tap, and what it has heard of the TPDU under way.
+#[derive(Drop)]
+pub struct Listener {
+    alloc: Global,
+    tap: Tap,
+    under_way: Tpdu,
+}
+
+impl Listener {
+    /// It has heard nothing yet.
+    pub fn new(alloc: Global) -> Listener
+        ensures { HasNoted [] [] result }
+    {
+        Listener {
+            alloc,
+            tap: Tap::new(),
+            under_way: Tpdu::new(alloc),
+        }
+    }
+
+    /// What the dialogue under way goes on with.
+    pub fn due(&self) -> Due
+        ensures { result ≡ due_at self.now.tap }
+    {
+        self.tap.due()
+    }
+
+    /// What has been heard of the TPDU under way.
+    pub fn under_way(&self) -> &Tpdu
+        ensures { result.now ≡ self.now.under_way }
+    {
+        &self.under_way
+    }
+
+    /// Hears a character, and gives the TPDU that ends with it, or that has ended before it.
+    ///
+    /// `NoDialogue` comes exactly where no dialogue goes on with the character, and then nothing
+    /// changes. After `OutOfMemory` it is not to be used.
+    pub fn hear(&mut self, from: End, byte: u8) -> Result<Option<Tpdu>, Refusal>
+        ensures noted { (events : List Event) (before : List Told) →
+            HasNoted events before self.old → IfOk result (λ told. HasNoted
+            (events ++ Passed (from, byte) ∷ []) (before ++ told_of told) self.new) }
+        ensures refused { IfErr result (λ refusal.
+            IsRefused refusal self.old (from, byte) self.new) }
+    {
+        if from == End::Terminal && self.under_way.is_bare() {
+            return self.hear_behind_bare(byte);
+        }
+        let heard = match self.tap.hear(from, byte) {
+            Ok(heard) => heard,
+            Err(unheard) => return Err(Refusal::NoDialogue(unheard)),
+        };
+        self.under_way.note(&heard, byte)?;
+        if is_last(&heard) {
+            return Ok(Some(self.cut()));
+        }
+        Ok(None)
+    }
+
+    /// Hears a character of the terminal where the card has repeated INS of a command without data,
+    /// and sent its status: with it the next header begins.
+    fn hear_behind_bare(&mut self, byte: u8) -> Result<Option<Tpdu>, Refusal>
+        requires bare { is_bare (told_by self.old.under_way) ≡ true }
+        requires status { AreStatus self.old.under_way.moved.items }
+        ensures noted { (events : List Event) (before : List Told) →
+            HasNoted events before self.old → IfOk result (λ told. HasNoted
+            (events ++ Passed (Terminal, byte) ∷ []) (before ++ told_of told) self.new) }
+        ensures wants { IfErr result (λ refusal. refusal ≡ Refusal.OutOfMemory) }
+    {
+        self.tap.reset();
+        let whole = self.cut().bared();
+        match self.tap.hear(End::Terminal, byte) {
+            Ok(heard) => {
+                self.under_way.note(&heard, byte)?;
+                Ok(Some(whole))
+            }
+            Err(unheard) => Err(Refusal::NoDialogue(unheard)),
+        }
+    }
+
+    /// Hears what is taken for a header, while no dialogue is under way.
+    pub fn hear_header(&mut self, bytes: &[u8]) -> Result<(), AllocError> {
+        for &byte in bytes {
+            if self.hear(End::Terminal, byte).is_err() {
+                return Err(AllocError);
+            }
+        }
+        Ok(())
+    }
+
+    /// Drops the dialogue under way, and gives what was heard of it: a whole one, where the card
+    /// has repeated INS of a command without data, and sent its status.
+    pub fn reset(&mut self) -> Tpdu
+        ensures noted { (events : List Event) (told : List Told) → HasNoted events told self.old →
+            HasNoted (events ++ Reset ∷ []) (told ++ ended_by (told_by self.old.under_way))
+            self.new }
+        ensures part { told_by result ≡ as_ended (told_by self.old.under_way) }
+    {
+        self.tap.reset();
+        self.cut().as_ended()
+    }
+
+    /// Takes what was heard of the TPDU, so that nothing is.
+    fn cut(&mut self) -> Tpdu
+        ensures cut { result ≡ self.old.under_way }
+        ensures left { told_by self.new.under_way ≡ untold }
+        ensures tap { self.new.tap ≡ self.old.tap }
+    {
+        mem::replace(&mut self.under_way, Tpdu::new(self.alloc))
+    }
+}
+
+/// Whether a TPDU ends with this.
+fn is_last(heard: &Heard) -> bool
+    ensures { result ≡ is_last heard.now }
+{
+    match heard {
+        Heard::SecondStatus { .. } => true,
+        _ => false,
+    }
+}

@@ -1,0 +1,110 @@
+//! A response that comes in parts (ISO/IEC 7816-3, clause 12).
+
+use crate::describe::meaning::waiting;
+use crate::follow::links::Link;
+use apdu_core::{Header, Status, count};
+use std::alloc::{AllocError, Global};
+
+/// The least bytes of a response that is not told as a whole (this project's profile): a hostile
+/// trace can't make the program hold more.
+pub const UNTOLD_SIZE: usize = 65_536;
+
+/// What the last status asks of the terminal.
+#[derive(Clone, Copy)]
+enum Asked {
+    Nothing,
+    /// `61XX`, or `9FXX` of a SIM card: a GET RESPONSE.
+    Fetch,
+    /// `6CXX`: the same header with this P3.
+    Again(Header, u8),
+}
+
+/// The response under way, as the characters show it.
+#[derive(Drop)]
+pub struct ResponseHeard {
+    asked: Asked,
+    asker: Option<Header>,
+    parts: u64,
+    bytes: Vec<u8>,
+}
+
+impl ResponseHeard {
+    /// None has come.
+    pub fn new(alloc: Global) -> ResponseHeard {
+        ResponseHeard {
+            asked: Asked::Nothing,
+            asker: None,
+            parts: 0,
+            bytes: Vec::new(alloc),
+        }
+    }
+
+    /// Begins that of a command with this header.
+    pub fn begin(&mut self, header: Header) {
+        self.drop_all();
+        self.asker = Some(header);
+    }
+
+    /// The command that it is of.
+    pub fn asker(&self) -> Option<Header> {
+        self.asker
+    }
+
+    /// Whether some of its data have come.
+    pub fn has_come(&self) -> bool {
+        self.parts > 0
+    }
+
+    /// Drops it.
+    pub fn drop_all(&mut self) {
+        self.asked = Asked::Nothing;
+        self.asker = None;
+        self.parts = 0;
+        self.bytes.clear();
+    }
+
+    /// How a command with this header and P3 goes on with what the last status asked.
+    pub fn link_of(&self, header: Header, p3: u8) -> Link {
+        match self.asked {
+            Asked::Again(other, le) if other == header && le == p3 => Link::AskedAgain(count(p3)),
+            Asked::Fetch if header.ins == 0xC0 && self.parts == 0 => Link::Fetches(count(p3)),
+            Asked::Fetch if header.ins == 0xC0 => Link::FetchesMore(count(p3)),
+            _ => Link::None,
+        }
+    }
+
+    /// Takes the data that a command brought.
+    pub fn take(&mut self, part: &[u8]) -> Result<(), AllocError> {
+        if part.is_empty() {
+            return Ok(());
+        }
+        if self.bytes.len() < UNTOLD_SIZE {
+            self.bytes.extend_from_slice(part)?;
+        }
+        self.parts = self.parts.saturating_add(1);
+        Ok(())
+    }
+
+    /// Ends a command with this header by its status, and says in how many parts the response came,
+    /// where it is over and all of it came: its last status is no error.
+    pub fn end(&mut self, header: Header, status: Status) -> u64 {
+        if waiting(header, status).is_some() {
+            self.asked = Asked::Fetch;
+            return 0;
+        }
+        if status.sw1() == 0x6C {
+            self.asked = Asked::Again(header, status.sw2());
+            return 0;
+        }
+        self.asked = Asked::Nothing;
+        match (status.sw1(), status.sw2()) {
+            (0x90, 0x00) | (0x62 | 0x63, _) => self.parts,
+            _ => 0,
+        }
+    }
+
+    /// The bytes of all parts; only the first of them where they are `UNTOLD_SIZE` or more.
+    pub fn bytes(&self) -> &[u8] {
+        self.bytes.as_slice()
+    }
+}

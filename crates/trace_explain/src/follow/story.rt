@@ -1,0 +1,225 @@
+//! What goes over several TPDUs: their numbers, chains, and responses in parts.
+
+ghost use Rattle.std.specs.Prelude.{◌≡◌, ◌≢◌, length, None, Some, IfOk, IfSome, IsSome};
+ghost use Rattle.trace_explain.specs.Boxes.{HasAsker};
+ghost use Rattle.trace_explain.specs.Told.{IsOfCommand, one_more};
+
+use crate::follow::chain::{ChainHeard, VALUE_LIMIT};
+use crate::follow::links::{Link, Links, Whole};
+use crate::follow::response::{ResponseHeard, UNTOLD_SIZE};
+use crate::follow::tpdu::Tpdu;
+use apdu_core::{Header, Status};
+use std::alloc::{AllocError, Global};
+use t0_core::Direction;
+
+/// What goes over several TPDUs: chains, responses in parts, and their numbers.
+#[derive(Drop)]
+pub struct Story {
+    number: u64,
+    chain: ChainHeard,
+    response: ResponseHeard,
+}
+
+impl Story {
+    /// No TPDU has come.
+    pub fn new(alloc: Global) -> Story
+        ensures { result.number ≡ 0 }
+    {
+        Story {
+            number: 0,
+            chain: ChainHeard::new(alloc),
+            response: ResponseHeard::new(alloc),
+        }
+    }
+
+    /// What this TPDU is among those before it. The error is want of memory.
+    pub fn tell(&mut self, tpdu: &Tpdu) -> Result<Links, AllocError>
+        ensures next { self.new.number ≡ one_more self.old.number }
+        ensures number { IfOk result (λ links. links.number ≡ self.new.number) }
+        ensures asker { IfOk result (HasAsker tpdu.now.header.items) }
+    {
+        self.number = self.number.saturating_add(1);
+        match (header_of(tpdu), status_of(tpdu)) {
+            (Some((header, p3)), Some(status)) => self.tell_whole(tpdu, header, p3, status),
+            (Some((header, p3)), None) => Ok(self.linked(tpdu, header, le_of(tpdu, p3))),
+            _ => Ok(self.with(Link::None)),
+        }
+    }
+
+    /// What this TPDU is, with its header, P3 and status.
+    fn tell_whole(
+        &mut self,
+        tpdu: &Tpdu,
+        header: Header,
+        p3: u8,
+        status: Status,
+    ) -> Result<Links, AllocError>
+        ensures stays { self.new.number ≡ self.old.number }
+        ensures number { IfOk result (λ links. links.number ≡ self.old.number) }
+        ensures asker { IfOk result (λ links.
+            header.ins ≢ 0xC0 → links.asker ≡ Some header) }
+    {
+        let drops_before = self.chain.is_pending() && !self.chain.goes_on_with(header);
+        let piece = self.chain.link_of(header);
+        let le = le_of(tpdu, p3);
+        let links = self.linked(tpdu, header, le);
+        if self.response.link_of(header, le) == Link::None {
+            self.response.begin(header);
+        }
+        self.chain
+            .take(header, sent(tpdu), sent(tpdu).len() == usize::from(p3))?;
+        self.response.take(brought(tpdu))?;
+        let drops_after = self.chain.is_pending() && !status.is_ok();
+        let parts = self.response.end(header, status);
+        if drops_after {
+            self.chain.drop_all();
+        }
+        Ok(Links {
+            drops_before,
+            drops_after,
+            whole: self.come_together(piece, parts),
+            ..links
+        })
+    }
+
+    /// How a TPDU with this header, and this P3 or Le, goes on with those before it, and its data
+    /// with theirs.
+    fn linked(&self, tpdu: &Tpdu, header: Header, le: u8) -> Links
+        ensures number { result.number ≡ self.now.number }
+        ensures asker { header.ins ≢ 0xC0 → result.asker ≡ Some header }
+    {
+        let is_asked = self.response.link_of(header, le) != Link::None;
+        let asker = match header.ins {
+            0xC0 if is_asked => self.response.asker(),
+            _ => Some(header),
+        };
+        let answer_goes_on = is_asked && self.response.has_come();
+        let goes_on = match tpdu.way {
+            Some(Direction::FromCard) => answer_goes_on,
+            _ => self.chain.goes_on_with(header),
+        };
+        Links {
+            asker,
+            goes_on,
+            answer_goes_on,
+            ..self.with(self.link_of(header, le))
+        }
+    }
+
+    /// How a command with this header, and this P3 or Le, goes on with those before it.
+    fn link_of(&self, header: Header, le: u8) -> Link {
+        match self.response.link_of(header, le) {
+            Link::None => self.chain.link_of(header),
+            asked => asked,
+        }
+    }
+
+    /// What has come together, with this piece or in so many parts.
+    fn come_together(&self, piece: Link, parts: u64) -> Whole {
+        match piece {
+            Link::LastPiece(pieces)
+                if self.chain.is_whole() && self.chain.value().len() < VALUE_LIMIT => {
+                Whole::Value(pieces)
+            }
+            _ if parts > 1 && self.response.bytes().len() < UNTOLD_SIZE => {
+                Whole::Response(parts)
+            }
+            _ => Whole::None,
+        }
+    }
+
+    /// Some of what came was not heard: a response under way ends, and of a chain it is not known
+    /// which piece comes next.
+    pub fn lose_some(&mut self)
+        ensures { self.new.number ≡ self.old.number }
+    {
+        self.response.drop_all();
+        self.chain.lose_some();
+    }
+
+    /// A reset came; it answers whether it drops a chain.
+    pub fn reset(&mut self) -> bool
+        ensures { self.new.number ≡ self.old.number }
+    {
+        let drops = self.chain.is_pending();
+        self.chain.drop_all();
+        self.response.drop_all();
+        drops
+    }
+
+    /// The bytes of what has come together.
+    pub fn whole(&self, whole: Whole) -> &[u8] {
+        match whole {
+            Whole::None => &[],
+            Whole::Response(_) => self.response.bytes(),
+            Whole::Value(_) => self.chain.value(),
+        }
+    }
+
+    /// A TPDU that goes on so with those before it, and does nothing else to them.
+    fn with(&self, link: Link) -> Links
+        ensures number { result.number ≡ self.now.number }
+        ensures asker { result.asker ≡ None }
+    {
+        Links {
+            number: self.number,
+            link,
+            drops_before: false,
+            drops_after: false,
+            whole: Whole::None,
+            asker: None,
+            goes_on: false,
+            answer_goes_on: false,
+        }
+    }
+}
+
+/// The whole header of a TPDU, and P3.
+pub fn header_of(tpdu: &Tpdu) -> Option<(Header, u8)>
+    ensures header { IfSome result (λ found. IsOfCommand tpdu.now.header.items found.0) }
+    ensures whole { length tpdu.now.header.items ≡ 5 → IsSome result }
+{
+    match tpdu.header.as_slice() {
+        [cla, ins, p1, p2, p3] => {
+            let header = Header {
+                cla: *cla,
+                ins: *ins,
+                p1: *p1,
+                p2: *p2,
+            };
+            Some((header, *p3))
+        }
+        _ => None,
+    }
+}
+
+/// The status of a TPDU that is whole.
+pub fn status_of(tpdu: &Tpdu) -> Option<Status> {
+    match tpdu.status.as_slice() {
+        [sw1, sw2] => Status::new(*sw1, *sw2),
+        _ => None,
+    }
+}
+
+/// The data that the terminal sent.
+pub fn sent(tpdu: &Tpdu) -> &[u8] {
+    if tpdu.way == Some(Direction::ToCard) {
+        tpdu.moved.as_slice()
+    } else {
+        &[]
+    }
+}
+
+/// The data that the card sent.
+pub fn brought(tpdu: &Tpdu) -> &[u8] {
+    if tpdu.way == Some(Direction::FromCard) {
+        tpdu.moved.as_slice()
+    } else {
+        tpdu.answer.as_slice()
+    }
+}
+
+/// What is asked for: Le of a command APDU, and else P3.
+fn le_of(tpdu: &Tpdu, p3: u8) -> u8 {
+    tpdu.le.unwrap_or(p3)
+}

@@ -1,0 +1,51 @@
+//! How many procedure bytes of each kind a TPDU had.
+
+ghost use Rattle.std.specs.Prelude.{◌≡◌};
+
+use t0_core::Step;
+
+/// How many procedure bytes of each kind have come, up to the greatest number that it can hold.
+#[derive(Clone, Copy)]
+pub struct Tally {
+    /// NULLs.
+    pub nulls: u64,
+    /// Procedure bytes for one data character.
+    pub ones: u64,
+    /// Procedure bytes for all that are left.
+    pub alls: u64,
+}
+
+impl Tally {
+    ghost use Rattle.trace_explain.specs.Told.{counted};
+
+    /// None has come.
+    pub const NONE: Tally = Tally {
+        nulls: 0,
+        ones: 0,
+        alls: 0,
+    };
+
+    /// With one more.
+    pub fn with(self, step: Step) -> Tally
+        ensures { result ≡ counted self step }
+    {
+        let Tally { nulls, ones, alls } = self;
+        match step {
+            Step::Null => Tally {
+                nulls: nulls.saturating_add(1),
+                ones,
+                alls,
+            },
+            Step::One => Tally {
+                nulls,
+                ones: ones.saturating_add(1),
+                alls,
+            },
+            Step::All => Tally {
+                nulls,
+                ones,
+                alls: alls.saturating_add(1),
+            },
+        }
+    }
+}

@@ -1,0 +1,9 @@
+//! What a line says: characters, a reset or a note; of a log a command or an answer.
+pub mod digits;
+pub mod form;
+pub mod log;
+pub mod log_line;
+pub mod reading;
+pub mod time;
+pub mod trace_line;
+pub mod ways;

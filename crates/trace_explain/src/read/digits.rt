@@ -1,0 +1,73 @@
+//! Characters as hexadecimal digits, with spaces between them.
+ghost use Rattle.std.specs.Prelude.{◌≡◌, ◌++◌, ◌∷◌, [], IfOk, IfErr, OnOk};
+ghost use Rattle.hex.specs.Hex.{hex_digit_value};
+ghost use Rattle.trace_explain.specs.Lines.{AreBadDigits, bytes_in, first_byte, is_digits};
+
+use crate::read::trace_line::BadLine;
+use std::alloc::{AllocError, Global};
+
+/// The bytes that digits say: two digits for each, in either case, with any number of spaces
+/// before and behind them. `Hex` for anything else.
+pub fn bytes_of(alloc: Global, digits: &[u8]) -> Result<Vec<u8>, BadLine>
+    ensures says { IfOk result (λ bytes. bytes_in digits.now ≡ Some bytes.items) }
+    ensures refused { IfErr result (λ why. AreBadDigits why digits.now) }
+{
+    let mut bytes = Vec::new(alloc);
+    let mut place = 0;
+    'pairs: while place < digits.len() {
+        if digits[place] == b' ' {
+            place += 1;
+        } else {
+            let Some(byte) = first_byte(&digits[place..]) else {
+                return Err(BadLine::Hex);
+            };
+            push(&mut bytes, byte)?;
+            place += 2;
+        }
+    }
+    Ok(bytes)
+}
+
+/// Appends a byte.
+pub fn push(bytes: &mut Vec<u8>, byte: u8) -> Result<(), AllocError>
+    ensures { OnOk result (bytes.new.items ≡ bytes.old.items ++ byte ∷ []) }
+{
+    bytes.push(byte).map_err(AllocError::from)
+}
+
+/// The byte of the first two digits, if there are two.
+fn first_byte(digits: &[u8]) -> Option<u8>
+    ensures { result ≡ first_byte digits.now }
+{
+    match digits {
+        [high, low, ..] => Some(value_of(*high)? * 16 + value_of(*low)?),
+        _ => None,
+    }
+}
+
+/// Whether these are digits, with nothing else but spaces behind the first one.
+pub fn is_digits(line: &[u8]) -> bool
+    ensures { result ≡ is_digits line.now }
+{
+    let mut came = false;
+    for &byte in line {
+        if value_of(byte).is_some() {
+            came = true;
+        } else if byte != b' ' || !came {
+            return false;
+        }
+    }
+    came
+}
+
+/// The value of a digit, if it is one.
+pub fn value_of(digit: u8) -> Option<u8>
+    ensures { result ≡ hex_digit_value digit }
+{
+    match digit {
+        b'A'..=b'F' => Some(digit - b'A' + 10),
+        b'a'..=b'f' => Some(digit - b'a' + 10),
+        b'0'..=b'9' => Some(digit - b'0'),
+        _ => None,
+    }
+}

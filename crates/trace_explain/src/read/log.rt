@@ -1,0 +1,291 @@
+//! A log of whole TPDUs or APDUs, read line by line: each command finds its answer.
+ghost use Rattle.std.specs.Prelude.{◌≡◌, ◌++◌, ◌∷◌, ◌-◌, [], IfErr, List, OnOk, Some, length, map, ℕ};
+ghost use Rattle.trace_explain.specs.LogLines.{IsBadDump, IsBadLogLine, SaysLog, dumped_in};
+ghost use Rattle.trace_explain.specs.declared.read.log.Open.TheVariants.{Nothing};
+ghost use Rattle.trace_explain.specs.Logs.{IsBadIn, Step, TakesLogLine, Took, answered, at_first, begun, behind_answer, came_by, closed, ended, given_up, gone_on, log_at, opened, resumed, taken, with_bytes};
+
+use crate::read::log_line::{LogLine, Rest, read_dump, read_log_line, read_rest};
+use crate::read::trace_line::BadLine;
+use std::alloc::{AllocError, Global};
+use std::mem;
+use t0_core::End;
+
+/// What comes of a line, in turn.
+#[derive(Drop)]
+pub enum Logged {
+    /// A command begins.
+    Begins,
+    /// A command with its answer.
+    Exchange(Vec<u8>, Vec<u8>),
+    /// A command to which no answer comes.
+    Unanswered(Vec<u8>),
+    /// An answer that comes before a command.
+    Stray(Vec<u8>),
+    /// As much as came of a command or an answer, at the end of the log.
+    Part(End, Vec<u8>),
+    /// The card was reset.
+    Reset,
+    /// The line says something else.
+    Note,
+}
+
+impl Logged {
+    /// Whether the card was reset.
+    pub fn is_reset(&self) -> bool {
+        matches!(self, Logged::Reset)
+    }
+}
+
+/// What the next line may go on with.
+#[derive(Clone, Copy)]
+pub enum Open {
+    /// Nothing.
+    Nothing,
+    /// An answer.
+    Answer,
+    /// A dump of a command or an answer, of which so many bytes are left.
+    Dump(End, usize),
+}
+
+/// A log: what is open of it, and the command to which no answer has come yet.
+#[derive(Drop)]
+pub struct Log {
+    alloc: Global,
+    goes_on: Open,
+    /// The bytes so far of what is open.
+    bytes: Vec<u8>,
+    command: Option<Vec<u8>>,
+    has_come: bool,
+}
+
+impl Log {
+    /// No line has come.
+    pub fn new(alloc: Global) -> Log
+        ensures { log_at result ≡ at_first }
+    {
+        Log {
+            alloc,
+            goes_on: Open::Nothing,
+            bytes: Vec::new(alloc),
+            command: None,
+            has_come: false,
+        }
+    }
+
+    /// Whether a command or an answer has come, or has begun.
+    pub fn has_come(&self) -> bool {
+        self.has_come
+    }
+
+    /// Takes the next line, and adds what comes of it.
+    ///
+    /// `Hex` is a line that can't be read; what is open has ended before it, if it is an answer.
+    /// After `OutOfMemory` it is not to be used.
+    pub fn take(&mut self, line: &[u8], logged: &mut Vec<Logged>) -> Result<(), BadLine>
+        ensures takes { OnOk result ((step : Step) × TakesLogLine (log_at self.old) line.now step
+            × Took step logged.old.items logged.new.items self.new) }
+        ensures refused { IfErr result (λ why. IsBadIn self.old.goes_on why line.now) }
+    {
+        match self.goes_on {
+            Open::Dump(from, left) => self.take_dump(from, left, line, logged),
+            Open::Answer => match read_rest(self.alloc, line)? {
+                Rest::None => self.take_behind_answer(line, logged),
+                rest => Ok(self.take_rest(rest, logged)?),
+            },
+            Open::Nothing => self.take_line(line, logged),
+        }
+    }
+
+    /// Takes a line before which the answer that was open has ended.
+    fn take_behind_answer(&mut self, line: &[u8], logged: &mut Vec<Logged>) -> Result<(), BadLine>
+        ensures takes { OnOk result ((said : LogLine) × SaysLog line.now said
+            × Took (behind_answer (log_at self.old) said) logged.old.items logged.new.items
+            self.new) }
+        ensures refused { IfErr result (λ why. IsBadLogLine why line.now) }
+    {
+        self.close(End::Card, logged)?;
+        self.take_line(line, logged)
+    }
+
+    /// Takes a line where nothing is open.
+    fn take_line(&mut self, line: &[u8], logged: &mut Vec<Logged>) -> Result<(), BadLine>
+        ensures takes { OnOk result ((said : LogLine) × SaysLog line.now said
+            × Took (taken (log_at self.old) said) logged.old.items logged.new.items self.new) }
+        ensures refused { IfErr result (λ why. IsBadLogLine why line.now) }
+    {
+        let said = read_log_line(self.alloc, line)?;
+        Ok(self.take_said(said, logged)?)
+    }
+
+    /// Takes what a line says, where nothing is open.
+    fn take_said(&mut self, said: LogLine, logged: &mut Vec<Logged>) -> Result<(), AllocError>
+        ensures { OnOk result
+            (Took (taken (log_at self.old) said) logged.old.items logged.new.items self.new) }
+    {
+        self.has_come = self.has_come || !matches!(&said, LogLine::Reset | LogLine::Note);
+        match said {
+            LogLine::Command(bytes) => {
+                self.begin(logged)?;
+                self.command = Some(bytes);
+                Ok(())
+            }
+            LogLine::Answer(bytes) => self.answer(bytes, logged),
+            LogLine::Front(bytes) => {
+                self.goes_on = Open::Answer;
+                self.bytes = bytes;
+                Ok(())
+            }
+            LogLine::Dump(from, size) => self.open_dump(from, size, logged),
+            LogLine::Reset => {
+                self.cut_off(logged)?;
+                push(logged, Logged::Reset)
+            }
+            LogLine::Note => push(logged, Logged::Note),
+        }
+    }
+
+    /// A dump of so many bytes follows.
+    fn open_dump(
+        &mut self,
+        from: End,
+        size: usize,
+        logged: &mut Vec<Logged>,
+    ) -> Result<(), AllocError>
+        ensures { OnOk result (Took (opened (log_at self.old) from size) logged.old.items
+            logged.new.items self.new) }
+    {
+        if from == End::Terminal {
+            self.begin(logged)?;
+        }
+        self.go_on(from, size, logged)
+    }
+
+    /// So many bytes of a dump are left: where none are, what it has is whole.
+    fn go_on(&mut self, from: End, left: usize, logged: &mut Vec<Logged>) -> Result<(), AllocError>
+        ensures { OnOk result (Took (gone_on (log_at self.old) from left) logged.old.items
+            logged.new.items self.new) }
+    {
+        if left == 0 {
+            return self.close(from, logged);
+        }
+        self.goes_on = Open::Dump(from, left);
+        Ok(())
+    }
+
+    /// Takes a line of a dump of which so many bytes are left.
+    fn take_dump(
+        &mut self,
+        from: End,
+        left: usize,
+        line: &[u8],
+        logged: &mut Vec<Logged>,
+    ) -> Result<(), BadLine>
+        ensures takes { OnOk result ((bytes : List ℕ) × (dumped_in left line.now ≡ Some bytes)
+            × Took (gone_on (with_bytes (log_at self.old) bytes) from (left - length bytes))
+            logged.old.items logged.new.items self.new) }
+        ensures refused { IfErr result (λ why. IsBadDump why left line.now) }
+    {
+        let bytes = read_dump(self.alloc, left, line)?;
+        self.bytes.extend_from_slice(bytes.as_slice())?;
+        Ok(self.go_on(from, left.saturating_sub(bytes.len()), logged)?)
+    }
+
+    /// Takes more of the answer that is open.
+    fn take_rest(&mut self, rest: Rest, logged: &mut Vec<Logged>) -> Result<(), AllocError>
+        ensures { OnOk result (Took (resumed (log_at self.old) rest) logged.old.items
+            logged.new.items self.new) }
+    {
+        match rest {
+            Rest::None => Ok(()),
+            Rest::More(bytes) => {
+                self.bytes.extend_from_slice(bytes.as_slice())?;
+                Ok(())
+            }
+            Rest::Last(bytes) => {
+                self.bytes.extend_from_slice(bytes.as_slice())?;
+                self.close(End::Card, logged)
+            }
+        }
+    }
+
+    /// What is open is whole: a command or an answer.
+    fn close(&mut self, from: End, logged: &mut Vec<Logged>) -> Result<(), AllocError>
+        ensures { OnOk result (Took (closed (log_at self.old) from) logged.old.items
+            logged.new.items self.new) }
+    {
+        let bytes = self.cut();
+        match from {
+            End::Terminal => {
+                self.command = Some(bytes);
+                Ok(())
+            }
+            End::Card => self.answer(bytes, logged),
+        }
+    }
+
+    /// Takes the bytes of what is open, so that nothing is.
+    fn cut(&mut self) -> Vec<u8>
+        ensures bytes { result.items ≡ self.old.bytes.items }
+        ensures left { (self.new.goes_on ≡ Nothing) × (self.new.bytes.items ≡ [])
+            × (self.new.command ≡ self.old.command) }
+    {
+        self.goes_on = Open::Nothing;
+        mem::replace(&mut self.bytes, Vec::new(self.alloc))
+    }
+
+    /// An answer has come.
+    fn answer(&mut self, bytes: Vec<u8>, logged: &mut Vec<Logged>) -> Result<(), AllocError>
+        ensures { OnOk result (Took (answered (log_at self.old) bytes.items) logged.old.items
+            logged.new.items self.new) }
+    {
+        match self.command.take() {
+            Some(command) => push(logged, Logged::Exchange(command, bytes)),
+            None => push(logged, Logged::Stray(bytes)),
+        }
+    }
+
+    /// A command begins.
+    fn begin(&mut self, logged: &mut Vec<Logged>) -> Result<(), AllocError>
+        ensures { OnOk result (Took (begun (log_at self.old)) logged.old.items
+            logged.new.items self.new) }
+    {
+        self.cut_off(logged)?;
+        push(logged, Logged::Begins)
+    }
+
+    /// No answer comes any more to the last command.
+    fn cut_off(&mut self, logged: &mut Vec<Logged>) -> Result<(), AllocError>
+        ensures { OnOk result (Took (given_up (log_at self.old)) logged.old.items
+            logged.new.items self.new) }
+    {
+        match self.command.take() {
+            Some(command) => push(logged, Logged::Unanswered(command)),
+            None => Ok(()),
+        }
+    }
+
+    /// The log ends, and adds what comes of that.
+    pub fn end(&mut self, logged: &mut Vec<Logged>) -> Result<(), AllocError>
+        ensures { OnOk result (map came_by logged.new.items
+            ≡ map came_by logged.old.items ++ ended (log_at self.old)) }
+    {
+        match self.goes_on {
+            Open::Nothing => {}
+            Open::Answer => self.close(End::Card, logged)?,
+            Open::Dump(from, _) => {
+                let bytes = self.cut();
+                push(logged, Logged::Part(from, bytes))?;
+            }
+        }
+        self.cut_off(logged)
+    }
+}
+
+/// Adds what comes of a line.
+#[tactic(auto, using(crate::proofs::LogLemmas::came_more))]
+fn push(logged: &mut Vec<Logged>, one: Logged) -> Result<(), AllocError>
+    ensures { OnOk result (map came_by logged.new.items
+        ≡ map came_by logged.old.items ++ came_by one ∷ []) }
+{
+    logged.push(one).map_err(AllocError::from)
+}

@@ -1,0 +1,261 @@
+//! The lines of a log of whole TPDUs or APDUs, as programs of PC/SC write them.
+ghost use Rattle.std.specs.Prelude.{◌≡◌, Some, IfOk, IfErr};
+ghost use Rattle.trace_explain.specs.LogLines.{IsBadDump, IsBadLogLine, IsBadSize, SaysLog, SaysOpen, SaysRest, behind_prefix, cut_answer, cut_line, cut_signed, cut_text, dumped_in, is_of_prefix, is_reset, number_in, size_in};
+
+use crate::read::digits::bytes_of;
+use crate::read::time::{cut_time, place_of};
+use crate::read::trace_line::BadLine;
+use std::alloc::Global;
+use t0_core::End;
+
+/// The most bytes in a line of a dump, and in one of an answer that goes on in the next line.
+const ROW: usize = 16;
+
+/// ESC, with which a colour begins.
+const ESC: u8 = 0x1B;
+
+/// What a line is, by how it begins.
+#[derive(Clone, Copy)]
+pub enum LineKind {
+    /// A command.
+    Command,
+    /// An answer, which ends in this line.
+    Answer,
+    /// An answer of which it is not said that it ends in this line.
+    OpenAnswer,
+    /// The head of a dump of a command or an answer.
+    Dump(End),
+    /// A reset.
+    Reset,
+    /// Any other line.
+    Note,
+    /// A line that begins with a sign, and can't be read.
+    Bad,
+}
+
+/// What a line says.
+#[derive(Drop)]
+pub enum LogLine {
+    /// A command.
+    Command(Vec<u8>),
+    /// An answer.
+    Answer(Vec<u8>),
+    /// An answer, with which the next line may go on.
+    Front(Vec<u8>),
+    /// A dump of so many bytes follows, of a command or an answer.
+    Dump(End, usize),
+    /// The card was reset.
+    Reset,
+    /// Something else.
+    Note,
+}
+
+/// What a line says that goes on with an answer.
+#[derive(Drop)]
+pub enum Rest {
+    /// Nothing of it: the answer has ended before.
+    None,
+    /// The last bytes of it.
+    Last(Vec<u8>),
+    /// More bytes of it, with which the next line may go on.
+    More(Vec<u8>),
+}
+
+/// What the line says, where neither an answer nor a dump is open. `Hex` is one that begins as one
+/// of a log and can't be read.
+pub fn read_log_line(alloc: Global, line: &[u8]) -> Result<LogLine, BadLine>
+    ensures says { IfOk result (λ said. SaysLog line.now said) }
+    ensures refused { IfErr result (λ why. IsBadLogLine why line.now) }
+{
+    let (kind, part) = cut_line(line);
+    match kind {
+        LineKind::Command => Ok(LogLine::Command(bytes_of(alloc, part)?)),
+        LineKind::Answer => Ok(LogLine::Answer(bytes_of(alloc, part)?)),
+        LineKind::OpenAnswer => Ok(said_open(bytes_of(alloc, part)?)),
+        LineKind::Dump(from) => Ok(LogLine::Dump(from, size_of_dump(part)?)),
+        LineKind::Reset => Ok(LogLine::Reset),
+        LineKind::Note => Ok(LogLine::Note),
+        LineKind::Bad => Err(BadLine::Hex),
+    }
+}
+
+/// What a line says that has these bytes of an answer, and no word behind them.
+fn said_open(bytes: Vec<u8>) -> LogLine
+    ensures { SaysOpen bytes.items result }
+{
+    if bytes.len() == ROW {
+        LogLine::Front(bytes)
+    } else {
+        LogLine::Answer(bytes)
+    }
+}
+
+/// What the line says where an answer is open.
+pub fn read_rest(alloc: Global, line: &[u8]) -> Result<Rest, BadLine>
+    ensures says { IfOk result (λ rest. SaysRest line.now rest) }
+    ensures wants { IfErr result (λ why. why ≡ BadLine.OutOfMemory) }
+{
+    let end = place_of(b':', line);
+    let bytes = match bytes_of(alloc, &line[..end]) {
+        Ok(bytes) => bytes,
+        Err(BadLine::OutOfMemory) => return Err(BadLine::OutOfMemory),
+        Err(_) => return Ok(Rest::None),
+    };
+    if bytes.is_empty() {
+        Ok(Rest::None)
+    } else if bytes.len() == ROW && end == line.len() {
+        Ok(Rest::More(bytes))
+    } else {
+        Ok(Rest::Last(bytes))
+    }
+}
+
+/// The bytes of a line of a dump of which so many are left: as many as a line has, or all that are
+/// left, each with a space behind it. What stands behind those is the same as text.
+pub fn read_dump(alloc: Global, left: usize, line: &[u8]) -> Result<Vec<u8>, BadLine>
+    ensures says { IfOk result (λ bytes. dumped_in left line.now ≡ Some bytes.items) }
+    ensures refused { IfErr result (λ why. IsBadDump why left line.now) }
+{
+    let count = left.min(ROW);
+    let width = 3 * count;
+    if line.len() < width {
+        return Err(BadLine::Hex);
+    }
+    let bytes = bytes_of(alloc, &line[..width])?;
+    if bytes.len() != count {
+        return Err(BadLine::Hex);
+    }
+    Ok(bytes)
+}
+
+/// What the line is, and the part of it that says bytes, or how many.
+fn cut_line(line: &[u8]) -> (LineKind, &[u8])
+    ensures kind { result.0 ≡ (cut_line line.now).0 }
+    ensures part { result.1.now ≡ (cut_line line.now).1 }
+{
+    let (_, rest) = cut_time(line);
+    if rest.starts_with(b">") || rest.starts_with(b"<") {
+        return cut_signed(rest);
+    }
+    if is_reset(rest) {
+        return (LineKind::Reset, rest);
+    }
+    let text = behind_prefix(line);
+    cut_text(line, &text[..place_of(ESC, text)])
+}
+
+/// Whether this is `reset` and nothing else.
+fn is_reset(rest: &[u8]) -> bool
+    ensures { result ≡ is_reset rest.now }
+{
+    rest.starts_with(b"reset") && rest.len() == 5
+}
+
+/// The same of a line with `>` or `<`, as `scriptor` and `gt_pcsc` write it.
+fn cut_signed(rest: &[u8]) -> (LineKind, &[u8])
+    ensures kind { result.0 ≡ (cut_signed rest.now).0 }
+    ensures part { result.1.now ≡ (cut_signed rest.now).1 }
+{
+    if rest.starts_with(b"> RESET") {
+        (LineKind::Reset, rest)
+    } else if rest.starts_with(b"> ") {
+        (LineKind::Command, &rest[2..])
+    } else if rest.starts_with(b"< OK:") || rest.starts_with(b"< KO:") {
+        (LineKind::Note, rest)
+    } else if rest.starts_with(b"< ") {
+        cut_answer(&rest[2..])
+    } else {
+        (LineKind::Bad, rest)
+    }
+}
+
+/// The same of an answer behind its sign: words may follow it behind a colon.
+fn cut_answer(behind: &[u8]) -> (LineKind, &[u8])
+    ensures kind { result.0 ≡ (cut_answer behind.now).0 }
+    ensures part { result.1.now ≡ (cut_answer behind.now).1 }
+{
+    let end = place_of(b':', behind);
+    if end < behind.len() {
+        (LineKind::Answer, &behind[..end])
+    } else {
+        (LineKind::OpenAnswer, behind)
+    }
+}
+
+/// The same of a line without a sign, whose text behind what `pcscd` writes before it is this.
+fn cut_text<'a>(line: &'a [u8], text: &'a [u8]) -> (LineKind, &'a [u8])
+    ensures kind { result.0 ≡ (cut_text line.now text.now).0 }
+    ensures part { result.1.now ≡ (cut_text line.now text.now).1 }
+{
+    if text.starts_with(b"APDU:") {
+        (LineKind::Command, &text[5..])
+    } else if text.starts_with(b"SW:") {
+        (LineKind::Answer, &text[3..])
+    } else if line.starts_with(b"Outgoing APDU (") {
+        (LineKind::Dump(End::Terminal), &line[15..])
+    } else if line.starts_with(b"Incoming APDU (") {
+        (LineKind::Dump(End::Card), &line[15..])
+    } else {
+        (LineKind::Note, line)
+    }
+}
+
+/// What stands behind a time, the number of a thread and the beginnings of colours.
+fn behind_prefix(line: &[u8]) -> &[u8]
+    ensures value { result.now ≡ behind_prefix line.now }
+{
+    for place in 0..line.len() {
+        if !is_of_prefix(line[place]) {
+            return &line[place..];
+        }
+    }
+    &line[line.len()..]
+}
+
+/// Whether this may stand there.
+fn is_of_prefix(byte: u8) -> bool
+    ensures { result ≡ is_of_prefix byte }
+{
+    matches!(byte, b'0'..=b'9' | b' ' | b'[' | b']' | b';' | b'm' | ESC)
+}
+
+/// How many bytes a dump has: a number, and ` byte):` or ` bytes):` behind it.
+fn size_of_dump(text: &[u8]) -> Result<usize, BadLine>
+    ensures says { IfOk result (λ size. size_in text.now ≡ Some size) }
+    ensures refused { IfErr result (λ why. IsBadSize why text.now) }
+{
+    let (digits, unit) = text.split_at(place_of(b' ', text));
+    if !unit.starts_with(b" byte):") && !unit.starts_with(b" bytes):") {
+        return Err(BadLine::Hex);
+    }
+    match number_of(digits) {
+        Some(size) => Ok(size),
+        None => Err(BadLine::Hex),
+    }
+}
+
+/// The number of at most seven decimal digits that these are.
+fn number_of(digits: &[u8]) -> Option<usize>
+    ensures { result ≡ number_in digits.now }
+{
+    if digits.is_empty() {
+        return None;
+    }
+    let mut number: usize = 0;
+    for &digit in digits {
+        if number > 999_999 || !digit.is_ascii_digit() {
+            return None;
+        }
+        number = number * 10 + usize::from(digit - b'0');
+    }
+    Some(number)
+}
+
+/// The time before the sign of a line, or before `reset`; nothing before any other line.
+pub fn time_of(line: &[u8]) -> &[u8] {
+    let (time, rest) = cut_time(line);
+    match rest {
+        [b'>' | b'<', ..] | b"reset" => time,
+        _ => &line[..0],
+    }
+}

@@ -1,0 +1,66 @@
+//! How the lines of a trace are read.
+
+ghost use Rattle.std.specs.Prelude.{◌≡◌};
+ghost use Rattle.t0_core.specs.TapSide.{other_end};
+ghost use Rattle.trace_explain.specs.Lines.{read_on};
+ghost use Rattle.trace_explain.specs.Turns.{sender};
+
+use crate::read::form::Form;
+use crate::read::time::are_decimal;
+use crate::read::trace_line::Source;
+use crate::read::ways::Ways;
+use t0_core::End;
+
+/// How the lines of a trace are read: what the words say of it, and the lines before.
+#[derive(Clone, Copy)]
+pub struct Reading {
+    /// The form of the lines, where it is known.
+    pub form: Option<Form>,
+    /// Whether each sign stands for the other end.
+    pub swaps: bool,
+    /// Where lines have no signs, what the words say of the ways of instructions.
+    pub unsigned: Option<Ways>,
+    /// Whether they are those of a log of whole TPDUs or APDUs.
+    pub of_tpdus: bool,
+}
+
+impl Reading {
+    /// The same behind a line of characters of this source, whose sign says the form.
+    pub fn with(self, source: &Source) -> Reading
+        ensures { result ≡ read_on source.now self }
+    {
+        match source {
+            Source::Sign(form, _) => Reading {
+                form: Some(*form),
+                ..self
+            },
+            Source::Turn(_) => self,
+        }
+    }
+
+    /// The time that is counted: where lines have no signs, digits alone are none.
+    pub fn counted<'a>(&self, time: &'a [u8]) -> &'a [u8] {
+        if self.unsigned.is_some() && are_decimal(time) {
+            &[]
+        } else {
+            time
+        }
+    }
+
+    /// The end whose characters stand behind the sign of this one.
+    pub fn sender(self, from: End) -> End
+        ensures { result ≡ sender self from }
+    {
+        if self.swaps { other_end(from) } else { from }
+    }
+}
+
+/// The end on the other side of the line.
+fn other_end(from: End) -> End
+    ensures { result ≡ other_end from }
+{
+    match from {
+        End::Terminal => End::Card,
+        End::Card => End::Terminal,
+    }
+}

@@ -1,0 +1,114 @@
+//! What is told of an answer to reset, in plain words.
+
+use crate::describe::mask::Mask;
+use crate::follow::opening::{is_direct, is_short};
+use crate::follow::preface::Preface;
+use crate::write::ascii::{push_digits, push_hex_lines};
+use crate::write::layout::{Kind, Side};
+use crate::write::page::Page;
+use crate::write::sheet::Sheet;
+use atr_core::{Atr, AtrFault, Category, Fi, di};
+
+/// Adds the box of an answer: all of it, or how far it came. What is none may be data of which the
+/// front was not heard, and is then not shown where something is not.
+pub fn tell_answer(mask: &Mask, preface: &Preface, page: &mut Page) {
+    let read = Atr::read(preface.answer());
+    page.open_titled(kind_of(&read), "answer to reset", preface.line());
+    if read.is_err() {
+        mask.push_unknown(&mut page.lines, preface.answer());
+    } else {
+        push_hex_lines(&mut page.lines, preface.answer());
+    }
+    page.row(Side::Card, "characters");
+    if !is_direct(preface.turned()) {
+        let turned = "by the direct convention, which shows TS as 03; here all are turned\n";
+        page.told("read", turned);
+    }
+    match read {
+        Ok(answer) => tell_values(&answer, page),
+        Err(fault) => {
+            writeln!(page.lines, "{fault}, where TS is at 0");
+            page.row(Side::Told, "fault");
+        }
+    }
+    page.close();
+}
+
+/// Whether an answer is whole.
+fn kind_of(read: &Result<Atr, AtrFault>) -> Kind {
+    match read {
+        Ok(_) => Kind::Well,
+        Err(fault) if is_short(fault.reason) => Kind::CutOff,
+        Err(_) => Kind::Complaint,
+    }
+}
+
+/// Adds what a whole answer says.
+fn tell_values(answer: &Atr, page: &mut Page) {
+    writeln!(page.lines, "{}", answer.convention());
+    page.row(Side::Told, "convention");
+    push_protocols(&mut page.lines, answer);
+    page.row(Side::Told, "protocols");
+    push_rate(&mut page.lines, answer.rate_code());
+    page.told("rate", "\n");
+    push_guard_times(&mut page.lines, answer);
+    page.row(Side::Told, "guard time");
+    push_waiting_time(&mut page.lines, answer);
+    page.row(Side::Told, "waiting");
+    push_digits(&mut page.lines, answer.historical());
+    page.lines.push('\n');
+    page.told("historical", form_of(answer));
+}
+
+/// Adds the protocols, in the order in which they are offered.
+fn push_protocols(text: &mut Sheet, answer: &Atr) {
+    for t in &answer.protocols() {
+        if !text.is_empty() {
+            text.push_str(", ");
+        }
+        write!(text, "T={t}");
+    }
+    text.push('\n');
+}
+
+/// Adds Fi with its clock frequency, and Di, by their code in TA1 or PPS1.
+pub fn push_rate(text: &mut Sheet, code: u8) {
+    match Fi::of(code) {
+        Ok(fi) => write!(text, "Fi {fi}; "),
+        Err(rfu) => write!(text, "Fi {rfu}; "),
+    }
+    match di(code) {
+        Ok(di) => write!(text, "Di {di}"),
+        Err(rfu) => write!(text, "Di {rfu}"),
+    }
+}
+
+/// Adds the guard time of each protocol.
+fn push_guard_times(text: &mut Sheet, answer: &Atr) {
+    for t in &answer.protocols() {
+        writeln!(text, "T={t}: {}", answer.guard_time(*t));
+    }
+}
+
+/// Adds the waiting time, which T=0 alone has.
+fn push_waiting_time(text: &mut Sheet, answer: &Atr) {
+    if !answer.protocols().contains(&0) {
+        return;
+    }
+    match answer.waiting_time() {
+        Ok(cycles) => writeln!(text, "T=0: {cycles} clock cycles"),
+        Err(rfu) => writeln!(text, "T=0: {rfu}"),
+    }
+}
+
+/// Which form the historical bytes have.
+fn form_of(answer: &Atr) -> &'static str {
+    match answer.category() {
+        Category::Absent => "none\n",
+        Category::StatusBehind => "objects in COMPACT-TLV, and a status of three bytes\n",
+        Category::DirReference => "a reference to EF.DIR\n",
+        Category::Objects => "objects in COMPACT-TLV\n",
+        Category::Reserved => "a form that is reserved\n",
+        Category::Proprietary => "a form of the maker's own\n",
+    }
+}

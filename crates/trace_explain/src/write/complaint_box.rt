@@ -1,0 +1,62 @@
+//! What is told of a complaint: of a character with which no dialogue goes on, and of a command and
+//! its answer that are no TPDU.
+
+use crate::describe::complaint::{ASTRAY, Complaint, due_text, end_text};
+use crate::describe::mask::Mask;
+use crate::follow::exchange::BadExchange;
+use crate::write::layout::{Anchor, Head, Kind, Side};
+use crate::write::page::Page;
+
+/// Adds the box of a complaint of this number, about a character.
+pub fn tell_complaint(number: u64, complaint: Complaint, page: &mut Page) {
+    page.lines.push_str("no dialogue that it reads");
+    page.open(head(number, complaint.line));
+    let character = complaint.place.saturating_add(1);
+    writeln!(page.lines, "line {}, character {character}", complaint.line);
+    page.row(Side::Told, "place");
+    writeln!(page.lines, "{}", due_text(complaint.due));
+    page.row(Side::Told, "due");
+    let came = complaint.came;
+    writeln!(page.lines, "{came} of the {}", end_text(complaint.from));
+    page.row(Side::Told, "came");
+    if complaint.is_astray {
+        page.lines.push_str(ASTRAY);
+        page.told("or", "\n");
+    }
+    page.close();
+}
+
+/// Adds the box of a complaint of this number, about a command that began in this line, and its
+/// answer.
+pub fn tell_bad_exchange(
+    number: u64,
+    line: u64,
+    why: BadExchange,
+    command: &[u8],
+    answer: Option<&[u8]>,
+    mask: &Mask,
+    page: &mut Page,
+) {
+    page.lines.push_str("no exchange that it reads");
+    page.open(head(number, line));
+    writeln!(page.lines, "{why}");
+    page.row(Side::Told, "fault");
+    mask.push_unknown(&mut page.lines, command);
+    page.row(Side::Terminal, "command");
+    match answer {
+        Some(bytes) => mask.push_unknown(&mut page.lines, bytes),
+        None => page.lines.push_str("none\n"),
+    }
+    page.row(Side::Card, "answer");
+    page.close();
+}
+
+/// What stands above the rows of the complaint of this number.
+fn head(number: u64, line: u64) -> Head<'static> {
+    Head {
+        kind: Kind::Complaint,
+        line,
+        status: &[],
+        anchor: Anchor::Complaint(number),
+    }
+}

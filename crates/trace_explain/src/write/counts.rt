@@ -1,0 +1,165 @@
+//! What is counted over a whole trace, and told in its last block.
+
+use crate::describe::instructions::instruction;
+use crate::follow::clock::Clock;
+use crate::follow::story::{header_of, status_of};
+use crate::follow::tpdu::Tpdu;
+use crate::write::layout::Side;
+use crate::write::page::Page;
+use crate::write::sheet::Sheet;
+use std::alloc::{AllocError, Global};
+use std::collections::BTreeMap;
+
+/// How many complaints, and how many statuses, have links on a page.
+const LINKS: usize = 1_000;
+
+/// How many TPDUs a trace has, with which commands and statuses, and how many complaints.
+#[derive(Drop)]
+pub struct Counts {
+    tpdus: u64,
+    cut_off: u64,
+    /// TPDUs of which no whole header came.
+    parts: u64,
+    named: BTreeMap<&'static str, u64>,
+    /// Those of commands that have no name here, by INS.
+    unnamed: BTreeMap<u8, u64>,
+    /// Those of statuses other than `9000`.
+    statuses: BTreeMap<u16, u64>,
+    complaints: u64,
+    /// The lines of the first complaints.
+    complaint_lines: Vec<u64>,
+    /// How many TPDUs have a status that is none of `9000`, `61XX` and `6CXX`.
+    unwell: u64,
+    /// The numbers of the first of these, and their statuses.
+    first_unwell: Vec<(u64, u16)>,
+}
+
+impl Counts {
+    /// Nothing has come.
+    pub fn new(alloc: Global) -> Counts {
+        Counts {
+            tpdus: 0,
+            cut_off: 0,
+            parts: 0,
+            named: BTreeMap::new(alloc),
+            unnamed: BTreeMap::new(alloc),
+            statuses: BTreeMap::new(alloc),
+            complaints: 0,
+            complaint_lines: Vec::new(alloc),
+            unwell: 0,
+            first_unwell: Vec::new(alloc),
+        }
+    }
+
+    /// How many complaints there are.
+    pub fn complaints(&self) -> u64 {
+        self.complaints
+    }
+
+    /// One complaint more, which stands in this line. The error is want of memory.
+    pub fn complain(&mut self, line: u64) -> Result<(), AllocError> {
+        self.complaints = self.complaints.saturating_add(1);
+        push_first(&mut self.complaint_lines, line)
+    }
+
+    /// One TPDU more. The error is want of memory.
+    pub fn take(&mut self, tpdu: &Tpdu) -> Result<(), AllocError> {
+        self.tpdus = self.tpdus.saturating_add(1);
+        self.take_command(tpdu)?;
+        let Some(status) = status_of(tpdu) else {
+            self.cut_off = self.cut_off.saturating_add(1);
+            return Ok(());
+        };
+        if status.is_ok() {
+            return Ok(());
+        }
+        let word = u16::from_be_bytes([status.sw1(), status.sw2()]);
+        if !matches!(status.sw1(), 0x61 | 0x6C) {
+            self.unwell = self.unwell.saturating_add(1);
+            push_first(&mut self.first_unwell, (self.tpdus, word))?;
+        }
+        count(&mut self.statuses, word)
+    }
+
+    /// One command more.
+    fn take_command(&mut self, tpdu: &Tpdu) -> Result<(), AllocError> {
+        let Some((header, _)) = header_of(tpdu) else {
+            self.parts = self.parts.saturating_add(1);
+            return Ok(());
+        };
+        match instruction(header) {
+            Some((_, name, _)) => count(&mut self.named, *name),
+            None => count(&mut self.unnamed, header.ins),
+        }
+    }
+
+    /// Adds the last block, with how long it all took by this clock: the sum of its known steps, so
+    /// that a capture of several days is told right.
+    pub fn tell(&self, clock: &Clock, page: &mut Page) {
+        page.open_block("summary");
+        self.push_tpdus(&mut page.lines);
+        page.row(Side::Told, "TPDUs");
+        self.push_commands(&mut page.lines);
+        page.row(Side::Told, "commands");
+        self.push_statuses(&mut page.lines);
+        page.row(Side::Told, "statuses");
+        writeln!(page.lines, "{}", self.complaints);
+        page.row(Side::Told, "complaints");
+        clock.push_whole(&mut page.lines);
+        page.row(Side::Told, "time");
+        page.complaint_links(self.complaint_lines.as_slice(), self.complaints);
+        page.status_links(self.first_unwell.as_slice(), self.unwell);
+        page.close_block();
+    }
+
+    /// Adds how many TPDUs came, and how many of them were cut off, if any was.
+    fn push_tpdus(&self, text: &mut Sheet) {
+        write!(text, "{}", self.tpdus);
+        if self.cut_off > 0 {
+            write!(text, " (cut off: {})", self.cut_off);
+        }
+        text.push('\n');
+    }
+
+    /// Adds a line for each command: those with a name, by their names; the others, by INS; and
+    /// headers that did not come whole.
+    fn push_commands(&self, text: &mut Sheet) {
+        for (name, count) in &self.named {
+            writeln!(text, "{name}: {count}");
+        }
+        for (ins, count) in &self.unnamed {
+            writeln!(text, "INS {ins:02X}: {count}");
+        }
+        if self.parts > 0 {
+            writeln!(text, "part of a header: {}", self.parts);
+        }
+        if text.is_empty() {
+            text.push_str("none\n");
+        }
+    }
+
+    /// Adds a line for each status other than `9000`, in the order of the words.
+    fn push_statuses(&self, text: &mut Sheet) {
+        for (word, count) in &self.statuses {
+            writeln!(text, "{word:04X}: {count}");
+        }
+        if text.is_empty() {
+            text.push_str("none other than 9000\n");
+        }
+    }
+}
+
+/// Keeps one that is among the first.
+fn push_first<T: Drop>(all: &mut Vec<T>, one: T) -> Result<(), AllocError> {
+    if all.len() < LINKS {
+        all.push(one).map_err(AllocError::from)?;
+    }
+    Ok(())
+}
+
+/// Counts one more.
+fn count<K: Ord + Drop>(counts: &mut BTreeMap<K, u64>, key: K) -> Result<(), AllocError> {
+    let count = counts.entry(key)?.or_insert(0);
+    *count = count.saturating_add(1);
+    Ok(())
+}

@@ -1,0 +1,117 @@
+//! What is written: what is proved of TPDUs, and the words beside it.
+
+ghost use Rattle.std.specs.Prelude.{◌≡◌, ℕ, List, [], true, false, IfErr, OnOk};
+ghost use Rattle.std.specs.String.{string_bytes};
+ghost use Rattle.trace_explain.specs.Sheets.{Adds, HasText, Joins};
+ghost use Rattle.trace_explain.specs.Written.{data_row, row};
+
+use crate::write::layout::{Layout, Side};
+use crate::write::page::Page;
+use crate::write::row::{push_data_row, push_lines_row};
+use crate::write::sheet::Sheet;
+use std::alloc::{AllocError, Global};
+
+/// What is written, with the words that are still to be joined to it.
+#[derive(Drop)]
+pub struct Output {
+    /// Words, of which nothing is proved.
+    pub page: Page,
+    /// What is written so far.
+    pub sheet: Sheet,
+}
+
+impl Output {
+    /// Nothing has been added.
+    pub fn new(alloc: Global, layout: Layout) -> Output
+        ensures layout { result.sheet.layout ≡ layout }
+        ensures text { string_bytes result.sheet.text ≡ [] }
+    {
+        Output {
+            page: Page::new(alloc, layout),
+            sheet: Sheet::new(alloc, layout),
+        }
+    }
+
+    /// What comes before all else has been added.
+    pub fn begun(alloc: Global, layout: Layout) -> Output
+        ensures layout { result.sheet.layout ≡ layout }
+        ensures text { string_bytes result.sheet.text ≡ [] }
+    {
+        let mut output = Output::new(alloc, layout);
+        output.page.begin();
+        output
+    }
+
+    /// Another one of the same layout, to which nothing has been added.
+    pub fn another(&self, alloc: Global) -> Output {
+        Output::new(alloc, self.sheet.layout())
+    }
+
+    /// Adds the row of data that the lines of the page are, and forgets them.
+    pub fn data_row(&mut self, side: Side)
+        ensures { (text : List ℕ) → HasText self.old.page.lines text →
+            Adds self.old.sheet (data_row self.old.sheet.layout.medium side text) self.new.sheet }
+    {
+        push_data_row(&mut self.sheet, side, &self.page.lines);
+        self.page.lines.clear();
+    }
+
+    /// Adds a row with this label, whose text the lines of the page are, and forgets them.
+    pub fn lines_row(&mut self, side: Side, label: &str)
+        ensures { (text : List ℕ) → HasText self.old.page.lines text →
+            Adds self.old.sheet (row self.old.sheet.layout.medium side label.now text)
+            self.new.sheet }
+    {
+        push_lines_row(&mut self.sheet, side, label, &self.page.lines);
+        self.page.lines.clear();
+    }
+
+    /// Joins the words to what is written.
+    pub fn join(&mut self)
+        ensures { Joins self.old.sheet self.new.sheet }
+    {
+        let is_cut = self.page.is_cut();
+        self.sheet.join(self.page.as_str(), is_cut);
+        self.page.clear();
+    }
+
+    /// What is written, once the words are joined to it.
+    pub fn as_str(&self) -> &str
+        ensures { result.now ≡ string_bytes self.now.sheet.text }
+    {
+        self.sheet.as_str()
+    }
+
+    /// Forgets what is written.
+    pub fn clear(&mut self)
+        ensures text { string_bytes self.new.sheet.text ≡ [] }
+        ensures layout { self.new.sheet.layout ≡ self.old.sheet.layout }
+        ensures is_cut { self.new.sheet.is_cut ≡ self.old.sheet.is_cut }
+    {
+        self.sheet.clear();
+    }
+
+    /// Whether all is there that is joined. The error is want of memory.
+    pub fn is_whole(&self) -> Result<(), AllocError>
+        ensures { OnOk result (self.now.sheet.is_cut ≡ false) }
+    {
+        self.sheet.is_whole()
+    }
+
+    /// Joins the words, and answers whether all is there. The error is want of memory.
+    pub fn outcome(&mut self) -> Result<(), AllocError>
+        ensures joins { Joins self.old.sheet self.new.sheet }
+        ensures whole { OnOk result (self.new.sheet.is_cut ≡ false) }
+        ensures cut { IfErr result (λ _. self.new.sheet.is_cut ≡ true) }
+    {
+        self.join();
+        self.sheet.is_whole()
+    }
+
+    /// All that has been added.
+    pub fn into_text(self) -> Result<String, AllocError> {
+        let mut output = self;
+        output.join();
+        output.sheet.into_text()
+    }
+}

@@ -1,0 +1,276 @@
+//! An explanation in the making, in either layout, with one call for each thing in it.
+
+use crate::write::head::HEAD;
+use crate::write::html;
+use crate::write::layout::{Anchor, Head, Kind, Layout, Medium, Side};
+use crate::write::row::{ROW_INDENT, behind, between, push_before};
+use crate::write::sheet::Sheet;
+use crate::write::shown::push_line;
+use std::alloc::Global;
+
+/// The most columns of a line of text.
+const COLUMNS: usize = 100;
+
+/// An explanation to which more is added. Once memory ran out nothing more is.
+#[derive(Drop)]
+pub struct Page {
+    layout: Layout,
+    out: Sheet,
+    /// What the next thing says: the title of a box, or the lines of a row or a note.
+    pub lines: Sheet,
+}
+
+impl Page {
+    /// Nothing has been added.
+    pub fn new(alloc: Global, layout: Layout) -> Page {
+        Page {
+            layout,
+            out: Sheet::new(alloc, layout),
+            lines: Sheet::new(alloc, layout),
+        }
+    }
+
+    /// What has been added since the last call of `clear`.
+    pub fn as_str(&self) -> &str {
+        self.out.as_str()
+    }
+
+    /// Forgets what has been added, as it was written.
+    pub fn clear(&mut self) {
+        self.out.clear();
+    }
+
+    /// Whether memory ran out.
+    pub fn is_cut(&self) -> bool {
+        self.out.is_cut() || self.lines.is_cut()
+    }
+
+    /// Whether what is told now is added.
+    fn tells(&self) -> bool {
+        !self.layout.is_summary && !self.lines.is_cut()
+    }
+
+    /// Whether it is a page of HTML, and what is told now is added.
+    fn marks(&self) -> bool {
+        matches!(self.layout.medium, Medium::Html) && self.tells()
+    }
+
+    /// Adds what comes before all else.
+    pub fn begin(&mut self) {
+        if matches!(self.layout.medium, Medium::Html) {
+            self.out.push_str(HEAD);
+        }
+    }
+
+    /// Adds what comes after all else.
+    pub fn end(&mut self) {
+        self.mark(html::END);
+    }
+
+    /// Adds what is a mark of a page of HTML alone.
+    fn mark(&mut self, mark: &str) {
+        if self.marks() {
+            self.out.push_str(mark);
+        }
+    }
+
+    /// Opens a box, whose title the lines are.
+    pub fn open(&mut self, head: Head<'_>) {
+        self.begin_box(head);
+        self.push_title(0, head);
+        if self.tells() {
+            push_line(&mut self.out, head.line);
+        }
+    }
+
+    /// Opens a box of no TPDU with this title, to which no link leads.
+    pub fn open_titled(&mut self, kind: Kind, title: &str, line: u64) {
+        self.lines.push_str(title);
+        self.open(Head {
+            kind,
+            line,
+            status: &[],
+            anchor: Anchor::None,
+        });
+    }
+
+    /// Begins a box, up to its title.
+    pub fn begin_box(&mut self, head: Head<'_>) {
+        if self.marks() {
+            html::begin(&mut self.out, head);
+        }
+    }
+
+    /// Adds the title of a TPDU behind its number: the lines are its words.
+    pub fn push_numbered(&mut self, number: u64, head: Head<'_>) {
+        self.push_title("# ".len().saturating_add(digits(number)), head);
+    }
+
+    /// Adds a title that begins in this column, and goes on to where its line is told.
+    fn push_title(&mut self, begins: usize, head: Head<'_>) {
+        if self.marks() {
+            html::push_title(&mut self.out, self.lines.as_str(), head);
+        } else if self.tells() {
+            let column = push_wrapped(&mut self.out, self.lines.as_str(), begins, "\n    ");
+            let width = "  (line )".len().saturating_add(digits(head.line));
+            let is_long = column.saturating_add(width) > COLUMNS;
+            self.out.push_str(if is_long { "\n    " } else { "  " });
+        }
+        self.lines.clear();
+    }
+
+    /// Adds what a row says behind so many bytes as digits: the lines are its words.
+    pub fn push_rest(&mut self, bytes: usize) {
+        if self.tells() {
+            let space = usize::from(bytes > 0);
+            let begins = ROW_INDENT.saturating_add(bytes.saturating_mul(2).saturating_add(space));
+            let between = between(self.layout.medium);
+            push_words(&mut self.out, self.lines.as_str(), begins, between);
+        }
+        self.lines.clear();
+    }
+
+    /// Adds a row with this label: nothing where there are no lines.
+    pub fn row(&mut self, side: Side, label: &str) {
+        if self.tells() && !self.lines.is_empty() {
+            push_before(&mut self.out, side, label);
+            self.push_rest(0);
+            self.out.push_str(behind(self.layout.medium, side));
+        }
+        self.lines.clear();
+    }
+
+    /// Adds a row that nobody says, with this label and this line.
+    pub fn told(&mut self, label: &str, line: &str) {
+        self.lines.push_str(line);
+        self.row(Side::Told, label);
+    }
+
+    /// Closes the box.
+    pub fn close(&mut self) {
+        self.mark(html::BOX_END);
+    }
+
+    /// Opens the last block, which is of no line, stands first on a page, and is written whatever
+    /// else is not.
+    pub fn open_block(&mut self, title: &str) {
+        self.layout.is_summary = false;
+        if self.tells() {
+            self.mark("</div><section><h2>");
+            self.out.push_str(title);
+            self.mark("</h2>");
+            self.out.push('\n');
+        }
+    }
+
+    /// Adds links to complaints, which stand in these lines and are the first of so many.
+    pub fn complaint_links(&mut self, lines: &[u64], all: u64) {
+        if self.marks() {
+            html::complaint_links(&mut self.out, lines, all);
+        }
+    }
+
+    /// Adds links to TPDUs, which have these numbers and statuses and are the first of so many.
+    pub fn status_links(&mut self, tpdus: &[(u64, u16)], all: u64) {
+        if self.marks() {
+            html::status_links(&mut self.out, tpdus, all);
+        }
+    }
+
+    /// Closes the last block.
+    pub fn close_block(&mut self) {
+        self.mark(html::BLOCK_END);
+    }
+
+    /// Adds the lines, each of which stands alone.
+    pub fn note(&mut self) {
+        if self.tells() {
+            self.mark("<pre class=\"note\">");
+            push_note(&mut self.out, self.lines.as_str());
+            self.mark("</pre>\n");
+        }
+        self.lines.clear();
+    }
+
+    /// Adds this line, which stands alone.
+    pub fn note_line(&mut self, line: &str) {
+        self.lines.push_str(line);
+        self.note();
+    }
+}
+
+/// Adds lines of words that are not empty, of which the first begins in this column, with this
+/// between them.
+fn push_words(out: &mut Sheet, words: &str, begins: usize, between: &str) {
+    let mut begins = begins;
+    let mut is_first = true;
+    for line in words.lines() {
+        if !line.is_empty() {
+            if !is_first {
+                out.push_str(between);
+                begins = between.len().saturating_sub(1);
+            }
+            push_line_of(out, line, begins, between);
+            is_first = false;
+        }
+    }
+}
+
+/// Adds a line of words that begins in this column.
+fn push_line_of(out: &mut Sheet, words: &str, begins: usize, wrap: &str) {
+    match out.layout().medium {
+        Medium::Text => {
+            push_wrapped(out, words, begins, wrap);
+        }
+        Medium::Html => html::push_escaped(out, words),
+    }
+}
+
+/// Adds the lines of a note.
+fn push_note(out: &mut Sheet, note: &str) {
+    match out.layout().medium {
+        Medium::Text => {
+            for line in note.lines() {
+                out.push_str("| ");
+                push_wrapped(out, line, 2, "\n|   ");
+                out.push('\n');
+            }
+        }
+        Medium::Html => html::push_escaped(out, note),
+    }
+}
+
+/// Adds words that begin in this column, counted from 0, with this in the place of a space where a
+/// line of text has no room for more; it answers the column behind them.
+fn push_wrapped(out: &mut Sheet, words: &str, begins: usize, wrap: &str) -> usize {
+    let mut column = begins;
+    let mut is_first = true;
+    for word in words.split(' ') {
+        let behind = column.saturating_add(word.len());
+        if is_first {
+            column = behind;
+        } else if behind < COLUMNS {
+            out.push(' ');
+            column = behind.saturating_add(1);
+        } else {
+            out.push_str(wrap);
+            column = wrap.len().saturating_add(word.len()).saturating_sub(1);
+        }
+        out.push_str(word);
+        is_first = false;
+    }
+    column
+}
+
+/// How many decimal digits a number has.
+fn digits(number: u64) -> usize {
+    let mut rest = number;
+    let mut count: usize = 1;
+    for _place in 0..20 {
+        if rest >= 10 {
+            rest /= 10;
+            count = count.saturating_add(1);
+        }
+    }
+    count
+}

@@ -1,0 +1,79 @@
+//! What is told of a PPS exchange, in plain words.
+
+use crate::describe::mask::Mask;
+use crate::follow::preface::Preface;
+use crate::write::answer::push_rate;
+use crate::write::ascii::push_hex_lines;
+use crate::write::layout::{Kind, Side};
+use crate::write::page::Page;
+use crate::write::sheet::Sheet;
+use atr_core::{Pps, PpsFault, agreed};
+
+/// Adds the box of an exchange: the request with what it asks for, and the response, as far as they
+/// came.
+pub fn tell_exchange(mask: &Mask, preface: &Preface, page: &mut Page) {
+    let request = Pps::read(preface.request());
+    let response = Pps::read(preface.response());
+    let is_whole = request.is_ok() && response.is_ok();
+    let kind = if is_whole { Kind::Well } else { Kind::CutOff };
+    page.open_titled(kind, "PPS", preface.line());
+    push_characters(&mut page.lines, mask, preface.request(), request.is_ok());
+    push_pps(&mut page.lines, &request);
+    page.row(Side::Terminal, "request");
+    if preface.response().is_empty() {
+        page.told("response", "none\n");
+    } else {
+        push_characters(&mut page.lines, mask, preface.response(), response.is_ok());
+        push_agreed(&mut page.lines, &request, &response);
+        push_pps(&mut page.lines, &response);
+        page.row(Side::Card, "response");
+    }
+    page.close();
+}
+
+/// Adds the characters of a request or response; those that are none may be data, and are then not
+/// shown where something is not.
+fn push_characters(text: &mut Sheet, mask: &Mask, bytes: &[u8], is_one: bool) {
+    if is_one {
+        push_hex_lines(text, bytes);
+    } else {
+        mask.push_unknown(text, bytes);
+    }
+}
+
+/// Adds whether a response accepts the request, where both are whole.
+fn push_agreed(
+    text: &mut Sheet,
+    request: &Result<Pps, PpsFault>,
+    response: &Result<Pps, PpsFault>,
+) {
+    let (Ok(request), Ok(response)) = (request, response) else {
+        return;
+    };
+    text.push_str(if agreed(request, response) {
+        "agreed: "
+    } else {
+        "not agreed: "
+    });
+}
+
+/// Adds what a request or response says, or what is wrong with it.
+fn push_pps(text: &mut Sheet, read: &Result<Pps, PpsFault>) {
+    match read {
+        Ok(pps) => {
+            write!(text, "T={}; ", pps.t);
+            push_rate(text, pps.rate_code());
+            push_other(text, "PPS2", pps.pps2);
+            push_other(text, "PPS3", pps.pps3);
+            text.push('\n');
+        }
+        Err(fault) => writeln!(text, "{fault}"),
+    }
+}
+
+/// Adds a character that says something else, where it is there.
+fn push_other(text: &mut Sheet, name: &str, byte: Option<u8>) {
+    if let Some(byte) = byte {
+        write!(text, "; {name} {byte:02X}");
+    }
+}

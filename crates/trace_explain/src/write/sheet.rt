@@ -1,0 +1,159 @@
+//! A text in the making, of which it is proved what is added to it.
+
+ghost use Rattle.std.specs.Prelude.{◌≡◌, ℕ, List, [], true, false, IfErr, OnOk};
+ghost use Rattle.std.specs.String.{string_bytes};
+ghost use Rattle.std.specs.Char.{encode_utf8};
+ghost use Rattle.std.specs.Fmt.{decimal};
+ghost use Rattle.hex.specs.Hex.{encode_upper};
+ghost use Rattle.trace_explain.specs.Sheets.{Adds, Joins};
+
+use crate::write::layout::Layout;
+use std::alloc::{AllocError, Global};
+use std::fmt;
+
+/// A text to which more is added. Once memory ran out nothing more is: whoever adds to it asks
+/// once, at the end, whether all of it is there.
+#[derive(Drop)]
+pub struct Sheet {
+    alloc: Global,
+    layout: Layout,
+    text: String,
+    is_cut: bool,
+}
+
+impl Sheet {
+    /// Nothing has been added.
+    pub fn new(alloc: Global, layout: Layout) -> Sheet
+        ensures layout { result.layout ≡ layout }
+        ensures text { string_bytes result.text ≡ [] }
+    {
+        Sheet {
+            alloc,
+            layout,
+            text: String::new(alloc),
+            is_cut: false,
+        }
+    }
+
+    /// How it is laid out.
+    pub fn layout(&self) -> Layout
+        ensures { result ≡ self.now.layout }
+    {
+        self.layout
+    }
+
+    /// Adds words.
+    pub fn push_str(&mut self, words: &str)
+        ensures { Adds self.old words.now self.new }
+    {
+        if self.is_cut {
+            return;
+        }
+        match self.text.push_str(words) {
+            Ok(()) => {}
+            Err(_) => self.is_cut = true,
+        }
+    }
+
+    /// Adds a letter.
+    pub fn push(&mut self, letter: char)
+        ensures { Adds self.old (encode_utf8 letter) self.new }
+    {
+        if self.is_cut {
+            return;
+        }
+        match self.text.push(letter) {
+            Ok(()) => {}
+            Err(_) => self.is_cut = true,
+        }
+    }
+
+    /// Adds a number in decimal digits.
+    pub fn push_number(&mut self, number: u64)
+        ensures { Adds self.old (decimal number) self.new }
+    {
+        match format!(in self.alloc; "{number}") {
+            Ok(digits) => self.push_str(digits.as_str()),
+            Err(_) => self.is_cut = true,
+        }
+    }
+
+    /// Adds bytes as hexadecimal digits in upper case.
+    pub fn push_hex(&mut self, bytes: &[u8])
+        ensures { Adds self.old (encode_upper bytes.now) self.new }
+    {
+        match hex::encode_upper(self.alloc, bytes) {
+            Ok(digits) => self.push_str(digits.as_str()),
+            Err(_) => self.is_cut = true,
+        }
+    }
+
+    /// Adds what `write!` and `writeln!` format.
+    pub fn write_fmt<D: fmt::Display + Drop>(&mut self, value: D) {
+        if !self.is_cut {
+            self.is_cut = self.text.write_fmt(value).is_err();
+        }
+    }
+
+    /// Adds words from elsewhere, and whether memory ran out there.
+    pub fn join(&mut self, words: &str, is_cut: bool)
+        ensures { Joins self.old self.new }
+    {
+        self.push_str(words);
+        if is_cut {
+            self.is_cut = true;
+        }
+    }
+
+    /// Memory ran out: whatever was to be added is not.
+    pub fn cut(&mut self)
+        ensures { (more : List ℕ) → Adds self.old more self.new }
+    {
+        self.is_cut = true;
+    }
+
+    /// What has been added since the last call of `clear`.
+    pub fn as_str(&self) -> &str
+        ensures { result.now ≡ string_bytes self.now.text }
+    {
+        self.text.as_str()
+    }
+
+    /// Whether nothing has.
+    pub fn is_empty(&self) -> bool {
+        self.text.is_empty()
+    }
+
+    /// Whether memory ran out.
+    pub fn is_cut(&self) -> bool
+        ensures { result ≡ self.now.is_cut }
+    {
+        self.is_cut
+    }
+
+    /// Forgets what has been added, but not whether memory ran out.
+    pub fn clear(&mut self)
+        ensures text { string_bytes self.new.text ≡ [] }
+        ensures layout { self.new.layout ≡ self.old.layout }
+        ensures is_cut { self.new.is_cut ≡ self.old.is_cut }
+    {
+        self.text.clear();
+    }
+
+    /// Whether all is there. The error is want of memory.
+    pub fn is_whole(&self) -> Result<(), AllocError>
+        ensures whole { OnOk result (self.now.is_cut ≡ false) }
+        ensures cut { IfErr result (λ _. self.now.is_cut ≡ true) }
+    {
+        if self.is_cut { Err(AllocError) } else { Ok(()) }
+    }
+
+    /// The whole text.
+    pub fn into_text(self) -> Result<String, AllocError> {
+        if self.is_cut {
+            Err(AllocError)
+        } else {
+            Ok(self.text)
+        }
+    }
+}

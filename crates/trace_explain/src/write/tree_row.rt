@@ -1,0 +1,97 @@
+//! The lines of data that are a list of objects, as a tree.
+
+ghost use Rattle.std.specs.Prelude.{◌≡◌, ◌<◌, ◌∷◌};
+ghost use Rattle.trace_explain.specs.Sheets.{Adds, PutsAny, PutsValue};
+ghost use Rattle.trace_explain.specs.Trees.{AreTree, IsTree, indent, object, value_width};
+
+use crate::describe::mask::Mask;
+use crate::write::ascii::{cut, is_text, push_content, push_lines};
+use crate::write::row::push_spaces;
+use crate::write::sheet::Sheet;
+use tlv_core::{Objects, Tag};
+
+/// How many bytes of a value stand in a line: with a tag of three bytes and at level 16 they come
+/// to the columns of a line.
+const VALUE_BYTES: usize = 24;
+
+/// The same of a value that is text.
+const VALUE_TEXT: usize = 15;
+
+/// Adds a line for each object of data that may be objects and are some, two spaces further in for
+/// each level below the first, and more lines for a long value, but for values that are not shown.
+/// It answers whether there are any.
+pub fn push_tree(lines: &mut Sheet, may_be_objects: bool, bytes: &[u8], mask: &Mask) -> bool
+    ensures { PutsAny (IsTree mask.now.tags.items may_be_objects bytes.now) result
+        lines.old lines.new }
+{
+    if !may_be_objects {
+        return false;
+    }
+    match Objects::over(bytes) {
+        Ok(objects) => push_objects(lines, objects, mask),
+        Err(_) => false,
+    }
+}
+
+/// Adds the lines of objects; it answers whether there are any.
+fn push_objects(lines: &mut Sheet, objects: Objects<'_>, mask: &Mask) -> bool
+    ensures { PutsAny (AreTree mask.now.tags.items objects.entry.bytes objects.entry.level) result
+        lines.old lines.new }
+{
+    let mut objects = objects;
+    let mut some = false;
+    'listing: while let Some(object) = objects.next() {
+        let tag = object.tag();
+        let level = object.level();
+        push_object(lines, level, tag);
+        if mask.has(tag) {
+            lines.push_str(" **");
+        } else if let Some(children) = object.children() {
+            push_objects(lines, children, mask);
+        } else {
+            push_value(lines, level, object.value());
+        }
+        some = true;
+    }
+    some
+}
+
+/// Begins the line of an object.
+fn push_object(lines: &mut Sheet, level: u8, tag: Tag)
+    ensures { Adds lines.old (10 ∷ object level tag) lines.new }
+{
+    lines.push_str("\n");
+    push_spaces(lines, indent(level));
+    lines.push_hex(tag.bytes());
+}
+
+/// How many spaces stand before an object of this level.
+fn indent(level: u8) -> usize
+    ensures { result ≡ indent level }
+{
+    usize::from(level.saturating_sub(1)) * 2
+}
+
+/// Adds the value of an object behind its tag, `-` where it is empty, in as many lines as it takes.
+fn push_value(lines: &mut Sheet, level: u8, value: &[u8])
+    ensures { PutsValue level value.now lines.old lines.new }
+{
+    if value.is_empty() {
+        lines.push_str(" -");
+        return;
+    }
+    let is_text = is_text(value);
+    let width = value_width(is_text);
+    let (line, rest) = cut(value, width);
+    lines.push_str(" ");
+    push_content(lines, is_text, line);
+    push_lines(lines, indent(level) + 5, width, is_text, rest);
+}
+
+/// How many bytes of a value stand in a line, which are text or not.
+fn value_width(is_text: bool) -> usize
+    ensures value { result ≡ value_width is_text }
+    ensures some { 0 < result }
+{
+    if is_text { VALUE_TEXT } else { VALUE_BYTES }
+}

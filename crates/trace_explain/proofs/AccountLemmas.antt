@@ -10,7 +10,6 @@ use Rattle.trace_explain.specs.declared.write.layout.Layout.{Layout}
 use Rattle.trace_explain.specs.declared.write.layout.Medium.{Medium}
 use Rattle.trace_explain.specs.declared.follow.listener.Listener.{Listener}
 use Rattle.trace_explain.specs.declared.describe.mask.Mask.{Mask}
-use Rattle.trace_explain.specs.declared.read.reading.Reading.{Reading}
 use Rattle.trace_explain.specs.declared.write.sheet.Sheet.{Sheet}
 use Rattle.trace_explain.specs.Account.{Account, AddsBox, AddsBoxes, AddsText, AreBoxes, Boxed, HasWritten, Out, Shows, ShowsTold, WritesOut, WritesTold, number_after, out_with, parts_in, told_in}
 use Rattle.trace_explain.specs.Boxes.{PutsBox}
@@ -138,6 +137,10 @@ boxes_words {ts} {a} {b} {c} h keeps mask number joins =
 pub boxes_from : {ts : List Told} {a b c : Account} → b ≡ a → Shows ts b c → Shows ts a c
 boxes_from {ts} {c = c} same h = let P : Account → Type 0 = λ x. Shows ts x c in subst P same h
 
+-- and behind them
+pub boxes_to : {ts : List Told} {a b c : Account} → Shows ts a b → c ≡ b → Shows ts a c
+boxes_to {ts} {a} h same = let P : Account → Type 0 = λ x. Shows ts a x in subst P (sym same) h
+
 -- what ended has no box if nothing of it came, and else one
 same_header : (t : Told) (v : Bool) → length (if v then bared t else t).header ≡ length t.header
 same_header t true = refl
@@ -169,7 +172,7 @@ boxes_cut (Err e) keeps mask joins failed h = record {
 
 -- more is written
 pub written_more : (front : Out) (ts us : List Told) (a b : Explainer)
-    → b.reading.of_tpdus ≡ false → HasWritten front ts a → AddsBoxes us a b
+    → b.reading.of_tpdus ≡ false → HasWritten front ts a → AddsBoxes us a.teller b.teller
     → HasWritten front (ts ++ us) b
 written_more front ts us a b hears h k = record {
   hears = hears;
@@ -179,47 +182,44 @@ written_more front ts us a b hears h k = record {
   shows = λ writes all w.
       let next = k.adds (h.keeps ∙ writes) (ap (λ (l : Layout). l.is_summary) h.layout ∙ all) w in
       let first = h.shows writes all next.whole in
-      let P : List ℕ → Type 0 = λ x. ShowsTold front.layout.medium front.mask 0 (ts ++ us) x
-      b.story.number in
-      let Q : Layout → Type 0 = λ l. ShowsTold l.medium a.mask a.story.number us next.more
-      b.story.number in
-      let R : Mask → Type 0 = λ v. ShowsTold front.layout.medium v a.story.number us next.more
-      b.story.number in
-      subst P (append_assoc front.text (string_bytes a.output.sheet.text) next.more
-      ∙ ap (λ x. front.text ++ x) (sym next.text_is))
-      (shows_both front.layout.medium front.mask 0 a.story.number b.story.number ts us
-      (front.text ++ string_bytes a.output.sheet.text) next.more first
+      let text : List ℕ = string_bytes a.teller.output.sheet.text in
+      let n : ℕ = a.teller.story.number in
+      let m : ℕ = b.teller.story.number in
+      let P : List ℕ → Type 0 = λ x. ShowsTold front.layout.medium front.mask 0 (ts ++ us) x m in
+      let Q : Layout → Type 0 = λ l. ShowsTold l.medium a.teller.mask n us next.more m in
+      let R : Mask → Type 0 = λ v. ShowsTold front.layout.medium v n us next.more m in
+      subst P (append_assoc front.text text next.more ∙ ap (λ x. front.text ++ x) (sym next.text_is))
+      (shows_both front.layout.medium front.mask 0 n m ts us (front.text ++ text) next.more first
       (subst R h.mask (subst Q h.layout next.shows)));
 }
 
 -- and written out
-pub written_out : (front : Out) (ts : List Told) (a b : Explainer) → b.reading ≡ a.reading
-    → WritesOut a b → HasWritten front ts a
-    → HasWritten (out_with front (string_bytes a.output.sheet.text)) ts b
-written_out front ts a b reading k h = record {
-  hears = ap (λ (r : Reading). r.of_tpdus) reading ∙ h.hears;
-  keeps = k.keeps ∙ h.keeps;
+pub written_out : (front : Out) (ts : List Told) (a : Explainer) (s : Sheet)
+    → WritesOut a.teller.output.sheet s → HasWritten front ts a
+    → HasWritten (out_with front (string_bytes a.teller.output.sheet.text)) ts
+    (record a { teller = record a.teller { output = record a.teller.output { sheet = s } } })
+written_out front ts a s k h = record {
+  hears = h.hears;
+  keeps = h.keeps;
   layout = k.layout ∙ h.layout;
-  mask = k.mask ∙ h.mask;
+  mask = h.mask;
   shows = λ writes all w.
-      let first = h.shows writes all (sym k.is_cut ∙ w) in
-      let text : List ℕ = front.text ++ string_bytes a.output.sheet.text in
+      let text : List ℕ = front.text ++ string_bytes a.teller.output.sheet.text in
       let P : List ℕ → Type 0 = λ x. ShowsTold front.layout.medium front.mask 0 ts x
-      a.story.number in
-      let S : ℕ → Type 0 = λ n. ShowsTold front.layout.medium front.mask 0 ts
-      (text ++ string_bytes b.output.sheet.text) n in
-      subst S (sym k.counted)
-      (subst P (sym (append-nil text) ∙ ap (λ x. text ++ x) (sym k.text)) first);
+      a.teller.story.number in
+      subst P (sym (append-nil text) ∙ ap (λ x. text ++ x) (sym k.text))
+      (h.shows writes all (sym k.is_cut ∙ w));
 }
 
 -- at the end of a trace
 pub writes_told : (front : Out) (told : List Told) (l : Listener) (layout : Layout) (mask : Mask)
     (old mid new : Option (List ℕ)) (a b : Explainer) → front.keeps ≡ false
     → front.layout ≡ layout → front.mask ≡ mask → Appends old mid front.text
-    → Appends mid new (string_bytes b.output.sheet.text) → HasWritten front told a
+    → Appends mid new (string_bytes b.teller.output.sheet.text) → HasWritten front told a
     → l ≡ a.listener
-    → (a.reading.of_tpdus ≡ false → AddsBoxes (ended_by (told_by a.listener.under_way)) a b)
-    → b.output.sheet.is_cut ≡ false
+    → (a.reading.of_tpdus ≡ false
+    → AddsBoxes (ended_by (told_by a.listener.under_way)) a.teller b.teller)
+    → b.teller.output.sheet.is_cut ≡ false
     → b.reading.of_tpdus ≡ a.reading.of_tpdus → WritesTold layout mask old new told l
 writes_told front told l layout mask old mid new a b keeps layout_is mask_is first next h same adds
     whole reads = λ all.
@@ -227,14 +227,14 @@ writes_told front told l layout mask old mid new a b keeps layout_is mask_is fir
     let last = written_more front told (ended_by (told_by a.listener.under_way)) a b
     (reads ∙ h.hears) h (adds h.hears) in
     let shows = last.shows keeps (ap (λ (x : Layout). x.is_summary) layout_is ∙ all) whole in
-    let text : List ℕ = front.text ++ string_bytes b.output.sheet.text in
+    let text : List ℕ = front.text ++ string_bytes b.teller.output.sheet.text in
     let P : Listener → Type 0 = λ x. ShowsTold front.layout.medium front.mask 0 (ends x) text
-    b.story.number in
-    let Q : Layout → Type 0 = λ x. ShowsTold x.medium front.mask 0 (ends l) text b.story.number in
-    let R : Mask → Type 0 = λ v. ShowsTold layout.medium v 0 (ends l) text b.story.number in (
+    b.teller.story.number in
+    let Q : Layout → Type 0 = λ x. ShowsTold x.medium front.mask 0 (ends l) text b.teller.story.number in
+    let R : Mask → Type 0 = λ v. ShowsTold layout.medium v 0 (ends l) text b.teller.story.number in (
       text,
-      b.story.number,
-      Appends-trans old mid new front.text (string_bytes b.output.sheet.text) first next,
+      b.teller.story.number,
+      Appends-trans old mid new front.text (string_bytes b.teller.output.sheet.text) first next,
       subst R mask_is (subst Q layout_is (subst P (sym same) shows)),
     )
 

@@ -1,5 +1,5 @@
 -- What an explainer has explained, one character or one line further.
-use Rattle.std.proofs.Common.{◌≡◌, ℕ, List, [], ◌∷◌, ◌++◌, length, sym, subst, ◌∙◌, ap, Bool, true, false, ◌==◌, ◌&&◌, refl, append-nil, Result, Ok, Err, IfErr, OnOk, inl, inr, arith}
+use Rattle.std.proofs.Common.{◌≡◌, ℕ, List, [], ◌∷◌, ◌++◌, length, sym, subst, ◌∙◌, ap, Bool, true, false, ◌==◌, ◌&&◌, if◌then◌else◌, refl, append-nil, Result, Ok, Err, IfErr, OnOk, inl, inr, arith}
 use Rattle.std.specs.List.{flat_map}
 use Rattle.std.proofs.lemmas.Bool.{eqb-true}
 use Rattle.std.proofs.lemmas.List.{nil_from_length, length-append}
@@ -20,8 +20,8 @@ use Rattle.trace_explain.specs.declared.read.trace_line.TraceLine.{TraceLine}
 use Rattle.trace_explain.specs.Told.{Told, told_by, TellsFront}
 use Rattle.trace_explain.specs.Openings.{Opening, begins_answer, has_begun, is_dialogue, opening_of, role_of, unopened}
 use Rattle.trace_explain.specs.Lines.{AreOver, IsBadLine, Says, Standing, TakesCharacters, TakesLine, after_character, heard_of, read_on}
-use Rattle.trace_explain.specs.Noted.{HasNoted, NoneGoesOn}
-use Rattle.trace_explain.specs.Explained.{HasExplained, IsPlain, ExplainsMore, ExplainsReset, ExplainsCharacter, ExplainsCharacters, ExplainsLine, Hears, HoldsFor, IsRight, IsUnsent, KeepsAll, StopsAmong, StopsAtLine, next_line, refused, standing_of}
+use Rattle.trace_explain.specs.Noted.{HasNoted, NoneGoesOn, as_ended, ended_by}
+use Rattle.trace_explain.specs.Explained.{HasExplained, IsPlain, ExplainsMore, ExplainsCharacter, ExplainsCharacters, ExplainsLine, Hears, HoldsFor, IsRight, IsUnsent, StopsAmong, StopsAtLine, next_line, refused, standing_of}
 use Rattle.trace_explain.specs.Account.{AddsBoxes}
 use Rattle.trace_explain.proofs.AccountLemmas.{boxes_both}
 
@@ -35,15 +35,9 @@ pub on_ok_both : {T E : Type 0} (r : Result T E) (P Q R : Type 0) → OnOk r P �
 on_ok_both (Ok x) P Q R h k next = next h k
 on_ok_both (Err e) P Q R h k next = tt
 
-pub explains_reset : (events : List Event) (before : List Told) (at : Standing)
-    (old e : Explainer) → ExplainsReset events before old e → standing_of e ≡ at
-    → ExplainsMore (Reset ∷ []) at events before old e
-explains_reset events before at old e (told, h, boxes) is =
-    record { told = told; explained = h; standing_is = is; boxes = boxes }
-
 pub explains_nothing : (events : List Event) (before : List Told) (at : Standing)
-    (old e : Explainer) → HasExplained events before e → standing_of e ≡ at → AddsBoxes [] old e
-    → ExplainsMore [] at events before old e
+    (old e : Explainer) → HasExplained events before e → standing_of e ≡ at
+    → AddsBoxes [] old.teller e.teller → ExplainsMore [] at events before old e
 explains_nothing events before at old e h is boxes =
     let P : List Event → Type 0 = λ es. HasExplained es (before ++ []) e in
     let Q : List Told → Type 0 = λ ts. HasExplained events ts e in
@@ -56,7 +50,8 @@ explains_nothing events before at old e h is boxes =
 
 -- what was written before it stays
 pub explains_from : (more : List Event) (at : Standing) (events : List Event) (before : List Told)
-    (old mid new : Explainer) → AddsBoxes [] old mid → ExplainsMore more at events before mid new
+    (old mid new : Explainer) → AddsBoxes [] old.teller mid.teller
+    → ExplainsMore more at events before mid new
     → ExplainsMore more at events before old new
 explains_from more at events before old mid new begins h = record {
   told = h.told;
@@ -65,42 +60,12 @@ explains_from more at events before old mid new begins h = record {
   boxes = boxes_both begins h.boxes;
 }
 
--- an explainer that has heard this, and is as it was before
-pub explained_so : {events : List Event} {told : List Told} (old new : Explainer)
-    → HasNoted events told new.listener → IsPlain old → new.resumes ≡ old.resumes
-    → new.passes_over ≡ old.passes_over → new.reading ≡ old.reading → HasExplained events told new
-explained_so old new noted h resumes passes_over reading = (
-  noted,
-  (resumes ∙ h.0, passes_over ∙ h.1, ap (λ (r : Reading). r.of_tpdus) reading ∙ h.2),
-)
-
-pub explained_on : (events : List Event) (before : List Told) (old new : Explainer)
-    → HasExplained events before old → new.listener ≡ old.listener
-    → new.resumes ≡ old.resumes → new.passes_over ≡ old.passes_over
-    → new.reading ≡ old.reading → HasExplained events before new
-explained_on events before old new h listener resumes passes_over reading =
-    let P : Listener → Type 0 = λ l. HasNoted events before l in
-    explained_so old new (subst P (sym listener) h.0) h.1 resumes passes_over reading
-
--- all that is heard and told stays
-pub keeps_explained : (events : List Event) (before : List Told) (old new : Explainer)
-    → KeepsAll old new → HasExplained events before old → HasExplained events before new
-keeps_explained events before old new k h =
-    explained_on events before old new h k.listener k.resumes k.passes_over k.reading
-
-pub same_standing : (o p : Opening) (c d : Bool) (r s : Reading) → o ≡ p → c ≡ d → r ≡ s
+-- it stands as before, but for the opening
+pub same_standing : (o p : Opening) (c : Bool) (r : Reading) → o ≡ p
     → ◌≡◌ {A = Standing} (record { opening = o; came = c; reading = r })
-    (record { opening = p; came = d; reading = s })
-same_standing o p c d r s o_is c_is r_is =
-    let at : Opening → Standing = λ x. record { opening = x; came = c; reading = r } in
-    let by : Bool → Standing = λ x. record { opening = p; came = x; reading = r } in
-    let so : Reading → Standing = λ x. record { opening = p; came = d; reading = x } in
-    ap at o_is ∙ ap by c_is ∙ ap so r_is
-
-pub keeps_standing : (old new : Explainer) → KeepsAll old new → standing_of new ≡ standing_of old
-keeps_standing old new k =
-    same_standing (opening_of new.preface) (opening_of old.preface) new.came old.came new.reading
-    old.reading (ap opening_of k.preface) k.came k.reading
+    (record { opening = p; came = c; reading = r })
+same_standing o p c r is =
+    let at : Opening → Standing = λ x. record { opening = x; came = c; reading = r } in ap at is
 
 -- no dialogue is under way of which no character of a header is told
 front_of_none : (t : Told) (front : Front) → TellsFront t front → length t.header ≡ 0
@@ -143,7 +108,7 @@ both_hold false b e = absurd (let no : false ≡ true = e in cc)
 pub taken_before : (from : End) (b : ℕ) (events : List Event) (before : List Told)
     (old new : Explainer) → is_dialogue (role_of (opening_of old.preface) from b) ≡ false
     → HasExplained events before new → standing_of new ≡ after_character (standing_of old) from b
-    → AddsBoxes [] old new → ExplainsCharacter from b events before old new
+    → AddsBoxes [] old.teller new.teller → ExplainsCharacter from b events before old new
 taken_before from b events before old new other h at boxes =
     let none : [] ≡ heard_of (opening_of old.preface) from b = rw other refl in
     let P : List Event → Type 0 = λ es. ExplainsMore es (after_character (standing_of old) from b)
@@ -156,46 +121,48 @@ taken_before from b events before old new other h at boxes =
 
 pub taken_within : (from : End) (b : ℕ) (events : List Event) (before : List Told)
     (old new : Explainer) → is_dialogue (role_of (opening_of old.preface) from b) ≡ true
-    → Hears true from b events before old new
+    → IsPlain new
+    → Hears true from b events before old.listener new.listener old.teller new.teller
     → standing_of new ≡ after_character (standing_of old) from b
     → ExplainsCharacter from b events before old new
-taken_within from b events before old new own (told, h, boxes) at =
+taken_within from b events before old new own plain (told, h, boxes) at =
     let one : Passed (from, b) ∷ [] ≡ heard_of (opening_of old.preface) from b = rw own refl in
     let P : List Event → Type 0 = λ es. ExplainsMore es (after_character (standing_of old) from b)
     events before old new in (
       heard_of (opening_of old.preface) from b,
       after_character (standing_of old) from b,
       inl (refl, refl),
-      subst P one (record { told = told; explained = h; standing_is = at; boxes = boxes }),
+      subst P one (record { told = told; explained = (h, plain); standing_is = at; boxes = boxes }),
     )
 
 pub taken_again : (from : End) (b : ℕ) (events : List Event) (before : List Told)
-    (old mid new : Explainer) → has_begun old.preface.stage ≡ true
-    → begins_answer from b ≡ true
-    → (length (told_by mid.listener.under_way).header == 0) ≡ true
-    → NoneGoesOn mid.listener (from, b) → HasExplained events before mid
-    → HasExplained (events ++ Reset ∷ []) before new
+    (old new : Explainer) (mid : Listener) → has_begun old.preface.stage ≡ true
+    → begins_answer from b ≡ true → (length (told_by mid.under_way).header == 0) ≡ true
+    → NoneGoesOn mid (from, b) → HasNoted events before mid
+    → HasNoted (events ++ Reset ∷ []) (before ++ ended_by (told_by mid.under_way)) new.listener
+    → IsPlain new
     → standing_of new ≡ after_character (record (standing_of old) { opening = unopened }) from b
-    → AddsBoxes [] old new → ExplainsCharacter from b events before old new
-taken_again from b events before old mid new begun begins empty none here h at boxes =
+    → AddsBoxes [] old.teller new.teller → ExplainsCharacter from b events before old new
+taken_again from b events before old new mid begun begins empty none here reset plain at boxes =
+    let t = told_by mid.under_way in
     let after = after_character (record (standing_of old) { opening = unopened }) from b in
-    let P : List Told → Type 0 = λ ts. HasExplained (events ++ Reset ∷ []) ts new in (
+    let P : List Told → Type 0 = λ ts. HasNoted (events ++ Reset ∷ []) (before ++ ts) new.listener in (
       Reset ∷ [],
       after,
       inr (record {
         has_begun = begun;
         begins = begins;
-        are_over = over_behind events before mid.listener here.0 empty;
+        are_over = over_behind events before mid here empty;
         told = before;
-        listener = mid.listener;
-        noted = here.0;
+        listener = mid;
+        noted = here;
         none = none;
         events_are = refl;
         after_is = refl;
       }),
       record {
         told = [];
-        explained = subst P (sym (append-nil before)) h;
+        explained = (subst P (ap (λ v. if v then [] else as_ended t ∷ []) empty) reset, plain);
         standing_is = at;
         boxes = boxes;
       },
@@ -214,7 +181,7 @@ pub as_line : {T : Type 0} (result : Result T ExplainFault) (line : List ℕ) (t
     → ((more : List Event) (at : Standing)
     → TakesCharacters source events (standing_of mid) given more at
     → TakesLine events (standing_of old) this more at)
-    → AddsBoxes [] old mid
+    → AddsBoxes [] old.teller mid.teller
     → OnOk result (ExplainsCharacters source given events before mid new)
     → OnOk result (ExplainsLine line events before old new)
 as_line (Err e) line this source given events before old mid new says is begins h = tt

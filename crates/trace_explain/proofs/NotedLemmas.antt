@@ -115,10 +115,6 @@ noted_ends : (t : Told) (front : Front) (d : Dialogue) (h : Heard) (c : Characte
     → TellsFront t front → Ends front c d → Concludes h d → Tells (noted t h c.1) d
 noted_ends t (In_header bytes) d h c tells ends ends_so = absurd ends
 noted_ends t (In_body b) d h c tells ends ends_so = absurd ends
-noted_ends t (After_first b sw1) d heard.Header c tells ends bad = absurd bad
-noted_ends t (After_first b sw1) d (heard.Procedure step) c tells ends bad = absurd bad
-noted_ends t (After_first b sw1) d (heard.Data direction) c tells ends bad = absurd bad
-noted_ends t (After_first b sw1) d heard.FirstStatus c tells ends bad = absurd bad
 noted_ends t (After_first b sw1) d (heard.SecondStatus said status) c tells ends ends_so =
     let t2 : Told = noted t (heard.SecondStatus said status) c.1 in
     let P : Dialogue → Type 0 = λ e. TellsBody t2 e.body in
@@ -132,22 +128,17 @@ noted_ends t (After_first b sw1) d (heard.SecondStatus said status) c tells ends
       status_is = ap (λ x. x ++ c.1 ∷ []) tells.1
           ∙ sym (ap (λ (e : Dialogue). e.status.0 ∷ e.status.1 ∷ []) ends.2);
     }
+noted_ends t (After_first b sw1) d other c tells ends bad = absurd bad
 
 -- which of the two it is
 makes_no_last : (h : Heard) (front new : Front) (c : Character) → Makes h front c new
     → is_last h ≡ true → ⊥
-makes_no_last heard.Header front new c makes last = absurd (cc)
-makes_no_last (heard.Procedure step) front new c makes last = absurd (cc)
-makes_no_last (heard.Data direction) front new c makes last = absurd (cc)
-makes_no_last heard.FirstStatus front new c makes last = absurd (cc)
 makes_no_last (heard.SecondStatus said status) front new c makes last = absurd makes
+makes_no_last other front new c makes last = absurd (cc)
 
 ends_last : (h : Heard) (d : Dialogue) → Concludes h d → is_last h ≡ false → ⊥
-ends_last heard.Header d ends_so last = absurd ends_so
-ends_last (heard.Procedure step) d ends_so last = absurd ends_so
-ends_last (heard.Data direction) d ends_so last = absurd ends_so
-ends_last heard.FirstStatus d ends_so last = absurd ends_so
 ends_last (heard.SecondStatus said status) d ends_so last = absurd (cc)
+ends_last other d ends_so last = absurd ends_so
 
 -- dialogues behind others
 pub tells_both : (items : List Item) (told : List Told) (more : List Item) (later : List Told)

@@ -113,9 +113,9 @@ pub none_resumes : (source : Source) (bytes : List ℕ) (from : End) (b : ℕ) (
     (before : List Told) (old mid new : Explainer)
     → ((es : List Event) (ts : List Told) → HasExplained es ts mid
     → TakesOrStops true from b es ts mid new)
-    → ExplainsCharacters source bytes events before old mid → new.resumes ≡ false
+    → ExplainsCharacters source bytes events before old mid → new.resuming.resumes ≡ false
 none_resumes source bytes from b events before old mid new stops (more, at, takes, explained) =
-    (stops (events ++ more) (before ++ explained.told) explained.explained).0.0.1.0
+    (stops (events ++ more) (before ++ explained.told) explained.explained).0.1.0
 
 -- none goes on with a character
 pub none_stops : {T : Type 0} (result : Result T ExplainFault) (source : Source) (bytes : List ℕ)
@@ -143,7 +143,7 @@ none_stops (Err (fault.NoDialogue c)) source bytes place n line from astray hide
     mid new within n_is sent explains stopped (more, at, takes, explained) =
     let b : ℕ = get_or bytes place 0 in
     let told : List Told = before ++ explained.told in
-    let ((still, same, none, boxes), own, not_again) =
+    let (still, (same, none, boxes), own, not_again) =
     explains (events ++ more) told explained.explained in
     let here = explained.standing_is in
     let P : Complaint → Type 0 = λ x. (x.line ≡ line)

@@ -13,14 +13,14 @@ use Rattle.trace_explain.specs.declared.explain_fault.ExplainFault.TheVariants a
 use Rattle.trace_explain.specs.declared.explainer.Explainer.{Explainer}
 use Rattle.trace_explain.specs.declared.follow.listener.Listener.{Listener}
 use Rattle.trace_explain.specs.declared.read.reading.Reading.{Reading}
+use Rattle.trace_explain.specs.declared.write.sheet.Sheet.{Sheet}
 use Rattle.trace_explain.specs.Account.{HasWritten, Out, WritesOut, out_with}
 use Rattle.trace_explain.specs.Told.{Told}
 use Rattle.trace_explain.specs.Lines.{IsHeard, Standing, first_of_all}
-use Rattle.trace_explain.specs.Explained.{HasExplained, ExplainsLine, KeepsAll, StopsAtLine, StopsIfAt, line_of, next_line, standing_of}
+use Rattle.trace_explain.specs.Explained.{HasExplained, ExplainsLine, StopsAtLine, StopsIfAt, line_of, next_line, standing_of}
 use Rattle.trace_explain.specs.Trace.{lines_from, IsReached, IsOfEnd, SayInTurn, SayAll, IsExplained, IsOver, KeepsLimit, StopsIn, StopsInLine}
 use Rattle.trace_explain.specs.UnderWay.{HasCome, IsOfLines}
 use Rattle.trace_explain.proofs.AccountLemmas.{written_more, written_out}
-use Rattle.trace_explain.proofs.ExplainedLemmas.{keeps_explained, keeps_standing}
 
 -- one line more says its events behind the others
 say_more : (so_far : List Event) (at mid after : Standing) (before : List (List ℕ))
@@ -311,21 +311,20 @@ all_comes line left none h at first blank = record {
 
 -- an explainer that has written out stands where it stood
 pub still_comes : {front : Out} {reading : Reading} {all : List (List ℕ)} {line left : List ℕ}
-    {old : Explainer} (new : Explainer) → KeepsAll old new → WritesOut old new
-    → HasCome front reading all line left old
-    → HasCome (out_with front (string_bytes old.output.sheet.text)) reading all line left new
-still_comes {front} {reading} {old = old} new k out come =
-    let P : Standing → Type 0 = λ s. SayAll reading come.before come.events s in
-    record {
-      before = come.before;
-      is_cut = come.is_cut;
-      number_is = ap (λ n. min (n + 1) (2 ^ 64 - 1)) k.line ∙ come.number_is;
-      events = come.events;
-      says = subst P (sym (keeps_standing old new k)) come.says;
-      told = come.told;
-      explained = keeps_explained come.events come.told old new k come.explained;
-      written = written_out front come.told old new k.reading out come.written;
-    }
+    (e : Explainer) (s : Sheet) → WritesOut e.teller.output.sheet s
+    → HasCome front reading all line left e
+    → HasCome (out_with front (string_bytes e.teller.output.sheet.text)) reading all line left
+    (record e { teller = record e.teller { output = record e.teller.output { sheet = s } } })
+still_comes {front} e s out come = record {
+  before = come.before;
+  is_cut = come.is_cut;
+  number_is = come.number_is;
+  events = come.events;
+  says = come.says;
+  told = come.told;
+  explained = come.explained;
+  written = written_out front come.told e s out come.written;
+}
 
 -- What holds of the bytes that were read, whatever follows, holds of those that are known; and of
 -- all that were read, where none are left.

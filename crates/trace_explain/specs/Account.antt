@@ -8,6 +8,7 @@ use Rattle.trace_explain.specs.declared.write.layout.Medium.{Medium}
 use Rattle.trace_explain.specs.declared.follow.listener.Listener.{Listener}
 use Rattle.trace_explain.specs.declared.describe.mask.Mask.{Mask}
 use Rattle.trace_explain.specs.declared.write.sheet.Sheet.{Sheet}
+use Rattle.trace_explain.specs.declared.write.teller.Teller.{Teller}
 use Rattle.trace_explain.specs.Boxes.{IsBox, PutsBox}
 use Rattle.trace_explain.specs.Noted.{ended_by}
 use Rattle.trace_explain.specs.Told.{Told, one_more, told_by}
@@ -55,19 +56,19 @@ pub record AddsText (m : Medium) (mask : Mask) (number : ℕ) (told : List Told)
   pub text_is : string_bytes new.text ≡ string_bytes old.text ++ more
   pub shows : ShowsTold m mask number told more after
 
--- how an explainer writes, how many boxes it has counted, and what is written
+-- how a teller writes, how many boxes it has counted, and what is written
 pub record Account : Type 0 where
   pub keeps : Bool
   pub mask : Mask
   pub number : ℕ
   pub sheet : Sheet
 
-abbrev pub account_of : Explainer → Account
-account_of e = record {
-  keeps = e.keeps;
-  mask = e.mask;
-  number = e.story.number;
-  sheet = e.output.sheet;
+abbrev pub account_of : Teller → Account
+account_of t = record {
+  keeps = t.keeping.is_on;
+  mask = t.mask;
+  number = t.story.number;
+  sheet = t.output.sheet;
 }
 
 -- One that writes what it tells, and no summary alone, has added the boxes of these in turn, and no
@@ -79,7 +80,7 @@ pub record Shows (told : List Told) (old new : Account) : Type 0 where
   pub adds : old.keeps ≡ false → old.sheet.layout.is_summary ≡ false → new.sheet.is_cut ≡ false
       → AddsText old.sheet.layout.medium old.mask old.number told new.number old.sheet new.sheet
 
-abbrev pub AddsBoxes : List Told → Explainer → Explainer → Type 0
+abbrev pub AddsBoxes : List Told → Teller → Teller → Type 0
 AddsBoxes told old new = Shows told (account_of old) (account_of new)
 
 -- the same of one box with this number, which is counted already
@@ -92,7 +93,7 @@ pub record AddsBox (number line : ℕ) (t : Told) (old new : Account) : Type 0 w
       → PutsBox old.mask number line t old.sheet new.sheet
 
 -- what is written stays
-abbrev pub StaysWritten : Explainer → Explainer → Type 0
+abbrev pub StaysWritten : Teller → Teller → Type 0
 StaysWritten old new = account_of new ≡ account_of old
 
 -- how an explainer writes, and what of it is written out already
@@ -105,12 +106,12 @@ pub record Out : Type 0 where
 -- What was written has shown these, since the explainer was made; it reads characters.
 pub record HasWritten (out : Out) (told : List Told) (e : Explainer) : Type 0 where
   pub hears : e.reading.of_tpdus ≡ false
-  pub keeps : e.keeps ≡ out.keeps
-  pub layout : e.output.sheet.layout ≡ out.layout
-  pub mask : e.mask ≡ out.mask
-  pub shows : out.keeps ≡ false → out.layout.is_summary ≡ false → e.output.sheet.is_cut ≡ false
-      → ShowsTold out.layout.medium out.mask 0 told
-      (out.text ++ string_bytes e.output.sheet.text) e.story.number
+  pub keeps : e.teller.keeping.is_on ≡ out.keeps
+  pub layout : e.teller.output.sheet.layout ≡ out.layout
+  pub mask : e.teller.mask ≡ out.mask
+  pub shows : out.keeps ≡ false → out.layout.is_summary ≡ false
+      → e.teller.output.sheet.is_cut ≡ false → ShowsTold out.layout.medium out.mask 0 told
+      (out.text ++ string_bytes e.teller.output.sheet.text) e.teller.story.number
 
 -- the same with more written out
 abbrev pub out_with : Out → List ℕ → Out
@@ -128,10 +129,7 @@ WritesTold layout mask old new told l = layout.is_summary ≡ false → (text : 
     × ShowsTold layout.medium mask 0 (told ++ ended_by (told_by l.under_way)) text number
 
 -- all of it is written out
-pub record WritesOut (old new : Explainer) : Type 0 where
-  pub keeps : new.keeps ≡ old.keeps
-  pub mask : new.mask ≡ old.mask
-  pub counted : new.story.number ≡ old.story.number
-  pub layout : new.output.sheet.layout ≡ old.output.sheet.layout
-  pub is_cut : new.output.sheet.is_cut ≡ old.output.sheet.is_cut
-  pub text : string_bytes new.output.sheet.text ≡ []
+pub record WritesOut (old new : Sheet) : Type 0 where
+  pub layout : new.layout ≡ old.layout
+  pub is_cut : new.is_cut ≡ old.is_cut
+  pub text : string_bytes new.text ≡ []

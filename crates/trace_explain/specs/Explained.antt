@@ -16,6 +16,7 @@ use Rattle.trace_explain.specs.declared.read.trace_line.Source.{Source}
 use Rattle.trace_explain.specs.declared.read.trace_line.TraceLine.{TraceLine}
 use Rattle.trace_explain.specs.declared.read.trace_line.TraceLine.TheVariants as said
 use Rattle.trace_explain.specs.declared.follow.turn.NoTurn.{NoTurn}
+use Rattle.trace_explain.specs.declared.write.teller.Teller.{Teller}
 use Rattle.trace_explain.specs.Account.{AddsBoxes}
 use Rattle.trace_explain.specs.Lines.{IsBadLine, IsHeard, Says, Standing, TakesCharacter, TakesCharacters, read_on}
 use Rattle.trace_explain.specs.Noted.{HasNoted, NoneGoesOn}
@@ -25,7 +26,8 @@ use Rattle.trace_explain.specs.Turns.{source_at}
 
 -- it reads characters, and neither resumes nor passes anything over
 abbrev pub IsPlain : Explainer → Type 0
-IsPlain e = (e.resumes ≡ false) × (e.passes_over ≡ false) × (e.reading.of_tpdus ≡ false)
+IsPlain e = (e.resuming.resumes ≡ false) × (e.resuming.passed ≡ None)
+    × (e.reading.of_tpdus ≡ false)
 
 -- It has heard these events, and told these dialogues.
 abbrev pub HasExplained : List Event → List Told → Explainer → Type 0
@@ -43,13 +45,7 @@ pub record ExplainsMore (more : List Event) (at : Standing) (events : List Event
   pub told : List Told
   pub explained : HasExplained (events ++ more) (before ++ told) new
   pub standing_is : standing_of new ≡ at
-  pub boxes : AddsBoxes told old new
-
--- a reset has come, with which a dialogue may have ended
-abbrev pub ExplainsReset : List Event → List Told → Explainer → Explainer → Type 0
-ExplainsReset events before old new =
-    (told : List Told) × HasExplained (events ++ history.Reset ∷ []) (before ++ told) new
-    × AddsBoxes told old new
+  pub boxes : AddsBoxes told old.teller new.teller
 
 -- and these are the events of a character
 abbrev pub ExplainsCharacter : End → ℕ → List Event → List Told → Explainer → Explainer → Type 0
@@ -178,7 +174,7 @@ refused number bad.OutOfMemory = fault.OutOfMemory
 
 -- lines have no signs, and nothing has come that shows that the trace does not begin within a TPDU
 abbrev pub is_astray : Explainer → Bool
-is_astray e = is_some e.reading.unsigned && not e.is_led
+is_astray e = is_some e.reading.unsigned && not e.teller.is_led
 
 -- of an explainer that stops for a character: the complaint, or want of memory
 abbrev pub IsStop : ExplainFault → Complaint → Type 0
@@ -191,37 +187,19 @@ Stopped result c = IsErrAnd result (λ f. IsStop f c)
 
 -- It has heard this character of the dialogue, and told what ended with it; or none goes on with
 -- it.
-abbrev pub Hears : Bool → End → ℕ → List Event → List Told → Explainer → Explainer → Type 0
-Hears true from b events before old new = (told : List Told)
-    × HasExplained (events ++ history.Passed (from, b) ∷ []) (before ++ told) new
+abbrev pub Hears
+    : Bool → End → ℕ → List Event → List Told → Listener → Listener → Teller → Teller → Type 0
+Hears true from b events before l after old new = (told : List Told)
+    × HasNoted (events ++ history.Passed (from, b) ∷ []) (before ++ told) after
     × AddsBoxes told old new
-Hears false from b events before old new = HasExplained events before new
-    × (new.listener ≡ old.listener) × NoneGoesOn new.listener (from, b) × AddsBoxes [] old new
+Hears false from b events before l after old new =
+    (after ≡ l) × NoneGoesOn after (from, b) × AddsBoxes [] old new
 
 -- It has taken this character; or it stops, as it is one of the dialogue and none goes on with it.
 abbrev pub TakesOrStops : Bool → End → ℕ → List Event → List Told → Explainer → Explainer → Type 0
 TakesOrStops false from b events before old new =
     ExplainsCharacter from b events before old new
-TakesOrStops true from b events before old new = Hears false from b events before old new
+TakesOrStops true from b events before old new = HasExplained events before new
+    × Hears false from b events before old.listener new.listener old.teller new.teller
     × (is_dialogue (role_of (opening_of old.preface) from b) ≡ true)
     × (answers_again (opening_of old.preface) new.listener from b ≡ false)
-
--- all that is heard and told stays
-pub record KeepsAll (old new : Explainer) : Type 0 where
-  pub listener : new.listener ≡ old.listener
-  pub resumes : new.resumes ≡ old.resumes
-  pub passes_over : new.passes_over ≡ old.passes_over
-  pub preface : new.preface ≡ old.preface
-  pub came : new.came ≡ old.came
-  pub reading : new.reading ≡ old.reading
-  pub line : new.line ≡ old.line
-
--- but what comes before the dialogue
-pub record KeepsHeard (old new : Explainer) : Type 0 where
-  pub listener : new.listener ≡ old.listener
-  pub resumes : new.resumes ≡ old.resumes
-  pub passes_over : new.passes_over ≡ old.passes_over
-  pub came : new.came ≡ old.came
-  pub reading : new.reading ≡ old.reading
-  pub line : new.line ≡ old.line
-  pub boxes : AddsBoxes [] old new

@@ -50,16 +50,12 @@ IsNoted (Cut_off part) = IsOverheard (Cut_off part)
 
 -- so much is told of such a command that is whole, while a tap waits for the third of its data
 abbrev pub are_status : List ℕ → Bool
-are_status [] = false
-are_status (sw1 ∷ []) = false
 are_status (sw1 ∷ sw2 ∷ []) = is_first_status sw1
-are_status (sw1 ∷ sw2 ∷ b ∷ rest) = false
+are_status other = false
 
 abbrev pub AreStatus : List ℕ → Type 0
-AreStatus [] = ⊥
-AreStatus (sw1 ∷ []) = ⊥
 AreStatus (sw1 ∷ sw2 ∷ []) = IsStatusWord (sw1, sw2)
-AreStatus (sw1 ∷ sw2 ∷ b ∷ rest) = ⊥
+AreStatus other = ⊥
 
 abbrev pub is_bare : Told → Bool
 is_bare t = (slice_index t.header 4 == 0) && (t.tally.ones == 0) && (length t.status == 0)

@@ -8,7 +8,7 @@ use Rattle.atr_core.specs.declared.convention.Convention.{Convention}
 use Rattle.atr_core.specs.declared.convention.Convention.TheVariants.{Direct, Inverse}
 use Rattle.atr_core.specs.declared.fault.AtrFault.{AtrFault}
 use Rattle.atr_core.specs.declared.fault.Reason.{Reason}
-use Rattle.atr_core.specs.declared.fault.Reason.TheVariants.{NoTs, Cut, TooLong, OutOfOrder, Surplus, CheckMissing, CheckNotDue, CheckWrong}
+use Rattle.atr_core.specs.declared.fault.Reason.TheVariants.{Cut, CheckMissing}
 use Rattle.t0_core.specs.declared.end.End.{End}
 use Rattle.t0_core.specs.declared.end.End.TheVariants.{Terminal, Card}
 use Rattle.trace_explain.specs.declared.follow.opening.Stage.{Stage}
@@ -47,13 +47,8 @@ abbrev pub begun : Opening
 begun = standing_in stage.Begun
 
 abbrev pub has_begun : Stage → Bool
-has_begun stage.Ready = false
-has_begun stage.Answer = false
-has_begun stage.Astray = false
-has_begun stage.Request = false
-has_begun stage.Asked = false
-has_begun stage.Response = false
 has_begun stage.Begun = true
+has_begun other = false
 
 -- How an answer is turned that begins with this character in the trace: `3B` and `3F` are TS as it
 -- is meant, `03` is TS of the inverse convention, read by the direct one (8.1).
@@ -84,13 +79,9 @@ abbrev pub asks : Bool → ℕ → Role
 asks may_ask b = if may_ask && (b == 0xFF) then role.RequestPpss else role.Dialogue
 
 abbrev pub terminal_role : Stage → Bool → ℕ → Role
-terminal_role stage.Ready may_ask b = asks may_ask b
-terminal_role stage.Answer may_ask b = asks may_ask b
-terminal_role stage.Astray may_ask b = asks may_ask b
 terminal_role stage.Request may_ask b = role.Request
-terminal_role stage.Asked may_ask b = asks may_ask b
-terminal_role stage.Response may_ask b = asks may_ask b
 terminal_role stage.Begun may_ask b = role.Dialogue
+terminal_role other may_ask b = asks may_ask b
 
 abbrev pub role_at : Stage → Bool → End → ℕ → Role
 role_at at may_ask Terminal b = terminal_role at may_ask b
@@ -113,14 +104,9 @@ role_of o from b = role_at o.stage (may_ask o) from b
 
 -- an answer so far wants nothing but more characters
 abbrev pub is_short : Reason → Bool
-is_short NoTs = false
 is_short Cut = true
-is_short TooLong = false
-is_short OutOfOrder = false
-is_short Surplus = false
 is_short CheckMissing = true
-is_short CheckNotDue = false
-is_short CheckWrong = false
+is_short other = false
 
 -- an answer ends where it is whole, or has its first fault
 abbrev pub after_answer : Option AtrFault → Stage
@@ -161,14 +147,8 @@ opens o role.Stray b = record o { stage = stage.Astray }
 opens o role.Dialogue b = begun
 
 abbrev pub is_dialogue : Role → Bool
-is_dialogue (role.Ts turned) = false
-is_dialogue role.Answer = false
-is_dialogue role.RequestPpss = false
-is_dialogue role.Request = false
-is_dialogue role.ResponsePpss = false
-is_dialogue role.Response = false
-is_dialogue role.Stray = false
 is_dialogue role.Dialogue = true
+is_dialogue other = false
 
 -- the card may begin an answer with this character
 abbrev pub begins_answer : End → ℕ → Bool

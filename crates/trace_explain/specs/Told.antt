@@ -90,11 +90,8 @@ noted t (heard.SecondStatus said status) byte =
 
 -- a dialogue ends with this
 abbrev pub is_last : Heard → Bool
-is_last heard.Header = false
-is_last (heard.Procedure step) = false
-is_last (heard.Data direction) = false
-is_last heard.FirstStatus = false
 is_last (heard.SecondStatus said status) = true
+is_last other = false
 
 -- a header is that of the TPDU whose first characters these are
 pub record IsOfCommand (bytes : List ℕ) (header : Header) : Type 0 where

@@ -6,8 +6,8 @@ use crate::diff_fault::{DiffFault, Which};
 use crate::explain::{CHUNK, TRACE_LIMIT, explain_chunk, explain_last};
 use crate::explain_fault::ExplainFault;
 use crate::explainer::Explainer;
-use crate::follow::tpdu::Tpdu;
 use crate::read::reading::Reading;
+use crate::write::kept::Kept;
 use crate::write::layout::{Layout, Medium};
 use crate::write::sheet::Sheet;
 use std::alloc::{AllocError, Global};
@@ -19,15 +19,6 @@ const LAYOUT: Layout = Layout {
     medium: Medium::Text,
     is_summary: false,
 };
-
-/// A TPDU, and the box that tells of it.
-#[derive(Drop)]
-pub struct Kept {
-    /// The TPDU.
-    pub tpdu: Tpdu,
-    /// What is told of it.
-    pub text: String,
-}
 
 /// One of the two traces.
 #[derive(Drop)]
@@ -168,7 +159,7 @@ impl<'r, R: Read> Trace<'r, R> {
         reader: &'r mut R,
     ) -> Trace<'r, R> {
         let mut explainer = Explainer::new(alloc, LAYOUT, mask, resumes, reading);
-        explainer.keep();
+        explainer.teller.keeping.is_on = true;
         Trace {
             which,
             reader,
@@ -185,20 +176,25 @@ impl<'r, R: Read> Trace<'r, R> {
     /// end, or came at its end.
     fn front(&mut self) -> Result<Option<&Kept>, DiffFault> {
         for _chunk in 0..u64::MAX {
-            if self.is_over || self.passed < self.explainer.kept().len() {
+            if self.is_over || self.passed < self.kept().len() {
                 break;
             }
-            self.explainer.forget_kept();
+            self.explainer.teller.keeping.all.clear();
             self.passed = 0;
-            self.explainer.output.clear();
+            self.explainer.teller.output.sheet.clear();
             self.read()?;
         }
-        if self.passed >= self.explainer.kept().len()
+        if self.passed >= self.kept().len()
             && let Some(fault) = self.fault.take()
         {
             return Err(DiffFault::Trace(self.which, fault));
         }
-        Ok(self.explainer.kept().get(self.passed))
+        Ok(self.kept().get(self.passed))
+    }
+
+    /// The TPDUs that are kept.
+    fn kept(&self) -> &[Kept] {
+        self.explainer.teller.keeping.all.as_slice()
     }
 
     /// Passes the next TPDU.

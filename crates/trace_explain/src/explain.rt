@@ -5,7 +5,7 @@ ghost use Rattle.std.specs.String.{string_bytes};
 ghost use Rattle.std.specs.Str.Lines.{strip_carriage_return};
 ghost use Rattle.trace_explain.specs.declared.read.reading.Reading.{Reading};
 ghost use Rattle.trace_explain.specs.Account.{HasWritten, Out, WritesOut, WritesTold, out_with};
-ghost use Rattle.trace_explain.specs.Explained.{HasExplained, KeepsAll, standing_of};
+ghost use Rattle.trace_explain.specs.Explained.{HasExplained, standing_of};
 ghost use Rattle.trace_explain.specs.Lines.{first_of_all};
 ghost use Rattle.trace_explain.specs.Trace.{IsExplained, IsOfWriting, IsWhole, KeepsLimit, StopsIn, lines_of};
 ghost use Rattle.trace_explain.specs.UnderWay.{HasCome, IsOfLines};
@@ -16,6 +16,7 @@ use crate::explainer::Explainer;
 use crate::read::digits::push;
 use crate::read::reading::Reading;
 use crate::write::layout::Layout;
+use crate::write::sheet::Sheet;
 use std::alloc::Global;
 use std::io::{Read, Write};
 
@@ -49,9 +50,9 @@ pub fn explain<R: Read, W: Write>(
     let mut explainer = Explainer::new(alloc, layout, mask, resumes, reading);
     let outcome = explain_chunks(alloc, &mut explainer, reader, writer);
     explainer.end()?;
-    write_output(&mut explainer, writer)?;
+    write_output(&mut explainer.teller.output.sheet, writer)?;
     outcome?;
-    explainer.is_written()?;
+    explainer.teller.output.sheet.is_whole()?;
     explainer.outcome()
 }
 
@@ -87,7 +88,7 @@ fn explain_chunks<R: Read, W: Write>(
             Ok(count) => {
                 size += count;
                 explain_chunk(explainer, &chunk[..count], &mut line)?;
-                write_output(explainer, writer)?;
+                write_output(&mut explainer.teller.output.sheet, writer)?;
             }
             Err(_) => return Err(ExplainFault::Read),
         }
@@ -151,15 +152,14 @@ fn without_return(line: &[u8]) -> &[u8]
 }
 
 /// Writes what is told, and forgets it.
-fn write_output<W: Write>(explainer: &mut Explainer, writer: &mut W) -> Result<(), ExplainFault>
-    ensures keeps { KeepsAll explainer.old explainer.new }
-    ensures out { WritesOut explainer.old explainer.new }
+fn write_output<W: Write>(sheet: &mut Sheet, writer: &mut W) -> Result<(), ExplainFault>
+    ensures out { WritesOut sheet.old sheet.new }
     ensures written { OnOk result (Appends (W.contents writer.old) (W.contents writer.new)
-        (string_bytes explainer.old.output.sheet.text)) }
+        (string_bytes sheet.old.text)) }
     ensures fault { IfErr result IsOfWriting }
 {
-    let outcome = writer.write_all(explainer.output.as_str().as_bytes());
-    explainer.output.clear();
+    let outcome = writer.write_all(sheet.as_str().as_bytes());
+    sheet.clear();
     match outcome {
         Ok(()) => Ok(()),
         Err(error) => Err(ExplainFault::of_writing(&error)),

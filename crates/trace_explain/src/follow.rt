@@ -1,6 +1,5 @@
 //! What goes over the line: whose a character is, and what of an opening or a TPDU has come.
 pub mod chain;
-pub mod clock;
 pub mod exchange;
 pub mod links;
 pub mod listener;

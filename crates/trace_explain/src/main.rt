@@ -12,6 +12,7 @@ mod follow;
 mod help;
 mod main_status;
 mod read;
+mod resuming;
 mod write;
 
 use main_status::{main_status, status_without_words};

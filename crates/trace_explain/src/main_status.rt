@@ -13,6 +13,7 @@ use crate::read::reading::Reading;
 use clap::Error;
 use clap::error::ErrorKind;
 use std::alloc::Global;
+use std::fmt;
 use std::fs::File;
 use std::io;
 use std::io::{Read, Write};
@@ -59,13 +60,15 @@ fn carried_out<D: Files, R: Read, W: Write, F: Write>(
     } = request;
     match compared {
         Some(paths) => {
-            let outcome = diff_files(alloc, mask, resumes, reading, files, paths, output);
-            told_diff(&outcome, faults)
+            match diff_files(alloc, mask, resumes, reading, files, paths, output) {
+                Ok(alike) => u8::from(!alike),
+                Err(fault) => told(&fault, faults),
+            }
         }
-        None => {
-            let outcome = explain(alloc, layout, mask, resumes, reading, input, output);
-            told(&outcome, faults)
-        }
+        None => status(
+            &explain(alloc, layout, mask, resumes, reading, input, output),
+            faults,
+        ),
     }
 }
 
@@ -93,31 +96,14 @@ fn opened<D: Files>(files: &D, path: &str, which: Which) -> Result<D::File, Diff
     }
 }
 
-/// The status of a comparison: 0 where the traces are alike, and else 1, also for a fault, which is
-/// told on `faults` in one line.
-fn told_diff<F: Write>(outcome: &Result<bool, DiffFault>, faults: &mut F) -> u8
-    ensures status { result ≤ 2 }
-{
-    match outcome {
-        Ok(true) => 0,
-        Ok(false) => 1,
-        Err(fault) => {
-            let _ = faults.writeln(fault);
-            1
-        }
-    }
-}
-
 /// The status for what the parser answered in place of matches. Help goes to `output`, and a
 /// refusal to `faults`.
 fn answered<W: Write, F: Write>(error: &Error, output: &mut W, faults: &mut F) -> u8
     ensures status { result ≤ 2 }
 {
     match error.kind() {
-        ErrorKind::OutOfMemory => told(&Err(ExplainFault::OutOfMemory), faults),
-        ErrorKind::DisplayHelp | ErrorKind::DisplayVersion => {
-            told(&shown(error, output), faults)
-        }
+        ErrorKind::OutOfMemory => told(&ExplainFault::OutOfMemory, faults),
+        ErrorKind::DisplayHelp | ErrorKind::DisplayVersion => status(&shown(error, output), faults),
         _ => {
             let _ = faults.write_fmt(error);
             2
@@ -133,19 +119,24 @@ fn shown<W: Write>(error: &Error, output: &mut W) -> Result<(), ExplainFault> {
     }
 }
 
-/// The status for an outcome: 0, also where nobody reads what is written any more, or 1 for a
-/// fault, which is told on `faults` in one line.
-fn told<F: Write>(outcome: &Result<(), ExplainFault>, faults: &mut F) -> u8
+/// The status for an outcome: 0, also if nobody reads what is written any more, or 1 for a fault,
+/// which is told on `faults`.
+fn status<F: Write>(outcome: &Result<(), ExplainFault>, faults: &mut F) -> u8
     ensures success { OnOk outcome.now (result ≡ 0) }
     ensures fault { IfErr outcome.now (λ fault. result ≡ status_of fault) }
 {
     match outcome {
         Ok(()) | Err(ExplainFault::Closed) => 0,
-        Err(fault) => {
-            let _ = faults.writeln(fault);
-            1
-        }
+        Err(fault) => told(fault, faults),
     }
+}
+
+/// Tells a fault on `faults` in one line, and answers its status.
+fn told<E: fmt::Display, F: Write>(fault: &E, faults: &mut F) -> u8
+    ensures { result ≡ 1 }
+{
+    let _ = faults.writeln(fault);
+    1
 }
 
 /// The exit status where the words can't be had, which is told on `faults`: 1 for want of memory,
@@ -154,7 +145,7 @@ pub fn status_without_words<F: Write>(error: &io::Error, faults: &mut F) -> u8
     ensures status { result ≤ 2 }
 {
     match error.kind() {
-        io::ErrorKind::OutOfMemory => told(&Err(ExplainFault::OutOfMemory), faults),
+        io::ErrorKind::OutOfMemory => told(&ExplainFault::OutOfMemory, faults),
         _ => {
             let _ = faults.write_all(help::NO_UTF_8.as_bytes());
             2

@@ -2,7 +2,7 @@
 
 use crate::describe::instructions::{SIM_CLASS, counts_tries};
 use crate::describe::phrases::unit_of;
-use crate::describe::statuses::{KINDS, SIM_WORDS, WORDS};
+use crate::describe::statuses::{of_first, of_sim, of_word};
 use crate::write::sheet::Sheet;
 use apdu_core::{Header, Status, count};
 
@@ -95,20 +95,8 @@ fn push_query(text: &mut Sheet, kind: &str, bytes: u8) {
 fn fixed_meaning(header: Header, status: Status) -> &'static str {
     let word = u16::from_be_bytes([status.sw1(), status.sw2()]);
     let own = match header.cla {
-        SIM_CLASS => meaning_in(&SIM_WORDS, word),
+        SIM_CLASS => of_sim(word),
         _ => None,
     };
-    own.or(meaning_in(&WORDS, word))
-        .or(meaning_in(&KINDS, word & 0xFF00))
-        .unwrap_or("no meaning that is known here")
-}
-
-/// The meaning that a table gives a word.
-fn meaning_in(table: &'static [(u16, &'static str)], word: u16) -> Option<&'static str> {
-    for &(other, meaning) in table {
-        if other == word {
-            return Some(meaning);
-        }
-    }
-    None
+    own.or(of_word(word)).unwrap_or(of_first(status.sw1()))
 }

@@ -135,54 +135,28 @@ fn whole(
       le = le;
     }) brought.now status.now) }
 {
+    let (way, moved, answer) = parts(sent, brought);
     Ok(Tpdu {
         header: with_byte(alloc, header, p3)?,
         tally: Tally::NONE,
-        way: way_of(sent, brought),
-        moved: copied(alloc, moved_of(sent, brought))?,
+        way,
+        moved: copied(alloc, moved)?,
         status: copied(alloc, status)?,
         le,
-        answer: copied(alloc, beside(sent, brought))?,
+        answer: copied(alloc, answer)?,
     })
 }
 
-/// Which way data went, where the terminal sent some, and the card.
-fn way_of(sent: &[u8], brought: &[u8]) -> Option<Direction>
-    ensures { result ≡ way_of sent.now brought.now }
+/// Which way data went, those that are the TPDU's, and those of the card beside them.
+fn parts<'a>(sent: &'a [u8], brought: &'a [u8]) -> (Option<Direction>, &'a [u8], &'a [u8])
+    ensures way { result.0 ≡ way_of sent.now brought.now }
+    ensures moved { result.1.now ≡ moved_of sent.now brought.now }
+    ensures beside { result.2.now ≡ beside sent.now brought.now }
 {
-    match sent {
-        [] => way_from(brought),
-        _ => Some(Direction::ToCard),
-    }
-}
-
-/// The same where the terminal sent none.
-fn way_from(brought: &[u8]) -> Option<Direction>
-    ensures { result ≡ way_of [] brought.now }
-{
-    match brought {
-        [] => None,
-        _ => Some(Direction::FromCard),
-    }
-}
-
-/// The data that are the TPDU's.
-fn moved_of<'a>(sent: &'a [u8], brought: &'a [u8]) -> &'a [u8]
-    ensures { result.now ≡ moved_of sent.now brought.now }
-{
-    match sent {
-        [] => brought,
-        _ => sent,
-    }
-}
-
-/// The data of the card beside those of the terminal.
-fn beside<'a>(sent: &'a [u8], brought: &'a [u8]) -> &'a [u8]
-    ensures { result.now ≡ beside sent.now brought.now }
-{
-    match sent {
-        [] => sent,
-        _ => brought,
+    match (sent, brought) {
+        ([], []) => (None, sent, sent),
+        ([], _) => (Some(Direction::FromCard), brought, sent),
+        _ => (Some(Direction::ToCard), sent, brought),
     }
 }
 

@@ -2,7 +2,7 @@
 //! of neither.
 ghost use Rattle.std.specs.Prelude.{◌≡◌};
 ghost use Rattle.atr_core.specs.FirstFault.{first_fault};
-ghost use Rattle.trace_explain.specs.Openings.{after_answer, as_ppss, as_ts, asks, begins_answer, card_role, has_begun, is_dialogue, is_direct, is_full, is_short, role_at, terminal_role, turned_by};
+ghost use Rattle.trace_explain.specs.Openings.{after_answer, as_ts, begins_answer, card_role, has_begun, is_dialogue, is_direct, is_full, is_short, role_at, terminal_role, turned_by};
 
 use atr_core::{Atr, AtrFault, Convention, Pps, Reason};
 use t0_core::End;
@@ -106,10 +106,10 @@ fn card_role(stage: Stage, byte: u8) -> Role
     ensures { result ≡ card_role stage byte }
 {
     match stage {
-        Stage::Ready => as_ts(byte),
+        Stage::Request | Stage::Asked if byte == PPSS => Role::ResponsePpss,
+        Stage::Ready | Stage::Request | Stage::Asked => as_ts(byte),
         Stage::Answer => Role::Answer,
         Stage::Astray => Role::Stray,
-        Stage::Request | Stage::Asked => as_ppss(byte),
         Stage::Response => Role::Response,
         Stage::Begun => Role::Dialogue,
     }
@@ -122,29 +122,8 @@ fn terminal_role(stage: Stage, may_ask: bool, byte: u8) -> Role
     match stage {
         Stage::Request => Role::Request,
         Stage::Begun => Role::Dialogue,
-        _ => asks(may_ask, byte),
-    }
-}
-
-/// The first of a request, where one may come, or of the dialogue.
-fn asks(may_ask: bool, byte: u8) -> Role
-    ensures { result ≡ asks may_ask byte }
-{
-    if may_ask && byte == PPSS {
-        Role::RequestPpss
-    } else {
-        Role::Dialogue
-    }
-}
-
-/// A character of the card where a response may begin, or an answer.
-fn as_ppss(byte: u8) -> Role
-    ensures { result ≡ as_ppss byte }
-{
-    if byte == PPSS {
-        Role::ResponsePpss
-    } else {
-        as_ts(byte)
+        _ if may_ask && byte == PPSS => Role::RequestPpss,
+        _ => Role::Dialogue,
     }
 }
 

@@ -1,8 +1,6 @@
 //! What comes before a dialogue: the card's answer to reset, and PPS exchanges.
-ghost use Rattle.std.specs.Prelude.{◌≡◌, [], OnOk};
-ghost use Rattle.atr_core.specs.Conventions.{as_sent};
-ghost use Rattle.atr_core.specs.FirstFault.{first_fault};
-ghost use Rattle.trace_explain.specs.Openings.{after_answer, begun, has_answered, has_begun, is_full, may_ask, opening_of, opens, role_of, unopened};
+ghost use Rattle.std.specs.Prelude.{◌≡◌, if◌then◌else◌, OnOk};
+ghost use Rattle.trace_explain.specs.Openings.{has_answered, is_full, opening_of, opens, role_of, standing_in, unopened};
 
 use crate::follow::opening::{Role, Stage, after_answer, is_direct, is_full, role_at};
 use crate::read::digits::push;
@@ -89,18 +87,45 @@ impl Preface {
         ensures { OnOk result (opening_of self.new ≡ opens (opening_of self.old) role byte) }
     {
         match role {
-            Role::Ts(turned) => self.begin_answer(turned, byte, line),
-            Role::Answer => self.go_on_answer(byte),
-            Role::RequestPpss => self.begin_request(byte, line),
-            Role::Request => self.go_on_request(byte),
-            Role::ResponsePpss => self.begin_response(byte),
-            Role::Response => self.go_on_response(byte),
+            Role::Ts(turned) => {
+                self.begin(Stage::Answer);
+                self.turned = turned;
+                self.line = line;
+                push(&mut self.answer, turned.turn(byte))
+            }
+            Role::Answer => {
+                push(&mut self.answer, self.turned.turn(byte))?;
+                self.stage = after_answer(self.answer.as_slice());
+                Ok(())
+            }
+            Role::RequestPpss => {
+                self.stage = Stage::Request;
+                self.line = line;
+                self.response.clear();
+                self.request.clear();
+                push(&mut self.request, byte)
+            }
+            Role::Request => {
+                push(&mut self.request, byte)?;
+                self.stage = if_full(self.request.as_slice(), Stage::Asked, Stage::Request);
+                Ok(())
+            }
+            Role::ResponsePpss => {
+                self.stage = Stage::Response;
+                self.response.clear();
+                push(&mut self.response, byte)
+            }
+            Role::Response => {
+                push(&mut self.response, byte)?;
+                self.stage = if_full(self.response.as_slice(), Stage::Ready, Stage::Response);
+                Ok(())
+            }
             Role::Stray => {
                 self.stage = Stage::Astray;
                 Ok(())
             }
             Role::Dialogue => {
-                self.begin_dialogue();
+                self.begin(Stage::Begun);
                 Ok(())
             }
         }
@@ -110,100 +135,24 @@ impl Preface {
     pub fn reset(&mut self)
         ensures { opening_of self.new ≡ unopened }
     {
-        self.clear();
-        self.stage = Stage::Ready;
+        self.begin(Stage::Ready);
     }
 
-    /// Forgets all, as the dialogue begins.
-    fn begin_dialogue(&mut self)
-        ensures { opening_of self.new ≡ begun }
+    /// Forgets all characters, and is this far.
+    fn begin(&mut self, stage: Stage)
+        ensures { opening_of self.new ≡ standing_in stage }
     {
-        self.clear();
-        self.stage = Stage::Begun;
-    }
-
-    /// Forgets all characters.
-    fn clear(&mut self)
-        ensures turned { self.new.turned ≡ Convention.Direct }
-        ensures answer { self.new.answer.items ≡ [] }
-        ensures request { self.new.request.items ≡ [] }
-        ensures response { self.new.response.items ≡ [] }
-    {
+        self.stage = stage;
         self.turned = Convention::Direct;
         self.answer.clear();
         self.request.clear();
         self.response.clear();
     }
+}
 
-    /// Takes TS of an answer.
-    fn begin_answer(&mut self, turned: Convention, byte: u8, line: u64) -> Result<(), AllocError>
-        ensures { OnOk result
-            (opening_of self.new ≡ opens (opening_of self.old) (Role.Ts turned) byte) }
-    {
-        self.clear();
-        self.stage = Stage::Answer;
-        self.turned = turned;
-        self.line = line;
-        push(&mut self.answer, turned.turn(byte))
-    }
-
-    /// Takes another character of the answer.
-    fn go_on_answer(&mut self, byte: u8) -> Result<(), AllocError>
-        ensures { OnOk result
-            (opening_of self.new ≡ opens (opening_of self.old) Role.Answer byte) }
-    {
-        push(&mut self.answer, self.turned.turn(byte))?;
-        self.stage = after_answer(self.answer.as_slice());
-        Ok(())
-    }
-
-    /// Takes the first character of a request.
-    fn begin_request(&mut self, byte: u8, line: u64) -> Result<(), AllocError>
-        ensures { OnOk result
-            (opening_of self.new ≡ opens (opening_of self.old) Role.RequestPpss byte) }
-    {
-        self.stage = Stage::Request;
-        self.line = line;
-        self.response.clear();
-        self.request.clear();
-        push(&mut self.request, byte)
-    }
-
-    /// Takes another character of the request.
-    fn go_on_request(&mut self, byte: u8) -> Result<(), AllocError>
-        ensures { OnOk result
-            (opening_of self.new ≡ opens (opening_of self.old) Role.Request byte) }
-    {
-        push(&mut self.request, byte)?;
-        self.stage = if is_full(self.request.as_slice()) {
-            Stage::Asked
-        } else {
-            Stage::Request
-        };
-        Ok(())
-    }
-
-    /// Takes the first character of the response.
-    fn begin_response(&mut self, byte: u8) -> Result<(), AllocError>
-        ensures { OnOk result
-            (opening_of self.new ≡ opens (opening_of self.old) Role.ResponsePpss byte) }
-    {
-        self.stage = Stage::Response;
-        self.response.clear();
-        push(&mut self.response, byte)
-    }
-
-    /// Takes another character of the response.
-    fn go_on_response(&mut self, byte: u8) -> Result<(), AllocError>
-        ensures { OnOk result
-            (opening_of self.new ≡ opens (opening_of self.old) Role.Response byte) }
-    {
-        push(&mut self.response, byte)?;
-        self.stage = if is_full(self.response.as_slice()) {
-            Stage::Ready
-        } else {
-            Stage::Response
-        };
-        Ok(())
-    }
+/// How far it is if a request or response has these characters: all of it, or part.
+fn if_full(bytes: &[u8], all: Stage, part: Stage) -> Stage
+    ensures { result ≡ (if is_full bytes.now then all else part) }
+{
+    if is_full(bytes) { all } else { part }
 }

@@ -45,21 +45,14 @@ impl Tpdu {
     }
 
     /// The same once more. The error is want of memory.
-    pub fn copied(&self, alloc: Global) -> Result<Tpdu, AllocError> {
-        let mut other = Tpdu::new(alloc);
-        self.copy_to(&mut other)?;
-        Ok(other)
-    }
-
-    /// Makes an empty one the same.
-    fn copy_to(&self, other: &mut Tpdu) -> Result<(), AllocError> {
-        other.tally = self.tally;
-        other.way = self.way;
-        other.le = self.le;
-        other.header.extend_from_slice(self.header.as_slice())?;
-        other.moved.extend_from_slice(self.moved.as_slice())?;
-        other.status.extend_from_slice(self.status.as_slice())?;
-        other.answer.extend_from_slice(self.answer.as_slice())
+    pub fn copied(&self) -> Result<Tpdu, AllocError> {
+        Ok(Tpdu {
+            header: self.header.clone()?,
+            moved: self.moved.clone()?,
+            status: self.status.clone()?,
+            answer: self.answer.clone()?,
+            ..*self
+        })
     }
 
     /// Notes one more character, which was this. The error is want of memory.

@@ -1,7 +1,7 @@
 //! Whose turn it is, where no sign says who sent a character.
 ghost use Rattle.std.specs.Prelude.{◌≡◌, get_or, length};
 ghost use Rattle.trace_explain.specs.Told.{told_by};
-ghost use Rattle.trace_explain.specs.Turns.{ask_or_answer, at_first, between, data_at, data_turn, header_turn, sent, turn_before, turn_within, with_p3_00};
+ghost use Rattle.trace_explain.specs.Turns.{between, card_if, data_at, sent, turn_before, turn_within, with_p3_00};
 
 use crate::follow::opening::{PPSS, Stage, turned_by};
 use crate::follow::tpdu::Tpdu;
@@ -41,11 +41,12 @@ pub fn turn_before(stage: Stage, has_answered: bool, byte: u8) -> Result<End, No
 {
     match stage {
         Stage::Ready if has_answered => Ok(between(byte)),
-        Stage::Ready => Ok(at_first(byte)),
+        Stage::Ready => Ok(card_if(turned_by(byte).is_some())),
         Stage::Answer | Stage::Response => Ok(End::Card),
         Stage::Astray => Err(NoTurn::Answer),
         Stage::Request => Ok(End::Terminal),
-        Stage::Asked => Ok(ask_or_answer(byte)),
+        Stage::Asked if byte == PPSS => Ok(End::Card),
+        Stage::Asked => Ok(between(byte)),
         Stage::Begun => Ok(End::Terminal),
     }
 }
@@ -55,7 +56,8 @@ pub fn turn_within(ways: &Ways, due: Due, under_way: &Tpdu, byte: u8) -> Result<
     ensures { result ≡ turn_within ways.now due (told_by under_way.now) byte }
 {
     match due {
-        Due::Header => Ok(header_turn(under_way.is_empty(), byte)),
+        Due::Header if under_way.is_empty() => Ok(between(byte)),
+        Due::Header => Ok(End::Terminal),
         Due::Procedure | Due::SecondStatus => Ok(End::Card),
         Due::Data(seen) => {
             let cla = at(under_way, 0);
@@ -73,49 +75,18 @@ fn at(under_way: &Tpdu, place: usize) -> u8
     under_way.header.get(place).copied().unwrap_or(0)
 }
 
-/// Whose the first character is, of a trace or behind a reset: the card's, where an answer may
-/// begin with it.
-fn at_first(byte: u8) -> End
-    ensures { result ≡ at_first byte }
-{
-    if turned_by(byte).is_some() {
-        End::Card
-    } else {
-        End::Terminal
-    }
-}
-
 /// Whose it is where a header may begin, or an answer: `3B` and `3F` are no CLA of ISO/IEC 7816-4.
 fn between(byte: u8) -> End
     ensures { result ≡ between byte }
 {
-    if Convention::of_ts(byte).is_some() {
-        End::Card
-    } else {
-        End::Terminal
-    }
+    card_if(Convention::of_ts(byte).is_some())
 }
 
-/// Whose it is where a PPS response is due.
-fn ask_or_answer(byte: u8) -> End
-    ensures { result ≡ ask_or_answer byte }
+/// The card, if this holds, and else the terminal.
+fn card_if(holds: bool) -> End
+    ensures { result ≡ card_if holds }
 {
-    if byte == PPSS {
-        End::Card
-    } else {
-        between(byte)
-    }
-}
-
-/// Whose it is where a character of a header is due.
-fn header_turn(is_first: bool, byte: u8) -> End
-    ensures { result ≡ header_turn is_first byte }
-{
-    if is_first {
-        between(byte)
-    } else {
-        End::Terminal
-    }
+    if holds { End::Card } else { End::Terminal }
 }
 
 /// Whose data go this way.
@@ -140,22 +111,11 @@ fn data_at(
     ensures { result ≡ data_at seen known p3 ins came }
 {
     if p3 == 0 {
-        with_p3_00(known, ins, came)
-    } else {
-        data_turn(seen, known, ins)
+        return with_p3_00(known, ins, came);
     }
-}
-
-/// Whose data characters are, where they were seen to go a way, or not yet, and this one is known.
-fn data_turn(seen: Option<Direction>, known: Option<Direction>, ins: u8) -> Result<End, NoTurn>
-    ensures { result ≡ data_turn seen known ins }
-{
-    match seen {
-        Some(way) => Ok(sent(way)),
-        None => match known {
-            Some(way) => Ok(sent(way)),
-            None => Err(NoTurn::Way(ins)),
-        },
+    match (seen, known) {
+        (Some(way), _) | (None, Some(way)) => Ok(sent(way)),
+        (None, None) => Err(NoTurn::Way(ins)),
     }
 }
 

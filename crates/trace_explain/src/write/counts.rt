@@ -1,7 +1,7 @@
 //! What is counted over a whole trace, and told in its last block.
 
+use crate::describe::clock::Clock;
 use crate::describe::instructions::instruction;
-use crate::follow::clock::Clock;
 use crate::follow::story::{header_of, status_of};
 use crate::follow::tpdu::Tpdu;
 use crate::write::layout::Side;

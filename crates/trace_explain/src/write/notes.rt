@@ -4,6 +4,7 @@
 ghost use Rattle.std.specs.Prelude.{◌<◌};
 
 use crate::describe::mask::{Mask, push_hidden_line};
+use crate::resuming::Passed;
 use crate::write::page::Page;
 use crate::write::sheet::Sheet;
 
@@ -12,17 +13,6 @@ const NOTE_BYTES: usize = 96;
 
 /// The same where some are told by their numbers, in four columns each.
 const ODD_BYTES: usize = 24;
-
-/// What is passed over after a character with which no dialogue goes on.
-#[derive(Clone, Copy)]
-pub struct Passed {
-    /// The line of that character, counted from 1.
-    pub line: u64,
-    /// Its place in the line, counted from 0.
-    pub place: usize,
-    /// The last line of which characters are passed over.
-    pub last: u64,
-}
 
 /// Tells what has been passed over, if anything has.
 pub fn tell_passed(passed: Option<Passed>, page: &mut Page) {

@@ -32,21 +32,6 @@ impl Output {
         }
     }
 
-    /// What comes before all else has been added.
-    pub fn begun(alloc: Global, layout: Layout) -> Output
-        ensures layout { result.sheet.layout ≡ layout }
-        ensures text { string_bytes result.sheet.text ≡ [] }
-    {
-        let mut output = Output::new(alloc, layout);
-        output.page.begin();
-        output
-    }
-
-    /// Another one of the same layout, to which nothing has been added.
-    pub fn another(&self, alloc: Global) -> Output {
-        Output::new(alloc, self.sheet.layout())
-    }
-
     /// Adds the row of data that the lines of the page are, and forgets them.
     pub fn data_row(&mut self, side: Side)
         ensures { (text : List ℕ) → HasText self.old.page.lines text →
@@ -73,29 +58,6 @@ impl Output {
         let is_cut = self.page.is_cut();
         self.sheet.join(self.page.as_str(), is_cut);
         self.page.clear();
-    }
-
-    /// What is written, once the words are joined to it.
-    pub fn as_str(&self) -> &str
-        ensures { result.now ≡ string_bytes self.now.sheet.text }
-    {
-        self.sheet.as_str()
-    }
-
-    /// Forgets what is written.
-    pub fn clear(&mut self)
-        ensures text { string_bytes self.new.sheet.text ≡ [] }
-        ensures layout { self.new.sheet.layout ≡ self.old.sheet.layout }
-        ensures is_cut { self.new.sheet.is_cut ≡ self.old.sheet.is_cut }
-    {
-        self.sheet.clear();
-    }
-
-    /// Whether all is there that is joined. The error is want of memory.
-    pub fn is_whole(&self) -> Result<(), AllocError>
-        ensures { OnOk result (self.now.sheet.is_cut ≡ false) }
-    {
-        self.sheet.is_whole()
     }
 
     /// Joins the words, and answers whether all is there. The error is want of memory.

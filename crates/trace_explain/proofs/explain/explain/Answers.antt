@@ -7,14 +7,12 @@ use Rattle.trace_explain.specs.Told.{Told}
 use Rattle.trace_explain.specs.Explained.{standing_of}
 use Rattle.trace_explain.specs.Trace.{IsOfEnd, StopsIn, lines_of}
 use Rattle.trace_explain.proofs.AccountLemmas.{writes_told}
-use Rattle.trace_explain.proofs.ExplainedLemmas.{keeps_standing, on_ok_too}
+use Rattle.trace_explain.proofs.ExplainedLemmas.{on_ok_too}
 use Rattle.trace_explain.proofs.TraceLemmas.{ended_stops, fault_passed, on_err_too, shown_as, some_too}
 use Rattle.trace_explain.proofs.explain.explain.Goals as goal
 
 pub returns-clause-stops : goal.returns-clause-stops
 returns-clause-stops g c = λ kept chars.
-    let here = keeps_standing c.end.new.self c.write_output.new.explainer
-    c.write_output.ensures.keeps ∙ c.in_ok-end.ensures.stands in
     on_err_too c.outcome.result _ _ c.outcome.ensures.ended (λ f ends.
     some_too (g.R.Read.remaining c.args.reader.now) _ _
     (c.in_ok-outcome.ensures.explained (first_out c.args.layout c.args.mask) c.args.reading
@@ -22,7 +20,7 @@ returns-clause-stops g c = λ kept chars.
     c.new-explainer.ensures.line (c.new-explainer.ensures.blank chars))
     (λ bytes h.
     let P : Standing → Type 0 = λ s. IsOfEnd f s.came in
-    ended_stops f (subst P here ends) h))
+    ended_stops f (subst P c.in_ok-end.ensures.stands ends) h))
 
 pub returns-clause-explained : goal.returns-clause-explained
 returns-clause-explained g c = λ kept chars.
@@ -32,8 +30,6 @@ returns-clause-explained g c = λ kept chars.
     let after = g.W.Write.contents c.write_output.new.writer in
     let a = c.explain_chunks-outcome.new.explainer in
     let b = c.end.new.self in
-    let here = keeps_standing b c.write_output.new.explainer c.write_output.ensures.keeps
-    ∙ c.in_ok-end.ensures.stands in
     let P : List Told → Listener → Type 0 = λ told l. (l ≡ a.listener) × (more : List ℕ)
     × Appends before mid more × HasWritten (out_with front more) told a in
     on_ok_too c.outcome.result _ _ c.outcome.ensures.came (λ came.
@@ -47,9 +43,9 @@ returns-clause-explained g c = λ kept chars.
           (λ told l h. writes_told (out_with front h.1) told l c.args.layout c.args.mask before mid
           after a b refl refl refl h.2 c.in_ok-write_output.ensures.written h.3 h.0
           c.in_ok-end.ensures.adds
-          (sym c.write_output.ensures.out.is_cut ∙ c.in_ok-is_written.ensures)
+          (sym c.write_output.ensures.out.is_cut ∙ c.in_ok-is_whole.ensures.whole)
           (ap (λ (s : Standing). s.reading.of_tpdus) c.in_ok-end.ensures.stands)),
-      ap (λ (s : Standing). s.came) (sym here) ∙ came,
+      ap (λ (s : Standing). s.came) (sym c.in_ok-end.ensures.stands) ∙ came,
     )))
 
 pub returns-in_err-outcome-clause-stops : goal.returns-in_err-outcome-clause-stops

@@ -29,7 +29,7 @@ pub reading-preserved : goal.reading-preserved
 reading-preserved g c =
     let (read, reads, size_is, more, appends, comes) = c.reading.invariant in
     let chunk = take c.in-Ok.count c.read.new.buf in
-    let text = string_bytes c.explain_chunk.new.explainer.output.sheet.text in (
+    let text = string_bytes c.explain_chunk.new.explainer.teller.output.sheet.text in (
       read ++ chunk,
       Consumes-trans _ _ _ read chunk reads c.in-Ok.ensures.bytes.0,
       omega (
@@ -42,7 +42,11 @@ reading-preserved g c =
       more ++ text,
       Appends-trans _ _ _ more text appends c.in_ok-write_output-in-Ok.ensures.written,
       λ first reading fresh begins start blank left.
-          let e = c.write_output.new.explainer in
+          let mid = c.explain_chunk.new.explainer in
+          let s = c.write_output.new.sheet in
+          let e = record mid {
+            teller = record mid.teller { output = record mid.teller.output { sheet = s } };
+          } in
           let line = c.explain_chunk.new.line.items in
           let P : List ℕ → Type 0 = λ x. HasCome (record first { text = x }) reading
           (lines_from [] ((read ++ chunk) ++ left)) line left e in
@@ -50,7 +54,7 @@ reading-preserved g c =
           (lines_from [] bs) line left e in
           subst P (append_assoc first.text more text)
           (subst Q (sym (append_assoc read chunk left))
-          (still_comes e c.write_output.ensures.keeps c.write_output.ensures.out
+          (still_comes mid s c.write_output.ensures.out
           (c.in_ok-explain_chunk-in-Ok.ensures.explained (out_with first more) reading
           (lines_from [] (read ++ (chunk ++ left))) left
           (comes first reading fresh begins start blank (chunk ++ left))))),

@@ -6,8 +6,8 @@ use Rattle.trace_explain.specs.declared.read.trace_line.TraceLine.TheVariants as
 use Rattle.trace_explain.specs.Explained.{standing_of}
 use Rattle.trace_explain.specs.Lines.{Says, TakesCharacters}
 use Rattle.trace_explain.specs.Openings.{unopened}
-use Rattle.trace_explain.proofs.AccountLemmas.{boxes_stay}
-use Rattle.trace_explain.proofs.ExplainedLemmas.{as_line, explains_from, explains_nothing, keeps_explained, keeps_standing, line_refused, line_stops, read_on_hears}
+use Rattle.trace_explain.proofs.AccountLemmas.{boxes_from, boxes_stay}
+use Rattle.trace_explain.proofs.ExplainedLemmas.{as_line, explains_from, explains_nothing, line_refused, line_stops, read_on_hears}
 use Rattle.trace_explain.proofs.explainer.Explainer.line_of_characters.Goals as goal
 
 pub returns-in-Ok-Characters-clause-explained : goal.returns-in-Ok-Characters-clause-explained
@@ -25,7 +25,7 @@ returns-in-Ok-Characters-clause-explained c = λ events before h.
     let R : Reading → Type 0 = λ r. TakesCharacters source events
     (record (standing_of old) { reading = r }) bytes.items more at in
     subst R c.with-self.ensures (subst Q c.as_slice.ensures.value takes))
-    boxes_stay
+    (boxes_from c.pass.ensures boxes_stay)
     (c.characters.ensures.explained events before (
       h.0,
       (
@@ -75,10 +75,8 @@ returns-in_ok-note-in-Ok-Note-clause-explained c = λ events before h.
         subst P c.in-Ok-Note.field-0-is c.in-Ok-Note.ensures.says,
         (refl, refl),
       ),
-      explains_nothing events before (standing_of old) old c.note.new.self
-          (keeps_explained events before _ c.note.new.self c.note.ensures.keeps h)
-          (keeps_standing _ c.note.new.self c.note.ensures.keeps)
-          c.in_ok-note-in-Ok-Note.ensures.boxes,
+      explains_nothing events before (standing_of old) old _ h refl
+          (boxes_from c.pass.ensures c.in_ok-note-in-Ok-Note.ensures),
     )
 
 pub returns-in-Err-clause-stops : goal.returns-in-Err-clause-stops
@@ -96,6 +94,6 @@ returns-in_ok-reset-in-Ok-Reset-clause-explained c = λ events before h.
       at,
       (said.Reset, subst P c.in-Ok-Reset.field-0-is c.in-Ok-Reset.ensures.says, (refl, refl)),
       explains_from (Reset ∷ []) at events before old _ c.reset.new.self
-          boxes_stay
+          (boxes_from c.pass.ensures boxes_stay)
           (c.in_ok-reset-in-Ok-Reset.ensures.explained events before h),
     )

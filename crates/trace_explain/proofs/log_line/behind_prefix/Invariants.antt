@@ -1,7 +1,0 @@
-use Rattle.std.proofs.Common.{◌≡◌, drop}
-use Rattle.trace_explain.specs.LogLines.{behind_prefix}
-use Rattle.trace_explain.proofs.log_line.behind_prefix.Given as goal
-
--- nothing else stands before here
-abbrev pub invariant-loop-place : goal.invariant-loop-place
-invariant-loop-place l = behind_prefix l.line ≡ behind_prefix (drop l.place l.line)

@@ -1,7 +1,0 @@
-use Rattle.std.proofs.Common.{◌≡◌, ◌+◌, drop}
-use Rattle.trace_explain.specs.Times.{place_of}
-use Rattle.trace_explain.proofs.time.place_of.Given as goal
-
--- it does not stand before here
-abbrev pub invariant-loop-place : goal.invariant-loop-place
-invariant-loop-place l = place_of l.byte l.line ≡ l.place + place_of l.byte (drop l.place l.line)

@@ -1,0 +1,423 @@
+//! Tells what comes of a trace: the boxes of TPDUs in turn, the words between them, and the counts.
+
+ghost use Rattle.std.specs.Prelude.{◌≡◌, ◌∷◌, ◌++◌, List, [], false, not, IfOk, OnOk};
+ghost use Rattle.std.specs.String.{string_bytes};
+ghost use Rattle.t0_core.specs.History.{Event, Reset};
+ghost use Rattle.trace_explain.specs.Account.{AddsBox, AddsBoxes, StaysWritten, account_of};
+ghost use Rattle.trace_explain.specs.Boxes.{HasAsker};
+ghost use Rattle.trace_explain.specs.Explained.{Hears};
+ghost use Rattle.trace_explain.specs.Noted.{HasNoted, ended_by};
+ghost use Rattle.trace_explain.specs.Openings.{is_dialogue, opening_of, opens, role_of, unopened};
+ghost use Rattle.trace_explain.specs.Told.{Told, told_by};
+
+use crate::describe::clock::Clock;
+use crate::describe::complaint::Complaint;
+use crate::describe::mask::Mask;
+use crate::follow::exchange::{BadExchange, commanded, exchanged};
+use crate::follow::links::Links;
+use crate::follow::listener::Listener;
+use crate::follow::opening::Role;
+use crate::follow::preface::Preface;
+use crate::follow::refusal::Refusal;
+use crate::follow::story::Story;
+use crate::follow::tpdu::Tpdu;
+use crate::read::log::Logged;
+use crate::write::complaint_box::{tell_bad_exchange, tell_complaint};
+use crate::write::counts::Counts;
+use crate::write::kept::{Keeping, Kept};
+use crate::write::layout::Layout;
+use crate::write::notes::{tell_bytes, tell_note};
+use crate::write::output::Output;
+use crate::write::preface_box::{tell_after, tell_before, tell_part};
+use crate::write::tpdu_box::tell_box;
+use std::alloc::{AllocError, Global};
+use t0_core::End;
+
+/// What is told of a trace: what is written, or kept, and what links and counts its TPDUs.
+#[derive(Drop)]
+pub struct Teller {
+    alloc: Global,
+    /// What is not shown.
+    pub mask: Mask,
+    /// The line of which is told.
+    line: u64,
+    /// The line in which the TPDU under way began.
+    began: u64,
+    /// The last line of which characters that are of no TPDU and no part were told.
+    strays: u64,
+    /// Whether an answer to reset, a line `reset` or a whole TPDU has come.
+    pub is_led: bool,
+    story: Story,
+    /// The times of the lines.
+    clock: Clock,
+    /// The first command of a log that is told as no TPDU: its line, and why.
+    pub first_bad: Option<(u64, BadExchange)>,
+    /// What is counted.
+    pub counts: Counts,
+    /// The TPDUs that a comparison keeps.
+    pub keeping: Keeping,
+    /// What is written.
+    pub output: Output,
+}
+
+impl Teller {
+    /// Nothing has been told.
+    pub fn new(alloc: Global, layout: Layout, mask: Mask) -> Teller
+        ensures writes { result.keeping.is_on ≡ false }
+        ensures mask { result.mask ≡ mask }
+        ensures number { result.story.number ≡ 0 }
+        ensures layout { result.output.sheet.layout ≡ layout }
+        ensures text { string_bytes result.output.sheet.text ≡ [] }
+    {
+        let mut output = Output::new(alloc, layout);
+        output.page.begin();
+        Teller {
+            alloc,
+            mask,
+            line: 0,
+            began: 0,
+            strays: 0,
+            is_led: false,
+            story: Story::new(alloc),
+            clock: Clock::new(alloc),
+            first_bad: None,
+            counts: Counts::new(alloc),
+            keeping: Keeping {
+                is_on: false,
+                all: Vec::new(alloc),
+            },
+            output,
+        }
+    }
+
+    /// The next line is this one, and has this time, which is empty if it has none.
+    pub fn pass(&mut self, line: u64, time: &[u8]) -> Result<(), AllocError>
+        ensures { StaysWritten self.old self.new }
+    {
+        self.line = line;
+        self.clock.pass(time)
+    }
+
+    /// Takes a character of this line, with which `rest` of it begins, if it is of an opening, and
+    /// tells of the parts that end; it answers whether it is none of the dialogue.
+    pub fn open(
+        &mut self,
+        preface: &mut Preface,
+        from: End,
+        byte: u8,
+        rest: &[u8],
+    ) -> Result<bool, AllocError>
+        ensures opens { OnOk result (opening_of preface.new ≡ opens (opening_of preface.old)
+            (role_of (opening_of preface.old) from byte) byte) }
+        ensures dialogue { IfOk result (λ is_of.
+            is_dialogue (role_of (opening_of preface.old) from byte) ≡ not is_of) }
+        ensures boxes { OnOk result (AddsBoxes [] self.old self.new) }
+    {
+        let role = preface.role_of(from, byte);
+        self.tell_before(role, preface, rest);
+        preface.take(role, byte, self.line)?;
+        if role.is_dialogue() {
+            return Ok(false);
+        }
+        self.is_led = true;
+        tell_after(role, preface, &self.mask, &mut self.output.page);
+        self.output.outcome()?;
+        Ok(true)
+    }
+
+    /// Notes the time, and tells what comes before a character that is this.
+    fn tell_before(&mut self, role: Role, preface: &Preface, rest: &[u8])
+        ensures { StaysWritten self.old self.new }
+    {
+        self.clock.hear();
+        tell_before(role, preface, &self.mask, &mut self.output.page);
+        if role.is_stray() && self.strays != self.line {
+            self.strays = self.line;
+            let what = "before a header, from the card:\n";
+            tell_bytes(what, rest, &self.mask, &mut self.output.page);
+        }
+    }
+
+    /// Takes the first character behind a reset of which no line says, as `open` takes it.
+    pub fn answer_again(
+        &mut self,
+        preface: &mut Preface,
+        from: End,
+        byte: u8,
+        rest: &[u8],
+    ) -> Result<bool, AllocError>
+        ensures opened { OnOk result
+            (opening_of preface.new ≡ opens unopened (role_of unopened from byte) byte) }
+        ensures boxes { OnOk result (AddsBoxes [] self.old self.new) }
+    {
+        self.tell_reset("reset, though no line says so, as the card answers");
+        preface.reset();
+        self.open(preface, from, byte, rest)
+    }
+
+    /// Tells of a reset, and of the chain that it drops.
+    fn tell_reset(&mut self, words: &str)
+        ensures { StaysWritten self.old self.new }
+    {
+        let dropped = if self.story.reset() {
+            ": the chain is dropped"
+        } else {
+            ""
+        };
+        writeln!(self.output.page.lines, "{words}{dropped}");
+        self.output.page.note();
+    }
+
+    /// Hears a character of the dialogue in this line, and tells of the TPDU that ends with it or
+    /// before it; it answers whether a dialogue goes on with it.
+    pub fn hear(&mut self, listener: &mut Listener, from: End, byte: u8) -> Result<bool, AllocError>
+        ensures { (events : List Event) (before : List Told) →
+            HasNoted events before listener.old → IfOk result (λ goes_on.
+            Hears goes_on from byte events before listener.old listener.new self.old self.new) }
+    {
+        self.begin_if(from == End::Terminal && listener.under_way().is_empty());
+        match listener.hear(from, byte) {
+            Ok(None) => Ok(true),
+            Ok(Some(tpdu)) => {
+                self.tell_whole(&tpdu, !listener.under_way().is_empty())?;
+                Ok(true)
+            }
+            Err(Refusal::NoDialogue(_)) => Ok(false),
+            Err(Refusal::OutOfMemory) => Err(AllocError),
+        }
+    }
+
+    /// Notes that a TPDU begins in the line, if one does.
+    pub fn begin_if(&mut self, begins: bool)
+        ensures { StaysWritten self.old self.new }
+    {
+        if begins {
+            self.began = self.line;
+            self.clock.begin();
+        }
+    }
+
+    /// Tells of a TPDU that has ended, and notes whether the next has begun in this line.
+    fn tell_whole(&mut self, tpdu: &Tpdu, begins: bool) -> Result<(), AllocError>
+        ensures { OnOk result (AddsBoxes (told_by tpdu.now ∷ []) self.old self.new) }
+    {
+        self.tell_one(tpdu)?;
+        self.is_led = true;
+        self.begin_if(begins);
+        self.output.outcome()
+    }
+
+    /// Tells of a TPDU, which is counted, and what it is among those before it.
+    fn tell_one(&mut self, tpdu: &Tpdu) -> Result<(), AllocError>
+        ensures { OnOk result (AddsBoxes (told_by tpdu.now ∷ []) self.old self.new) }
+    {
+        self.counts.take(tpdu)?;
+        let links = self.story.tell(tpdu)?;
+        self.tell(tpdu, links)
+    }
+
+    /// Tells of a TPDU, or keeps it with its box.
+    fn tell(&mut self, tpdu: &Tpdu, links: Links) -> Result<(), AllocError>
+        requires asker { HasAsker tpdu.now.header.items links }
+        ensures { OnOk result (AddsBox links.number self.old.began (told_by tpdu.now)
+            (account_of self.old) (account_of self.new)) }
+    {
+        if self.keeping.is_on {
+            let kept = self.kept_of(
+                tpdu,
+                links,
+                Output::new(self.alloc, self.output.sheet.layout()),
+            )?;
+            return self.keeping.all.push(kept).map_err(AllocError::from);
+        }
+        let began = self.began;
+        tell_box(
+            tpdu,
+            links,
+            began,
+            &self.clock,
+            &self.story,
+            &self.mask,
+            &mut self.output,
+        );
+        Ok(())
+    }
+
+    /// A TPDU with what is told of it as the only thing that is written.
+    fn kept_of(&self, tpdu: &Tpdu, links: Links, empty: Output) -> Result<Kept, AllocError>
+        requires asker { HasAsker tpdu.now.header.items links }
+    {
+        let mut output = empty;
+        tell_box(
+            tpdu,
+            links,
+            self.began,
+            &self.clock,
+            &self.story,
+            &self.mask,
+            &mut output,
+        );
+        let text = output.into_text()?;
+        let tpdu = tpdu.copied()?;
+        Ok(Kept { tpdu, text })
+    }
+
+    /// Tells what was under way, if anything was, and drops it.
+    fn cut_off(&mut self, listener: &mut Listener) -> Result<(), AllocError>
+        ensures noted { (events : List Event) (before : List Told) →
+            HasNoted events before listener.old → HasNoted (events ++ Reset ∷ [])
+            (before ++ ended_by (told_by listener.old.under_way)) listener.new }
+        ensures shown { OnOk result
+            (AddsBoxes (ended_by (told_by listener.old.under_way)) self.old self.new) }
+    {
+        let part = listener.reset();
+        if part.is_empty() {
+            return Ok(());
+        }
+        self.tell_one(&part)
+    }
+
+    /// Tells of a reset, with what it cuts off.
+    pub fn reset(
+        &mut self,
+        preface: &mut Preface,
+        listener: &mut Listener,
+    ) -> Result<(), AllocError>
+        ensures opened { opening_of preface.new ≡ unopened }
+        ensures noted { (events : List Event) (before : List Told) →
+            HasNoted events before listener.old → HasNoted (events ++ Reset ∷ [])
+            (before ++ ended_by (told_by listener.old.under_way)) listener.new }
+        ensures shown { OnOk result
+            (AddsBoxes (ended_by (told_by listener.old.under_way)) self.old self.new) }
+    {
+        self.is_led = true;
+        self.tell_part(preface);
+        preface.reset();
+        self.cut_off(listener)?;
+        self.tell_reset("reset");
+        self.output.outcome()
+    }
+
+    /// Tells the part of an opening that is under way.
+    fn tell_part(&mut self, preface: &Preface)
+        ensures { StaysWritten self.old self.new }
+    {
+        let stage = preface.stage();
+        tell_part(stage, preface, &self.mask, &mut self.output.page);
+    }
+
+    /// Tells of a character with which no dialogue goes on, behind what it cuts off.
+    pub fn complain(
+        &mut self,
+        complaint: Complaint,
+        listener: &mut Listener,
+    ) -> Result<(), AllocError> {
+        self.cut_off(listener)?;
+        self.story.lose_some();
+        self.counts.complain(complaint.line)?;
+        let number = self.counts.complaints();
+        tell_complaint(number, complaint, &mut self.output.page);
+        self.output.outcome()
+    }
+
+    /// Tells a line that is none of characters.
+    pub fn note(&mut self, note: &[u8]) -> Result<(), AllocError>
+        ensures { OnOk result (AddsBoxes [] self.old self.new) }
+    {
+        tell_note(note, &self.mask, &mut self.output.page);
+        self.output.outcome()
+    }
+
+    /// Tells what came of this line of a log, or of its end.
+    pub fn tell_logged(&mut self, logged: &[Logged], line: &[u8]) -> Result<(), AllocError> {
+        for one in logged {
+            match one {
+                Logged::Exchange(command, answer) => {
+                    self.clock.hear();
+                    self.exchange(command.as_slice(), Some(answer.as_slice()))?;
+                }
+                Logged::Unanswered(command) => self.exchange(command.as_slice(), None)?,
+                other => self.tell_other(other, line),
+            }
+        }
+        self.output.outcome()
+    }
+
+    /// Tells one thing that came of a line of a log, and is no command with its answer.
+    fn tell_other(&mut self, one: &Logged, line: &[u8]) {
+        match one {
+            Logged::Begins => {
+                self.clock.hear();
+                self.begin_if(true);
+            }
+            Logged::Stray(bytes) => {
+                self.story.lose_some();
+                self.tell_bytes("before a command, from the card:\n", bytes.as_slice());
+            }
+            Logged::Part(End::Terminal, bytes) => {
+                self.tell_bytes("a part of a command:\n", bytes.as_slice());
+            }
+            Logged::Part(End::Card, bytes) => {
+                self.tell_bytes("a part of an answer:\n", bytes.as_slice());
+            }
+            Logged::Reset => self.tell_reset("reset"),
+            Logged::Note => tell_note(line, &self.mask, &mut self.output.page),
+            _ => {}
+        }
+    }
+
+    /// Tells bytes that are of no TPDU, behind what they are.
+    fn tell_bytes(&mut self, what: &str, bytes: &[u8]) {
+        tell_bytes(what, bytes, &self.mask, &mut self.output.page);
+    }
+
+    /// Tells a command with its answer, or without one: as a TPDU, or why it is none that it reads.
+    fn exchange(&mut self, command: &[u8], answer: Option<&[u8]>) -> Result<(), AllocError> {
+        let outcome = match answer {
+            Some(bytes) => exchanged(self.alloc, command, bytes),
+            None => commanded(self.alloc, command),
+        };
+        match outcome {
+            Ok(tpdu) => self.tell_exchange(&tpdu, answer.is_some()),
+            Err(BadExchange::OutOfMemory) => Err(AllocError),
+            Err(why) => self.tell_bad(why, command, answer),
+        }
+    }
+
+    /// Tells of a TPDU of a log, and whether the log has its answer.
+    fn tell_exchange(&mut self, tpdu: &Tpdu, is_answered: bool) -> Result<(), AllocError> {
+        self.tell_one(tpdu)?;
+        if !is_answered {
+            self.story.lose_some();
+        }
+        Ok(())
+    }
+
+    /// Tells a command with its answer, or without one, that are no TPDU for this reason.
+    fn tell_bad(
+        &mut self,
+        why: BadExchange,
+        command: &[u8],
+        answer: Option<&[u8]>,
+    ) -> Result<(), AllocError> {
+        self.story.lose_some();
+        self.counts.complain(self.began)?;
+        self.first_bad = Some(self.first_bad.unwrap_or((self.began, why)));
+        let number = self.counts.complaints();
+        let (mask, page) = (&self.mask, &mut self.output.page);
+        tell_bad_exchange(number, self.began, why, command, answer, mask, page);
+        Ok(())
+    }
+
+    /// Tells what is under way where the trace ends, and the last block.
+    pub fn end(&mut self, preface: &Preface, listener: &mut Listener) -> Result<(), AllocError>
+        ensures { OnOk result
+            (AddsBoxes (ended_by (told_by listener.old.under_way)) self.old self.new) }
+    {
+        self.tell_part(preface);
+        self.cut_off(listener)?;
+        self.counts.tell(&self.clock, &mut self.output.page);
+        self.output.page.end();
+        self.output.outcome()
+    }
+}

@@ -1,5 +1,5 @@
 -- Boxes added behind others.
-use Rattle.std.proofs.Common.{◌≡◌, ℕ, List, [], ◌∷◌, ◌++◌, ◌∙◌, ap, append-nil, append_assoc, Bool, true, false, if◌then◌else◌, Option, Some, None, Result, Ok, Err, IfErr, length, ◌==◌, refl, subst, sym}
+use Rattle.std.proofs.Common.{◌≡◌, ℕ, List, [], ◌∷◌, ◌++◌, ◌∙◌, ap, append-nil, append_assoc, Bool, true, false, if◌then◌else◌, Option, Result, Ok, Err, IfErr, length, ◌==◌, refl, subst, sym}
 use Rattle.std.proofs.lemmas.List.{map-append}
 use Rattle.std.specs.Result.{is_err}
 use Rattle.std.proofs.KnownBytes.{Appends-trans}
@@ -188,7 +188,8 @@ written_more front ts us a b hears h k = record {
       let P : List ℕ → Type 0 = λ x. ShowsTold front.layout.medium front.mask 0 (ts ++ us) x m in
       let Q : Layout → Type 0 = λ l. ShowsTold l.medium a.teller.mask n us next.more m in
       let R : Mask → Type 0 = λ v. ShowsTold front.layout.medium v n us next.more m in
-      subst P (append_assoc front.text text next.more ∙ ap (λ x. front.text ++ x) (sym next.text_is))
+      subst P (append_assoc front.text text next.more
+      ∙ ap (λ x. front.text ++ x) (sym next.text_is))
       (shows_both front.layout.medium front.mask 0 n m ts us (front.text ++ text) next.more first
       (subst R h.mask (subst Q h.layout next.shows)));
 }
@@ -228,12 +229,12 @@ writes_told front told l layout mask old mid new a b keeps layout_is mask_is fir
     (reads ∙ h.hears) h (adds h.hears) in
     let shows = last.shows keeps (ap (λ (x : Layout). x.is_summary) layout_is ∙ all) whole in
     let text : List ℕ = front.text ++ string_bytes b.teller.output.sheet.text in
-    let P : Listener → Type 0 = λ x. ShowsTold front.layout.medium front.mask 0 (ends x) text
-    b.teller.story.number in
-    let Q : Layout → Type 0 = λ x. ShowsTold x.medium front.mask 0 (ends l) text b.teller.story.number in
-    let R : Mask → Type 0 = λ v. ShowsTold layout.medium v 0 (ends l) text b.teller.story.number in (
+    let n : ℕ = b.teller.story.number in
+    let P : Listener → Type 0 = λ x. ShowsTold front.layout.medium front.mask 0 (ends x) text n in
+    let Q : Layout → Type 0 = λ x. ShowsTold x.medium front.mask 0 (ends l) text n in
+    let R : Mask → Type 0 = λ v. ShowsTold layout.medium v 0 (ends l) text n in (
       text,
-      b.teller.story.number,
+      n,
       Appends-trans old mid new front.text (string_bytes b.teller.output.sheet.text) first next,
       subst R mask_is (subst Q layout_is (subst P (sym same) shows)),
     )

@@ -30,11 +30,6 @@ pub on_ok_too : {T E : Type 0} (r : Result T E) (P Q : Type 0) → OnOk r P → 
 on_ok_too (Ok x) P Q h next = next h
 on_ok_too (Err e) P Q h next = tt
 
-pub on_ok_both : {T E : Type 0} (r : Result T E) (P Q R : Type 0) → OnOk r P → OnOk r Q
-    → (P → Q → R) → OnOk r R
-on_ok_both (Ok x) P Q R h k next = next h k
-on_ok_both (Err e) P Q R h k next = tt
-
 pub explains_nothing : (events : List Event) (before : List Told) (at : Standing)
     (old e : Explainer) → HasExplained events before e → standing_of e ≡ at
     → AddsBoxes [] old.teller e.teller → ExplainsMore [] at events before old e
@@ -146,7 +141,8 @@ pub taken_again : (from : End) (b : ℕ) (events : List Event) (before : List To
 taken_again from b events before old new mid begun begins empty none here reset plain at boxes =
     let t = told_by mid.under_way in
     let after = after_character (record (standing_of old) { opening = unopened }) from b in
-    let P : List Told → Type 0 = λ ts. HasNoted (events ++ Reset ∷ []) (before ++ ts) new.listener in (
+    let P : List Told → Type 0 = λ ts. HasNoted (events ++ Reset ∷ []) (before ++ ts)
+    new.listener in (
       Reset ∷ [],
       after,
       inr (record {

@@ -13,11 +13,10 @@ use crate::read::reading::Reading;
 use clap::Error;
 use clap::error::ErrorKind;
 use std::alloc::Global;
-use std::fmt;
 use std::fs::File;
-use std::io;
 use std::io::{Read, Write};
 use std::rt::Files;
+use std::{fmt, io};
 
 /// Runs the program on its words, of which the first is its name, and answers its exit status.
 ///

@@ -1,5 +1,5 @@
 //! Whose turn it is, where no sign says who sent a character.
-ghost use Rattle.std.specs.Prelude.{◌≡◌, get_or, length};
+ghost use Rattle.std.specs.Prelude.{◌≡◌, get_or};
 ghost use Rattle.trace_explain.specs.Told.{told_by};
 ghost use Rattle.trace_explain.specs.Turns.{between, card_if, data_at, sent, turn_before, turn_within, with_p3_00};
 

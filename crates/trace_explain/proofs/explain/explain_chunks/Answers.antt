@@ -1,4 +1,4 @@
-use Rattle.std.proofs.Common.{ℕ, List, [], ◌++◌, ◌∙◌, append_assoc, sym, subst, ◌≡◌, arith, length-append, length-take, take, IfSome}
+use Rattle.std.proofs.Common.{ℕ, List, [], ◌++◌, append_assoc, sym, subst, ◌≡◌, arith, length-append, length-take, take, IfSome}
 use Rattle.std.proofs.KnownBytes.{Appends-nil, Appends-trans, Consumes-nil, Consumes-trans}
 use Rattle.std.specs.Io.KnownBytes.{Appends}
 use Rattle.std.specs.String.{string_bytes}

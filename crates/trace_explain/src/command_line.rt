@@ -32,33 +32,22 @@ pub fn parsed<'a>(alloc: Global, words: &'a [String]) -> Result<Request<'a>, Err
     let matches = command(alloc)?.try_get_matches_from(words)?;
     let reading = reading(alloc, &matches)?;
     let mask = mask(alloc, &matches)?;
+    let medium = if matches.get_flag("html") {
+        Medium::Html
+    } else {
+        Medium::Text
+    };
+    let is_summary = matches.get_flag("summary");
     Ok(Request {
         mask,
         reading,
-        layout: layout(&matches),
+        layout: Layout { medium, is_summary },
         resumes: matches.get_flag("resume"),
-        compared: compared(&matches),
-    })
-}
-
-/// How the explanation is laid out.
-fn layout(matches: &ArgMatches<'_>) -> Layout {
-    Layout {
-        medium: if matches.get_flag("html") {
-            Medium::Html
-        } else {
-            Medium::Text
+        compared: match matches.get_strs("diff") {
+            Some([a, b]) => Some((*a, *b)),
+            _ => None,
         },
-        is_summary: matches.get_flag("summary"),
-    }
-}
-
-/// The files of two traces that are compared, if any are.
-fn compared<'a>(matches: &ArgMatches<'a>) -> Option<(&'a str, &'a str)> {
-    match matches.get_strs("diff") {
-        Some([a, b]) => Some((*a, *b)),
-        _ => None,
-    }
+    })
 }
 
 /// How the lines of the trace are read; the error says what is wrong with the ways of instructions.

@@ -97,8 +97,8 @@ fn compare<R: Read, S: Read>(
                 }
             }
         }
-        a.pass();
-        b.pass();
+        a.passed = a.passed.saturating_add(1);
+        b.passed = b.passed.saturating_add(1);
     }
     Ok(true)
 }
@@ -195,11 +195,6 @@ impl<'r, R: Read> Trace<'r, R> {
     /// The TPDUs that are kept.
     fn kept(&self) -> &[Kept] {
         self.explainer.teller.keeping.all.as_slice()
-    }
-
-    /// Passes the next TPDU.
-    fn pass(&mut self) {
-        self.passed = self.passed.saturating_add(1);
     }
 
     /// Reads a chunk more, and keeps its TPDUs.

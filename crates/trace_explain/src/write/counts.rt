@@ -97,8 +97,11 @@ impl Counts {
     /// that a capture of several days is told right.
     pub fn tell(&self, clock: &Clock, page: &mut Page) {
         page.open_block("summary");
-        self.push_tpdus(&mut page.lines);
-        page.row(Side::Told, "TPDUs");
+        write!(page.lines, "{}", self.tpdus);
+        if self.cut_off > 0 {
+            write!(page.lines, " (cut off: {})", self.cut_off);
+        }
+        page.told("TPDUs", "\n");
         self.push_commands(&mut page.lines);
         page.row(Side::Told, "commands");
         self.push_statuses(&mut page.lines);
@@ -110,15 +113,6 @@ impl Counts {
         page.complaint_links(self.complaint_lines.as_slice(), self.complaints);
         page.status_links(self.first_unwell.as_slice(), self.unwell);
         page.close_block();
-    }
-
-    /// Adds how many TPDUs came, and how many of them were cut off, if any was.
-    fn push_tpdus(&self, text: &mut Sheet) {
-        write!(text, "{}", self.tpdus);
-        if self.cut_off > 0 {
-            write!(text, " (cut off: {})", self.cut_off);
-        }
-        text.push('\n');
     }
 
     /// Adds a line for each command: those with a name, by their names; the others, by INS; and

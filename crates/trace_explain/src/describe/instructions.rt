@@ -3,13 +3,11 @@
 ghost use Rattle.std.specs.Prelude.{◌≡◌};
 ghost use Rattle.trace_explain.specs.Secrets.{is_secret};
 
+use crate::follow::response::SIM_CLASS;
 use apdu_core::Header;
 
 /// Bit 8 of CLA: a class that ISO/IEC 7816-4 leaves to others.
 const PROPRIETARY: u8 = 0x80;
-
-/// The class of a SIM card.
-pub const SIM_CLASS: u8 = 0xA0;
 
 /// What P1 and P2 of a command say (ISO/IEC 7816-4, 7).
 #[derive(Clone, Copy)]

@@ -1,20 +1,11 @@
 //! What is said of a status word (ISO/IEC 7816-4, 5.1.3).
 
-use crate::describe::instructions::{SIM_CLASS, counts_tries};
+use crate::describe::instructions::counts_tries;
 use crate::describe::phrases::unit_of;
 use crate::describe::statuses::{of_first, of_sim, of_word};
+use crate::follow::response::{SIM_CLASS, waiting};
 use crate::write::sheet::Sheet;
-use apdu_core::{Header, Status, count};
-
-/// How many bytes of the response wait after this status of a command: `count(XX)` of `61XX`, and
-/// of `9FXX` in the class of a SIM card (3GPP TS 51.011, 9.4.1).
-pub fn waiting(header: Header, status: Status) -> Option<u16> {
-    match status.sw1() {
-        0x61 => Some(count(status.sw2())),
-        0x9F if header.cla == SIM_CLASS => Some(count(status.sw2())),
-        _ => None,
-    }
-}
+use apdu_core::{Header, Status};
 
 /// Whether a command went well, or asks for one more: also `91XX` and `920X` of a SIM card.
 pub fn is_well(header: Header, status: Status) -> bool {

@@ -1,6 +1,5 @@
 //! A response that comes in parts (ISO/IEC 7816-3, clause 12).
 
-use crate::describe::meaning::waiting;
 use crate::follow::links::Link;
 use apdu_core::{Header, Status, count};
 use std::alloc::{AllocError, Global};
@@ -8,6 +7,19 @@ use std::alloc::{AllocError, Global};
 /// The least bytes of a response that is not told as a whole (this project's profile): a hostile
 /// trace can't make the program hold more.
 pub const UNTOLD_SIZE: usize = 65_536;
+
+/// The class of a SIM card.
+pub const SIM_CLASS: u8 = 0xA0;
+
+/// How many bytes of the response wait after this status of a command: `count(XX)` of `61XX`, and
+/// of `9FXX` in the class of a SIM card (3GPP TS 51.011, 9.4.1).
+pub fn waiting(header: Header, status: Status) -> Option<u16> {
+    match status.sw1() {
+        0x61 => Some(count(status.sw2())),
+        0x9F if header.cla == SIM_CLASS => Some(count(status.sw2())),
+        _ => None,
+    }
+}
 
 /// What the last status asks of the terminal.
 #[derive(Clone, Copy)]

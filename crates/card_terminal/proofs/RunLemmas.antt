@@ -1,5 +1,5 @@
 -- Operations with a card of data objects: no line fault comes, and talks come one after another.
-use Rattle.std.proofs.Common.{IfOk, OnErr, Result, Ok, Err, IsOk, MatchResult, ◌≡◌, ◌≢◌, ℕ, ◌+◌, ◌-◌, ◌<◌, ◌≤◌, List, [], ◌∷◌, ◌++◌, length, take, drop, ◌⊎◌, inl, inr, refl, sym, ap, subst, ◌∙◌, arith, Option, Some, None, IfSome, Bool, true, false, ◌==◌, if◌then◌else◌, length-append, append-nil}
+use Rattle.std.proofs.Common.{Result, Ok, Err, IsOk, MatchResult, ◌≡◌, ◌≢◌, ℕ, ◌+◌, ◌-◌, ◌<◌, ◌≤◌, List, [], ◌∷◌, ◌++◌, length, take, drop, ◌⊎◌, inl, inr, refl, sym, ap, subst, ◌∙◌, arith, Option, Some, None, IfSome, Bool, true, false, ◌==◌, if◌then◌else◌, length-append, append-nil}
 use Rattle.std.specs.List.{flat_map}
 use Rattle.apdu_core.specs.StatusWord.{StatusWord, count, ok}
 use Rattle.apdu_core.specs.CommandBytes.{Command}
@@ -34,7 +34,6 @@ use Rattle.card_terminal.specs.Running.{new_answers, carried_out}
 use Rattle.card_terminal.specs.RunLaws.{HaveReplies, no_replies, one_more_reply, replies_come}
 use Rattle.card_terminal.proofs.FetchLemmas.{Goes, goes_by_runs, goes_sound}
 use Rattle.card_terminal.proofs.ComesToLemmas.{over_turn}
-use Rattle.card_terminal.proofs.SessionLemmas.{some_is}
 use Rattle.card_terminal.proofs.GoneLemmas.{gone_both}
 use Rattle.card_terminal.proofs.BoundLemmas.{so_far_brings, never_stalls}
 use Rattle.card_terminal.proofs.TalkLemmas.{own_talk_answers}
@@ -340,15 +339,6 @@ pub gone_from : {State : Type 0} (Does : State → ℕ → Tpdu → State → Ty
     → HaveGone Does was ds to
 gone_from Does from was to ds is gone = subst (λ p. HaveGone Does p ds to) is gone
 
--- the answer of an exchange that is over
-pub told : (c : Command) (ex : ExchangeOf) (units : List UnitOf) (status : StatusWord)
-    (given : Option Reply) (answer : Reply) → IsOver c ex units status
-    → ((s : StatusWord) → exchange_turn ex ≡ Done s
-    → given ≡ Some (record { status = s; content = ex.gather.bytes }))
-    → given ≡ Some answer → answer ≡ record { status = status; content = ex.gather.bytes }
-told c ex units status given answer over done is = some_is given answer _ is
-    (done status (over_turn c ex units status over))
-
 pub as_left : {State : Type 0} (Does : State → ℕ → Tpdu → State → Type 0)
     (from to : Point State) (commands left others : List Command) (ex : ExchangeOf)
     (status : StatusWord) → left ≡ others → HaveBeen Does from commands left ex status to
@@ -376,16 +366,15 @@ Sent Does from to c answer =
     (units : List UnitOf) × Gathers c units answer.content answer.status
     × HaveGone Does from (flat_map dialogues_of units) to
 
-pub sent_alone : {State E : Type 0} (Does : State → ℕ → Tpdu → State → Type 0)
-    (from to : Point State) (c : Command) (r : Result Reply E)
-    → IfOk r (Sent Does from to c) → IfOk r (Answered Does from to (c ∷ []))
-sent_alone Does from to c (Ok answer) (units, gathers, gone) = (
+pub sent_alone : {State : Type 0} (Does : State → ℕ → Tpdu → State → Type 0)
+    (from to : Point State) (c : Command) (r : Reply) → Sent Does from to c r
+    → Answered Does from to (c ∷ []) r
+sent_alone Does from to c r (units, gathers, gone) = (
   units ∷ [],
   (gathers, inl refl),
   gone_as Does from to (flat_map dialogues_of units) (talk_dialogues (units ∷ []))
       (sym (one_more_exchange [] units)) gone,
 )
-sent_alone Does from to c (Err e) sent = tt
 
 -- or of an operation
 abbrev pub Talked : {State : Type 0} → (State → ℕ → Tpdu → State → Type 0) → Point State
@@ -395,18 +384,16 @@ Talked Does from to operation answer =
     × HaveGone Does from (talk_dialogues exchanges) to
 
 -- the exchanges of its commands are a talk of the operation
-pub talked : {State E : Type 0} (Does : State → ℕ → Tpdu → State → Type 0)
-    (from to : Point State) (commands : List Command) (operation : Operation)
-    (r : Result Reply E) → AreCommandsOf operation commands
-    → IfOk r (Answered Does from to commands) → IfOk r (Talked Does from to operation)
-talked Does from to commands operation (Ok answer) are gone =
-    (gone.0, (commands, are, gone.1), gone.2)
-talked Does from to commands operation (Err e) are gone = tt
+pub talked : {State : Type 0} (Does : State → ℕ → Tpdu → State → Type 0)
+    (from to : Point State) (commands : List Command) (operation : Operation) (r : Reply)
+    → AreCommandsOf operation commands → Answered Does from to commands r
+    → Talked Does from to operation r
+talked Does from to commands operation r are gone = (gone.0, (commands, are, gone.1), gone.2)
 
-pub talked_as : {State E : Type 0} (Does : State → ℕ → Tpdu → State → Type 0)
-    (from to : Point State) (a b : Operation) (r : Result Reply E) → a ≡ b
-    → IfOk r (Talked Does from to a) → IfOk r (Talked Does from to b)
-talked_as Does from to a b r is talk = subst (λ o. IfOk r (Talked Does from to o)) is talk
+pub talked_as : {State : Type 0} (Does : State → ℕ → Tpdu → State → Type 0)
+    (from to : Point State) (a b : Operation) (r : Reply) → a ≡ b → Talked Does from to a r
+    → Talked Does from to b r
+talked_as Does from to a b r is talk = subst (λ o. Talked Does from to o r) is talk
 
 -- ---- one operation
 
@@ -433,44 +420,30 @@ IsHeard Does from operations replies to = (line : List Character)
     × Talk Does from.standing from.plans operations replies to.standing to.plans line
     × Hears from.hearing line to.hearing
 
-pub is_heard : {State E : Type 0} (Does : State → ℕ → Tpdu → State → Type 0)
-    (from to : Point State) (o : Operation) (r : Result Reply E)
-    → IfOk r (Talked Does from to o) → IfOk r (λ x. IsHeard Does from (o ∷ []) (x ∷ []) to)
-is_heard Does from to o (Ok answer) talked = (
+pub is_heard : {State : Type 0} (Does : State → ℕ → Tpdu → State → Type 0)
+    (from to : Point State) (o : Operation) (r : Reply) → Talked Does from to o r
+    → IsHeard Does from (o ∷ []) (r ∷ []) to
+is_heard Does from to o r talked = (
   flat_map characters (talk_dialogues talked.0),
-  one_talk Does from to o answer talked,
+  one_talk Does from to o r talked,
   talked.2.hears,
 )
-is_heard Does from to o (Err e) talked = tt
 
 -- the answer is that of the card that answers in one step
-pub in_one_step : {State E : Type 0} (Own : State → ℕ → Tpdu → State → Type 0)
+pub in_one_step : {State : Type 0} (Own : State → ℕ → Tpdu → State → Type 0)
     (own_reset : State → State) (state_of : State → CardState)
     → StandsFor Own own_reset state_of → (from to : Point State) (old new : CardState)
-    → state_of from.standing ≡ old → state_of to.standing ≡ new → (o : Operation)
-    (r : Result Reply E) → IsCardState old → is_idle old.pending ≡ true
-    → IfOk r (Talked Own from to o)
-    → IfOk r (λ answer. AnswersAll old (o ∷ []) (answer ∷ []) new × (is_idle new.pending ≡ true))
+    → state_of from.standing ≡ old → state_of to.standing ≡ new → (o : Operation) (r : Reply)
+    → IsCardState old → is_idle old.pending ≡ true → Talked Own from to o r
+    → AnswersAll old (o ∷ []) (r ∷ []) new × (is_idle new.pending ≡ true)
 unfolding one_talk
-in_one_step Own own_reset state_of stands from to old new was is o (Ok answer) sound idle talked =
+in_one_step Own own_reset state_of stands from to old new was is o r sound idle talked =
     let ds = talk_dialogues talked.0 in
     let line = flat_map characters ds in
     let all = own_talk_answers Own own_reset state_of stands from.standing to.standing old new was
-    is (take (length ds) from.plans) [] (o ∷ []) (answer ∷ []) line sound idle talked.2.cuts
-    (talk_used Own from.standing to.standing from.plans to.plans (o ∷ []) (answer ∷ []) line
-    (one_talk Own from to o answer talked)) in (all.0, all.1)
-in_one_step Own own_reset state_of stands from to old new was is o (Err e) sound idle talked = tt
-
--- what holds either way
-pub on_both : {T E : Type 0} (r : Result T E) (P : T → Type 0) (Q R : Type 0)
-    → IfOk r (λ x. P x × R) → OnErr r Q → (Q → R) → R
-on_both (Ok x) P Q R both err f = both.1
-on_both (Err e) P Q R both err f = f err
-
-pub first_of_both : {T E : Type 0} (r : Result T E) (P Q : T → Type 0)
-    → IfOk r (λ x. P x × Q x) → IfOk r P
-first_of_both (Ok x) P Q both = both.0
-first_of_both (Err e) P Q both = tt
+    is (take (length ds) from.plans) [] (o ∷ []) (r ∷ []) line sound idle talked.2.cuts
+    (talk_used Own from.standing to.standing from.plans to.plans (o ∷ []) (r ∷ []) line
+    (one_talk Own from to o r talked)) in (all.0, all.1)
 
 -- ---- operations in turn
 

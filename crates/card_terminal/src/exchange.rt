@@ -144,7 +144,7 @@ impl<'a, A: Allocator> Exchange<'a, A> {
     }
 
     /// Begins the exchange of a command in an empty room.
-    fn begin(gather: Gather<A>, command: Command<'a>) -> Exchange<'a, A>
+    pub(crate) fn begin(gather: Gather<A>, command: Command<'a>) -> Exchange<'a, A>
         requires empty { gather.bytes ≡ [] }
         requires limit { gather.limit ≤ response_limit }
         ensures begins { UnderWay command.entry result [] None fresh }
@@ -319,6 +319,13 @@ impl<'a, A: Allocator> Exchange<'a, A> {
             Ok(()) => Ok(()),
             Err(_) => Err(AnswerFault::Stalled),
         }
+    }
+
+    /// The room, with what is gathered.
+    pub(crate) fn into_room(self) -> Gather<A>
+        ensures { result ≡ self.entry.gather }
+    {
+        self.gather
     }
 
     /// The answer, if the exchange is over.

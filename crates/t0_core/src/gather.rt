@@ -64,10 +64,11 @@ impl<A: Allocator> Gather<A> {
         bytes
     }
 
-    /// Drops the bytes, and keeps the room for others.
+    /// Drops the bytes, overwrites them with zeros, and keeps the room.
     pub fn clear(&mut self)
         ensures { self.new ≡ record { bytes = []; limit = self.old.limit } }
     {
+        self.bytes.fill(0);
         self.bytes.clear();
     }
 

@@ -20,13 +20,14 @@ use super::{Session, converse};
 use crate::answer::Answer;
 use crate::answers::Answers;
 use crate::commands::{get_command, put_header, select_command};
-use crate::exchange::Exchange;
+use crate::exchange::{Exchange, RESPONSE_LIMIT};
+use crate::held_answer::HeldAnswer;
 use crate::operation::Op;
 use crate::session_fault::SessionFault;
 use apdu_core::{Command, Pieces, Status, pieces};
 use object_card::DataCard;
 use std::alloc::{AllocError, Allocator};
-use t0_core::{HostTurn, Plans, Watch};
+use t0_core::{Gather, HostTurn, Plans, Watch};
 use tlv_core::ObjectTag;
 
 impl<C: DataCard> Session<C> {
@@ -108,9 +109,34 @@ impl<C: DataCard> Session<C> {
             × Hears (W.hearing watch.old) line (W.hearing watch.new)) }
         ensures idle { is_idle (C.state self.new).pending ≡ true }
     {
+        let room = Gather::with_room(alloc, RESPONSE_LIMIT)?;
+        Ok(self.operate_in(room, op, plans, watch).into_answer())
+    }
+
+    /// Carries out one operation, as `operate`, in room that was taken before: an empty one for
+    /// `RESPONSE_LIMIT` bytes, as an earlier answer gives back (`HeldAnswer::into_room`). It takes
+    /// no memory at the terminal.
+    pub fn operate_in<A: Allocator, B: Allocator, V: Allocator, W: Watch>(
+        &mut self,
+        room: Gather<A>,
+        op: &Op<V>,
+        plans: &mut Plans<B>,
+        watch: &mut W,
+    ) -> HeldAnswer<A>
+        requires idle { is_idle (C.state self.old).pending ≡ true }
+        requires empty { room.bytes ≡ [] }
+        requires limit { room.limit ≡ response_limit }
+        ensures one_step { AnswersAll (C.state self.old) (operation_of op.now ∷ []) (result ∷ [])
+            (C.state self.new) }
+        ensures talk { (line : List Character)
+            × Talk C.Does (C.standing self.old) plans.old.rest (operation_of op.now ∷ [])
+            (result ∷ []) (C.standing self.new) plans.new.rest line
+            × Hears (W.hearing watch.old) line (W.hearing watch.new) }
+        ensures idle { is_idle (C.state self.new).pending ≡ true }
+    {
         let idle = self.is_idle();
         prove!(idle);
-        self.carry_out(alloc, op, plans, watch)
+        self.carry_out(room, op, plans, watch)
     }
 
     /// Carries out a command that is agreed with the card, as `transmit` does. A card of data
@@ -132,88 +158,105 @@ impl<C: DataCard> Session<C> {
             (flat_map dialogues_of units)
             (point (C.standing self.new) plans.new.rest (W.hearing watch.new))) }
     {
-        let _is_sound = self.is_idle();
-        match self.transmit(alloc, command, plans, watch) {
-            Ok(answer) => Ok(answer),
-            Err(SessionFault::OutOfMemory) => Err(AllocError),
-            Err(SessionFault::Line(_)) => unreachable!(),
-        }
+        let room = Gather::with_room(alloc, RESPONSE_LIMIT)?;
+        Ok(self.send_in(room, command, plans, watch).into_answer())
     }
 
-    /// Carries out one operation by its commands. Its error is want of memory, and then nothing has
-    /// changed.
+    /// Carries out a command, as `send`, in room that was taken before, as `operate_in`.
+    pub fn send_in<A: Allocator, B: Allocator, W: Watch>(
+        &mut self,
+        room: Gather<A>,
+        command: Command,
+        plans: &mut Plans<B>,
+        watch: &mut W,
+    ) -> HeldAnswer<A>
+        requires agreed { IsAgreed C.MayReceive C.MaySend command }
+        requires empty { room.bytes ≡ [] }
+        requires limit { room.limit ≡ response_limit }
+        ensures { (units : List UnitOf)
+            × Gathers command.entry units result.content result.status
+            × HaveGone C.Does (point (C.standing self.old) plans.old.rest (W.hearing watch.old))
+            (flat_map dialogues_of units)
+            (point (C.standing self.new) plans.new.rest (W.hearing watch.new)) }
+    {
+        let _is_sound = self.is_idle();
+        let mut exchange = Exchange::begin(room, command);
+        let status = self.go_through(&mut exchange, plans, watch);
+        HeldAnswer::new(status, exchange.into_room())
+    }
+
+    /// Carries out one operation by its commands.
     fn carry_out<A: Allocator, B: Allocator, V: Allocator, W: Watch>(
         &mut self,
-        alloc: A,
+        room: Gather<A>,
         op: &Op<V>,
         plans: &mut Plans<B>,
         watch: &mut W,
-    ) -> Result<Answer<A>, AllocError>
-        requires { IsCardState (C.state self.old) }
-        ensures memory { OnErr result ((self.new ≡ self.old) × (plans.new ≡ plans.old)
-            × (W.hearing watch.new ≡ W.hearing watch.old)) }
-        ensures talk { IfOk result (λ answer. (exchanges : List (List UnitOf))
-            × IsTalkOf (operation_of op.now) exchanges answer
+    ) -> HeldAnswer<A>
+        requires sound { IsCardState (C.state self.old) }
+        requires empty { room.bytes ≡ [] }
+        requires limit { room.limit ≡ response_limit }
+        ensures { (exchanges : List (List UnitOf))
+            × IsTalkOf (operation_of op.now) exchanges result
             × HaveGone C.Does (point (C.standing self.old) plans.old.rest (W.hearing watch.old))
             (talk_dialogues exchanges)
-            (point (C.standing self.new) plans.new.rest (W.hearing watch.new))) }
+            (point (C.standing self.new) plans.new.rest (W.hearing watch.new)) }
     {
         match op {
-            Op::Select(aid) => self.send(alloc, select_command(aid), plans, watch),
-            Op::Get(tag) => self.send(alloc, get_command(*tag), plans, watch),
-            Op::Put(tag, value) => self.put(alloc, *tag, value.bytes(), plans, watch),
+            Op::Select(aid) => self.send_in(room, select_command(aid), plans, watch),
+            Op::Get(tag) => self.send_in(room, get_command(*tag), plans, watch),
+            Op::Put(tag, value) => self.put(room, *tag, value.bytes(), plans, watch),
         }
     }
 
-    /// Puts a value under a tag. Its error is want of memory, and then nothing has changed.
+    /// Puts a value under a tag.
     fn put<A: Allocator, B: Allocator, W: Watch>(
         &mut self,
-        alloc: A,
+        room: Gather<A>,
         tag: ObjectTag,
         value: &[u8],
         plans: &mut Plans<B>,
         watch: &mut W,
-    ) -> Result<Answer<A>, AllocError>
-        requires { IsCardState (C.state self.old) }
-        ensures memory { OnErr result ((self.new ≡ self.old) × (plans.new ≡ plans.old)
-            × (W.hearing watch.new ≡ W.hearing watch.old)) }
-        ensures talk { IfOk result (λ answer. (exchanges : List (List UnitOf))
-            × IsTalkOf (Put tag value.now) exchanges answer
+    ) -> HeldAnswer<A>
+        requires sound { IsCardState (C.state self.old) }
+        requires empty { room.bytes ≡ [] }
+        requires limit { room.limit ≡ response_limit }
+        ensures { (exchanges : List (List UnitOf))
+            × IsTalkOf (Put tag value.now) exchanges result
             × HaveGone C.Does (point (C.standing self.old) plans.old.rest (W.hearing watch.old))
             (talk_dialogues exchanges)
-            (point (C.standing self.new) plans.new.rest (W.hearing watch.new))) }
+            (point (C.standing self.new) plans.new.rest (W.hearing watch.new)) }
     {
         let (p1, p2) = tag.p1p2();
         let mut commands = pieces(put_header(p1, p2), value);
         let Some(first) = commands.next() else {
             unreachable!()
         };
-        self.chain(alloc, first, commands, plans, watch)
+        self.chain(room, first, commands, plans, watch)
     }
 
     /// Carries out a command and those after it, up to the first that is answered with another
-    /// status than `9000`, all in one room. Its error is want of memory, and then nothing has
-    /// changed.
+    /// status than `9000`, all in one room.
     fn chain<'v, A: Allocator, B: Allocator, W: Watch>(
         &mut self,
-        alloc: A,
+        room: Gather<A>,
         first: Command<'v>,
         others: Pieces<'v>,
         plans: &mut Plans<B>,
         watch: &mut W,
-    ) -> Result<Answer<A>, AllocError>
+    ) -> HeldAnswer<A>
         requires sound { IsCardState (C.state self.old) }
         requires agreed { IsAgreed C.MayReceive C.MaySend first
             × AllByRecursion (λ c. IsAgreed C.MayReceive C.MaySend c) others }
-        ensures memory { OnErr result ((self.new ≡ self.old) × (plans.new ≡ plans.old)
-            × (W.hearing watch.new ≡ W.hearing watch.old)) }
-        ensures exchanges { IfOk result (λ answer. (exchanges : List (List UnitOf))
-            × AreExchangesOf (first.entry ∷ others.entry) exchanges answer
+        requires empty { room.bytes ≡ [] }
+        requires limit { room.limit ≡ response_limit }
+        ensures { (exchanges : List (List UnitOf))
+            × AreExchangesOf (first.entry ∷ others.entry) exchanges result
             × HaveGone C.Does (point (C.standing self.old) plans.old.rest (W.hearing watch.old))
             (talk_dialogues exchanges)
-            (point (C.standing self.new) plans.new.rest (W.hearing watch.new))) }
+            (point (C.standing self.new) plans.new.rest (W.hearing watch.new)) }
     {
-        let mut exchange = Exchange::start(alloc, first)?;
+        let mut exchange = Exchange::begin(room, first);
         let mut status = self.go_through(&mut exchange, plans, watch);
         'pieces: for command in others {
             if !status.is_ok() {
@@ -222,7 +265,7 @@ impl<C: DataCard> Session<C> {
             exchange = exchange.again(command);
             status = self.go_through(&mut exchange, plans, watch);
         }
-        Ok(exchange.into_answer().unwrap())
+        HeldAnswer::new(status, exchange.into_room())
     }
 
     /// Passes the characters of an exchange that is begun until it is over, and answers its status.

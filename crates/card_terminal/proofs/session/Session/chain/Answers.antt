@@ -1,8 +1,9 @@
-use Rattle.std.proofs.Common.{inl, inr, sym, subst}
+use Rattle.std.proofs.Common.{inl, inr, sym, subst, ap, ◌∙◌}
 use Rattle.std.specs.List.{AllByRecursion}
+use Rattle.t0_core.specs.Room.{Room}
 use Rattle.object_card.specs.Agreed.{IsAgreed}
 use Rattle.card_terminal.specs.Conversing.{point}
-use Rattle.card_terminal.proofs.RunLemmas.{first_has_been, next_has_been, all_have_been, told, as_left, never_both}
+use Rattle.card_terminal.proofs.RunLemmas.{first_has_been, next_has_been, all_have_been, as_left, never_both}
 use Rattle.card_terminal.proofs.session.Session.chain.Goals as goal
 use Rattle.card_terminal.proofs.session.Session.chain.Goals.{in-None, in-Some+then-not-is_ok}
 
@@ -13,7 +14,7 @@ pieces-init g c =
     (g.W.Watch.hearing c.args.watch.now) in
     let same = c.into_iter-command-iterator.ensures.into_iter_gives in
     let done = c.go_through-status.ensures.over c.args.first c.requires.agreed.0
-    c.in_ok-exchange.ensures.begins in
+    c.begin-exchange.ensures.begins in
     record {
       been = as_left card.Does from _ _ _ _ _ _
           (sym same)
@@ -47,17 +48,17 @@ pieces-preserved g c =
       agreed = agreed.1;
     }
 
-pub returns-clause-exchanges : goal.returns-clause-exchanges
-returns-clause-exchanges g c =
+pub returns : goal.returns
+returns g c =
     let card = g.C.TpduCard in
     let from = point (card.standing c.args.self.now) c.args.plans.now.rest
     (g.W.Watch.hearing c.args.watch.now) in
     let been = c.pieces.invariant.been in
-    all_have_been card.Does from _ _ _ c.pieces.exchange c.pieces.status c.unwrap.result been
+    all_have_been card.Does from _ _ _ c.pieces.exchange c.pieces.status c.new.result been
     (elim c.match-next.branch [
       | in-None w ↦ inl w.in-None.ensures.steps.0
       | in-Some+then-not-is_ok w ↦ inr
           (λ e. never_both w.is_ok.result (w.is_ok.ensures.1 e) w.if-not-is_ok.true)
     ])
-    (told been.current c.pieces.exchange been.units c.pieces.status c.into_answer.result
-    c.unwrap.result been.over c.into_answer.ensures.done c.unwrap.ensures)
+    (c.new.ensures ∙ ap (λ (room : Room). record { status = c.pieces.status; content = room.bytes })
+    c.into_room.ensures)

@@ -1,23 +1,19 @@
-use Rattle.std.proofs.Common.{ap, subst, sym, ◌∙◌, ◌∷◌, []}
-use Rattle.object_card.specs.OneStep.{AnswersAll}
-use Rattle.object_card.specs.State.{CardState, is_idle}
 use Rattle.card_terminal.specs.Conversing.{point}
 use Rattle.card_terminal.specs.Operations.{operation_of}
-use Rattle.card_terminal.proofs.RunLemmas.{is_heard, in_one_step, first_of_both, on_both}
-use Rattle.card_terminal.proofs.session.Session.operate.Goals as goal
+use Rattle.card_terminal.proofs.RunLemmas.{is_heard, in_one_step}
+use Rattle.card_terminal.proofs.session.Session.operate_in.Goals as goal
 
 pub returns-clause-one_step : goal.returns-clause-one_step
 returns-clause-one_step g c =
     let card = g.C.TpduCard in
     let m = g.met.C.DataCard.means in
-    first_of_both c.carry_out.result _ _
     (in_one_step card.Does card.after_reset m.0 m.2
     (point (card.standing c.args.self.now) c.args.plans.now.rest
     (g.W.Watch.hearing c.args.watch.now))
     (point (card.standing c.carry_out.new.self) c.carry_out.new.plans.rest
     (g.W.Watch.hearing c.carry_out.new.watch)) _ _
     (m.1 c.args.self.now) (m.1 c.carry_out.new.self) (operation_of c.args.op.now)
-    c.carry_out.result c.is_idle-idle.ensures.sound c.requires c.carry_out.ensures.talk)
+    c.carry_out.result c.is_idle-idle.ensures.sound c.requires.idle c.carry_out.ensures).0
 
 pub returns-clause-talk : goal.returns-clause-talk
 returns-clause-talk g c =
@@ -27,20 +23,16 @@ returns-clause-talk g c =
     (g.W.Watch.hearing c.args.watch.now))
     (point (card.standing c.carry_out.new.self) c.carry_out.new.plans.rest
     (g.W.Watch.hearing c.carry_out.new.watch)) (operation_of c.args.op.now)
-    c.carry_out.result c.carry_out.ensures.talk
+    c.carry_out.result c.carry_out.ensures
 
 pub returns-clause-idle : goal.returns-clause-idle
 returns-clause-idle g c =
     let card = g.C.TpduCard in
-    let own = g.C.DataCard in
     let m = g.met.C.DataCard.means in
-    on_both c.carry_out.result _ _ _
     (in_one_step card.Does card.after_reset m.0 m.2
     (point (card.standing c.args.self.now) c.args.plans.now.rest
     (g.W.Watch.hearing c.args.watch.now))
     (point (card.standing c.carry_out.new.self) c.carry_out.new.plans.rest
     (g.W.Watch.hearing c.carry_out.new.watch)) _ _
     (m.1 c.args.self.now) (m.1 c.carry_out.new.self) (operation_of c.args.op.now)
-    c.carry_out.result c.is_idle-idle.ensures.sound c.requires c.carry_out.ensures.talk)
-    c.carry_out.ensures.memory
-    (λ same. ap (λ s. is_idle (own.state s).pending) same.0 ∙ c.requires)
+    c.carry_out.result c.is_idle-idle.ensures.sound c.requires.idle c.carry_out.ensures).1

@@ -1,0 +1,70 @@
+//! What a command is answered, in the room that was taken for it.
+ghost use Rattle.std.specs.Prelude.{◌≡◌, []};
+ghost use Rattle.card_terminal.specs.ExchangeSide.{response_limit};
+
+use crate::answer::Answer;
+use apdu_core::Status;
+use std::alloc::{Allocator, Global};
+use std::marker::Model;
+use t0_core::Gather;
+
+/// What a card answers to a command, in room for `RESPONSE_LIMIT` bytes: the next operation may
+/// have that room.
+#[derive(Drop)]
+pub struct HeldAnswer<A: Allocator = Global> {
+    status: Status,
+    gather: Gather<A>,
+}
+
+impl<A: Allocator> Model for HeldAnswer<A> {
+    ghost use Rattle.std.specs.Prelude.{◌≡◌};
+    ghost use Rattle.object_card.specs.OneStep.{Reply};
+    ghost use Rattle.card_terminal.specs.ExchangeSide.{response_limit};
+
+    ghost Value = { Reply };
+
+    ghost view = { λ a. record { status = a.status; content = a.gather.bytes } };
+
+    ghost invariant = { λ a. a.gather.limit ≡ response_limit };
+}
+
+impl<A: Allocator> HeldAnswer<A> {
+    /// An answer of the data in this room.
+    pub(crate) fn new(status: Status, gather: Gather<A>) -> HeldAnswer<A>
+        requires { gather.limit ≡ response_limit }
+        ensures { result ≡ record { status = status; content = gather.bytes } }
+    {
+        HeldAnswer { status, gather }
+    }
+
+    /// The status word.
+    pub fn status(&self) -> Status
+        ensures { result ≡ self.now.status }
+    {
+        self.status
+    }
+
+    /// The data from the card.
+    pub fn data(&self) -> &[u8]
+        ensures { result.now ≡ self.now.content }
+    {
+        self.gather.bytes()
+    }
+
+    /// The answer in memory of its size. The rest of the room is given back.
+    pub fn into_answer(self) -> Answer<A>
+        ensures { result ≡ self }
+    {
+        let HeldAnswer { status, gather } = self;
+        Answer::new(status, gather)
+    }
+
+    /// The room, for the next operation. The data are overwritten with zeros.
+    pub fn into_room(self) -> Gather<A>
+        ensures { result ≡ record { bytes = []; limit = response_limit } }
+    {
+        let HeldAnswer { mut gather, .. } = self;
+        gather.clear();
+        gather
+    }
+}

@@ -67,6 +67,28 @@ static void operate(gt_session *s) {
     CHECK_BYTES(data, stored ? "\x5F\x20\x02" "AL" : "\x5F\x20\x03" "JOE", len);
 }
 
+/* The first operation takes room for a response, and for what is heard of it; the next ones have
+ * that. */
+static void takes_room_once(void) {
+    gt_card c = GT_INIT;
+    gt_session s = GT_INIT;
+    uint16_t status = 0;
+    uint8_t data[32];
+    size_t len = 0, before;
+    refused = 0;
+    build(&c);
+    CHECK(gt_session_start(&s, &c), GT_OK);
+    CHECK(gt_session_listen(&s), GT_OK);
+    CHECK(gt_session_select(&s, AID, sizeof AID, &status, data, 32, &len), GT_OK);
+    before = requests;
+    CHECK(before > 0, 1);
+    CHECK(gt_session_get(&s, 0x5F20, &status, data, 32, &len), GT_OK);
+    CHECK(gt_session_get(&s, 0x5F50, &status, data, 32, &len), GT_OK);
+    CHECK(requests, before);
+    gt_session_free(&s);
+    CHECK(taken, 0);
+}
+
 int main(void) {
     bool reached = true;
     for (refused = 1; reached; refused++) {
@@ -84,5 +106,6 @@ int main(void) {
     }
     CHECK(lost > 0, 1);
     CHECK(unstored > 0, 1);
+    takes_room_once();
     return check_result("memory_session");
 }

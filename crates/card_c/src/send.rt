@@ -8,7 +8,7 @@ use crate::card_held::GtCard;
 use crate::card_side::CardSide;
 use crate::code;
 use crate::listener::Listener;
-use crate::session_side::SessionSide;
+use crate::session_side::{SessionSide, room_for_next};
 use apdu_core::Command;
 use object_card::is_agreed;
 use std::alloc::Global;
@@ -54,15 +54,14 @@ fn transmit(alloc: Global, joined: &mut SessionSide, command: Command) -> i32
     requires { IsAgreed MayReceive MaySend command }
     ensures { SendsAgreed command.entry joined.old result joined.new }
 {
+    let Ok(room) = room_for_next(alloc, &mut joined.answer) else {
+        return code::MEMORY;
+    };
     let mut heard = Listener::new(alloc, joined.listens);
-    let sent = joined.session.send(alloc, command, &mut Plans::over(&joined.plans), &mut heard);
-    match sent {
-        Ok(answer) => {
-            joined.plans = Vec::new(alloc);
-            joined.answer = Some(answer);
-            joined.heard = heard;
-            code::OK
-        }
-        Err(_) => code::MEMORY,
-    }
+    let plans = &mut Plans::over(&joined.plans);
+    let answer = joined.session.send_in(room, command, plans, &mut heard);
+    joined.plans = Vec::new(alloc);
+    joined.answer = Some(answer);
+    joined.heard = heard;
+    code::OK
 }

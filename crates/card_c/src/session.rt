@@ -11,12 +11,12 @@ use crate::card_side::CardSide;
 use crate::code;
 use crate::copied::copied;
 use crate::listener::Listener;
-use crate::session_side::SessionSide;
+use crate::session_side::{SessionSide, room_for_next};
 use crate::tag_number::tag_of;
-use card_terminal::{Answers, Bytes, Op, Session};
+use card_terminal::{Bytes, Op, Session};
 use object_card::{Aid, CardBuilder};
 use std::alloc::Global;
-use std::{mem, slice};
+use std::mem;
 use t0_core::{PlanQueue, Plans};
 use tlv_core::ObjectTag;
 
@@ -303,20 +303,18 @@ fn perform(alloc: Global, joined: &mut SessionSide, operation: Op) -> i32
     if !joined.session.is_idle() {
         return code::BUSY;
     }
-    let mut answers = Answers::new(alloc);
+    let Ok(room) = room_for_next(alloc, &mut joined.answer) else {
+        return code::MEMORY;
+    };
     let mut heard = Listener::new(alloc, joined.listens);
-    let ran = joined.session.run(
-        alloc,
-        slice::from_ref(&operation),
+    let answer = joined.session.operate_in(
+        room,
+        &operation,
         &mut Plans::over(&joined.plans),
         &mut heard,
-        &mut answers,
     );
-    if ran.is_err() {
-        return code::MEMORY;
-    }
     joined.plans = Vec::new(alloc);
-    joined.answer = answers.pop();
+    joined.answer = Some(answer);
     joined.heard = heard;
     code::OK
 }

@@ -93,6 +93,15 @@ FAULTS = [
     ("long", "checks/lamps", 2, [("checks/lamps", None, f"#!/bin/sh\n# {LONG}\n")]),
     ("long", "bindings/bulb.h", 1, [("bindings/bulb.h", None, f"/* {LONG} */\n")]),
     ("first", LAMP, 1, [(LAMP, "//! A lamp.\n", "// A lamp.\n")]),
+    ("fault", LAMP, 4, [
+        (LAMP, "pub struct Lamp;", "pub struct Lamp {\n    watts: u8,\n}"),
+        (LAMP, "-> bool", "-> Result<(), Lamp>"),
+    ]),
+    ("fault", LAMP, 4, [
+        (LAMP, "pub struct Lamp;", "enum Broken {\n    Glass,\n}\n\npub struct Lamp;"),
+        (LAMP, "-> bool", "-> Result<(), Broken>"),
+    ]),
+    ("fault", HOUSE, 4, [(HOUSE, NAMED, 'IsDark OutOfMemory = codes "no memory"')]),
     ("rule", "docs/RULES.md", 6, [
         ("docs/RULES.md", "(`IsLit`)\n", "(`IsLit`)\n- A lamp is `warm`.\n"),
     ]),

@@ -1,6 +1,6 @@
 -- A whole command at a card's end: its bytes as a TPDU, and one TPDU more.
 use Rattle.std.proofs.Common.{◌≡◌, ℕ, ◌+◌, ◌*◌, ◌%◌, ◌<◌, ◌≤◌, List, [], ◌∷◌, ◌++◌, length, take, refl, sym, subst, ◌∙◌, ap, arith, inl, inr, ◌⊎◌, true, false, Bool, Option, Some, None, Ok, Err, Result, length-append, append-nil, if◌then◌else◌}
-use Rattle.std.specs.Prelude.{unwrap_or, MatchResult, IfErr, OnOk, IsOk, nat_lt, nat_le}
+use Rattle.std.specs.Prelude.{unwrap_or, MatchResult, IfErr, nat_lt, nat_le}
 use Rattle.std.proofs.Math.Seq.{take-append_seam}
 use Rattle.std.proofs.lemmas.Bool.{eq-eqb, true≢false, le-ltb, le-leb}
 use Rattle.apdu_core.specs.declared.header.Header.{Header}
@@ -35,18 +35,16 @@ use Rattle.object_card.specs.DataCard.{StandsFor}
 use Rattle.card_terminal.specs.declared.attempt.Attempt.{Attempt}
 use Rattle.card_terminal.specs.declared.attempt.Next.TheVariants as next
 use Rattle.card_terminal.specs.Attempts.{following, most_begun, one_more}
-use Rattle.apdu_terminal.specs.declared.stage.Stage.{Stage}
 use Rattle.apdu_terminal.specs.declared.stage.Stage.TheVariants.{Going, Done, Failed}
 use Rattle.apdu_terminal.specs.declared.apdu_fault.ApduFault.{ApduFault}
 use Rattle.apdu_terminal.specs.declared.apdu_fault.ApduFault.TheVariants as why
 use Rattle.apdu_terminal.specs.Apdus.{Pair, first_place, may_bring, GoesThrough, all_content, StallsAt}
-use Rattle.apdu_terminal.specs.ApduSide.{ApduExchangeOf, IsSound, ComesTo, place_of, command_of, excess, due_of, is_going, to_go, has_failed, response_fault, answered_by}
-use Rattle.apdu_terminal.specs.CardApdu.{p3_of, tpdu_command, le_of, IsTpduOf, GoesAs, HasCome, HasFailed, Responds, RespondsToAll, HasHad}
+use Rattle.apdu_terminal.specs.ApduSide.{ApduExchangeOf, IsSound, ComesTo, place_of, command_of, excess, due_of, is_going, to_go, response_fault, answered_by}
+use Rattle.apdu_terminal.specs.CardApdu.{p3_of, tpdu_command, le_of, IsTpduOf, GoesAs, HasCome, HasFailed, HasResponse, Responds, RespondsToAll, HasHad}
 use Rattle.apdu_terminal.proofs.LedLemmas.{IsTaken, is_taken, is_going_true, at_stage, asked_number, asks_with, more_room}
 use Rattle.apdu_terminal.proofs.PlaceLemmas.{through, Fits, fits_first, fits_on, never_too_long, GoesAlone, alone_first, alone_on, Agrees, agrees_on, agrees_as_tpdu, agrees_first, total_within}
 use Rattle.apdu_terminal.proofs.StallLemmas.{never_stalls, never_overflows, card_never_stalls}
-use Rattle.apdu_terminal.proofs.TalkLemmas.{own_responds, own_goes, turns_both}
-use Rattle.apdu_terminal.specs.ApduTalk.{HasBrought}
+use Rattle.apdu_terminal.proofs.TalkLemmas.{own_goes, turns_both}
 use Rattle.apdu_terminal.proofs.RestLemmas.{count_told}
 
 -- ---- the number that falls
@@ -277,7 +275,7 @@ taken_of n bytes rest is = ap (λ k. take k (bytes ++ rest)) is ∙ take-append_
 
 -- ---- one TPDU more
 
-due_when : (v : Bool) (c due : Command) → (if v then Some c else None) ≡ Some due
+pub due_when : (v : Bool) (c due : Command) → (if v then Some c else None) ≡ Some due
     → (v ≡ true) × (c ≡ due)
 due_when true c due e = (refl, cc)
 due_when false c due e = absurd (cc)
@@ -407,8 +405,7 @@ one_stalled card c first mid last old new content came status due f is same tpdu
 pub finished : {State : Type 0} (Does : State → ℕ → Tpdu → State → Type 0) (c : Command)
     (old new : State) (ex : ApduExchangeOf) → HasCome Does c old new ex
     → (status : StatusWord) × (ex.stage ≡ Done status)
-    → (status : StatusWord) × (ex.stage ≡ Done status)
-    × Responds Does old (record { command = c; content = ex.gather.bytes; status = status }) new
+    → HasResponse Does old c new ex
 finished Does c old new ex (pairs, comes, goes) (status, done) = (
   status,
   done,
@@ -434,9 +431,7 @@ begins_so Does at c first wanted le most ex is le_is most_is wanted_is led =
 -- the response of the card is the pair of the command that is due
 pub response_is : {State : Type 0} (Own : State → ℕ → Tpdu → State → Type 0) (mid last : State)
     (old done : ApduExchangeOf) (content : List ℕ) (told : StatusWord) (due : Command)
-    → due_of old ≡ Some due → (status : StatusWord) × (done.stage ≡ Done status)
-    × Responds Own mid
-    (record { command = due; content = done.gather.bytes; status = status }) last
+    → due_of old ≡ Some due → HasResponse Own mid due last done
     → done.stage ≡ Done told → content ≡ done.gather.bytes
     → Responds Own mid (answered_by old content told) last
 response_is Own mid last old done content told due is (status, over, responds) ended bytes_are =
@@ -487,7 +482,7 @@ responds_within Own old new p (pairs, b, goes) =
       total_within p.command b.before b.last b.at b.through b.suits,
     )
 
-fault_fails : (ex : ApduExchangeOf) (came : ℕ) (f : AnswerFault) → is_going ex.stage ≡ true
+pub fault_fails : (ex : ApduExchangeOf) (came : ℕ) (f : AnswerFault) → is_going ex.stage ≡ true
     → came ≤ may_bring ex.le → response_fault ex came ≡ Some f → fails_with f ≡ true
 fault_fails ex came f going few fault =
     by (nat_le (length ex.gather.bytes + came) ex.gather.limit)
@@ -507,104 +502,12 @@ fault_fails ex came f going few fault =
         let same : TooLong ≡ f = cc in
         ap fails_with (sym same)
 
-never_fails : (c : Command) (wanted : Wanted) (pairs : List Pair) (old new : CardState)
+-- and never fails
+pub never_fails : (c : Command) (wanted : Wanted) (pairs : List Pair) (old new : CardState)
     (ex : ApduExchangeOf) → IsCardState old → ex.gather.limit ≡ response_limit
     → ex.stage ≡ Failed → ComesTo c wanted pairs ex → RespondsToAll meaning.Does old pairs new → ⊥
 never_fails c wanted pairs old new ex sound room failed led goes =
     elim (at_stage c wanted pairs ex Failed failed led) [
       | inl stalls ↦ never_stalls c wanted pairs old new stalls goes
       | inr long ↦ never_overflows c wanted pairs old new ex.gather.limit room sound long goes
-    ]
-
--- the response of a card of data objects is no fault
-never_refused : {State : Type 0} (Own : State → ℕ → Tpdu → State → Type 0)
-    (reset : State → State) (state_of : State → CardState) (c : Command) (wanted : Wanted)
-    (first mid last : State) (sound : CardState) (old new : ApduExchangeOf) (content : List ℕ)
-    (told : StatusWord) (due : Command) (f : AnswerFault) → StandsFor Own reset state_of
-    → state_of first ≡ sound → IsCardState sound → due_of old ≡ Some due
-    → Responds Own mid (answered_by old content told) last
-    → old.gather.limit ≡ response_limit → new.gather.limit ≡ old.gather.limit
-    → (response_fault old (length content) ≡ Some f)
-    ⊎ ((f ≡ Stalled) × (response_fault old (length content) ≡ None))
-    → (fails_with f ≡ true → new.stage ≡ Failed)
-    → ((pairs : List Pair) → ComesTo c wanted pairs old → fails_with f ≡ true
-    → ComesTo c wanted (pairs ++ answered_by old content told ∷ []) new)
-    → HasHad (Responds Own) c wanted first mid old → ⊥
-never_refused Own reset state_of c wanted first mid last sound old new content told due f means was
-    is_sound is responds room limit fault failed led has =
-    let few : length content ≤ may_bring old.le = responds_within Own mid last _ responds in
-    let fails : fails_with f ≡ true = elim fault [
-      | inl is_fault ↦ fault_fails old (length content) f
-          (due_when (is_going old.stage) (command_of old) due is).0 few is_fault
-      | inr (stalled, none) ↦ ap fails_with stalled
-    ] in
-    let (pairs, comes, goes) = one_had (Responds Own) c wanted first mid last old new
-    (answered_by old content told) responds (λ pairs comes. led pairs comes fails) has in
-    never_fails c wanted pairs (state_of first) (state_of last) new
-    (subst IsCardState (sym was) is_sound) (limit ∙ room) (failed fails) comes
-    (own_responds Own reset state_of first last pairs means goes)
-
--- it is over when no command is due
-pub over_then : {State : Type 0} (Own : State → ℕ → Tpdu → State → Type 0) (c : Command)
-    (old new : State) (ex : ApduExchangeOf) → None ≡ due_of ex → has_failed ex.stage ≡ false
-    → HasHad (Responds Own) c (wanted_by c.le) old new ex → HasBrought Own old c new ex
-over_then Own c old new ex none fine (pairs, comes, goes) =
-    let (status, done) = by ex.stage refl in
-    (status, done, (pairs, at_stage c (wanted_by c.le) pairs ex (Done status) done comes, goes))
-  where
-    by : (s : Stage) → ex.stage ≡ s → (status : StatusWord) × (ex.stage ≡ Done status)
-    by Going is =
-        let no : None ≡ Some (command_of ex) =
-        none ∙ ap (λ s. if is_going s then Some (command_of ex) else None) is in absurd (cc)
-    by (Done status) is = (status, is)
-    by Failed is = absurd (true≢false (sym (ap has_failed is) ∙ fine))
-
--- so it is taken
-pub is_taken_so : {State A : Type 0} (Own : State → ℕ → Tpdu → State → Type 0)
-    (reset : State → State) (state_of : State → CardState) (c : Command) (wanted : Wanted)
-    (first mid last : State) (sound : CardState) (old new : ApduExchangeOf) (content : List ℕ)
-    (told : StatusWord) (due : Command) (r : Result A AnswerFault) → StandsFor Own reset state_of
-    → state_of first ≡ sound → IsCardState sound → due_of old ≡ Some due
-    → Responds Own mid (answered_by old content told) last
-    → old.gather.limit ≡ response_limit → new.gather.limit ≡ old.gather.limit
-    → MatchResult r (λ x. response_fault old (length content) ≡ None)
-    (λ f. (response_fault old (length content) ≡ Some f)
-    ⊎ ((f ≡ Stalled) × (response_fault old (length content) ≡ None)))
-    → IfErr r (λ f. fails_with f ≡ true → new.stage ≡ Failed)
-    → ((pairs : List Pair) → ComesTo c wanted pairs old → MatchResult r
-    (λ x. ComesTo c wanted (pairs ++ answered_by old content told ∷ []) new)
-    (λ f. fails_with f ≡ true
-    → ComesTo c wanted (pairs ++ answered_by old content told ∷ []) new))
-    → HasHad (Responds Own) c wanted first mid old → IsOk r
-is_taken_so Own reset state_of c wanted first mid last sound old new content told due (Ok x)
-    means was is_sound is responds room limit fault failed led has = refl
-is_taken_so Own reset state_of c wanted first mid last sound old new content told due (Err f)
-    means was is_sound is responds room limit fault failed led has =
-    absurd (never_refused Own reset state_of c wanted first mid last sound old new content told due
-    f means was is_sound is responds room limit fault failed led has)
-
-pub when_ok : {A E : Type 0} (r : Result A E) (x : A) (P : A → Type 0) (Q : E → Type 0)
-    → r ≡ Ok x → MatchResult r P Q → P x
-when_ok {A = A} {E = E} r x P Q is holds =
-    let M : Result A E → Type 0 = λ s. MatchResult s P Q in
-    subst M is holds
-
-pub on_ok : {A E : Type 0} (r : Result A E) (P : Type 0) (x : A) → r ≡ Ok x → OnOk r P → P
-on_ok {A = A} {E = E} r P x is on = let Q : Result A E → Type 0 = λ s. OnOk s P in subst Q is on
-
--- what has begun goes on
-pub begun_goes : (c : Command) (wanted : Wanted) (ex : ApduExchangeOf) → ComesTo c wanted [] ex
-    → has_failed ex.stage ≡ false
-begun_goes c wanted ex led = by ex.stage refl
-  where
-    none : (before : List Pair) (last : Pair) → [] ≡ before ++ last ∷ [] → ⊥
-    none before last is =
-        omega (arith, ap length is, length-append before (last ∷ []))
-
-    by : (s : Stage) → ex.stage ≡ s → has_failed ex.stage ≡ false
-    by Going is = ap has_failed is
-    by (Done status) is = ap has_failed is
-    by Failed is = elim (at_stage c wanted [] ex Failed is led) [
-      | inl stalls ↦ absurd (none stalls.before stalls.last stalls.pairs_are)
-      | inr long ↦ absurd (none long.before long.last long.pairs_are)
     ]

@@ -8,3 +8,4 @@ pub mod CardLemmas
 pub mod StallLemmas
 pub mod OperationLemmas
 pub mod OperationCourse
+pub mod DrivenLemmas

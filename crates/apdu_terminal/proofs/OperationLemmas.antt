@@ -8,7 +8,7 @@ use Rattle.std.proofs.lemmas.List.{drop-drop, length-drop}
 use Rattle.apdu_core.specs.declared.header.Header.{Header}
 use Rattle.apdu_core.specs.StatusWord.{StatusWord, ok}
 use Rattle.apdu_core.specs.CommandBytes.{Command, IsCommand}
-use Rattle.apdu_core.specs.Chaining.{IsPieces, chain_commands}
+use Rattle.apdu_core.specs.Chaining.{HavePieceSizes, IsPieces, chain_commands, link, with_more}
 use Rattle.tlv_core.specs.Address.{NamesTag}
 use Rattle.t0_core.specs.declared.answer_fault.AnswerFault.{AnswerFault}
 use Rattle.t0_core.specs.declared.answer_fault.AnswerFault.TheVariants.{NotDue}
@@ -392,6 +392,22 @@ few_first : (ex : ApduExchangeOf) (c : Command) → ex.stage ≡ Going
 few_first ex c going led =
     let at = at_stage c (wanted_by c.le) [] ex Going going led in omega (arith, at.number)
 
+some_first : (h : Header) (pieces : List (List ℕ)) (c : Command) (others : List Command)
+    → HavePieceSizes pieces → chain_commands h pieces ≡ c ∷ others → 1 ≤ length c.content
+some_first h [] c others sizes e = absurd sizes
+some_first h (a ∷ []) c others sizes e =
+    let head : link h a ≡ c = cc in
+    omega (arith, sizes.0, ap (λ (d : Command). length d.content) head)
+some_first h (a ∷ next ∷ pieces) c others sizes e =
+    let head : link (with_more h) a ≡ c = cc in
+    omega (arith, sizes.0, ap (λ (d : Command). length d.content) head)
+
+some_goes : (rest : List ℕ) (h : Header) (pieces : List (List ℕ)) (c : Command)
+    (others : List Command) → (rest ≡ [] → ⊥) → IsPieces rest pieces
+    → chain_commands h pieces ≡ c ∷ others → 1 ≤ length c.content
+some_goes [] h pieces c others some are e = absurd (some refl)
+some_goes (b ∷ bs) h pieces c others some are e = some_first h pieces c others are.1 e
+
 pub next_begins : (old : ApduOperationOf) (ex new : ApduExchangeOf) (items seen : List ℕ)
     (until p1 p2 size : ℕ) (header : Header) (pieces : List (List ℕ))
     (list others : List Command) (c : Command)
@@ -428,6 +444,16 @@ next_begins old ex new items seen until p1 p2 size header pieces list others c v
         led_now,
         subst (λ z. AreLeft p1 p2 z others) after_is
             (left_after p1 p2 (drop until items) pieces c others are_now chain),
+      );
+      shrinks = omega (
+        arith,
+        some_goes (drop until items) (put_header p1 p2) pieces c others
+            (λ e. more (ap (λ (o : ApduOperationOf). o.rest) (sym view) ∙ e)) are_now chain,
+        is,
+        front.within,
+        length-drop until items,
+        length-drop (until + size) items,
+        ap (λ (o : ApduOperationOf). length o.rest) view,
       );
       going = going;
       few = few_first _ c going led_now;

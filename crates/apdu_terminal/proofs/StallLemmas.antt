@@ -239,3 +239,11 @@ never_overflows c wanted pairs old new limit is sound long goes =
       ap (λ ps. length (all_content ps)) long.pairs_are,
       l.within sound,
     )
+
+-- after its responses a sound card is sound
+pub sound_after : (old new : CardState) (pairs : List Pair) → IsCardState old
+    → RespondsToAll Does old pairs new → IsCardState new
+sound_after old new [] sound goes = subst IsCardState (sym goes) sound
+sound_after old new (p ∷ pairs) sound (mid, is, rest) =
+    sound_after mid new pairs
+    (((commands (IsCardState old)).1 p old mid (λ z. z) is).sound sound) rest

@@ -1,10 +1,9 @@
 -- The commands of a put over a transport of whole commands are the put in one step; and so each
 -- operation is.
-use Rattle.std.proofs.Common.{Bool, ◌≡◌, ◌≢◌, ℕ, ◌-◌, ◌≤◌, List, [], ◌∷◌, ◌++◌, length, Option, Some, None, Result, Ok, Err, true, false, ◌⊎◌, inl, inr, refl, sym, ap, subst, ◌∙◌, arith, append-nil, not, ◌&&◌}
+use Rattle.std.proofs.Common.{◌≡◌, ℕ, ◌-◌, ◌≤◌, List, [], ◌∷◌, ◌++◌, length, Option, Some, None, true, false, ◌⊎◌, inl, inr, refl, sym, ap, subst, ◌∙◌, arith, append-nil, not, ◌&&◌}
 use Rattle.std.specs.List.{flat_map}
-use Rattle.std.specs.Prelude.{IfOk, IsTrue}
 use Rattle.apdu_core.specs.declared.header.Header.{Header}
-use Rattle.apdu_core.specs.StatusWord.{StatusWord, ok, announces, corrects}
+use Rattle.apdu_core.specs.StatusWord.{StatusWord, announces, corrects}
 use Rattle.apdu_core.specs.CommandBytes.{Command}
 use Rattle.apdu_core.specs.Chaining.{link, chain_commands}
 use Rattle.t0_core.specs.Meaning.{Tpdu}
@@ -19,18 +18,15 @@ use Rattle.object_card.specs.PutRunLaws.{chain_is_put}
 use Rattle.card_terminal.specs.declared.wanted.Wanted.{Wanted}
 use Rattle.card_terminal.specs.declared.wanted.Wanted.TheVariants.{Bytes}
 use Rattle.card_terminal.specs.Gathered.{less, fetched_of, fetched_after}
-use Rattle.card_terminal.specs.Talk.{select_command, get_command, AreCommandsOf}
+use Rattle.card_terminal.specs.Talk.{select_command, get_command}
 use Rattle.card_terminal.specs.declared.operation.Op.{Op}
 use Rattle.card_terminal.specs.RunLaws.{HaveReplies, replies_come}
 use Rattle.card_terminal.specs.Running.{new_answers, carried_out}
 use Rattle.card_terminal.specs.TalkLaws.{chains_end, talks_more, all_alike}
 use Rattle.t0_core.specs.DialogueLaws.{flat_map_last}
-use Rattle.apdu_terminal.specs.declared.stage.Stage.{Stage}
-use Rattle.apdu_terminal.specs.declared.stage.Stage.TheVariants.{Done}
-use Rattle.apdu_terminal.specs.ApduSide.{ApduExchangeOf}
 use Rattle.apdu_terminal.specs.Apdus.{Pair, first_place, is_case_2, may_bring, correction, Goes, Ends, follow, follow_by, all_content, Brings, GathersApdus}
 use Rattle.apdu_terminal.specs.CardApdu.{p3_of, tpdu_command, InTurn, GoesAs, GoesBy, Responds, RespondsToAll}
-use Rattle.apdu_terminal.specs.ApduTalk.{AreApdusOf, IsApduTalkOf, talk_pairs, AreApduTalksOf, HasBrought}
+use Rattle.apdu_terminal.specs.ApduTalk.{AreApdusOf, IsApduTalkOf, talk_pairs, AreApduTalksOf}
 use Rattle.apdu_terminal.proofs.PlaceLemmas.{brings_whole}
 use Rattle.apdu_terminal.proofs.FirstLemmas.{whole_by, select_is_answered, get_is_answered}
 
@@ -144,7 +140,7 @@ answered_by h piece pairs content status old new g goes =
 
 -- ---- pairs in turn
 
-turns_apart : {State : Type 0} (One : State → Pair → State → Type 0) (old new : State)
+pub turns_apart : {State : Type 0} (One : State → Pair → State → Type 0) (old new : State)
     (xs ys : List Pair) → InTurn One old (xs ++ ys) new
     → (mid : State) × InTurn One old xs mid × InTurn One mid ys new
 turns_apart One old new [] ys goes = (old, refl, goes)
@@ -246,98 +242,6 @@ own_responds Own reset state_of old new pairs means goes =
     (λ was p now (inner, brings, goes).
     (inner, brings, own_goes Own reset state_of was now inner means goes)) old new pairs goes
 
--- one more command at the front
-more_apdus : (c n : Command) (left : List Command) (pairs : List Pair) (brought : List ℕ)
-    (exchanges : List (List Pair)) (answer : Reply) → GathersApdus c pairs brought ok
-    → AreApdusOf (n ∷ left) exchanges answer
-    → AreApdusOf (c ∷ n ∷ left) (pairs ∷ exchanges) answer
-more_apdus c n left pairs brought [] answer gathers are = absurd are
-more_apdus c n left pairs brought (next ∷ exchanges) answer gathers are = (brought, gathers, are)
-
--- ---- commands in turn
-
--- what commands have brought in turn
-abbrev pub Chained : {State : Type 0} → (State → ℕ → Tpdu → State → Type 0) → State
-    → List Command → Reply → State → Type 0
-Chained Own old commands answer new = (exchanges : List (List Pair))
-    × AreApdusOf commands exchanges answer × RespondsToAll Own old (talk_pairs exchanges) new
-
--- The exchange of one of them is over, and the others are left: with what these bring, the commands
--- have brought it.
-abbrev pub IsInChain : {State : Type 0} → (State → ℕ → Tpdu → State → Type 0) → State
-    → List Command → List Command → State → ApduExchangeOf → Type 0
-IsInChain {State} Own from commands left now ex = (c : Command) × (mid : State)
-    × HasBrought Own mid c now ex
-    × ((new : State) (answer : Reply) → Chained Own mid (c ∷ left) answer new
-    → Chained Own from commands answer new)
-
-pub begins_chain : {State : Type 0} (Own : State → ℕ → Tpdu → State → Type 0) (from now : State)
-    (c : Command) (left : List Command) (ex : ApduExchangeOf) → HasBrought Own from c now ex
-    → IsInChain Own from (c ∷ left) left now ex
-begins_chain Own from now c left ex brought = (c, from, brought, λ new answer all. all)
-
-pub next_in_chain : {State : Type 0} (Own : State → ℕ → Tpdu → State → Type 0)
-    (from now later : State) (commands left all : List Command) (n : Command)
-    (ex after : ApduExchangeOf) → IsInChain Own from commands all now ex → all ≡ n ∷ left
-    → ex.stage ≡ Done ok → HasBrought Own now n later after
-    → IsInChain Own from commands left later after
-next_in_chain {State} Own from now later commands left all n ex after
-    (c, mid, (status, done, (pairs, gathers, goes)), rest) is fine brought = (
-      n,
-      now,
-      brought,
-      λ new answer more.
-          let both : Done status ≡ Done ok = sym done ∙ fine in
-          let same : status ≡ ok = cc in
-          let here : GathersApdus c pairs ex.gather.bytes ok =
-          subst (λ s. GathersApdus c pairs ex.gather.bytes s) same gathers in
-          let P : List Command → Type 0 = λ cs. Chained Own mid (c ∷ cs) answer new in
-          rest new answer (subst P (sym is) (
-            pairs ∷ more.0,
-            more_apdus c n left pairs ex.gather.bytes more.0 answer here more.1,
-            turns_both (Responds Own) mid now new pairs (talk_pairs more.0) goes more.2,
-          )),
-    )
-
-pub ends_chain : {State : Type 0} (Own : State → ℕ → Tpdu → State → Type 0) (from now : State)
-    (commands left : List Command) (ex : ApduExchangeOf) (answer : Reply)
-    → IsInChain Own from commands left now ex → (left ≡ []) ⊎ (ex.stage ≡ Done ok → ⊥)
-    → ((status : StatusWord) → ex.stage ≡ Done status
-    → answer ≡ record { status = status; content = ex.gather.bytes })
-    → Chained Own from commands answer now
-ends_chain {State} Own from now commands left ex answer
-    (c, mid, (status, done, (pairs, gathers, goes)), rest) why told =
-    let is : answer ≡ record { status = status; content = ex.gather.bytes } = told status done in
-    let P : List Pair → Type 0 = λ ps. RespondsToAll Own mid ps now in
-    let stops : (left ≡ []) ⊎ (answer.status ≢ ok) = elim why [
-      | inl none ↦ inl none
-      | inr other ↦ inr (λ e. other (done
-          ∙ ap (λ s. Done s) (sym (ap (λ (r : Reply). r.status) is) ∙ e)))
-    ] in
-    let brought : GathersApdus c pairs answer.content answer.status =
-    subst (λ r. GathersApdus c pairs r.content r.status) (sym is) gathers in
-    rest now answer (pairs ∷ [], (brought, stops), subst P (sym (append-nil pairs)) goes)
-
--- an exchange that is over has no other status
-pub over_is : (ex : ApduExchangeOf) (told : StatusWord) (answer : Reply) → ex.stage ≡ Done told
-    → answer ≡ record { status = told; content = ex.gather.bytes } → (status : StatusWord)
-    → ex.stage ≡ Done status → answer ≡ record { status = status; content = ex.gather.bytes }
-over_is ex told answer here is status done =
-    let both : Done told ≡ Done status = sym here ∙ done in
-    let same : told ≡ status = cc in
-    is ∙ ap (λ s. record { status = s; content = ex.gather.bytes }) same
-
-pub well_so : (s : Stage) (status : StatusWord) (r : Bool) → s ≡ Done status
-    → (IsTrue r → status ≡ ok) × (status ≡ ok → IsTrue r)
-    → (IsTrue r → s ≡ Done ok) × (s ≡ Done ok → IsTrue r)
-well_so s status r done iff = (
-  λ t. done ∙ ap (λ x. Done x) (iff.0 t),
-  λ e.
-      let both : Done status ≡ Done ok = sym done ∙ e in
-      let same : status ≡ ok = cc in
-      iff.1 same,
-)
-
 -- ---- operations in turn
 
 pub talks_are_single_steps : (old new : CardState) (operations : List Operation)
@@ -381,19 +285,6 @@ one_more_comes Own from mid to done replies o r (talks, are, goes) (exchanges, i
 )
 
 -- it is so where nothing has changed
-pub still_replied : {State A : Type 0} (Own : State → ℕ → Tpdu → State → Type 0)
-    (from to to' : State) (ops : List (Op A)) (before : List Reply) (n : ℕ)
-    (given given' : List Reply)
-    → HaveReplies (λ done replies. HaveCome Own from to done replies) ops before n given
-    → to' ≡ to → given' ≡ given
-    → HaveReplies (λ done replies. HaveCome Own from to' done replies) ops before n given'
-still_replied {State} Own from to to' ops before n given given' have same_to same_given =
-    let P : State → Type 0 =
-    λ s. HaveReplies (λ done replies. HaveCome Own from s done replies) ops before n given' in
-    let Q : List Reply → Type 0 =
-    λ g. HaveReplies (λ done replies. HaveCome Own from to done replies) ops before n g in
-    subst P (sym same_to) (subst Q (sym same_given) have)
-
 pub still_at : {C A : Type 0} (card : Ghosts C) (from : card.State) (e e' : EndOf C)
     (ops : List (Op A)) (before : List Reply) (n : ℕ) (given given' : List Reply)
     → HaveReplies (λ done replies. HaveCome card.Does from (card.standing e.card) done replies) ops
@@ -401,36 +292,9 @@ pub still_at : {C A : Type 0} (card : Ghosts C) (from : card.State) (e e' : EndO
     → HaveReplies (λ done replies. HaveCome card.Does from (card.standing e'.card) done replies) ops
     before n given'
 still_at {C} card from e e' ops before n given given' have same same_given =
-    still_replied card.Does from (card.standing e.card) (card.standing e'.card) ops before n given
-    given' have (ap (λ (x : EndOf C). card.standing x.card) same) same_given
-
--- one command is a talk of an operation
-pub sent_is_talk : {State E : Type 0} (Own : State → ℕ → Tpdu → State → Type 0)
-    (from to : State) (c : Command) (o p : Operation) (r : Result Reply E) → o ≡ p
-    → AreCommandsOf o (c ∷ [])
-    → IfOk r (λ answer. (pairs : List Pair) × GathersApdus c pairs answer.content answer.status
-    × RespondsToAll Own from pairs to)
-    → IfOk r (λ answer. (exchanges : List (List Pair)) × IsApduTalkOf p exchanges answer
-    × RespondsToAll Own from (talk_pairs exchanges) to)
-sent_is_talk Own from to c o p (Err e) same are sent = tt
-sent_is_talk Own from to c o p (Ok answer) same are (pairs, gathers, goes) =
-    let P : List Pair → Type 0 = λ ps. RespondsToAll Own from ps to in
-    let Q : Operation → Type 0 = λ x. AreCommandsOf x (c ∷ []) in (
-      pairs ∷ [],
-      (c ∷ [], subst Q same are, (gathers, inl refl)),
-      subst P (sym (append-nil pairs)) goes,
-    )
-
--- the answer of one
-pub brought_is : {State : Type 0} (Own : State → ℕ → Tpdu → State → Type 0) (old new : State)
-    (c : Command) (ex : ApduExchangeOf) (answer : Reply) → HasBrought Own old c new ex
-    → ((status : StatusWord) → ex.stage ≡ Done status
-    → answer ≡ record { status = status; content = ex.gather.bytes })
-    → (pairs : List Pair) × GathersApdus c pairs answer.content answer.status
-    × RespondsToAll Own old pairs new
-brought_is Own old new c ex answer (status, done, (pairs, gathers, goes)) told =
-    let P : Reply → Type 0 = λ r. GathersApdus c pairs r.content r.status in
-    (pairs, subst P (sym (told status done)) gathers, goes)
+    let P : EndOf C → List Reply → Type 0 = λ x g. HaveReplies
+    (λ done replies. HaveCome card.Does from (card.standing x.card) done replies) ops before n g in
+    subst (λ x. P x given') (sym same) (subst (λ g. P e g) (sym same_given) have)
 
 -- operations that have come are single steps of any card of data objects
 pub steps_so_far : {State A : Type 0} (Own : State → ℕ → Tpdu → State → Type 0)

@@ -1,12 +1,13 @@
 -- An operation at a terminal of whole commands that its caller drives: what is kept of it, which
 -- pairs led there, and what each call does.
-use Rattle.std.specs.Prelude.{◌≡◌, ◌≤◌, ◌⊎◌, ℕ, List, [], ◌∷◌, ◌++◌, length, Option, Some, None, IfSome, IfErr, Result, MatchResult, Bool, true, false}
+use Rattle.std.specs.Prelude.{◌≡◌, ◌+◌, ◌*◌, ◌<◌, ◌≤◌, ◌⊎◌, ℕ, List, [], ◌∷◌, ◌++◌, length, Option, Some, None, IfSome, IfErr, Result, MatchResult, Bool, true, false}
 use Rattle.std.specs.List.{AllByRecursion}
 use Rattle.apdu_core.specs.StatusWord.{StatusWord, ok}
 use Rattle.apdu_core.specs.CommandBytes.{Command}
 use Rattle.t0_core.specs.declared.answer_fault.AnswerFault.{AnswerFault}
 use Rattle.t0_core.specs.declared.answer_fault.AnswerFault.TheVariants.{NotDue, Stalled}
 use Rattle.t0_core.specs.HostAnswer.{fails_with}
+use Rattle.t0_core.specs.Meaning.{Tpdu}
 use Rattle.card_terminal.specs.declared.terminal.begin_fault.BeginFault.{BeginFault}
 use Rattle.card_terminal.specs.declared.terminal.begin_fault.BeginFault.TheVariants.{OutOfMemory, UnderWay}
 use Rattle.card_terminal.specs.declared.unsent.Unsent.{Unsent}
@@ -15,8 +16,9 @@ use Rattle.card_terminal.specs.ExchangeSide.{response_limit}
 use Rattle.card_terminal.specs.TerminalSide.{AreLeft}
 use Rattle.apdu_terminal.specs.declared.stage.Stage.TheVariants.{Going, Done, Failed}
 use Rattle.apdu_terminal.specs.Apdus.{Pair, GathersApdus, all_content}
-use Rattle.apdu_terminal.specs.ApduSide.{ApduExchangeOf, ComesTo, HasFew, IsSound, answer_of, answered_by, due_of, is_going, response_fault}
+use Rattle.apdu_terminal.specs.ApduSide.{ApduExchangeOf, ComesTo, HasFew, IsSound, answer_of, answered_by, due_of, is_going, response_fault, to_go}
 use Rattle.apdu_terminal.specs.ApduTalk.{AreApdusOf, talk_pairs}
+use Rattle.apdu_terminal.specs.CardApdu.{RespondsToAll}
 
 -- The exchange of the operation's command that came last, and what is still to be put after its
 -- data, under a tag that these P1-P2 name.
@@ -93,6 +95,12 @@ abbrev pub LeadsTo : List Command → List Pair → Option ApduOperationOf → T
 LeadsTo commands pairs None = ⊥
 LeadsTo commands pairs (Some o) = LeadsThrough commands pairs o × IsSettled o
 
+-- a card has responded to all that led to an operation
+abbrev pub HasResponded : {State : Type 0} → (State → ℕ → Tpdu → State → Type 0) → List Command
+    → State → State → Option ApduOperationOf → Type 0
+HasResponded Does commands old new operation = (pairs : List Pair)
+    × LeadsTo commands pairs operation × RespondsToAll Does old pairs new
+
 -- the data of each exchange are at most so many bytes
 abbrev pub HaveRoom : ℕ → List (List Pair) → Type 0
 HaveRoom limit exchanges =
@@ -130,9 +138,16 @@ pub record GoesToNext (old new : ApduOperationOf) : Type 0 where
   pub next : (left : List Command) → AreLeft old.p1 old.p2 old.rest left
       → (c : Command) × (after : List Command) × (left ≡ c ∷ after)
       × ComesTo c (wanted_by c.le) [] new.exchange × AreLeft new.p1 new.p2 new.rest after
+  pub shrinks : length new.rest < length old.rest
   pub going : new.exchange.stage ≡ Going
   pub few : HasFew new.exchange
   pub limit : new.exchange.gather.limit ≡ old.exchange.gather.limit
+
+-- A number that falls with each response, wherever the next piece begins: how many more commands
+-- may be due, at most so many for each byte that is still to be put.
+abbrev pub may_follow : Option ApduOperationOf → ℕ
+may_follow None = 0
+may_follow (Some o) = (2 * (response_limit + 2) + 2) * length o.rest + to_go o.exchange
 
 -- after a command's exchange that is over the next begins, if one follows; else nothing changes
 abbrev pub GoesOver : ApduOperationOf → ApduOperationOf → Type 0

@@ -1,5 +1,5 @@
 -- How far an exchange of whole commands has come.
-use Rattle.std.specs.Prelude.{◌≡◌, ℕ, ◌+◌, ◌-◌, ◌*◌, ◌≤◌, List, [], ◌∷◌, ◌++◌, length, Option, Some, None, Bool, true, false, nat_lt, nat_le, if◌then◌else◌, ◌⊎◌, ◌<◌, Result, MatchResult, IfErr}
+use Rattle.std.specs.Prelude.{◌≡◌, ℕ, ◌+◌, ◌-◌, ◌*◌, ◌≤◌, List, [], ◌∷◌, ◌++◌, length, Option, Some, None, Bool, true, false, nat_lt, nat_le, if◌then◌else◌, ◌⊎◌, ◌<◌, Result, MatchResult, IfErr, OnOk}
 use Rattle.apdu_core.specs.StatusWord.{StatusWord}
 use Rattle.apdu_core.specs.CommandBytes.{Command, HasSizes}
 use Rattle.t0_core.specs.declared.answer_fault.AnswerFault.{AnswerFault}
@@ -133,6 +133,7 @@ pub record IsResponding (old : ApduExchangeOf) (content : List ℕ) (status : St
   pub limit : new.gather.limit ≡ old.gather.limit
   pub unchanged : IfErr result (λ f. fails_with f ≡ false → new ≡ old)
   pub failed : IfErr result (λ f. fails_with f ≡ true → new.stage ≡ Failed)
+  pub falls : OnOk result (to_go new < to_go old)
   pub led : (c : Command) (wanted : Wanted) (pairs : List Pair) → ComesTo c wanted pairs old
       → MatchResult result
       (λ _. ComesTo c wanted (pairs ++ answered_by old content status ∷ []) new)

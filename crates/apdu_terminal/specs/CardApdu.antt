@@ -2,6 +2,7 @@
 -- carries it out that fetches by itself (ISO/IEC 7816-3, 12.2).
 use Rattle.std.specs.Prelude.{◌≡◌, ℕ, ◌%◌, ◌⊎◌, List, [], ◌∷◌, length, Option, Some, None, false}
 use Rattle.apdu_core.specs.CommandBytes.{Command}
+use Rattle.apdu_core.specs.StatusWord.{StatusWord}
 use Rattle.t0_core.specs.declared.answer_fault.AnswerFault.TheVariants.{Stalled}
 use Rattle.t0_core.specs.declared.tpdu_card.TpduCard.{Ghosts}
 use Rattle.t0_core.specs.CardSide.{EndOf}
@@ -12,6 +13,7 @@ use Rattle.card_terminal.specs.declared.wanted.Wanted.TheVariants.{Bytes}
 use Rattle.card_terminal.specs.declared.wanted.Wanted.{Wanted}
 use Rattle.apdu_terminal.specs.declared.apdu_fault.ApduFault.{ApduFault}
 use Rattle.apdu_terminal.specs.declared.apdu_fault.ApduFault.TheVariants as why
+use Rattle.apdu_terminal.specs.declared.stage.Stage.TheVariants.{Done}
 use Rattle.apdu_terminal.specs.Apdus.{Pair, Place, first_place, may_bring, GoesThrough, Brings, StallsAt}
 use Rattle.apdu_terminal.specs.ApduSide.{ApduExchangeOf, ComesTo}
 
@@ -64,6 +66,12 @@ abbrev pub Responds : {State : Type 0} → (State → ℕ → Tpdu → State →
 Responds Does old p new = (pairs : List Pair)
     × Brings (tpdu_command p.command) (le_of p.command) pairs p.content p.status
     × GoesBy Does old pairs new
+
+-- an exchange is over, and holds that response
+abbrev pub HasResponse : {State : Type 0} → (State → ℕ → Tpdu → State → Type 0) → State → Command
+    → State → ApduExchangeOf → Type 0
+HasResponse Does old c new ex = (status : StatusWord) × (ex.stage ≡ Done status)
+    × Responds Does old (record { command = c; content = ex.gather.bytes; status = status }) new
 
 -- whole commands in turn
 abbrev pub RespondsToAll : {State : Type 0} → (State → ℕ → Tpdu → State → Type 0) → State

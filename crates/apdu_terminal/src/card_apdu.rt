@@ -9,7 +9,7 @@ ghost use Rattle.t0_core.specs.Meaning.{Tpdu};
 ghost use Rattle.card_terminal.specs.ExchangeSide.{response_limit};
 ghost use Rattle.apdu_terminal.specs.Apdus.{may_bring};
 ghost use Rattle.apdu_terminal.specs.ApduSide.{due_of, has_failed, to_go};
-ghost use Rattle.apdu_terminal.specs.CardApdu.{HasCome, HasFailed, IsLeft, IsTpduOf, Responds, tpdu_command};
+ghost use Rattle.apdu_terminal.specs.CardApdu.{HasCome, HasFailed, HasResponse, IsLeft, IsTpduOf, tpdu_command};
 ghost use Rattle.apdu_terminal.specs.declared.stage.Stage.TheVariants.{Done};
 
 use crate::apdu_fault::ApduFault;
@@ -35,12 +35,8 @@ pub fn apdu<'c, C: TpduCard, A: Allocator + Copy>(
     end: &mut CardEnd<C>,
     command: Command<'c>,
 ) -> Result<ApduExchange<'c, A>, ApduFault>
-    ensures responds { IfOk result (λ ex. (status : StatusWord) × (ex.stage ≡ Done status)
-        × Responds C.Does (C.standing end.old.card) (record {
-          command = command.entry;
-          content = ex.gather.bytes;
-          status = status;
-        }) (C.standing end.new.card)) }
+    ensures responds { IfOk result
+        (HasResponse C.Does (C.standing end.old.card) command.entry (C.standing end.new.card)) }
     ensures within { IfOk result (λ ex. length ex.gather.bytes ≤ may_bring command.entry.le) }
     ensures left { IfErr result
         (λ f. IsLeft C.TpduCard command.entry end.old f end.new) }
@@ -64,12 +60,8 @@ pub(crate) fn carry_out<'c, C: TpduCard, A: Allocator, B: Allocator>(
 ) -> Result<ApduExchange<'c, A>, ApduFault>
     requires rests { rests end.old.stage ≡ true }
     requires room { (256 ≤ room.limit) × (room.limit ≤ response_limit) × (256 ≤ gather.old.limit) }
-    ensures responds { IfOk result (λ ex. (status : StatusWord) × (ex.stage ≡ Done status)
-        × Responds C.Does (C.standing end.old.card) (record {
-          command = command.entry;
-          content = ex.gather.bytes;
-          status = status;
-        }) (C.standing end.new.card)) }
+    ensures responds { IfOk result
+        (HasResponse C.Does (C.standing end.old.card) command.entry (C.standing end.new.card)) }
     ensures within { IfOk result (λ ex. length ex.gather.bytes ≤ may_bring command.entry.le) }
     ensures failed { IfErr result (λ f. HasFailed C.TpduCard command.entry
         (C.standing end.old.card) f (C.standing end.new.card)) }

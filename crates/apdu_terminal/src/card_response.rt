@@ -1,12 +1,11 @@
 //! Answers whole commands, as a card of data objects does.
 ghost use Rattle.std.specs.Prelude.{◌≡◌, ◌⊎◌, ◌≤◌, [], false, true, IfOk, IfErr, length};
-ghost use Rattle.apdu_core.specs.StatusWord.{StatusWord};
 ghost use Rattle.object_card.specs.Agreed.{IsAgreed};
 ghost use Rattle.object_card.specs.Instructions.{MayReceive, MaySend};
 ghost use Rattle.t0_core.specs.CardTpdu.{rests};
 ghost use Rattle.card_terminal.specs.ExchangeSide.{response_limit};
 ghost use Rattle.apdu_terminal.specs.Apdus.{may_bring};
-ghost use Rattle.apdu_terminal.specs.CardApdu.{Responds};
+ghost use Rattle.apdu_terminal.specs.CardApdu.{HasResponse};
 ghost use Rattle.apdu_terminal.specs.declared.apdu_fault.ApduFault.TheVariants as ApduFault;
 ghost use Rattle.apdu_terminal.specs.declared.stage.Stage.TheVariants.{Done};
 
@@ -35,12 +34,7 @@ pub fn respond<'c, C: DataCard, A: Allocator + Copy>(
         (end.new ≡ end.old) × IfOk result
         (λ ex. (ex.stage ≡ Done (0x67, 0x00)) × (ex.gather.bytes ≡ [])) }
     ensures responds { IsAgreed MayReceive MaySend command.entry → IfOk result
-        (λ ex. (status : StatusWord) × (ex.stage ≡ Done status)
-        × Responds C.Does (C.standing end.old.card) (record {
-          command = command.entry;
-          content = ex.gather.bytes;
-          status = status;
-        }) (C.standing end.new.card)) }
+        (HasResponse C.Does (C.standing end.old.card) command.entry (C.standing end.new.card)) }
     ensures within { IfOk result (λ ex. length ex.gather.bytes ≤ may_bring command.entry.le) }
     ensures rests { rests end.new.stage ≡ rests end.old.stage }
     ensures fault { IfErr result (λ f. (end.new ≡ end.old)
@@ -70,12 +64,8 @@ pub(crate) fn answered<'c, C: DataCard, A: Allocator, B: Allocator>(
     requires rests { rests end.old.stage ≡ true }
     requires room { (256 ≤ room.limit) × (room.limit ≤ response_limit) × (256 ≤ gather.old.limit) }
     requires agreed { IsAgreed C.MayReceive C.MaySend command }
-    ensures responds { (status : StatusWord) × (result.stage ≡ Done status)
-        × Responds C.Does (C.standing end.old.card) (record {
-          command = command.entry;
-          content = result.gather.bytes;
-          status = status;
-        }) (C.standing end.new.card) }
+    ensures responds { HasResponse C.Does (C.standing end.old.card) command.entry
+        (C.standing end.new.card) result }
     ensures within { length result.gather.bytes ≤ may_bring command.entry.le }
     ensures rests { rests end.new.stage ≡ true }
     ensures room { result.gather.limit ≡ room.limit }

@@ -4,7 +4,7 @@
 //! - `ApduExchange` is the terminal's side of one command; `ApduTerminal` that of operations,
 //!   without a borrow.
 //! - `apdu` and `respond` are a card's side, over its TPDUs.
-//! - `send` joins both for a command, `run` for a list of operations.
+//! - `run` joins both for a list of operations.
 //!
 //! Proved is that each operation is the one of a card that answers in one step (`operations.rt`).
 //! README says more, with the rules in docs/RULES.md.
@@ -20,7 +20,6 @@ mod operations;
 mod stage;
 mod terminal;
 pub mod terminal_laws;
-mod transmission;
 
 pub use apdu_fault::ApduFault;
 pub use card_apdu::apdu;
@@ -30,4 +29,3 @@ pub use exchange::ApduExchange;
 pub use operations::run;
 pub use stage::Stage;
 pub use terminal::ApduTerminal;
-pub use transmission::send;

@@ -1,22 +1,26 @@
 //! Operations with a card of data objects, by whole commands.
-ghost use Rattle.std.specs.Prelude.{◌≡◌, ◌<◌, ◌++◌, List, length, true, MatchResult, IfOk, OnErr};
-ghost use Rattle.std.specs.List.{flat_map};
-ghost use Rattle.object_card.specs.State.{is_idle};
-ghost use Rattle.object_card.specs.OneStep.{Put, AnswersAll};
+ghost use Rattle.std.specs.Prelude.{◌≡◌, ◌<◌, ◌++◌, ◌∷◌, [], List, length, None, true, is_ok, is_some, MatchResult, OnErr, OnOk};
+ghost use Rattle.std.specs.List.{AllByRecursion, flat_map};
+ghost use Rattle.apdu_core.specs.CommandBytes as spec;
+ghost use Rattle.object_card.specs.Agreed.{IsAgreed};
+ghost use Rattle.object_card.specs.State.{IsCardState, is_idle};
+ghost use Rattle.object_card.specs.OneStep.{AnswersAll, Reply};
 ghost use Rattle.t0_core.specs.CardTpdu.{rests};
+ghost use Rattle.card_terminal.specs.ExchangeSide.{response_limit};
 ghost use Rattle.card_terminal.specs.Operations.{operation_of};
 ghost use Rattle.card_terminal.specs.Running.{new_answers, carried_out};
+ghost use Rattle.card_terminal.specs.Talk.{AreCommandsOf};
 ghost use Rattle.apdu_terminal.specs.Apdus.{Pair};
+ghost use Rattle.apdu_terminal.specs.ApduOperations.{HasResponded, KeepsLimit, LeadsTo, operation_answer};
 ghost use Rattle.apdu_terminal.specs.ApduTalk.{AreApduTalksOf, IsApduTalkOf, talk_pairs};
 ghost use Rattle.apdu_terminal.specs.CardApdu.{RespondsToAll};
 
-use crate::transmission::{chain, send};
-use apdu_core::pieces;
-use card_terminal::{Answer, Answers, Op, get_command, put_header, select_command};
+use crate::card_response::answered;
+use crate::terminal::ApduTerminal;
+use card_terminal::{Answers, BeginFault, Op};
 use object_card::DataCard;
 use std::alloc::{AllocError, Allocator};
-use t0_core::CardEnd;
-use tlv_core::ObjectTag;
+use t0_core::{CardEnd, Gather};
 
 /// Carries out the operations in turn, by whole commands, and appends an answer for each to `out`.
 ///
@@ -53,54 +57,105 @@ pub fn run<C: DataCard, A: Allocator + Copy, V: Allocator>(
     ensures rests { rests end.new.stage ≡ true }
 {
     for op in ops {
-        out.make_room()?;
-        let answer = carry_out(alloc, end, op)?;
-        out.append(answer);
+        carry_out(alloc, end, op, out)?;
     }
     Ok(())
 }
 
-/// Carries out one operation. Returns `AllocError` if memory ran out, and then nothing has changed.
+/// Carries out one operation, and appends its answer. Returns `AllocError` if memory ran out, and
+/// then nothing has changed.
 fn carry_out<C: DataCard, A: Allocator + Copy, V: Allocator>(
     alloc: A,
     end: &mut CardEnd<C>,
     op: &Op<V>,
-) -> Result<Answer<A>, AllocError>
+    out: &mut Answers<A>,
+) -> Result<(), AllocError>
     requires rests { rests end.old.stage ≡ true }
-    ensures memory { OnErr result (end.new ≡ end.old) }
+    ensures memory { OnErr result ((end.new ≡ end.old) × (out.new.given ≡ out.old.given)) }
     ensures rests { rests end.new.stage ≡ true }
-    ensures talk { IfOk result (λ answer. (exchanges : List (List Pair))
-        × IsApduTalkOf (operation_of op.now) exchanges answer
+    ensures talk { OnOk result ((answer : Reply) × (out.new.given ≡ out.old.given ++ answer ∷ [])
+        × ((exchanges : List (List Pair)) × IsApduTalkOf (operation_of op.now) exchanges answer
         × RespondsToAll C.Does (C.standing end.old.card) (talk_pairs exchanges)
-        (C.standing end.new.card)) }
+        (C.standing end.new.card))) }
+{
+    out.make_room()?;
+    let mut terminal = ApduTerminal::new(alloc);
+    begin(&mut terminal, op)?;
+    let room = Gather::with_room(alloc, 256)?;
+    let mut gather = Gather::with_room(alloc, 256)?;
+    let _room = go_through(end, &mut terminal, room, &mut gather);
+    let Some(answer) = terminal.into_answer() else {
+        unreachable!()
+    };
+    out.append(answer);
+    Ok(())
+}
+
+/// Begins an operation at a terminal that has begun none. Returns `AllocError` if memory ran out.
+fn begin<A: Allocator + Copy, V: Allocator>(
+    terminal: &mut ApduTerminal<A>,
+    op: &Op<V>,
+) -> Result<(), AllocError>
+    requires { terminal.old.operation ≡ None }
+    ensures begun { OnOk result ((commands : List spec.Command)
+        × AreCommandsOf (operation_of op.now) commands
+        × LeadsTo commands [] terminal.new.operation) }
+    ensures limit { KeepsLimit terminal.old terminal.new }
 {
     match op {
-        Op::Select(aid) => send(alloc, end, select_command(aid)),
-        Op::Get(tag) => send(alloc, end, get_command(*tag)),
-        Op::Put(tag, value) => put(alloc, end, *tag, value.bytes()),
+        Op::Select(aid) => has_begun(terminal.select(aid)),
+        Op::Get(tag) => has_begun(terminal.get(*tag)),
+        Op::Put(tag, value) => has_begun(terminal.put(*tag, value.bytes())),
     }
 }
 
-/// Stores a value under a tag, in pieces. Returns `AllocError` if memory ran out, and then nothing
-/// has changed.
-fn put<C: DataCard, A: Allocator + Copy>(
-    alloc: A,
-    end: &mut CardEnd<C>,
-    tag: ObjectTag,
-    value: &[u8],
-) -> Result<Answer<A>, AllocError>
-    requires rests { rests end.old.stage ≡ true }
-    ensures memory { OnErr result (end.new ≡ end.old) }
-    ensures rests { rests end.new.stage ≡ true }
-    ensures talk { IfOk result (λ answer. (exchanges : List (List Pair))
-        × IsApduTalkOf (Put tag value.now) exchanges answer
-        × RespondsToAll C.Does (C.standing end.old.card) (talk_pairs exchanges)
-        (C.standing end.new.card)) }
+/// The error of a terminal that has begun no operation before is that memory ran out.
+fn has_begun(begun: Result<(), BeginFault>) -> Result<(), AllocError>
+    ensures { is_ok result ≡ is_ok begun }
 {
-    let (p1, p2) = tag.p1p2();
-    let mut commands = pieces(put_header(p1, p2), value);
-    let Some(first) = commands.next() else {
-        unreachable!()
-    };
-    chain(alloc, end, first, commands)
+    match begun {
+        Ok(()) => Ok(()),
+        Err(_) => Err(AllocError),
+    }
+}
+
+/// Has the card answer the commands of an operation that has begun, until it is over. Returns the
+/// room for the responses.
+fn go_through<C: DataCard, A: Allocator + Copy, B: Allocator>(
+    end: &mut CardEnd<C>,
+    terminal: &mut ApduTerminal<A>,
+    mut room: Gather<B>,
+    gather: &mut Gather<B>,
+) -> Gather<B>
+    requires rests { rests end.old.stage ≡ true }
+    requires begun { (commands : List spec.Command)
+        × AllByRecursion (λ c. IsAgreed C.MayReceive C.MaySend c) commands
+        × LeadsTo commands [] terminal.old.operation }
+    requires limit { (terminal.old.limit ≡ response_limit) × KeepsLimit terminal.old terminal.old }
+    requires rooms { (room.limit ≡ 256) × (gather.old.limit ≡ 256) }
+    ensures rests { rests end.new.stage ≡ true }
+    ensures over { is_some (operation_answer terminal.new.operation) ≡ true }
+    ensures led { (commands : List spec.Command) →
+        AllByRecursion (λ c. IsAgreed C.MayReceive C.MaySend c) commands →
+        LeadsTo commands [] terminal.old.operation →
+        HasResponded C.Does commands (C.standing end.old.card) (C.standing end.new.card)
+        terminal.new.operation }
+{
+    let _sound = is_sound(end);
+    'talk: while let Some(due) = terminal.apdu() {
+        let response = answered(end, due, room, gather);
+        let Some(status) = response.status() else {
+            unreachable!()
+        };
+        room = response.into_gather();
+        terminal.responded(room.bytes(), status).unwrap();
+    }
+    room
+}
+
+/// For the proof: says that the card is in a sound state.
+fn is_sound<C: DataCard>(end: &CardEnd<C>) -> bool
+    ensures { IsCardState (C.state end.now.card) }
+{
+    end.card().is_idle()
 }

@@ -1,16 +1,16 @@
 //! A terminal of whole commands that a caller drives: an operation in progress, over any reader.
-ghost use Rattle.std.specs.Prelude.{◌≡◌, ◌≤◌, ◌<◌, ◌∷◌, [], length, drop, MatchResult, Some};
+ghost use Rattle.std.specs.Prelude.{◌≡◌, ◌≤◌, ◌<◌, ◌∷◌, [], length, drop, MatchResult, OnOk, Some};
 ghost use Rattle.std.specs.Option.{option_map};
 ghost use Rattle.object_card.specs.OneStep.{Select, Get, Put};
 ghost use Rattle.card_terminal.specs.Talk.{AreCommandsOf};
 ghost use Rattle.card_terminal.specs.ExchangeSide.{response_limit};
-ghost use Rattle.apdu_terminal.specs.ApduOperations.{ApduOperationOf, Begins, IsBeginning, IsOperationAnswer, IsTakingResponse, KeepsLimit, at_rest, is_under_way, operation_due};
+ghost use Rattle.apdu_terminal.specs.ApduOperations.{ApduOperationOf, Begins, IsBeginning, IsOperationAnswer, IsTakingResponse, KeepsLimit, at_rest, is_under_way, may_follow, operation_due};
 
 mod operation;
 
 use apdu_core::{Command, Status, pieces};
 use card_terminal::{
-    BeginFault, RESPONSE_LIMIT, StartFault, Unsent, get_command, put_header, select_command,
+    Answer, BeginFault, RESPONSE_LIMIT, StartFault, Unsent, get_command, put_header, select_command,
 };
 use object_card::Aid;
 use operation::ApduOperation;
@@ -188,6 +188,8 @@ impl<A: Allocator + Copy> ApduTerminal<A> {
     pub fn responded(&mut self, bytes: &[u8], status: Status) -> Result<(), AnswerFault>
         ensures responding { IsTakingResponse self.old.operation bytes.now status result
             self.new.operation }
+        ensures falls { OnOk result
+            (may_follow self.new.operation < may_follow self.old.operation) }
         ensures limit { KeepsLimit self.old self.new }
     {
         match &mut self.operation {
@@ -204,6 +206,17 @@ impl<A: Allocator + Copy> ApduTerminal<A> {
         match &self.operation {
             None => None,
             Some(operation) => operation.answer(),
+        }
+    }
+
+    /// Returns the answer as `answer` does, in memory of its size.
+    pub(crate) fn into_answer(self) -> Option<Answer<A>>
+        ensures { IsOperationAnswer self.operation
+            (option_map (λ a. (a.status, a.content)) result) }
+    {
+        match self.operation {
+            None => None,
+            Some(operation) => operation.into_answer(),
         }
     }
 

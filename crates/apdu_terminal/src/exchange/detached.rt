@@ -10,7 +10,7 @@ ghost use Rattle.apdu_terminal.specs.declared.stage.Stage.TheVariants.{Going};
 use crate::exchange::ApduExchange;
 use crate::stage::Stage;
 use apdu_core::{Command, Status};
-use card_terminal::{Attempt, Wanted};
+use card_terminal::{Answer, Attempt, Wanted};
 use std::alloc::{AllocError, Allocator, Global};
 use std::marker::Model;
 use std::mem;
@@ -149,6 +149,17 @@ impl<A: Allocator + Copy> Detached<A> {
     {
         match self.stage {
             Stage::Done(status) => Some((status, self.gather.bytes())),
+            _ => None,
+        }
+    }
+
+    /// Returns that answer in memory of its size.
+    pub fn into_answer(self) -> Option<Answer<A>>
+        ensures { answer_of self ≡ option_map (λ a. (a.status, a.content)) result }
+    {
+        let Detached { gather, stage, .. } = self;
+        match stage {
+            Stage::Done(status) => Some(Answer::new(status, gather)),
             _ => None,
         }
     }

@@ -1,17 +1,17 @@
 //! An operation by whole commands: the exchange of one of its commands, and what is still to be
 //! put.
-ghost use Rattle.std.specs.Prelude.{◌≡◌, ℕ, ◌≤◌, List, [], ◌++◌, length, IfOk, is_ok, MatchResult, if◌then◌else◌, true, false};
+ghost use Rattle.std.specs.Prelude.{◌≡◌, ℕ, ◌<◌, ◌≤◌, List, [], ◌++◌, length, Some, IfOk, OnOk, is_ok, MatchResult, if◌then◌else◌, true, false};
 ghost use Rattle.std.specs.Option.{option_map};
 ghost use Rattle.apdu_core.specs.StatusWord.{ok};
 ghost use Rattle.card_terminal.specs.ExchangeSide.{response_limit};
 ghost use Rattle.apdu_terminal.specs.ApduSide.{ApduExchangeOf, IsResponding, answer_of, due_of, is_going};
-ghost use Rattle.apdu_terminal.specs.ApduOperations.{Begins, GoesOver, GoesToNext, IsSettled, with_exchange};
+ghost use Rattle.apdu_terminal.specs.ApduOperations.{Begins, GoesOver, GoesToNext, IsSettled, may_follow, with_exchange};
 ghost use Rattle.apdu_terminal.specs.declared.stage.Stage.TheVariants.{Done};
 
 use crate::exchange::Detached;
 use crate::stage::Stage;
 use apdu_core::{Command, Status, pieces};
-use card_terminal::{Unsent, put_header};
+use card_terminal::{Answer, Unsent, put_header};
 use std::alloc::{AllocError, Allocator, Global};
 use std::marker::Model;
 use t0_core::AnswerFault;
@@ -121,6 +121,7 @@ impl<A: Allocator + Copy> ApduOperation<A> {
         ensures responding { (ex : ApduExchangeOf)
             × IsResponding self.old.exchange bytes.now status result ex
             × GoesOver (with_exchange self.old ex) self.new }
+        ensures falls { OnOk result (may_follow (Some self.new) < may_follow (Some self.old)) }
     {
         let content = &self.content[self.from..self.until];
         let (taken, keeps) = self.exchange.responded(bytes, status, content);
@@ -166,6 +167,14 @@ impl<A: Allocator + Copy> ApduOperation<A> {
         ensures { answer_of self.now.exchange ≡ option_map (λ a. (a.0, a.1.now)) result }
     {
         self.exchange.answer()
+    }
+
+    /// Returns that answer in memory of its size.
+    pub fn into_answer(self) -> Option<Answer<A>>
+        ensures { answer_of self.exchange ≡ option_map (λ a. (a.status, a.content)) result }
+    {
+        let ApduOperation { exchange, .. } = self;
+        exchange.into_answer()
     }
 }
 

@@ -30,5 +30,6 @@ returns-clause-responding g c =
       limit = r.limit;
       unchanged = r.unchanged;
       failed = r.failed;
+      falls = r.falls;
       led = r.led;
     })

@@ -1,0 +1,62 @@
+-- The answer to a command, from what the call that responds says.
+use Rattle.std.proofs.Common.{◌≡◌, ℕ, ◌≤◌, List, [], ◌++◌, length, refl, sym, ap, ◌∙◌, subst}
+use Rattle.apdu_core.specs.StatusWord.{StatusWord}
+use Rattle.apdu_core.specs.CommandBytes.{Command}
+use Rattle.t0_core.specs.CardSide.{EndOf}
+use Rattle.t0_core.specs.Meaning.{Tpdu}
+use Rattle.object_card.specs.Agreed.{IsAgreed}
+use Rattle.object_card.specs.Instructions.{MayReceive, MaySend}
+use Rattle.apdu_terminal.specs.declared.stage.Stage.{Stage}
+use Rattle.apdu_terminal.specs.declared.stage.Stage.TheVariants.{Done}
+use Rattle.apdu_terminal.specs.Apdus.{may_bring}
+use Rattle.apdu_terminal.specs.CardApdu.{Responds}
+use Rattle.t1_terminal.specs.CardCommand.{Answers, status_bytes}
+
+-- what the call says of the exchange that it returns
+abbrev pub Refused : {C : Type 0} → Command → EndOf C → EndOf C → List ℕ → Stage → Type 0
+Refused c end end' bytes stage = (IsAgreed MayReceive MaySend c → ⊥)
+    → (end' ≡ end) × ((stage ≡ Done (0x67, 0x00)) × (bytes ≡ []))
+
+abbrev pub Carried : {State : Type 0} → (State → ℕ → Tpdu → State → Type 0) → State → Command
+    → State → List ℕ → Stage → Type 0
+Carried Does old c new bytes stage = IsAgreed MayReceive MaySend c
+    → (s : StatusWord) × (stage ≡ Done s)
+    × Responds Does old (record { command = c; content = bytes; status = s }) new
+
+-- it is over
+pub is_over : {C State : Type 0} (Does : State → ℕ → Tpdu → State → Type 0) (old new : State)
+    (c : Command) (end end' : EndOf C) (bytes : List ℕ) (stage : Stage)
+    → Refused c end end' bytes stage → Carried Does old c new bytes stage
+    → ((s : StatusWord) → stage ≡ Done s → ⊥) → ⊥
+is_over Does old new c end end' bytes stage refused carried never =
+    let not_agreed : IsAgreed MayReceive MaySend c → ⊥ = λ agreed.
+    let (s, over, is) = carried agreed in never s over in
+    let (stays, rest) = refused not_agreed in let (over, none) = rest in never (0x67, 0x00) over
+
+same_status : (s t : StatusWord) → Done s ≡ Done t → s ≡ t
+same_status s t is = cc
+
+pub answers : {C State : Type 0} (stand : EndOf C → State)
+    (Does : State → ℕ → Tpdu → State → Type 0) (c : Command) (end end' : EndOf C)
+    (bytes response : List ℕ) (stage : Stage) (status : StatusWord)
+    → Refused c end end' bytes stage → Carried Does (stand end) c (stand end') bytes stage
+    → stage ≡ Done status → length bytes ≤ may_bring c.le
+    → response ≡ bytes ++ status_bytes status → Answers Does (stand end) c response (stand end')
+answers stand Does c end end' bytes response stage status refused carried done within is = record {
+  refuses = λ not_agreed.
+      let (stays, rest) = refused not_agreed in let (over, none) = rest in (
+        is ∙ ap (λ (b : List ℕ). b ++ status_bytes status) none
+            ∙ ap status_bytes (same_status status (0x67, 0x00) (sym done ∙ over)),
+        ap stand stays,
+      );
+  responds = λ agreed.
+      let (s, over, does) = carried agreed in (
+        record { command = c; content = bytes; status = status },
+        refl,
+        within,
+        subst (λ (x : StatusWord). Responds Does (stand end)
+            (record { command = c; content = bytes; status = x }) (stand end'))
+            (same_status s status (sym over ∙ done)) does,
+        is,
+      );
+}

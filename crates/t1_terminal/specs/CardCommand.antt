@@ -1,0 +1,38 @@
+-- What a command at T=1 does to a card of data objects (ISO/IEC 7816-4, 5.1; the refusals: this
+-- project's profile).
+use Rattle.std.specs.Prelude.{◌≡◌, ℕ, ◌≤◌, List, [], ◌∷◌, ◌++◌, length}
+use Rattle.apdu_core.specs.CommandBytes.{Command, IsCommand, HasForm, HasInvalidIns, command_bytes}
+use Rattle.apdu_core.specs.StatusWord.{StatusWord}
+use Rattle.t0_core.specs.Meaning.{Tpdu}
+use Rattle.t1_core.specs.CardSide.{Did, no_requests}
+use Rattle.object_card.specs.Agreed.{IsAgreed}
+use Rattle.object_card.specs.Instructions.{MayReceive, MaySend}
+use Rattle.apdu_terminal.specs.Apdus.{Pair, may_bring}
+use Rattle.apdu_terminal.specs.CardApdu.{Responds}
+
+abbrev pub status_bytes : StatusWord → List ℕ
+status_bytes sw = sw.0 ∷ sw.1 ∷ []
+
+-- the response is this status alone, and nothing changes
+abbrev pub Refuses : {State : Type 0} → StatusWord → State → List ℕ → State → Type 0
+Refuses sw old response new = (response ≡ status_bytes sw) × (new ≡ old)
+
+-- A command that is agreed with the card goes as its own TPDUs, with at most Le bytes; to any other
+-- the response is 6700, wrong length.
+pub record Answers {State : Type 0} (Does : State → ℕ → Tpdu → State → Type 0) (old : State)
+    (c : Command) (response : List ℕ) (new : State) : Type 0 where
+  pub refuses : (IsAgreed MayReceive MaySend c → ⊥) → Refuses (0x67, 0x00) old response new
+  pub responds : IsAgreed MayReceive MaySend c → (p : Pair) × (p.command ≡ c)
+      × (length p.content ≤ may_bring c.le) × Responds Does old p new
+      × (response ≡ p.content ++ status_bytes p.status)
+
+-- What the card does: 6700 to bytes in none of the four forms, 6D00 to an invalid INS. It asks for
+-- nothing before a response.
+pub record DoesAt {State : Type 0} (Does : State → ℕ → Tpdu → State → Type 0) (old : State)
+    (d : Did) (new : State) : Type 0 where
+  pub no_form : (HasForm d.command → ⊥) → Refuses (0x67, 0x00) old d.response new
+  pub invalid_ins : (c : Command) → HasInvalidIns c → d.command ≡ command_bytes c
+      → Refuses (0x6D, 0x00) old d.response new
+  pub command : (c : Command) → IsCommand c → d.command ≡ command_bytes c
+      → Answers Does old c d.response new
+  pub asks : d.asks ≡ no_requests

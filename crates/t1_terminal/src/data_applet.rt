@@ -1,0 +1,133 @@
+//! A card of data objects above its end of a line at T=1.
+ghost use Rattle.std.specs.Prelude.{◌≡◌, ◌+◌, ◌≤◌, [], ◌++◌, length, true, IfOk, MatchResult, vec_capacity};
+ghost use Rattle.apdu_core.specs.StatusWord.{StatusWord};
+ghost use Rattle.t0_core.specs.CardTpdu.{rests};
+ghost use Rattle.t1_core.specs.CardSide.{no_requests};
+ghost use Rattle.t1_terminal.specs.CardCommand.{Answers, DoesAt, status_bytes};
+
+use apdu_core::{ApduFault, Command, Status};
+use apdu_terminal::respond;
+use object_card::DataCard;
+use std::alloc::{AllocError, Global};
+use std::marker::Model;
+use t0_core::CardEnd;
+use t1_core::{Applet, Requests};
+
+/// The most bytes of a response: 256 of data, and the status.
+pub const RESPONSE_ROOM: usize = 258;
+
+/// A card of data objects above its end of a line at T=1. It carries out each command as
+/// `apdu_terminal::respond` does, and asks for nothing before a response (profile).
+///
+/// What is no short command is answered `6700`, an invalid INS `6D00`; nothing changes then.
+#[derive(Drop)]
+pub struct DataApplet<C: DataCard> {
+    alloc: Global,
+    end: CardEnd<C>,
+}
+
+impl<C: DataCard> Model for DataApplet<C> {
+    ghost use Rattle.std.specs.Prelude.{◌≡◌, true};
+    ghost use Rattle.t0_core.specs.CardSide.{EndOf};
+    ghost use Rattle.t0_core.specs.CardTpdu.{rests};
+
+    ghost Value = { EndOf C };
+
+    ghost view = { λ a. a.end };
+
+    ghost invariant = { λ a. rests a.end.stage ≡ true };
+}
+
+impl<C: DataCard> DataApplet<C> {
+    /// The card of an end at which no TPDU is in progress.
+    pub fn new(alloc: Global, end: CardEnd<C>) -> DataApplet<C>
+        requires { rests end.stage ≡ true }
+        ensures { result ≡ end }
+    {
+        DataApplet { alloc, end }
+    }
+
+    /// The card.
+    pub fn card(&self) -> &C
+        ensures { result.now ≡ self.now.card }
+    {
+        self.end.card()
+    }
+
+    /// Hands the end back.
+    pub fn into_end(self) -> CardEnd<C>
+        ensures end { result ≡ self }
+        ensures rests { rests result.stage ≡ true }
+    {
+        self.end
+    }
+
+    /// Carries out a command, with room for its response.
+    fn respond(&mut self, command: Command<'_>, response: &mut Vec<u8>) -> Result<(), AllocError>
+        requires { (response.old.items ≡ []) × (RESPONSE_ROOM ≤ vec_capacity response.old) }
+        ensures { MatchResult result
+            (λ _. Answers C.Does (C.standing self.old.card) command.entry
+            response.new.items (C.standing self.new.card))
+            (λ _. self.new ≡ self.old) }
+    {
+        let Ok(exchange) = respond(self.alloc, &mut self.end, command) else {
+            return Err(AllocError);
+        };
+        let Some(status) = exchange.status() else {
+            unreachable!()
+        };
+        write(exchange.data(), status, response);
+        Ok(())
+    }
+}
+
+/// Writes a response, for which there is room.
+fn write(content: &[u8], status: Status, response: &mut Vec<u8>)
+    requires empty { response.old.items ≡ [] }
+    requires room { length content.now + 2 ≤ vec_capacity response.old }
+    ensures { response.new.items ≡ content.now ++ status_bytes status }
+{
+    if response.extend_from_slice(content).is_err() {
+        unreachable!()
+    }
+    response.push_reserved(status.sw1());
+    response.push_reserved(status.sw2());
+}
+
+/// The card asks for no time, and announces no other IFSC.
+const NO_REQUESTS: Requests = Requests {
+    extensions: 0,
+    multiple: 0,
+    size: None,
+};
+
+impl<C: DataCard> Applet for DataApplet<C> {
+    ghost State = { C.State };
+
+    ghost standing = { λ a. C.standing a.card };
+
+    ghost Does = { DoesAt C.Does };
+
+    fn carry_out(
+        &mut self,
+        command: &[u8],
+        response: &mut Vec<u8>,
+    ) -> Result<Requests, AllocError> {
+        response.clear();
+        response.reserve(RESPONSE_ROOM)?;
+        match Command::read(command) {
+            Ok(command) => self.respond(command, response)?,
+            Err(ApduFault::InvalidIns) => write(&[], status(0x6D), response),
+            Err(ApduFault::TooShort | ApduFault::BadLength) => write(&[], status(0x67), response),
+        }
+        Ok(NO_REQUESTS)
+    }
+}
+
+/// The status with this SW1, and SW2 00.
+fn status(sw1: u8) -> Status
+    requires { (0x61 ≤ sw1) × (sw1 ≤ 0x6F) }
+    ensures { result ≡ (sw1, 0x00) }
+{
+    Status::new(sw1, 0x00).unwrap()
+}

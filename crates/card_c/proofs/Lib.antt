@@ -2,6 +2,7 @@ pub mod AtrLemmas
 pub mod BufferLemmas
 pub mod CardApduLemmas
 pub mod CardHeldKind
+pub mod CardT1Lemmas
 pub mod CardTpduLemmas
 pub mod FindLemmas
 pub mod HeldExchangeKind

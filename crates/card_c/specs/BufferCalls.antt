@@ -14,7 +14,7 @@ use Rattle.card_terminal.specs.ExchangeSteps.{IsTurn, IsTaking}
 use Rattle.card_terminal.specs.TerminalSide.{OperationOf}
 use Rattle.card_terminal.specs.TerminalSteps.{IsTerminalHandingOut, IsTerminalTaking}
 use Rattle.card_c.specs.declared.card_side.CardSide.{CardSide}
-use Rattle.card_c.specs.declared.card_side.CardSide.TheVariants.{Building, Standing, Joined}
+use Rattle.card_c.specs.declared.card_side.CardSide.TheVariants.{Building, Standing, Joined, AtT1}
 use Rattle.card_c.specs.Codes.{gt_ok, gt_sends, gt_state, line_code}
 use Rattle.card_c.specs.ExchangeCalls.{turn_code, taking_code}
 use Rattle.card_c.specs.CardCalls.{TakesCharacter, HandsOutCharacter}
@@ -70,6 +70,8 @@ CardSends room n room' n' (Building applications) code new =
     (code ≡ gt_state) × (new ≡ Building applications) × (room' ≡ room) × (n' ≡ n)
 CardSends room n room' n' (Joined session) code new =
     (code ≡ gt_state) × (new ≡ Joined session) × (room' ≡ room) × (n' ≡ n)
+CardSends room n room' n' (AtT1 at) code new =
+    (code ≡ gt_state) × (new ≡ AtT1 at) × (room' ≡ room) × (n' ≡ n)
 CardSends room n room' n' (Standing end plans) code new =
     (next : EndOf CardView) × (left : Cursor) × (new ≡ Standing next left)
     × HandsOutAll end plans room room' n' next left
@@ -85,6 +87,8 @@ CardReceives bytes n n' (Building applications) code new =
     (code ≡ gt_state) × (new ≡ Building applications) × (n' ≡ n)
 CardReceives bytes n n' (Joined session) code new =
     (code ≡ gt_state) × (new ≡ Joined session) × (n' ≡ n)
+CardReceives bytes n n' (AtT1 at) code new =
+    (code ≡ gt_state) × (new ≡ AtT1 at) × (n' ≡ n)
 CardReceives bytes n n' (Standing end plans) code new =
     (next : EndOf CardView) × (new ≡ Standing next plans) × TakesAll end bytes n' next
     × (n' ≡ length bytes → code ≡ gt_ok)

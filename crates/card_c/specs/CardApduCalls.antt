@@ -13,7 +13,7 @@ use Rattle.object_card.specs.Instructions.{MayReceive, MaySend}
 use Rattle.apdu_terminal.specs.Apdus.{Pair, may_bring}
 use Rattle.apdu_terminal.specs.CardApdu.{Responds}
 use Rattle.card_c.specs.declared.card_side.CardSide.{CardSide}
-use Rattle.card_c.specs.declared.card_side.CardSide.TheVariants.{Building, Standing, Joined}
+use Rattle.card_c.specs.declared.card_side.CardSide.TheVariants.{Building, Standing, Joined, AtT1}
 use Rattle.card_c.specs.Codes.{gt_state, gt_memory, gt_buffer, command_code}
 use Rattle.card_c.specs.ExchangeCalls.{AreNone}
 use Rattle.card_c.specs.CardTpduCalls.{TellsAnswer}
@@ -64,6 +64,8 @@ RespondsTo apdu room len room' len' (Building applications) code new =
     TellsNothing gt_state room len code room' len' × (new ≡ Building applications)
 RespondsTo apdu room len room' len' (Joined session) code new =
     TellsNothing gt_state room len code room' len' × (new ≡ Joined session)
+RespondsTo apdu room len room' len' (AtT1 at) code new =
+    TellsNothing gt_state room len code room' len' × (new ≡ AtT1 at)
 RespondsTo apdu room len room' len' (Standing end plans) code new =
     ((rests end.stage ≡ false) × TellsNothing gt_state room len code room' len'
     × (new ≡ Standing end plans))

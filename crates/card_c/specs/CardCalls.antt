@@ -14,7 +14,7 @@ use Rattle.object_card.specs.CardMeaning.{Does}
 use Rattle.object_card.specs.CardView.{CardView}
 use Rattle.object_card.specs.Builder.{TakesApplication, RefusesApplication, TakesObject, RefusesObject, with_application, with_last_entry, new_card}
 use Rattle.card_c.specs.declared.card_side.CardSide.{CardSide}
-use Rattle.card_c.specs.declared.card_side.CardSide.TheVariants.{Building, Standing, Joined}
+use Rattle.card_c.specs.declared.card_side.CardSide.TheVariants.{Building, Standing, Joined, AtT1}
 use Rattle.card_c.specs.Codes.{gt_ok, gt_sends, gt_state, gt_memory, gt_argument, builder_code, line_code}
 use Rattle.card_c.specs.TagNumbers.{IsNumbered}
 
@@ -32,6 +32,7 @@ IsRefused Refuses code = (fault : BuilderFault) × Refuses fault × (code ≡ bu
 abbrev pub AddsApplication : List ℕ → CardSide → ℤ → CardSide → Type 0
 AddsApplication aid (Standing end plans) code new = (code ≡ gt_state) × (new ≡ Standing end plans)
 AddsApplication aid (Joined session) code new = (code ≡ gt_state) × (new ≡ Joined session)
+AddsApplication aid (AtT1 at) code new = (code ≡ gt_state) × (new ≡ AtT1 at)
 AddsApplication aid (Building applications) code new =
     (IsAid aid × TakesApplication aid applications × (code ≡ gt_ok)
     × (new ≡ Building (with_application aid applications)))
@@ -45,6 +46,8 @@ AddsObject number value locked (Standing end plans) code new =
     (code ≡ gt_state) × (new ≡ Standing end plans)
 AddsObject number value locked (Joined session) code new =
     (code ≡ gt_state) × (new ≡ Joined session)
+AddsObject number value locked (AtT1 at) code new =
+    (code ≡ gt_state) × (new ≡ AtT1 at)
 AddsObject number value locked (Building applications) code new =
     ((tag : List ℕ) × IsNumbered number tag × TakesObject tag value applications × (code ≡ gt_ok)
     × (new ≡ Building (with_last_entry tag value locked applications)))
@@ -72,6 +75,7 @@ no_plans = record { rest = []; kept = None }
 abbrev pub Finishes : CardSide → ℤ → CardSide → Type 0
 Finishes (Standing end plans) code new = (code ≡ gt_state) × (new ≡ Standing end plans)
 Finishes (Joined session) code new = (code ≡ gt_state) × (new ≡ Joined session)
+Finishes (AtT1 at) code new = (code ≡ gt_state) × (new ≡ AtT1 at)
 Finishes (Building applications) code new =
     ((end : EndOf CardView) × (code ≡ gt_ok) × (new ≡ Standing end no_plans)
     × (end ≡ record { card = new_card applications; stage = Taking_header [] })
@@ -96,6 +100,7 @@ TakesCharacter end byte next = (listens end.stage ≡ true)
 abbrev pub TakesOne : ℕ → CardSide → ℤ → CardSide → Type 0
 TakesOne byte (Building applications) code new = (code ≡ gt_state) × (new ≡ Building applications)
 TakesOne byte (Joined session) code new = (code ≡ gt_state) × (new ≡ Joined session)
+TakesOne byte (AtT1 at) code new = (code ≡ gt_state) × (new ≡ AtT1 at)
 TakesOne byte (Standing end plans) code new =
     ((listens end.stage ≡ false) × (code ≡ line_code NotListening) × (new ≡ Standing end plans))
     ⊎ ((next : EndOf CardView) × (code ≡ gt_ok) × (new ≡ Standing next plans)
@@ -119,17 +124,23 @@ Turns before byte (Building applications) code new =
     (code ≡ gt_state) × (new ≡ Building applications) × (byte ≡ before)
 Turns before byte (Joined session) code new =
     (code ≡ gt_state) × (new ≡ Joined session) × (byte ≡ before)
+Turns before byte (AtT1 at) code new =
+    (code ≡ gt_state) × (new ≡ AtT1 at) × (byte ≡ before)
 Turns before byte (Standing end plans) code new =
     ((listens end.stage ≡ true) × (code ≡ gt_ok) × (new ≡ Standing end plans) × (byte ≡ before))
     ⊎ ((next : EndOf CardView) × (left : Cursor) × (code ≡ gt_sends) × (new ≡ Standing next left)
     × HandsOutCharacter end plans byte next left)
 
--- The card is reset; the plans stay.
-abbrev pub Resets : CardSide → ℤ → CardSide → Type 0
-Resets (Building applications) code new = (code ≡ gt_state) × (new ≡ Building applications)
-Resets (Joined session) code new = (code ≡ gt_state) × (new ≡ Joined session)
-Resets (Standing end plans) code new =
+-- The card is reset, and speaks T=0; the plans stay.
+abbrev pub ResetsEnd : EndOf CardView → Cursor → ℤ → CardSide → Type 0
+ResetsEnd end plans code new =
     (next : EndOf CardView) × (code ≡ gt_ok) × (new ≡ Standing next plans)
     × (next.card.state ≡ after_reset end.card.state) × (next.stage ≡ Taking_header [])
     × LeadsOn Reset end next
     × HaveLed next.card.state [] next × HaveLedUnder next.card.state [] [] next
+
+abbrev pub Resets : CardSide → ℤ → CardSide → Type 0
+Resets (Building applications) code new = (code ≡ gt_state) × (new ≡ Building applications)
+Resets (Joined session) code new = (code ≡ gt_state) × (new ≡ Joined session)
+Resets (Standing end plans) code new = ResetsEnd end plans code new
+Resets (AtT1 at) code new = ResetsEnd at.end.card at.plans code new

@@ -13,7 +13,7 @@ use Rattle.object_card.specs.CardMeaning.{Does}
 use Rattle.object_card.specs.CardView.{CardView}
 use Rattle.object_card.specs.Instructions.{MayReceive, MaySend}
 use Rattle.card_c.specs.declared.card_side.CardSide.{CardSide}
-use Rattle.card_c.specs.declared.card_side.CardSide.TheVariants.{Building, Standing, Joined}
+use Rattle.card_c.specs.declared.card_side.CardSide.TheVariants.{Building, Standing, Joined, AtT1}
 use Rattle.card_c.specs.Codes.{gt_ok, gt_state, gt_memory, gt_buffer, gt_no_tpdu, tpdu_code}
 
 -- the card of data objects, as its end of the line sees it
@@ -70,6 +70,8 @@ CarriesOut tpdu room len room' len' (Building applications) code new =
     (code ≡ gt_state) × (new ≡ Building applications) × (room' ≡ room) × (len' ≡ len)
 CarriesOut tpdu room len room' len' (Joined session) code new =
     (code ≡ gt_state) × (new ≡ Joined session) × (room' ≡ room) × (len' ≡ len)
+CarriesOut tpdu room len room' len' (AtT1 at) code new =
+    (code ≡ gt_state) × (new ≡ AtT1 at) × (room' ≡ room) × (len' ≡ len)
 CarriesOut tpdu room len room' len' (Standing end plans) code new =
     (IsRefusal tpdu end room code × (new ≡ Standing end plans) × (room' ≡ room)
     × (len' ≡ len))

@@ -4,6 +4,7 @@ pub mod BufferCalls
 pub mod CardApduCalls
 pub mod CardCalls
 pub mod CardHandle
+pub mod CardT1Calls
 pub mod CardTpduCalls
 pub mod CardHeldOwned
 pub mod Codes

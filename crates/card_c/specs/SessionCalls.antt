@@ -11,7 +11,7 @@ use Rattle.object_card.specs.CardMeaning.{Does}
 use Rattle.object_card.specs.CardView.{CardView}
 use Rattle.card_terminal.specs.Talk.{Talk}
 use Rattle.card_c.specs.declared.card_side.CardSide.{CardSide}
-use Rattle.card_c.specs.declared.card_side.CardSide.TheVariants.{Building, Standing, Joined}
+use Rattle.card_c.specs.declared.card_side.CardSide.TheVariants.{Building, Standing, Joined, AtT1}
 use Rattle.card_c.specs.declared.session_side.SessionSide.{SessionSide}
 use Rattle.card_c.specs.Codes.{gt_ok, gt_empty, gt_state, gt_memory, gt_argument, gt_busy, gt_not_found}
 use Rattle.card_c.specs.Copying.{GoesOut}
@@ -27,6 +27,7 @@ beginning listens = record { heard = []; lost = not listens }
 abbrev pub Joins : CardSide → Bool → CardSide → Type 0
 Joins (Building applications) joined new = (joined ≡ false) × (new ≡ Building applications)
 Joins (Joined session) joined new = (joined ≡ false) × (new ≡ Joined session)
+Joins (AtT1 at) joined new = (joined ≡ false) × (new ≡ AtT1 at)
 Joins (Standing end plans) joined new =
     (session : SessionSide) × (joined ≡ true) × (new ≡ Joined session)
     × (session.session.state ≡ after_reset end.card.state)
@@ -36,6 +37,7 @@ Joins (Standing end plans) joined new =
 abbrev pub Parts : CardSide → Bool → CardSide → Type 0
 Parts (Building applications) parted new = (parted ≡ false) × (new ≡ Building applications)
 Parts (Standing end plans) parted new = (parted ≡ false) × (new ≡ Standing end plans)
+Parts (AtT1 at) parted new = (parted ≡ false) × (new ≡ AtT1 at)
 Parts (Joined session) parted new =
     (end : EndOf CardView) × (parted ≡ true) × (new ≡ Standing end no_plans)
     × (end.card.state ≡ after_reset session.session.state) × (end.stage ≡ Taking_header [])
@@ -75,6 +77,7 @@ abbrev pub ResetsSession : CardSide → ℤ → CardSide → Type 0
 ResetsSession (Building applications) code new =
     (code ≡ gt_state) × (new ≡ Building applications)
 ResetsSession (Standing end plans) code new = (code ≡ gt_state) × (new ≡ Standing end plans)
+ResetsSession (AtT1 at) code new = (code ≡ gt_state) × (new ≡ AtT1 at)
 ResetsSession (Joined session) code new =
     (next : SessionSide) × (code ≡ gt_ok) × (new ≡ Joined next) × IsReset session next
 
@@ -113,6 +116,7 @@ Performs operation old code new =
 abbrev pub Selects : List ℕ → CardSide → ℤ → CardSide → Type 0
 Selects aid (Building applications) code new = (code ≡ gt_state) × (new ≡ Building applications)
 Selects aid (Standing end plans) code new = (code ≡ gt_state) × (new ≡ Standing end plans)
+Selects aid (AtT1 at) code new = (code ≡ gt_state) × (new ≡ AtT1 at)
 Selects aid (Joined session) code new =
     ((¬ IsAid aid) × (code ≡ gt_argument) × (new ≡ Joined session))
     ⊎ ((next : SessionSide) × IsAid aid × (new ≡ Joined next)
@@ -122,6 +126,7 @@ Selects aid (Joined session) code new =
 abbrev pub Gets : ℕ → CardSide → ℤ → CardSide → Type 0
 Gets number (Building applications) code new = (code ≡ gt_state) × (new ≡ Building applications)
 Gets number (Standing end plans) code new = (code ≡ gt_state) × (new ≡ Standing end plans)
+Gets number (AtT1 at) code new = (code ≡ gt_state) × (new ≡ AtT1 at)
 Gets number (Joined session) code new =
     (((tag : List ℕ) → ¬ IsNumbered number tag) × (code ≡ gt_argument)
     × (new ≡ Joined session))
@@ -133,6 +138,7 @@ abbrev pub Puts : ℕ → List ℕ → CardSide → ℤ → CardSide → Type 0
 Puts number value (Building applications) code new =
     (code ≡ gt_state) × (new ≡ Building applications)
 Puts number value (Standing end plans) code new = (code ≡ gt_state) × (new ≡ Standing end plans)
+Puts number value (AtT1 at) code new = (code ≡ gt_state) × (new ≡ AtT1 at)
 Puts number value (Joined session) code new =
     (((tag : List ℕ) → ¬ IsNumbered number tag) × (code ≡ gt_argument)
     × (new ≡ Joined session))
@@ -152,6 +158,8 @@ TellsAnswer status room len status' room' len' (Building applications) code =
     (code ≡ gt_state) × (status' ≡ status) × (room' ≡ room) × (len' ≡ len)
 TellsAnswer status room len status' room' len' (Standing end plans) code =
     (code ≡ gt_state) × (status' ≡ status) × (room' ≡ room) × (len' ≡ len)
+TellsAnswer status room len status' room' len' (AtT1 at) code =
+    (code ≡ gt_state) × (status' ≡ status) × (room' ≡ room) × (len' ≡ len)
 TellsAnswer status room len status' room' len' (Joined session) code =
     Tells session.answer status room len code status' room' len'
 
@@ -159,5 +167,6 @@ TellsAnswer status room len status' room' len' (Joined session) code =
 abbrev pub TellsIdle : CardSide → ℤ → Type 0
 TellsIdle (Building applications) code = code ≡ gt_state
 TellsIdle (Standing end plans) code = code ≡ gt_state
+TellsIdle (AtT1 at) code = code ≡ gt_state
 TellsIdle (Joined session) code =
     code ≡ (if is_idle session.session.state.pending then pos 1 else pos 0)

@@ -2,10 +2,12 @@
 ghost use Rattle.std.specs.Prelude.{◌≡◌, ◌≢◌, ◌==◌, not, pos, true, None, MatchOption};
 ghost use Rattle.t0_core.specs.CardSide.{listens};
 ghost use Rattle.card_c.specs.CardHandle.{held_by, OnHandle};
+ghost use Rattle.card_c.specs.CardT1Calls.{at_t0};
 ghost use Rattle.card_c.specs.CardCalls.{Begins, AddsApplication, AddsObject, Finishes, TakesOne, HandsOutCharacter, Turns, Resets};
 
 use crate::card_held::GtCard;
 use crate::card_side::CardSide;
+use crate::card_t1::leave;
 use crate::code;
 use crate::tag_number::tag_of;
 use object_card::{Aid, CardBuilder, ObjectCard};
@@ -208,7 +210,7 @@ pub(crate) fn next_of(end: &mut CardEnd<ObjectCard>, plans: &mut PlanQueue) -> O
     Some(byte)
 }
 
-/// Resets the card, at any time, and drops the TPDU under way.
+/// Resets the card, at any time, and drops the TPDU under way. It speaks T=0 then.
 #[unsafe(no_mangle)]
 pub extern "C" fn galliumtoad_card_reset(alloc: Global, card: &mut GtCard) -> i32
     ensures { OnHandle Resets (held_by card.old) result (held_by card.new) }
@@ -216,12 +218,20 @@ pub extern "C" fn galliumtoad_card_reset(alloc: Global, card: &mut GtCard) -> i3
     let Some(mut side) = card.take_out(alloc) else {
         return code::EMPTY;
     };
-    let answer = reset(&mut side);
+    let answer = reset(alloc, &mut side);
     card.put(side);
     answer
 }
 
-fn reset(side: &mut CardSide) -> i32
+fn reset(alloc: Global, side: &mut CardSide) -> i32
+    ensures { Resets side.old result side.new }
+{
+    leave(alloc, side);
+    reset_at_t0(side)
+}
+
+fn reset_at_t0(side: &mut CardSide) -> i32
+    requires { at_t0 side.old ≡ side.old }
     ensures { Resets side.old result side.new }
 {
     let CardSide::Standing(end, _) = side else {

@@ -1,4 +1,6 @@
-//! The card that a handle holds: one that is built, one that stands, or one in a session.
+//! The card that a handle holds: one that is built, one that stands, at T=0 or at T=1, or one in a
+//! session.
+use crate::card_t1_side::CardT1Side;
 use crate::session_side::SessionSide;
 use object_card::{CardBuilder, ObjectCard};
 use t0_core::{CardEnd, PlanQueue};
@@ -12,4 +14,6 @@ pub enum CardSide {
     Standing(CardEnd<ObjectCard>, PlanQueue),
     /// A session with it.
     Joined(SessionSide),
+    /// It speaks T=1.
+    AtT1(CardT1Side),
 }

@@ -14,6 +14,8 @@ mod card_apdu;
 mod card_buffers;
 mod card_held;
 mod card_side;
+mod card_t1;
+mod card_t1_side;
 mod card_tpdu;
 mod character_record;
 mod code;

@@ -40,6 +40,7 @@ fn selected(side: &CardSide, aid: &mut [u8], len: &mut usize) -> i32
     match side {
         CardSide::Building(_) => code::STATE,
         CardSide::Standing(end, _) => tell(end.card().selected(), aid, len),
+        CardSide::AtT1(at) => tell(at.end.applet().card().selected(), aid, len),
         CardSide::Joined(joined) => tell(joined.session.card().selected(), aid, len),
     }
 }
@@ -72,6 +73,7 @@ fn app_at(side: &CardSide, place: usize, aid: &mut [u8], len: &mut usize) -> i32
     match side {
         CardSide::Building(_) => code::STATE,
         CardSide::Standing(end, _) => tell(end.card().app_at(place), aid, len),
+        CardSide::AtT1(at) => tell(at.end.applet().card().app_at(place), aid, len),
         CardSide::Joined(joined) => tell(joined.session.card().app_at(place), aid, len),
     }
 }
@@ -128,6 +130,9 @@ fn entry_in(
     match side {
         CardSide::Building(_) => code::STATE,
         CardSide::Standing(end, _) => tell_entry(end.card(), app, place, tag, locked, value, len),
+        CardSide::AtT1(at) => {
+            tell_entry(at.end.applet().card(), app, place, tag, locked, value, len)
+        }
         CardSide::Joined(joined) => {
             tell_entry(joined.session.card(), app, place, tag, locked, value, len)
         }

@@ -1,13 +1,13 @@
-use Rattle.std.proofs.Common.{refl, sym, subst}
+use Rattle.std.proofs.Common.{sym, subst, ℤ}
 use Rattle.card_c.specs.declared.card_side.CardSide.{CardSide}
-use Rattle.card_c.specs.declared.card_side.CardSide.TheVariants.{Standing}
-use Rattle.card_c.specs.Codes.{gt_ok}
 use Rattle.card_c.specs.CardCalls.{Resets}
+use Rattle.card_c.proofs.CardT1Lemmas.{of_t0}
+use Rattle.card_c.proofs.SessionLemmas.{as_it_is}
 use Rattle.card_c.proofs.card.reset.Goals as goal
 
 pub returns : goal.returns
 returns c =
-    let e = c.reset.ensures in
-    subst (λ (s : CardSide). Resets s gt_ok (Standing c.reset.new.self c.in-Standing.field-1))
-    (sym c.in-Standing.is)
-    (c.reset.new.self, refl, refl, e.card, e.stage, e.led, e.anew, e.led_under)
+    let code = c.reset_at_t0.result in let new = c.reset_at_t0.new.side in
+    subst (λ (z : ℤ). Resets c.args.side.now z new) (sym (as_it_is code c.reset_at_t0.type_inv))
+    (of_t0 c.args.side.now code new
+    (subst (λ (s : CardSide). Resets s code new) c.leave.ensures c.reset_at_t0.ensures))

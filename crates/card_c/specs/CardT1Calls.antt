@@ -1,0 +1,103 @@
+-- What the calls on a card's end of a line at T=1 do to what its handle holds. A refusal leaves it
+-- as it was.
+use Rattle.std.specs.Prelude.{◌≡◌, ◌⊎◌, ℕ, ℤ, ◌<◌, true, false, List, [], ◌++◌, take, length, Option, Some, None}
+use Rattle.t0_core.specs.CardSide.{EndOf}
+use Rattle.t0_core.specs.CardTpdu.{rests}
+use Rattle.t0_core.specs.Plan.{Cursor}
+use Rattle.t1_core.specs.declared.applet.Applet.{Ghosts}
+use Rattle.t1_core.specs.declared.card.Reply.{Reply}
+use Rattle.t1_core.specs.BlockBytes.{block_of, bytes_of}
+use Rattle.t1_core.specs.CardReplies.{replies}
+use Rattle.t1_core.specs.CardSide.{card_after, card_damaged, card_hears, forgets}
+use Rattle.t1_core.specs.Doing.{Goes, Keeps, Steps}
+use Rattle.t1_core.specs.Receiving.{is_whole}
+use Rattle.object_card.specs.State.{CardState}
+use Rattle.object_card.specs.CardMeaning.{Does}
+use Rattle.object_card.specs.CardView.{CardView}
+use Rattle.t1_terminal.specs.CardCommand.{DoesAt}
+use Rattle.card_c.specs.declared.card_side.CardSide.{CardSide}
+use Rattle.card_c.specs.declared.card_side.CardSide.TheVariants.{Building, Standing, Joined, AtT1}
+use Rattle.card_c.specs.declared.card_t1_side.CardT1Side.{CardT1Side}
+use Rattle.card_c.specs.Codes.{gt_ok, gt_sends, gt_done, gt_state, gt_memory}
+use Rattle.card_c.specs.Copying.{IsCopied}
+
+-- the card above the end: its states, and what a command does to them
+abbrev pub applet : Ghosts (EndOf CardView)
+applet = record {
+  State = CardState;
+  standing = λ end. end.card.state;
+  Does = DoesAt Does;
+}
+
+-- A card that rests speaks T=1, as after a reset: it has sent no block.
+abbrev pub IsFresh : EndOf CardView → Cursor → CardT1Side → Type 0
+IsFresh end plans at = at ≡ record {
+  end = record { card = end; at = card_after [] };
+  block = [];
+  reply = None;
+  plans = plans;
+}
+
+abbrev pub BeginsT1 : CardSide → ℤ → CardSide → Type 0
+BeginsT1 (Building applications) code new = (code ≡ gt_state) × (new ≡ Building applications)
+BeginsT1 (Joined session) code new = (code ≡ gt_state) × (new ≡ Joined session)
+BeginsT1 (AtT1 at) code new = (code ≡ gt_state) × (new ≡ AtT1 at)
+BeginsT1 (Standing end plans) code new =
+    ((rests end.stage ≡ false) × (code ≡ gt_state) × (new ≡ Standing end plans))
+    ⊎ ((at : CardT1Side) × (rests end.stage ≡ true) × (code ≡ gt_ok) × (new ≡ AtT1 at)
+    × IsFresh end plans at)
+
+-- a card at T=1 speaks T=0 again
+abbrev pub at_t0 : CardSide → CardSide
+at_t0 (Building applications) = Building applications
+at_t0 (Joined session) = Joined session
+at_t0 (Standing end plans) = Standing end plans
+at_t0 (AtT1 at) = Standing at.end.card at.plans
+
+-- A call on a card at T=1 does this; at any other there is nothing to tell, and nothing changes.
+abbrev pub OnLine : (CardT1Side → ℤ → CardT1Side → Type 0) → Type 0 → CardSide → ℤ → CardSide
+    → Type 0
+OnLine Calls Untold (Building applications) code new =
+    (code ≡ gt_state) × (new ≡ Building applications) × Untold
+OnLine Calls Untold (Joined session) code new = (code ≡ gt_state) × (new ≡ Joined session) × Untold
+OnLine Calls Untold (Standing end plans) code new =
+    (code ≡ gt_state) × (new ≡ Standing end plans) × Untold
+OnLine Calls Untold (AtT1 at) code new =
+    (next : CardT1Side) × (new ≡ AtT1 next) × Calls at code next
+
+-- The block of the reply goes out; there is none before the first block of the terminal, and after
+-- memory ran out.
+abbrev pub SendsOf : Option Reply → List ℕ → ℕ → List ℕ → ℕ → CardT1Side → ℤ → Type 0
+SendsOf None room n room' n' at code = (code ≡ gt_done) × (room' ≡ room) × (n' ≡ n)
+SendsOf (Some reply) room n room' n' at code =
+    ((code ≡ gt_memory) × (room' ≡ room) × (n' ≡ n))
+    ⊎ (IsCopied (bytes_of (replies reply at.end.at)) room code room'
+    × (n' ≡ length (bytes_of (replies reply at.end.at))))
+
+abbrev pub SendsReply : List ℕ → ℕ → List ℕ → ℕ → CardT1Side → ℤ → CardT1Side → Type 0
+SendsReply room n room' n' old code new =
+    SendsOf old.reply room n room' n' old code × (new ≡ old)
+
+-- Bytes of the terminal are taken up to the end of its block, and with that the block: the end
+-- makes its step, and replies. If memory runs out, no command is carried out, and the block is
+-- dropped.
+abbrev pub HearsBytes : List ℕ → ℕ → CardT1Side → ℤ → CardT1Side → Type 0
+HearsBytes bytes n' old code new = (block : List ℕ) × (block ≡ old.block ++ take n' bytes)
+    × ((k : ℕ) → k < n' → is_whole (old.block ++ take k bytes) ≡ false)
+    × (new.plans ≡ old.plans)
+    × (((is_whole block ≡ false) × (n' ≡ length bytes) × (code ≡ gt_ok)
+    × (new ≡ record old { block = block }))
+    ⊎ ((reply : Reply) × (is_whole block ≡ true) × (code ≡ gt_sends) × (new.block ≡ [])
+    × (new.reply ≡ Some reply)
+    × Steps applet (λ m c. card_hears m (block_of block) c) old.end reply new.end)
+    ⊎ ((is_whole block ≡ true) × (code ≡ gt_memory) × (new.block ≡ []) × (new.reply ≡ None)
+    × Keeps applet forgets old.end new.end))
+
+-- no valid block came
+abbrev pub MissesBlock : CardT1Side → CardT1Side → Type 0
+MissesBlock old new = (reply : Reply)
+    × (new ≡ record old { block = []; reply = Some reply })
+    × Goes card_damaged old.end reply new.end
+
+abbrev pub Misses : CardT1Side → ℤ → CardT1Side → Type 0
+Misses old code new = (code ≡ gt_sends) × MissesBlock old new

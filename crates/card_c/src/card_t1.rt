@@ -1,0 +1,198 @@
+//! The card's end of a line at T=1.
+ghost use Rattle.std.specs.Prelude.{◌≡◌, None, ⊤, true};
+ghost use Rattle.t0_core.specs.CardTpdu.{rests};
+ghost use Rattle.card_c.specs.CardHandle.{held_by, OnHandle};
+ghost use Rattle.card_c.specs.CardT1Calls.{BeginsT1, HearsBytes, IsFresh, Misses, MissesBlock, OnLine, SendsReply, at_t0};
+
+use crate::card_held::GtCard;
+use crate::card_side::CardSide;
+use crate::card_t1_side::CardT1Side;
+use crate::code;
+use crate::copied::copied;
+use object_card::{CardBuilder, ObjectCard};
+use std::alloc::Global;
+use std::mem;
+use t0_core::PlanQueue;
+use t1_core::spelling::write;
+use t1_core::{CardEnd, Receiver};
+use t1_terminal::DataApplet;
+
+/// The card speaks T=1, up to its next reset.
+#[unsafe(no_mangle)]
+pub extern "C" fn galliumtoad_card_t1_begin(alloc: Global, card: &mut GtCard) -> i32
+    ensures { OnHandle BeginsT1 (held_by card.old) result (held_by card.new) }
+{
+    let Some(mut side) = card.take_out(alloc) else {
+        return code::EMPTY;
+    };
+    let answer = begin(alloc, &mut side);
+    card.put(side);
+    answer
+}
+
+fn begin(alloc: Global, side: &mut CardSide) -> i32
+    ensures { BeginsT1 side.old result side.new }
+{
+    // A builder of nothing takes no memory, and keeps the place meanwhile.
+    let before = mem::replace(side, CardSide::Building(CardBuilder::new(alloc)));
+    let CardSide::Standing(end, plans) = before else {
+        *side = before;
+        return code::STATE;
+    };
+    if !end.is_at_rest() {
+        *side = CardSide::Standing(end, plans);
+        return code::STATE;
+    }
+    *side = CardSide::AtT1(fresh(alloc, end, plans));
+    code::OK
+}
+
+fn fresh(alloc: Global, end: t0_core::CardEnd<ObjectCard>, plans: PlanQueue) -> CardT1Side
+    requires { rests end.stage ≡ true }
+    ensures { IsFresh end plans result }
+{
+    CardT1Side {
+        end: CardEnd::new(alloc, DataApplet::new(alloc, end)),
+        block: Receiver::new(),
+        reply: None,
+        plans,
+    }
+}
+
+/// Has a card at T=1 speak T=0 again.
+pub(crate) fn leave(alloc: Global, side: &mut CardSide)
+    ensures { side.new ≡ at_t0 side.old }
+{
+    let before = mem::replace(side, CardSide::Building(CardBuilder::new(alloc)));
+    let CardSide::AtT1(at) = before else {
+        *side = before;
+        return;
+    };
+    let CardT1Side { end, plans, .. } = at;
+    *side = CardSide::Standing(end.into_applet().into_end(), plans);
+}
+
+/// The block to send now.
+#[unsafe(no_mangle)]
+pub extern "C" fn galliumtoad_card_t1_send_bytes(
+    alloc: Global,
+    card: &mut GtCard,
+    bytes: &mut [u8],
+    count: &mut usize,
+) -> i32
+    ensures empty { held_by card.old ≡ None
+        → (bytes.new ≡ bytes.old) × (count.new ≡ count.old) }
+    ensures sends { OnHandle (OnLine (SendsReply bytes.old count.old bytes.new count.new)
+        ((bytes.new ≡ bytes.old) × (count.new ≡ count.old)))
+        (held_by card.old) result (held_by card.new) }
+{
+    let Some(side) = card.take_out(alloc) else {
+        return code::EMPTY;
+    };
+    let answer = send(alloc, &side, bytes, count);
+    card.put(side);
+    answer
+}
+
+fn send(alloc: Global, side: &CardSide, bytes: &mut [u8], count: &mut usize) -> i32
+    ensures { OnLine (SendsReply bytes.old count.old bytes.new count.new)
+        ((bytes.new ≡ bytes.old) × (count.new ≡ count.old)) side.now result side.now }
+{
+    let CardSide::AtT1(at) = side else {
+        return code::STATE;
+    };
+    sent(alloc, at, bytes, count)
+}
+
+fn sent(alloc: Global, at: &CardT1Side, bytes: &mut [u8], count: &mut usize) -> i32
+    ensures { SendsReply bytes.old count.old bytes.new count.new at.now result at.now }
+{
+    let Some(reply) = at.reply else {
+        return code::DONE;
+    };
+    match write(alloc, at.end.block(reply)) {
+        Ok(from) => copied(&from, bytes, count),
+        Err(_) => code::MEMORY,
+    }
+}
+
+/// Takes bytes of the terminal, up to the end of its block.
+#[unsafe(no_mangle)]
+pub extern "C" fn galliumtoad_card_t1_receive_bytes(
+    alloc: Global,
+    card: &mut GtCard,
+    bytes: &[u8],
+    count: &mut usize,
+) -> i32
+    ensures empty { held_by card.old ≡ None → count.new ≡ count.old }
+    ensures receives { OnHandle (OnLine (HearsBytes bytes.now count.new)
+        (count.new ≡ count.old)) (held_by card.old) result (held_by card.new) }
+{
+    let Some(mut side) = card.take_out(alloc) else {
+        return code::EMPTY;
+    };
+    let answer = receive(&mut side, bytes, count);
+    card.put(side);
+    answer
+}
+
+fn receive(side: &mut CardSide, bytes: &[u8], count: &mut usize) -> i32
+    ensures { OnLine (HearsBytes bytes.now count.new) (count.new ≡ count.old)
+        side.old result side.new }
+{
+    let CardSide::AtT1(at) = side else {
+        return code::STATE;
+    };
+    heard(at, bytes, count)
+}
+
+fn heard(at: &mut CardT1Side, bytes: &[u8], count: &mut usize) -> i32
+    ensures { HearsBytes bytes.now count.new at.old result at.new }
+{
+    *count = at.block.take_bytes(bytes);
+    if !at.block.is_whole() {
+        return code::OK;
+    }
+    let answer = match at.end.take_bytes(at.block.bytes()) {
+        Ok(reply) => {
+            at.reply = Some(reply);
+            code::SENDS
+        }
+        Err(_) => {
+            at.reply = None;
+            code::MEMORY
+        }
+    };
+    at.block.clear();
+    answer
+}
+
+/// No valid block of the terminal came: one stopped, or a character was damaged.
+#[unsafe(no_mangle)]
+pub extern "C" fn galliumtoad_card_t1_missed(alloc: Global, card: &mut GtCard) -> i32
+    ensures { OnHandle (OnLine Misses ⊤) (held_by card.old) result (held_by card.new) }
+{
+    let Some(mut side) = card.take_out(alloc) else {
+        return code::EMPTY;
+    };
+    let answer = miss(&mut side);
+    card.put(side);
+    answer
+}
+
+fn miss(side: &mut CardSide) -> i32
+    ensures { OnLine Misses ⊤ side.old result side.new }
+{
+    let CardSide::AtT1(at) = side else {
+        return code::STATE;
+    };
+    missed(at);
+    code::SENDS
+}
+
+fn missed(at: &mut CardT1Side)
+    ensures { MissesBlock at.old at.new }
+{
+    at.reply = Some(at.end.damaged());
+    at.block.clear();
+}

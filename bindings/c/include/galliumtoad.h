@@ -378,7 +378,8 @@ typedef struct {
  *   gt_t1_        new; then, again and again: begin; send_bytes, receive_bytes or missed; response
  *                 or fault; .. reset; free
  *   gt_card_      new; app and object; finish; take and turn, send_bytes and receive_bytes, tpdu
- *                 or apdu; .. plan, selected, app_at, entry_at, reset; free
+ *                 or apdu; or t1_begin, then t1_receive_bytes or t1_missed, and t1_send_bytes; ..
+ *                 plan, selected, app_at, entry_at, reset; free
  *   gt_session_   start, with a card; listen, to call heard; select, get, put or send; .. answer,
  *                 heard, idle, plan, selected, app_at, entry_at, reset; end, which gives the card
  *                 back, or free
@@ -412,7 +413,9 @@ typedef struct {
  *                 overwrite them, or gt_t1_reset
  *   a card        each value, until another is stored under its tag; the bytes of a TPDU, until its
  *                 second status byte; those of a chain, until it is stored, refused or dropped. It
- *                 is proved that the last two are then cleared
+ *                 is proved that the last two are then cleared. At T=1 also the terminal's last
+ *                 block, what came of a command and the response, until the next ones overwrite
+ *                 them
  *   a session     those of its card; the last answer and, if somebody listens, its characters,
  *                 until the next operation is carried out, or gt_session_end */
 typedef struct { bool live; void *held; } gt_exchange;
@@ -500,6 +503,11 @@ int32_t galliumtoad_card_tpdu(gt_card *c, const uint8_t *tpdu, size_t n, uint8_t
                               size_t room, size_t *len);
 int32_t galliumtoad_card_apdu(gt_card *c, const uint8_t *apdu, size_t n, uint8_t *response,
                               size_t room, size_t *len);
+int32_t galliumtoad_card_t1_begin(gt_card *c);
+int32_t galliumtoad_card_t1_send_bytes(gt_card *c, uint8_t *bytes, size_t room, size_t *n);
+int32_t galliumtoad_card_t1_receive_bytes(gt_card *c, const uint8_t *bytes, size_t n,
+                                          size_t *taken);
+int32_t galliumtoad_card_t1_missed(gt_card *c);
 int32_t galliumtoad_card_plan(gt_card *c, const char *steps, size_t n, uint16_t cut);
 int32_t galliumtoad_card_selected(gt_card *c, uint8_t *aid, size_t room, size_t *n);
 int32_t galliumtoad_card_app_at(gt_card *c, size_t app, uint8_t *aid, size_t room, size_t *n);
@@ -1190,7 +1198,7 @@ GT_MUST_CHECK int32_t gt_card_receive_bytes(gt_card *c, const uint8_t *bytes, si
 }
 
 /* Resets the card, at any time: a TPDU under way is dropped, nothing is selected or pending, and it
- * waits for a header. Data objects and plans stay.
+ * waits for a header, at T=0. Data objects and plans stay.
  *
  * GT_OK. GT_STATE: it is not finished yet. */
 GT_FUNCTION int32_t gt_card_reset(gt_card *c) {
@@ -1235,6 +1243,67 @@ GT_MUST_CHECK int32_t gt_card_tpdu(gt_card *c, const uint8_t *tpdu, size_t n,
 GT_MUST_CHECK int32_t gt_card_apdu(gt_card *c, const uint8_t *apdu, size_t n,
                                    uint8_t *response, size_t room, size_t *len) {
     return gt_pass_(galliumtoad_card_apdu, c, apdu, n, response, room, len);
+}
+
+/* The next four are the card's end of a line at T=1 (ISO/IEC 7816-3, clause 11), which carries out
+ * each command as `gt_card_apdu` does, and answers each block of the terminal with one block:
+ *
+ *   gt_card_t1_begin(&c);
+ *   for (;;) {
+ *       .. receive bytes, and hand them on as they come:
+ *       gt_card_t1_receive_bytes(&c, bytes, count, &taken);  until that is GT_SENDS
+ *       .. or, if the block stops, or a character has a wrong parity:
+ *       gt_card_t1_missed(&c);
+ *       gt_card_t1_send_bytes(&c, block, sizeof block, &n);  and send the n bytes
+ *   }
+ *
+ * The caller keeps the times of the card's answer to reset: `gt_atr.t1`. The end keeps NAD 00 and
+ * an LRC, and its fields have at most 32 bytes until S(IFS request). It answers each other request
+ * of a terminal too, and sends none. What is no short command is answered 6700, an invalid INS 6D00
+ * (profile).
+ *
+ * The card speaks T=1 up to gt_card_reset. Until then the other calls that send or receive answer
+ * GT_STATE; those that tell what it holds stay.
+ *
+ * Begins, as after a reset. GT_OK. GT_STATE: the card is not finished yet, characters of a TPDU
+ * have gone, or it speaks T=1. */
+GT_MUST_CHECK int32_t gt_card_t1_begin(gt_card *c) {
+    if (!c) return GT_NULL;
+    return galliumtoad_card_t1_begin(c);
+}
+
+/* The block to send now: `bytes` gets it, and `n` its length, 4 to GT_BLOCK_LIMIT. Asked again it
+ * is the same block, until one of the next two calls answers GT_SENDS or GT_MEMORY.
+ *
+ * GT_OK. GT_DONE: none; no block of the terminal has come, or memory ran out at the last one.
+ * GT_STATE: the card does not speak T=1. GT_MEMORY. GT_BUFFER: `room` is less than the block; `n`
+ * is its length, `bytes` is as it was. */
+GT_MUST_CHECK int32_t gt_card_t1_send_bytes(gt_card *c, uint8_t *bytes, size_t room, size_t *n) {
+    uint8_t none = 0;
+    if (!c || (!bytes && room) || !n) return GT_NULL;
+    return galliumtoad_card_t1_send_bytes(c, bytes ? bytes : &none, room, n);
+}
+
+/* Takes bytes of the terminal, up to the end of its block. `taken` gets how many. Those that are
+ * left are none of the block: drop them, and what else comes before the card's block is sent. A
+ * command is carried out with the last byte of its last block.
+ *
+ * GT_OK: all are taken, and the block goes on. GT_SENDS: the block is whole, valid or not, and
+ * `gt_card_t1_send_bytes` has the answer. GT_STATE: the card does not speak T=1. GT_MEMORY: the
+ * block is dropped, no command is carried out, and there is no answer: the terminal asks again. */
+GT_MUST_CHECK int32_t gt_card_t1_receive_bytes(gt_card *c, const uint8_t *bytes, size_t n,
+                                               size_t *taken) {
+    if (!c || (!bytes && n) || !taken) return GT_NULL;
+    return galliumtoad_card_t1_receive_bytes(c, gt_bytes_(bytes), n, taken);
+}
+
+/* No valid block of the terminal came: one stopped for longer than CWT, or a character had a wrong
+ * parity. What came of the block is dropped.
+ *
+ * GT_SENDS: `gt_card_t1_send_bytes` has the answer. GT_STATE: the card does not speak T=1. */
+GT_MUST_CHECK int32_t gt_card_t1_missed(gt_card *c) {
+    if (!c) return GT_NULL;
+    return galliumtoad_card_t1_missed(c);
 }
 
 /* How the card answers a TPDU to come: each call is for one more of them, in turn. `steps` is a

@@ -1,5 +1,5 @@
-/* Want of memory at each request in turn of a terminal's end at T=1, and what is taken and given
- * back: the figures are those of the header, where it declares the handles. */
+/* Want of memory at each request in turn of a terminal's end at T=1 and of a card's, and what is
+ * taken and given back: the figures are those of the header, where it declares the handles. */
 #include "galliumtoad.h"
 #include "check.h"
 #include "counting_heap.h"
@@ -63,9 +63,79 @@ static void wants_memory(gt_t1 *t) {
     CHECK(comes(t, 0x40, 4, &count), GT_SENDS);
 }
 
+/* Hands the terminal's block to a card, of whose requests for memory this one is refused: it has no
+ * answer then, and the block is dropped. Answers how many requests there were. */
+static size_t card_takes(gt_card *c, const uint8_t *block, size_t size, size_t which) {
+    size_t n = 0;
+    int32_t code;
+    requests = 0;
+    refused = which;
+    code = gt_card_t1_receive_bytes(c, block, size, &n);
+    refused = 0;
+    CHECK(n, size);
+    CHECK(code, which > 0 && which <= requests ? GT_MEMORY : GT_SENDS);
+    n = 7;
+    room[0] = 0xEE;
+    if (code == GT_MEMORY) {
+        CHECK(gt_card_t1_send_bytes(c, room, sizeof room, &n), GT_DONE);
+        CHECK(n, 7);
+        CHECK(room[0], 0xEE);
+    }
+    return requests;
+}
+
+/* The card's answer is this; the first time there is no memory for it. */
+static void card_sends(gt_card *c, const char *want, size_t size) {
+    size_t n = 7;
+    room[0] = 0xEE;
+    requests = 0;
+    refused = 1;
+    CHECK(gt_card_t1_send_bytes(c, room, sizeof room, &n), GT_MEMORY);
+    CHECK(n, 7);
+    CHECK(room[0], 0xEE);
+    refused = 0;
+    CHECK(gt_card_t1_send_bytes(c, room, sizeof room, &n), GT_OK);
+    CHECK(n, size);
+    CHECK_BYTES(room, want, size);
+}
+
+/* Memory that is wanting within a command: the card has not carried it out, and the terminal's
+ * block, sent again, finds it as it was. A put may be answered 6581 instead. */
+static void of_a_card(void) {
+    static const uint8_t aid[] = { 0xA0, 0x00, 0x00, 0x00, 0x03 };
+    static const struct { const char *block; size_t size; const char *answer; size_t length; }
+    rows[] = {
+        { "\x00\x00\x0A\x00\xA4\x04\x00\x05\xA0\x00\x00\x00\x03\x0C", 14,
+          "\x00\x00\x02\x61\x09\x6A", 6 },
+        { "\x00\x40\x07\x10\xDA\x5F\x20\x02\x41\x42\xF3", 11,
+          "\x00\x40\x02\x90\x00\xD2", 6 },
+        { "\x00\x00\x06\x00\xDA\x5F\x20\x01\x43\xE1", 10, "\x00\x00\x02\x90\x00\x92", 6 },
+        { "\x00\x40\x05\x00\xCA\x5F\x20\x00\xF0", 9,
+          "\x00\x40\x08\x5F\x20\x03\x41\x42\x43\x90\x00\xE4", 12 },
+    };
+    gt_card c = GT_INIT;
+    size_t i, which;
+    CHECK(gt_card_new(&c), GT_OK);
+    CHECK(gt_card_app(&c, aid, sizeof aid), GT_OK);
+    CHECK(gt_card_finish(&c), GT_OK);
+    CHECK(gt_card_t1_begin(&c), GT_OK);
+    for (i = 0; i < sizeof rows / sizeof *rows; i++) {
+        const uint8_t *block = (const uint8_t *)rows[i].block;
+        const bool is_put = block[4] == 0xDA;
+        which = is_put ? 0 : 1;
+        while (card_takes(&c, block, rows[i].size, which) >= which && !is_put) which++;
+        CHECK(which > 2, !is_put);
+        card_sends(&c, rows[i].answer, rows[i].length);
+    }
+    gt_card_free(&c);
+    CHECK(taken, 0);
+}
+
 int main(void) {
     gt_t1 t = GT_INIT;
     size_t n = 0;
+    of_a_card();
+    peak = 0;
     requests = 0;
     refused = 1;
     CHECK(gt_t1_new(&t, GT_LRC, 254, 4, 16, LIMIT), GT_MEMORY);

@@ -103,6 +103,14 @@ declared! {
     fn galliumtoad_card_apdu(
         c: *mut Held, apdu: *const u8, n: usize, response: *mut u8, room: usize, len: *mut usize
     ) -> i32;
+    fn galliumtoad_card_t1_begin(c: *mut Held) -> i32;
+    fn galliumtoad_card_t1_send_bytes(
+        c: *mut Held, bytes: *mut u8, room: usize, n: *mut usize
+    ) -> i32;
+    fn galliumtoad_card_t1_receive_bytes(
+        c: *mut Held, bytes: *const u8, n: usize, taken: *mut usize
+    ) -> i32;
+    fn galliumtoad_card_t1_missed(c: *mut Held) -> i32;
     fn galliumtoad_card_plan(c: *mut Held, steps: *const u8, n: usize, cut: u16) -> i32;
     fn galliumtoad_card_selected(c: *mut Held, aid: *mut u8, room: usize, n: *mut usize) -> i32;
     fn galliumtoad_card_app_at(

@@ -10,6 +10,7 @@
 mod atr;
 mod buffers;
 mod card;
+mod card_t1;
 mod error;
 mod exchange;
 #[cfg(heap_in_rust)]
@@ -36,6 +37,7 @@ pub use buffers::{ReceiveError, Sent, Stop};
 pub use card::{Card, CardBuilder, Entry};
 pub use card::{AID_LEAST, AID_LIMIT, APPS_LIMIT, ENTRIES_LIMIT, OBJECT_LIMIT};
 pub use card::{PLANS_LIMIT, VALUE_LIMIT};
+pub use card_t1::CardT1;
 pub use error::Error;
 pub use exchange::{Answer, Copied, Exchange, Turn, RESPONSE_LIMIT};
 pub use objects::{find, head, Object, Objects, ObjectsError, Reason, LEVELS_LIMIT};

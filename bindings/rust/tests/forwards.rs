@@ -6,7 +6,7 @@
 #![allow(unused_must_use)]
 
 use galliumtoad::{find, head, version, version_fits, Atr, Card, CardBuilder, Error, Exchange};
-use galliumtoad::{Cause, Edc, Outcome, T1Limits, T1};
+use galliumtoad::{CardT1, Cause, Edc, Outcome, T1Limits, T1};
 use galliumtoad::{Objects, Operation, Pps, ReceiveError, Sent, Session, Stop, Terminal, Turn};
 use std::cell::{Cell, RefCell};
 use std::process::Command;
@@ -299,6 +299,35 @@ fn of_an_end_at_t1() {
     let refused = hands!(T1::new(Edc::Crc, 0, T1Limits::default()) =>
         t1_new(_, 2, 0, 4, 16, 258), t1_free(_));
     assert_eq!(refused.err(), Some(Error::Argument));
+}
+
+#[test]
+fn of_a_card_at_t1() {
+    let (bytes, mut room) = (at(&BYTES), [0; 258]);
+    let space = at(&room);
+    tell(0);
+    let card = card();
+    let mut it = hands!(CardT1::new(card) => card_reset(_), card_t1_begin(_)).expect("a card");
+    let sent = hands!(it.block_into(&mut room) => card_t1_send_bytes(_, space, 258, _));
+    assert!(sent.expect("a block").is_some());
+    let came = hands!(it.receive(&BYTES) => card_t1_receive_bytes(_, bytes, 7, _));
+    assert!(!came.expect("bytes").is_whole);
+    tell(1);
+    let came = hands!(it.receive(&BYTES) => card_t1_receive_bytes(_, bytes, 7, _));
+    assert!(came.expect("bytes").is_whole);
+    assert_eq!(hands!(it.missed() => card_t1_missed(_)), Ok(()));
+    tell(2);
+    let sent = hands!(it.block_into(&mut room) => card_t1_send_bytes(_, space, 258, _));
+    assert_eq!(sent, Ok(None));
+    tell(-4);
+    let sent = hands!(it.block_into(&mut room) => card_t1_send_bytes(_, space, 258, _));
+    assert_eq!(sent, Err(Error::Memory));
+    let came = hands!(it.receive(&BYTES) => card_t1_receive_bytes(_, bytes, 7, _));
+    assert_eq!(came.err(), Some(Error::Memory));
+    tell(0);
+    hands!(it.reset() => card_reset(_), card_t1_begin(_));
+    let card = hands!(it.into_card() => card_reset(_)).expect("a card");
+    hands!(drop(card) => card_free(_));
 }
 
 /// Limits are handed on as they are, and what the archive makes of them is told.

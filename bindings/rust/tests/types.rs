@@ -2,7 +2,9 @@
 //! types threads share.
 
 use galliumtoad::{find, Atr, CardBuilder, Error, Exchange, Objects, Operation, Pps, Session};
-use galliumtoad::{Answer, Card, Entry, Level, RunError, Status, Stop, Terminal, Tpdu, Turn, T1};
+use galliumtoad::{
+    Answer, Card, CardT1, Entry, Level, RunError, Status, Stop, Terminal, Tpdu, Turn, T1,
+};
 use std::collections::HashSet;
 use std::error::Error as Cause;
 use std::fmt;
@@ -231,6 +233,7 @@ fn handles_may_go_to_another_thread_and_other_values_be_shared() {
     fn is_shared<T: Send + Sync>() {}
     goes::<Terminal>();
     goes::<T1>();
+    goes::<CardT1>();
     goes::<Exchange>();
     goes::<Session>();
     goes::<Card>();

@@ -1,0 +1,118 @@
+//! The card's end of a line at T=1 (ISO/IEC 7816-3, clause 11).
+
+use crate::card::Card;
+use crate::error::{done, told, Error};
+use crate::raw;
+use crate::t1::{Received, BLOCK_LIMIT};
+
+/// A card's end of a line at T=1, which answers each block of a terminal with one block. The times
+/// of the line are the caller's to keep; [`Atr`](crate::Atr) has them.
+///
+/// ```
+/// use galliumtoad::{CardBuilder, CardT1, Edc, Error, T1Limits, BLOCK_LIMIT, T1};
+///
+/// let mut builder = CardBuilder::new()?;
+/// builder.app(b"\xA0\x00\x00\x00\x03\x10\x10")?;
+/// let mut card = CardT1::new(builder.finish()?)?;
+/// let mut terminal = T1::new(Edc::Lrc, 32, T1Limits::default())?;
+/// let mut room = [0; BLOCK_LIMIT];
+/// terminal.begin(b"\x00\xA4\x04\x00\x07\xA0\x00\x00\x00\x03\x10\x10")?;
+/// while let Some(block) = terminal.block_into(&mut room)? {
+///     if !card.receive(&room[..block.count])?.is_whole {
+///         card.missed()?;
+///     }
+///     let count = card.block_into(&mut room)?.expect("an answer");
+///     if !terminal.receive(&room[..count])?.is_whole {
+///         terminal.missed()?;
+///     }
+/// }
+/// let count = terminal.response_into(&mut room)?;
+/// assert_eq!(room[..count], [0x61, 0x0B]);
+/// # Ok::<(), Error>(())
+/// ```
+#[derive(Debug)]
+pub struct CardT1(Card);
+
+impl CardT1 {
+    /// Resets the card, which speaks T=1 then.
+    ///
+    /// # Errors
+    ///
+    /// None today.
+    pub fn new(card: Card) -> Result<CardT1, Error> {
+        let mut end = CardT1(card);
+        end.reset()?;
+        Ok(end)
+    }
+
+    /// Takes bytes of the terminal, up to the end of its block. A command is carried out with the
+    /// last byte of its last block.
+    ///
+    /// # Errors
+    ///
+    /// - [`Error::Memory`]: it ran out. The block is dropped, and no command is carried out.
+    pub fn receive(&mut self, bytes: &[u8]) -> Result<Received, Error> {
+        let (at, n) = (self.0 .0 .0.at(), bytes.len());
+        let mut taken = 0;
+        // SAFETY: a card's handle; a slice with its length, and `taken`, which are apart.
+        let code = told(unsafe {
+            raw::galliumtoad_card_t1_receive_bytes(at, bytes.as_ptr(), n, &mut taken)
+        })?;
+        let is_whole = code == raw::SENDS;
+        Ok(Received { taken, is_whole })
+    }
+
+    /// No valid block of the terminal came: one stopped for longer than CWT, or a character had a
+    /// wrong parity.
+    ///
+    /// # Errors
+    ///
+    /// None today.
+    pub fn missed(&mut self) -> Result<(), Error> {
+        // SAFETY: a card's handle.
+        done(unsafe { raw::galliumtoad_card_t1_missed(self.0 .0 .0.at()) })
+    }
+
+    /// Copies the block to send now to the front of `room`, and returns how many bytes it has; or
+    /// `None` if no block of the terminal has come, or memory ran out at the last one.
+    ///
+    /// # Errors
+    ///
+    /// - [`Error::Memory`]: it ran out. Nothing has changed.
+    pub fn block_into(&self, room: &mut [u8; BLOCK_LIMIT]) -> Result<Option<usize>, Error> {
+        let (at, n) = (self.0 .0 .0.at(), room.len());
+        let mut count = 0;
+        // SAFETY: a card's handle; `room` with its length and `count` are apart.
+        let code = told(unsafe {
+            raw::galliumtoad_card_t1_send_bytes(at, room.as_mut_ptr(), n, &mut count)
+        })?;
+        Ok((code != raw::DONE).then_some(count))
+    }
+
+    /// Resets the card and its end: nothing is selected or pending, and its objects stay.
+    ///
+    /// # Errors
+    ///
+    /// None today.
+    pub fn reset(&mut self) -> Result<(), Error> {
+        self.0.reset()?;
+        // SAFETY: a card's handle.
+        done(unsafe { raw::galliumtoad_card_t1_begin(self.0 .0 .0.at()) })
+    }
+
+    /// The card, for what it holds.
+    #[must_use]
+    pub fn card(&self) -> &Card {
+        &self.0
+    }
+
+    /// Resets the card, which speaks T=0 then, and hands it back.
+    ///
+    /// # Errors
+    ///
+    /// None today.
+    pub fn into_card(mut self) -> Result<Card, Error> {
+        self.0.reset()?;
+        Ok(self.0)
+    }
+}

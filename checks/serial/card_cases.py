@@ -44,6 +44,8 @@ class Case:
     mute: bool = False
     # the rate of the tty after the dialogue
     baud: int = 9600
+    # in milliseconds
+    slack: int = 5000
 
 
 def table(folder, text):
@@ -59,7 +61,7 @@ def run(case):
     with tempfile.TemporaryDirectory() as folder:
         path = table(folder, f"atr {case.answer}\n{APP}")
         options = case.options if case.echo else ["--no-echo", *case.options]
-        program = Program("serial_card", ["--slack", "5000", *options, line.name, path])
+        program = Program("serial_card", ["--slack", case.slack, *options, line.name, path])
         other = Other(line, case.echo, case.inverse, case.heaps)
         played = ""
         try:
@@ -292,9 +294,11 @@ def mute_until_reset():
 
 
 def tables():
-    """Tables that are refused, and answers to reset by which no T=0 is offered."""
+    """Tables that are refused, and answers to reset by which no T=0 is offered, and no T=1 that the
+    card has."""
     none = "the table's answer to reset is none: "
-    no_t0 = "the table's answer to reset does not offer T=0 at a rate that it tells\n"
+    neither = ("the table's answer to reset does not offer T=0, or T=1 with an LRC, at a rate that"
+               " it tells\n")
     for text, fault in (
         ("app A000\n", "line 1: bad argument\n"),
         ("# a name\nobject 5F20 41\n", "line 2: no app\n"),
@@ -303,10 +307,11 @@ def tables():
         ("atr 3B80018F\n", none + "wrong check byte, at byte 4\n"),
         ("atr 5500\n", none + "no TS, at byte 1\n"),
         ("atr 3B6500\n", none + "answer to reset cut, at byte 4\n"),
-        ("atr 3B800181\n", no_t0),
-        ("atr 3B90951001\n", no_t0),
-        ("atr 3B90951010\n", no_t0),
-        ("atr 3B909F1000\n", no_t0),
+        ("atr 3B800282\n", neither),
+        ("atr 3B8081410141\n", neither),
+        ("atr 3B90951002\n", neither),
+        ("atr 3B90951010\n", neither),
+        ("atr 3B909F1000\n", neither),
     ):
         with tempfile.TemporaryDirectory() as folder:
             program = Program("serial_card", ["--pty", table(folder, text)])
@@ -315,17 +320,19 @@ def tables():
 
 def warns():
     """A card warns of an answer that our terminal refuses."""
-    for answer, warning in (
-        ("3B804000", "the card's waiting time is reserved"),
-        ("3B9095500000", "the card's waiting time is reserved"),
-        ("3B1071", ""),
-        ("3B90951000", ""),
+    by_blocks = "> 00000500CA5F2000B0 < 0000026985EE "
+    for answer, warning, words in (
+        ("3B804000", "the card's waiting time is reserved", ASK_WORDS),
+        ("3B9095500000", "the card's waiting time is reserved", ASK_WORDS),
+        ("3B8081110010", "the card's IFSC is reserved", by_blocks),
+        ("3B1071", "", ASK_WORDS),
+        ("3B90951000", "", ASK_WORDS),
     ):
         line = Line()
         with tempfile.TemporaryDirectory() as folder:
             path = table(folder, f"atr {answer}\n{APP}")
             program = Program("serial_card", ["--no-echo", line.name, path])
-            play(Other(line, echo=False), f"< {answer} {ASK_WORDS}", card=False)
+            play(Other(line, echo=False), f"< {answer} {words}", card=False)
             line.close()
             if warning:
                 warning = f"warning: gt_serial refuses this answer to reset: {warning}\n"

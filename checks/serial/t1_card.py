@@ -1,5 +1,5 @@
-"""A card at T=1 (ISO/IEC 7816-3, clause 11) behind a line that damages, loses, doubles and delays
-bytes: a stand-in for gt_serial, written from the standard's rules and apart from the library."""
+"""Lines at T=1 (ISO/IEC 7816-3, clause 11) that damage, lose, double and delay bytes: between both
+programs, or to a stand-in for the card, which is written from the rules alone."""
 
 import random
 import select
@@ -112,6 +112,26 @@ class Card:
         return self.again()
 
 
+def carried_out(trace):
+    """The commands that a card has carried out, by its trace of the blocks that came and went: it
+    has carried one out if it answers the last block of that with an I-block, and has taken another
+    block of it if it asks for the next."""
+    log, fields, due = [], b"", 0
+    lines = [line.split() for line in trace.splitlines()[2:]]
+    for (_, came), (_, went) in zip(lines[::2], lines[1::2]):
+        block, answer = bytes.fromhex(came), bytes.fromhex(went)
+        if not is_valid(block) or block[1] >= 0x80 or block[1] >> 6 != due:
+            continue
+        is_last = not block[1] & 0x20
+        if answer[1] < 0x80 if is_last else answer[1] == 0x80 | (1 - due) << 4:
+            fields += block[3:-1]
+            due ^= 1
+            if is_last:
+                log.append(fields)
+                fields = b""
+    return log
+
+
 class Noise:
     """What a line does with each block. `fates` has one for each, or says at random how often a
     block comes well."""
@@ -138,14 +158,64 @@ class Noise:
                 return found
 
 
-class Play(threading.Thread):
-    """Such a card at the far end of a line, whose noise goes both ways. `late` is how long a late
-    block takes, and `stops` after how long a card knows that a block has stopped."""
+class Noisy(threading.Thread):
+    """A line whose noise goes both ways. `late` is how long a late block takes."""
+
+    def __init__(self, noise, late):
+        super().__init__(daemon=True)
+        self.noise, self.late = noise, late
+        self.is_over = threading.Event()
+
+    def pass_on(self, data):
+        """A block as the line leaves it: late, or as it is, or as the noise makes it."""
+        fate = self.noise.next()
+        if fate == "late":
+            time.sleep(self.late)
+        return data if fate in ("well", "late") else self.noise.change(data, fate)
+
+    def end(self):
+        self.is_over.set()
+        self.join()
+
+
+class Wire(Noisy):
+    """Such a line between the far ends of a terminal's and of a card's."""
+
+    def __init__(self, terminal, card, noise, late):
+        super().__init__(noise, late)
+        self.terminal, self.card = terminal, card
+        # what has come of a block from each end
+        self.held = {terminal: b"", card: b""}
+
+    def pass_answer(self, size):
+        """The answer to reset, of so many bytes, goes over it well."""
+        for _ in range(size):
+            self.terminal.write(self.card.read(1))
+
+    def carry(self, sender, receiver):
+        """A block from one end to the other, once it is whole."""
+        data = self.held[sender] + sender.read(300, 0)
+        whole = len(data) > 3 and len(data) >= data[2] + 4
+        self.held[sender] = b"" if whole else data
+        came = self.pass_on(data) if whole else b""
+        if came:
+            receiver.write(came)
+
+    def run(self):
+        ends = {self.terminal.far: (self.terminal, self.card),
+                self.card.far: (self.card, self.terminal)}
+        while not self.is_over.is_set():
+            for end in select.select([*ends], [], [], 0.02)[0]:
+                self.carry(*ends[end])
+
+
+class Play(Noisy):
+    """Such a card at the far end of a line. `stops` says after how long it knows that a block has
+    stopped."""
 
     def __init__(self, line, answer, card, noise, late, stops):
-        super().__init__(daemon=True)
-        self.line, self.card, self.noise, self.late, self.stops = line, card, noise, late, stops
-        self.is_over = threading.Event()
+        super().__init__(noise, late)
+        self.line, self.card, self.stops = line, card, stops
         line.write(bytes.fromhex(answer))
 
     def receive(self):
@@ -159,13 +229,6 @@ class Play(threading.Thread):
                 break
         return data
 
-    def pass_on(self, data):
-        """A block as the line leaves it: late, or as it is, or as the noise makes it."""
-        fate = self.noise.next()
-        if fate == "late":
-            time.sleep(self.late)
-        return data if fate in ("well", "late") else self.noise.change(data, fate)
-
     def run(self):
         while not self.is_over.is_set():
             data = self.receive()
@@ -177,7 +240,3 @@ class Play(threading.Thread):
                 answer = answer and self.pass_on(answer)
                 if answer:
                     self.line.write(answer)
-
-    def end(self):
-        self.is_over.set()
-        self.join()

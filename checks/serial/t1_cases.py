@@ -1,13 +1,16 @@
-"""gt_serial at T=1 (ISO/IEC 7816-3, clause 11): with a card that is played by hand, and with one
-behind a line that damages, loses, doubles and delays bytes."""
+"""gt_serial and serial_card at T=1 (ISO/IEC 7816-3, clause 11): each with an other end that is
+played by hand, and with each other over a line that damages, loses, doubles and delays bytes."""
 
 import sys
+import tempfile
+import time
 from functools import reduce
 from pathlib import Path
 
+import card_cases
 import t1_card
 import terminal_cases
-from lines import Line
+from lines import Line, play, trace_of
 from programs import Program
 from terminal_cases import Case, look
 
@@ -156,45 +159,156 @@ def chapter():
                    words, told["="], told["!"], bool(told["!"]), echo=False)
 
 
+SELECTED = talk("<", f"00:{NAME}")
+R0 = talk("<", "80")
+# T=0 first and T=1 behind it: with an LRC, and with a CRC
+BY_PPS, CRC_BY_PPS = "3B80800101", "3B8080410140"
+
+
+def own_part():
+    """What a terminal sends, and what a card has to answer, each from an S(IFS request) on."""
+    sent = talk(">", f"00:{SELECT_APDU}")
+    yield "a wrong LRC", sent[:-3] + "FF " + R0 + sent + SELECTED
+    yield "a byte behind the block", sent[:-1] + "00 " + R0 + sent + SELECTED
+    yield "another NAD", "> 01000001 " + R0 + sent + SELECTED
+    yield "LEN FF", "> 0000FF00 " + R0 + sent + SELECTED
+    yield "a block that stops", sent[:16] + " " + R0 + sent + SELECTED
+    yield "R asks again", sent + SELECTED + talk(">", "80") + SELECTED + GETS
+    yield "a block that comes twice", sent + SELECTED + sent + talk("<", "90") + GETS
+    yield "another N(S)", talk(">", f"40:{SELECT_APDU}") + R0 + sent + SELECTED
+    yield "R before a command", talk(">", "80", "<", "80", ">", "90", "<", "80") + sent + SELECTED
+    yield "S(ABORT request) in a command", talk(
+        ">", f"20:{SELECT_APDU[:8]}", "<", "90", ">", "C2", "<", "E2", ">", f"40:{GET_APDU}",
+        "<", "00:6985")
+    yield "S(RESYNCH request)", sent + SELECTED + talk(">", "C0", "<", "E0", ">", f"00:{GET_APDU}",
+                                                       "<", f"00:{JOE}")
+    yield "a request of no kind", talk(">", "C4", "<", "80", ">", "C3:01", "<", "80") + sent \
+        + SELECTED
+    yield "an answer to nothing", talk(">", "E3:01", "<", "80") + sent + SELECTED
+    yield "another IFSD", talk(">", "C1:04", "<", "E1:04") + sent + talk(
+        "<", f"20:{NAME[:8]}", ">", "90", "<", f"60:{NAME[8:16]}", ">", "80",
+        "<", f"20:{NAME[16:24]}", ">", "90", "<", f"40:{NAME[24:]}")
+    yield "no short command", talk(">", "00:00A4", "<", "00:6700", ">", "40:00600000",
+                                   "<", "40:6D00", ">", "00:00A404000000", "<", "00:6700")
+
+
+def at_card():
+    """A card with a terminal that is played by hand."""
+    whole = OPEN + SELECTS + GETS
+    for inverse in (False, True):
+        answer = ("3F" if inverse else "3B") + QUICK[2:]
+        for echo in (False, True):
+            for heaps in (False, True):
+                yield card_cases.Case(f"T=1: a card, inverse {inverse}, echo {echo}, heaps {heaps}",
+                                      f"< {answer} {whole}", answer, ["-v"], echo, inverse, heaps,
+                                      output=trace_of(f"< {answer} {whole}"), slack=1500)
+    for title, dialogue in own_part():
+        yield card_cases.Case(f"T=1: a card, {title}", f"< {QUICK} {OPEN}{dialogue}", QUICK,
+                              echo=False, slack=300)
+    lines = (BOOK / "fine.talk").read_text(encoding="utf-8").splitlines()
+    words = " ".join(" ".join(line.split()[:2]) for line in lines if line[0] in "<>")
+    yield card_cases.Case("T=1: the book at a card", words, QUICK, echo=False, slack=300)
+    for title, pps, answer, baud in (
+        ("PPS", "> FF01FE < FF01FE", BY_PPS, 9600),
+        ("PPS and another rate", "> FF11957B < FF11957B", "3B9095800184", 111600),
+        ("no PPS in specific mode", "", "3B9095110115", 111600),
+    ):
+        yield card_cases.Case(f"T=1: a card, {title}", f"< {answer} {pps} {whole}", answer,
+                              echo=False, baud=baud, slack=300)
+    for title, pps, answer in (
+        ("T=1 with a CRC", "FF01FE", CRC_BY_PPS),
+        ("T=0 of one that has T=1 alone", "FF00FF", QUICK),
+    ):
+        yield card_cases.Case(f"PPS for {title}", f"< {answer} > {pps}", answer, mute=True,
+                              fault=card_cases.NO_PPS)
+
+
+def each_opening():
+    """Each opening of a card's own line is a reset: the card speaks T=0, or T=1 by PPS, anew."""
+    with tempfile.TemporaryDirectory() as folder:
+        path = card_cases.table(folder, f"atr {BY_PPS}\n{card_cases.APP}")
+        far = card_cases.Far("--no-echo", path)
+        for dialogue in (
+            f"> FF01FE < FF01FE {OPEN}{SELECTS}" + talk(">", f"60:{GET_APDU[:6]}", "<", "80"),
+            card_cases.ASK_WORDS,
+            f"> FF01FE < FF01FE {OPEN}" + talk(">", f"00:{GET_APDU}", "<", "00:6985"),
+        ):
+            near, other = far.opened()
+            play(other, f"< {BY_PPS} {dialogue}", card=False)
+            near.close()
+            time.sleep(0.3)
+        far.end()
+
+
 # IFSC 254, and the times of QUICK
 LONG = "3B808131FE03CD"
-VALUE = bytes(at * 7 % 251 for at in range(3000))
-# tag, length and value of the long one: 3,005 bytes
-GOT = f"DF0182{len(VALUE):04X}{VALUE.hex().upper()}"
-LONG_WORDS = ["select", "A0000000031010", "put", "DF01", VALUE.hex(), "get", "DF01"]
-LONG_ANSWERS = f"= 9000 {NAME[:-4]}\n= 9000\n= 9000 {GOT}\n"
-# whole commands: SELECT, 12 of the put and 12 of the get
-COMMANDS = 25
+
+
+class Talk:
+    """A put of so many bytes and their reading: the words of it, and what is answered."""
+
+    def __init__(self, size):
+        self.value = bytes(at * 7 % 251 for at in range(size))
+        value = self.value.hex().upper()
+        self.words = ["select", "A0000000031010", "put", "DF01", value, "get", "DF01"]
+        self.answers = f"= 9000 {NAME[:-4]}\n= 9000\n= 9000 DF0182{size:04X}{value}\n"
+        # SELECT, and those of the put and of the get: tag and length have 5 bytes
+        self.commands = 1 - -size // 255 - -(size + 5) // 256
+
+    def is_begun(self, log):
+        """A card has carried out the first commands of it, each once."""
+        tags = [apdu[:5] for apdu in log]
+        pieces = [apdu[5:] for apdu in log if apdu[1] == 0xDA]
+        assert len(log) <= self.commands, f"{len(log)} commands"
+        assert self.value.startswith(b"".join(pieces)), "the pieces of the put are others"
+        assert [tag[1] for tag in tags] == sorted((tag[1] for tag in tags), key=[
+            0xA4, 0xDA, 0xCA, 0xC0].index), "the commands are in another order"
+        assert sum(tag[1] in (0xA4, 0xCA) for tag in tags) <= 2, "a command was carried out twice"
+
+
+LONG_TALK, TALK = Talk(3000), Talk(600)
 # how many lines at random: where words pick the tests, or the first fault ends them, these will do
 SCHEDULES, SOME_SCHEDULES = 2000, 40
 
 
-def over(noise, slack, late, stops, words=LONG_WORDS, extensions=0, narrow=False):
-    """gt_serial with a card behind such a line, to its end; and the card's objects."""
+FAST = ["--no-echo", "--baud", 1000000, "--slack"]
+
+
+def over(talk, noise, slack):
+    """gt_serial with a stand-in behind such a line that keeps EMV's narrower rules, to its end; and
+    the commands that it has carried out."""
     line = Line()
     objects = t1_card.Objects()
-    play = t1_card.Play(line, LONG, t1_card.Card(objects, extensions, narrow), noise, late, stops)
+    play = t1_card.Play(line, LONG, t1_card.Card(objects, 1, True), noise, 0, 0.3)
     try:
-        program = Program("gt_serial", ["--no-echo", "--baud", 1000000, "--slack", slack,
-                                        line.name, *words])
+        program = Program("gt_serial", [*FAST, slack, line.name, *talk.words])
         play.start()
         program.end()
         play.end()
     finally:
         line.close()
-    return program, objects
+    return program, objects.log
 
 
-def is_once(objects, words):
-    """The card has carried out the first commands of these operations, each once."""
-    tags = [apdu[:5] for apdu in objects.log]
-    pieces = [apdu[5:] for apdu in objects.log if apdu[1] == 0xDA]
-    assert len(objects.log) <= COMMANDS, f"{len(objects.log)} commands"
-    value = bytes.fromhex(words[4])
-    assert value.startswith(b"".join(pieces)), "the pieces of the put are others"
-    assert [tag[1] for tag in tags] == sorted((tag[1] for tag in tags), key=[
-        0xA4, 0xDA, 0xCA, 0xC0].index), "the commands are in another order"
-    assert sum(tag[1] in (0xA4, 0xCA) for tag in tags) <= 2, "a command was carried out twice"
+def between(talk, noise, slack, stops, late=0):
+    """gt_serial with serial_card over such a line, to the end of both; and the commands that the
+    card has carried out. `stops` is how long the card waits for more of a block."""
+    ends = Line(), Line()
+    wire = t1_card.Wire(*ends, noise, late)
+    try:
+        with tempfile.TemporaryDirectory() as folder:
+            path = card_cases.table(folder, f"atr {LONG}\n{card_cases.APP}")
+            card = Program("serial_card", ["-v", *FAST, stops, ends[1].name, path])
+            wire.pass_answer(len(LONG) // 2)
+            program = Program("gt_serial", [*FAST, slack, ends[0].name, *talk.words])
+            wire.start()
+            program.end()
+            wire.end()
+    finally:
+        for end in ends:
+            end.close()
+    look(card, card.end(), card.output, card_cases.GONE, 1)
+    return program, t1_card.carried_out(card.output)
 
 
 MILD = (
@@ -209,24 +323,25 @@ MILD = (
 )
 
 
-def mild(fates, extensions):
+def mild(fates, is_narrow):
     """On a line that is mild enough all operations are answered; also by a card that keeps EMV's
     narrower rules."""
     noise = t1_card.Noise(1, fates)
-    program, objects = over(noise, 800, 0, 0.3, extensions=extensions, narrow=extensions > 0)
-    look(program, program.process.returncode, LONG_ANSWERS, "", 0)
-    is_once(objects, LONG_WORDS)
-    assert len(objects.log) == COMMANDS, f"{len(objects.log)} commands"
+    of = LONG_TALK, noise, 800
+    program, log = over(*of) if is_narrow else between(*of, 300)
+    look(program, program.process.returncode, LONG_TALK.answers, "", 0)
+    LONG_TALK.is_begun(log)
+    assert len(log) == LONG_TALK.commands, f"{len(log)} commands"
 
 
 def at_random(seed):
     """On any line the answers are right, or a fault says what is true of its command."""
     noise = t1_card.Noise(seed, well=(0.97, 0.9, 0.75, 0.5)[seed % 4])
-    program, objects = over(noise, 60, 0.08, 0.04)
-    is_once(objects, LONG_WORDS)
-    assert LONG_ANSWERS.startswith(program.output), f"{program.output!r}, a wrong answer"
+    program, log = between(TALK, noise, 60, 40, 0.08)
+    TALK.is_begun(log)
+    assert TALK.answers.startswith(program.output), f"{program.output!r}, a wrong answer"
     if program.process.returncode == 0:
-        assert program.output == LONG_ANSWERS and not program.faults, program.faults
+        assert program.output == TALK.answers and not program.faults, program.faults
         return
     number = program.output.count("\n") + 1
     wanted = [f"operation {number}: {cause}: the card {outcome}"
@@ -238,10 +353,13 @@ def tests():
     """Each test of this part: its title, and a function that is wrong by an error."""
     for case in (*dialogues(), *faults(), *breaks(), *chapter()):
         yield case.title, lambda case=case: terminal_cases.run(case)
+    for case in at_card():
+        yield case.title, lambda case=case: card_cases.run(case)
+    yield "T=1: each opening of a card's line", each_opening
     for title, fates in MILD:
         # by EMV a card does not survive the fourth
-        for extensions in (0,) if title.startswith("four") else (0, 1):
-            yield (f"T=1, 3,000 bytes, {title}, {extensions} requests",
-                   lambda of=(fates, extensions): mild(*of))
+        for is_narrow in (False,) if title.startswith("four") else (False, True):
+            yield (f"T=1, 3,000 bytes, {title}, EMV {is_narrow}",
+                   lambda of=(fates, is_narrow): mild(*of))
     for seed in range(SCHEDULES if len(sys.argv) == 1 else SOME_SCHEDULES):
         yield f"T=1, a line at random, {seed}", lambda seed=seed: at_random(seed)

@@ -559,6 +559,21 @@ def card_settings():
     yield ("a character to a card with a mark that is late", lambda: card(
         cut_mark, ["--reset", "cts"], fault=PARITY + GONE))
 
+    def at_t1(place):
+        get = "00000500CA5F2000B0"
+
+        def session(_, other):
+            play(other, "< 3B8081210323 > 00C101FE3E < 00E101FE1E", card=False)
+            other.send(get[:2 * place])
+            other.sends_marked(get[2 * place:2 * place + 2])
+            other.send(get[2 * place + 2:])
+            play(other, f"< 00800080 > {get} < 0000026985EE", card=False)
+        return session
+
+    for place in (0, 2, 8):
+        yield (f"a card at T=1, a wrong parity of byte {place}", lambda place=place: card(
+            at_t1(place), ["--slack", "300"], answer="3B8081210323"))
+
 
 def tests():
     """Each test of this part: its title, and a function that is wrong by an error."""

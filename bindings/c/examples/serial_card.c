@@ -1,12 +1,15 @@
-/* serial_card: a card at the other end of a terminal's line, which is a tty or a pseudo terminal
- * that this program makes.
+/* serial_card: a card at the other end of a terminal's line, at T=0 or T=1. The line is a tty or a
+ * pseudo terminal that this program makes.
  *
  * The card is the library's, and proved; this program waits for a reset, sends the answer to it,
  * and passes characters both ways until the next one. `serial_card --help` says what it does. */
 #include "descriptors.h"
 #include "serial_answer.h"
 #include "serial_options.h"
+#include "serial_t1.h"
 #include "table.h"
+
+#include <string.h>
 
 enum { ALL_WELL = 0, FAULT = 1, BAD_WORDS = 2 };
 
@@ -17,8 +20,9 @@ enum { ALL_WELL = 0, FAULT = 1, BAD_WORDS = 2 };
  * microseconds */
 enum { LOOKS_EVERY = 1000, WAITS_FOR = 10000 };
 
-/* what a PPS request begins with, and the bit of its PPS0 for PPS1 (ISO/IEC 7816-3, 9.2) */
-enum { PPSS = 0xFF, HAS_PPS1 = 0x10 };
+/* what a PPS request begins with, and the bits of its PPS0 for PPS1 and for the protocol (ISO/IEC
+ * 7816-3, 9.2) */
+enum { PPSS = 0xFF, HAS_PPS1 = 0x10, PROTOCOL = 0x0F };
 
 /* no limit of what a status 61XX announces */
 enum { PLAN_CUT = 256 };
@@ -32,7 +36,8 @@ static const char USAGE[] =
 
 static const char HELP[] =
     "TABLE is a file of lines `app`, `object`, `locked` and `atr`, as the virtual\n"
-    "reader has them.\n"
+    "reader has them. The card speaks what its answer to reset offers first, T=0 or\n"
+    "T=1, or what PPS asks for.\n"
     "\n"
     "Options:\n"
     "  -v               Shows each character: `> ` to the card, `< ` from it\n"
@@ -81,6 +86,7 @@ struct socket {
     enum port_signal reset;
     bool is_held_by_on;
     unsigned long baud;         /* at a reset */
+    int protocol;               /* T=0 or T=1 */
 };
 
 static int tell(const char *fault)
@@ -199,24 +205,33 @@ static const char *receive_request(const struct socket *socket, uint8_t request[
     return what;
 }
 
-/* The response to a request: T=0, and its PPS1 where that is the card's own rate or that of a
- * reset. `is_of_card` says whether the card's own is then in use. */
+/* Whether the answer to reset offers this protocol, and the card has it: T=1 with an LRC alone. */
+static bool speaks(const gt_atr *says, int protocol)
+{
+    return memchr(says->protocols, protocol, says->protocol_count) != NULL
+        && (protocol == 0 || (protocol == 1 && says->t1.edc == GT_LRC));
+}
+
+/* The response to a request: its protocol, and its PPS1 where that is the card's own rate or that
+ * of a reset. `is_of_card` says whether the card's own is then in use. */
 static bool respond(const struct socket *socket, const uint8_t *request, size_t n,
                     uint8_t response[GT_PPS_LIMIT], size_t *count, bool *is_of_card)
 {
     const bool has_pps1 = (request[1] & HAS_PPS1) != 0;
     const bool has_rate = socket->says->fi > 0 && socket->says->di > 0;
+    const uint8_t protocol = request[1] & PROTOCOL;
     uint16_t pps1 = GT_ABSENT;
     *is_of_card = has_pps1 && has_rate && request[2] == socket->says->rate_code;
     if (has_pps1 && (*is_of_card || request[2] == RATE_OF_RESET))
         pps1 = request[2];
-    return gt_pps_request(0, pps1, GT_ABSENT, GT_ABSENT, response, count) == GT_OK
+    return speaks(socket->says, protocol)
+        && gt_pps_request(protocol, pps1, GT_ABSENT, GT_ABSENT, response, count) == GT_OK
         && gt_pps_agreed(request, n, response, *count) == 1;
 }
 
 /* Takes a request whose first byte has come, and answers it. To one that is none, or that asks for
- * another protocol, a card says nothing (ISO/IEC 7816-3, 9.1). */
-static const char *answer_pps(const struct socket *socket, FILE *trace)
+ * a protocol that is not offered, a card says nothing (ISO/IEC 7816-3, 9.1). */
+static const char *answer_pps(struct socket *socket, FILE *trace)
 {
     struct line *line = socket->line;
     uint8_t request[GT_PPS_LIMIT], response[GT_PPS_LIMIT];
@@ -227,6 +242,8 @@ static const char *answer_pps(const struct socket *socket, FILE *trace)
         what = "a PPS request has come that the card does not answer";
     if (what == NULL)
         what = send_all(socket, response, count);
+    if (what == NULL)
+        socket->protocol = request[1] & PROTOCOL;
     line->trace = trace;
     line_note_pps(line, LINE_TERMINAL, request, n);
     line_note_pps(line, LINE_CARD, response, count);
@@ -236,7 +253,7 @@ static const char *answer_pps(const struct socket *socket, FILE *trace)
 
 /* Receives the first character behind an answer to reset. It may begin PPS: then what follows that
  * is the first. */
-static const char *receive_first(const struct socket *socket, uint8_t *byte)
+static const char *receive_first(struct socket *socket, uint8_t *byte)
 {
     struct line *line = socket->line;
     FILE *trace = line->trace;
@@ -270,15 +287,86 @@ static const char *send_turns(const struct socket *socket)
     return what;
 }
 
+/* T=0, from the first character of the terminal on. */
+static const char *talk_t0(const struct socket *socket, uint8_t byte)
+{
+    const char *what = NULL;
+    while (what == NULL) {
+        const int32_t code = gt_card_take(&socket->table->card, byte);
+        what = code == GT_OK ? send_turns(socket) : gt_text(code);
+        if (what == NULL)
+            what = receive(socket, &byte);
+    }
+    return what;
+}
+
+/* The card's answer to what came. Where memory ran out, it is silent, and the terminal asks
+ * again. */
+static const char *answer_block(const struct socket *socket)
+{
+    uint8_t bytes[GT_BLOCK_LIMIT];
+    size_t n = 0;
+    const int32_t code =
+        gt_card_t1_send_bytes(&socket->table->card, bytes, sizeof bytes, &n);
+    if (code == GT_OK)
+        return line_send_all(socket->line, bytes, n);
+    return code == GT_DONE || code == GT_MEMORY ? NULL : gt_text(code);
+}
+
+/* Hands a block to the card, or that none came. */
+static const char *take_block(const struct socket *socket, const struct t1_block *block,
+                              const char *what)
+{
+    gt_card *card = &socket->table->card;
+    int32_t code = GT_OK;
+    size_t taken;
+    if (what == NULL)
+        code = gt_card_t1_receive_bytes(card, block->bytes, block->n, &taken);
+    else if (what == LINE_IS_BROKEN)
+        code = gt_card_t1_missed(card);
+    else
+        return what;
+    return code == GT_SENDS || code == GT_MEMORY ? answer_block(socket) : gt_text(code);
+}
+
+/* Receives a block whose first character has come, well or with a wrong parity. */
+static const char *receive_block(struct line *line, const struct t1_times *times, bool is_well,
+                                 struct t1_block *block)
+{
+    const char *what;
+    if (is_well)
+        return t1_receive(line, times, times->cwt, block);
+    what = line_drop(line, times->cwt, times->cwt);
+    return what == NULL ? LINE_IS_BROKEN : what;
+}
+
+/* T=1, from the first character of the terminal on. */
+static const char *talk_t1(const struct socket *socket, uint8_t byte)
+{
+    const struct t1_times times =
+        t1_times_of(socket->line, &socket->says->t1, socket->baud * RESET_CYCLES);
+    const int32_t code = gt_card_t1_begin(&socket->table->card);
+    const char *what = code == GT_OK ? NULL : gt_text(code);
+    while (what == NULL || what == LINE_HAS_WRONG_PARITY) {
+        struct t1_block block = { { byte }, 1 };
+        what = take_block(socket, &block,
+                          receive_block(socket->line, &times, what == NULL, &block));
+        if (what == NULL)
+            what = receive(socket, &byte);
+    }
+    return what;
+}
+
 /* From a reset on, until something ends the talk. */
-static const char *talk(const struct socket *socket)
+static const char *talk(struct socket *socket)
 {
     const struct table *table = socket->table;
     const char *what;
     uint8_t byte = 0;
-    int32_t code = gt_card_reset(&socket->table->card);
+    const int32_t code = gt_card_reset(&socket->table->card);
     if (code != GT_OK)
         return gt_text(code);
+    socket->protocol = answer_protocol(socket->says, ANSWER_FIRST);
     line_note_text(socket->line, "reset");
     what = set_rate(socket, false);
     if (what == NULL)
@@ -287,13 +375,9 @@ static const char *talk(const struct socket *socket)
         what = set_rate(socket, true);
     if (what == NULL)
         what = receive_first(socket, &byte);
-    while (what == NULL) {
-        code = gt_card_take(&socket->table->card, byte);
-        what = code == GT_OK ? send_turns(socket) : gt_text(code);
-        if (what == NULL)
-            what = receive(socket, &byte);
-    }
-    return what;
+    if (what != NULL)
+        return what;
+    return socket->protocol == 1 ? talk_t1(socket, byte) : talk_t0(socket, byte);
 }
 
 /* One talk after another, until no reset can come. */
@@ -301,7 +385,7 @@ static int serve(struct port *port, struct table *table, const gt_atr *says,
                  const struct serial_options *options)
 {
     struct line line = serial_options_line(options, port, LINE_CARD);
-    struct socket socket = { NULL, NULL, NULL, PORT_NONE, false, 0 };
+    struct socket socket = { NULL, NULL, NULL, PORT_NONE, false, 0, 0 };
     const char *what = NULL, *fault;
     if (port->is_made && options->has_echo)
         line.echo = LINE_GIVES_ECHO;
@@ -338,24 +422,25 @@ static int open_and_serve(struct table *table, const gt_atr *says,
     return result;
 }
 
-/* Reads what the table's answer to reset says; the card has to talk T=0 by it. */
+/* Reads what the table's answer to reset says; the card has to talk T=0 or T=1 by it. */
 static const char *read_answer(const struct table *table, gt_atr *says)
 {
     static char text[96];
     size_t place = 0;
     const int32_t code = gt_atr_read(table->atr, table->atr_size, says, &place);
+    const int protocol = code == GT_OK ? answer_protocol(says, ANSWER_FIRST) : 0;
     if (code != GT_OK) {
         snprintf(text, sizeof text, "the table's answer to reset is none: %s, at byte %lu",
                  gt_text(code), (unsigned long)place + 1);
         return text;
     }
-    if (says->specific
-            ? says->specific_t != 0 || says->implicit || says->fi == 0 || says->di == 0
-            : says->protocols[0] != 0)
-        return "the table's answer to reset does not offer T=0 at a rate that it tells";
-    if (answer_refusal(says, 0) != NULL)
+    if (!speaks(says, protocol)
+            || (says->specific && (says->implicit || says->fi == 0 || says->di == 0)))
+        return "the table's answer to reset does not offer T=0, or T=1 with an LRC, at a rate that"
+            " it tells";
+    if (answer_refusal(says, protocol) != NULL)
         fprintf(stderr, "warning: gt_serial refuses this answer to reset: %s\n",
-                answer_refusal(says, 0));
+                answer_refusal(says, protocol));
     return NULL;
 }
 

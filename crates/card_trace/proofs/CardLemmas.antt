@@ -1,7 +1,6 @@
 -- What run lines of a script of `card` come to.
 use Rattle.std.proofs.Common.{◌≡◌, ◌≢◌, ◌⊎◌, inl, inr, drop, length-append, ℕ, zero, suc, ◌+◌, ◌<◌, ◌≤◌, List, [], ◌∷◌, ◌++◌, length, Option, Some, None, IfSome, Bool, true, false, nat_lt, if◌then◌else◌, refl, sym, ap, subst, ◌∙◌, arith, append_assoc, append-nil, true≢false}
 use Rattle.std.proofs.lemmas.Bool.{ltb-true, ltb-false}
-use Rattle.std.specs.Io.KnownBytes.{Appends}
 use Rattle.t0_core.specs.declared.end.End.{End}
 use Rattle.t0_core.specs.declared.end.End.TheVariants.{Terminal, Card}
 use Rattle.t0_core.specs.Character.{Character, sent_by}
@@ -15,9 +14,8 @@ use Rattle.t0_core.specs.CardLaws.{answers_on, before_plan, taken_stays}
 use Rattle.object_card.specs.State.{CardState, after_reset}
 use Rattle.object_card.specs.CardMeaning.{Does}
 use Rattle.object_card.specs.CardView.{CardView}
-use Rattle.card_trace.specs.declared.fixed_line.FixedLine.TheVariants as fixed
 use Rattle.card_trace.specs.AnswerToReset.{AnswerToReset, at_first}
-use Rattle.card_trace.specs.FixedText.{fixed_text}
+use Rattle.card_trace.specs.PrintedText.{reset_text}
 use Rattle.card_trace.specs.ScriptCard.{Act, Reset}
 use Rattle.card_trace.specs.CardScripts.{Past, heard, reset_to, no_past, RunningCard, TakeInTurn, GoesOnBy, IsEnough, RunsLine}
 use Rattle.card_trace.specs.CardPlaying.{AtWork, end_at, IsReady, LeadOn, steps_in, may_hand_out}
@@ -310,41 +308,47 @@ enough_handed None handed items stage v e count none some within =
 enough_handed (Some n) handed items stage v e count none some within =
     let ge : n ≤ handed = ltb-false handed n (sym (some n refl) ∙ e) in (within, inr (omega arith))
 
--- ---- what is written
+-- ---- what is done
 
 -- The card, and its end after some characters, at the end of a line.
-abbrev WritesBy : (RunningCard → List ℕ → RunningCard → Type 0) → AnswerToReset → AtWork
-    → AnswerToReset → AtWork → Option (List ℕ) → Option (List ℕ) → Type 0
-WritesBy Between answer old later new before after = (past : Past) → IsReady past old →
-    (text : List ℕ) × (more : Past) × IsReady more new
-    × Between (record { answer = answer; end = end_at past old }) text
-    (record { answer = later; end = end_at more new }) × Appends before after text
+abbrev LeadsBy : (RunningCard → RunningCard → Type 0) → AnswerToReset → AtWork → AnswerToReset
+    → AtWork → Type 0
+LeadsBy Between answer old later new = (past : Past) → IsReady past old →
+    (more : Past) × IsReady more new
+    × Between (record { answer = answer; end = end_at past old })
+    (record { answer = later; end = end_at more new })
 
-pub writes_led : (Between : RunningCard → List ℕ → RunningCard → Type 0)
-    (answer : AnswerToReset) (old new : AtWork) (characters : List Character) (text : List ℕ)
-    (before after : Option (List ℕ)) → LeadOn old characters new
+pub leads_by : (Between : RunningCard → RunningCard → Type 0) (answer : AnswerToReset)
+    (old new : AtWork) (characters : List Character) → LeadOn old characters new
     → ((past more : Past) → GoesOnBy (end_at past old) characters (end_at more new)
-    → Between (record { answer = answer; end = end_at past old }) text
+    → Between (record { answer = answer; end = end_at past old })
     (record { answer = answer; end = end_at more new }))
-    → Appends before after text → WritesBy Between answer old answer new before after
-writes_led Between answer old new characters text before after led does appends = λ past ready.
+    → LeadsBy Between answer old answer new
+leads_by Between answer old new characters led does = λ past ready.
     let l = led past ready in (
-      text,
       heard past characters l.0,
       l.2,
       does past (heard past characters l.0)
           (record { taken = l.0; past_is = refl; in_turn = l.1; is_led = l.2.led }),
-      appends,
     )
 
--- what a line says is this
-pub runs_as : (act other : Act) (answer : AnswerToReset) (old : AtWork) (later : AnswerToReset)
-    (new : AtWork) (before after : Option (List ℕ)) → act ≡ other
-    → WritesBy (λ o text n. RunsLine o other text n) answer old later new before after
-    → WritesBy (λ o text n. RunsLine o act text n) answer old later new before after
-runs_as act other answer old later new before after is writes =
-    subst (λ a. WritesBy (λ o text n. RunsLine o a text n) answer old later new before after)
-    (sym is) writes
+-- a line is carried out on what a card stands for
+pub runs_as : (said act : Act) (answer : AnswerToReset) (old : AtWork) (later : AnswerToReset)
+    (new : AtWork) (text : List ℕ) → said ≡ act
+    → LeadsBy (λ o n. RunsLine o act text n) answer old later new → (card : RunningCard)
+    → ((past : Past) × IsReady past old
+    × (card ≡ record { answer = answer; end = end_at past old }))
+    → (next : RunningCard) × ((more : Past) × IsReady more new
+    × (next ≡ record { answer = later; end = end_at more new })) × RunsLine card said text next
+runs_as said act answer old later new text is leads card (past, ready, stands) =
+    let (more, still, does) = leads past ready in
+    let next : RunningCard = record { answer = later; end = end_at more new } in (
+      next,
+      (more, still, refl),
+      subst (λ c. RunsLine c said text next) (sym stands)
+          (subst (λ a. RunsLine (record { answer = answer; end = end_at past old }) a text next)
+          (sym is) does),
+    )
 
 -- where fewer are taken than there are, the next one is the card's
 pub silent_then : (count all : ℕ) (v : Bool) → (count ≡ all) ⊎ ((count < all) × (v ≡ false))
@@ -358,18 +362,13 @@ some_left zero (b ∷ bytes) within none = cc none
 some_left (suc i) [] within none = omega (arith, within)
 some_left (suc i) (b ∷ bytes) within none = some_left i bytes (omega (arith, within)) none
 
-pub writes_reset : (answer anew : AnswerToReset) (old new : EndOf CardView) (plans : Cursor)
-    (before after : Option (List ℕ)) → anew ≡ at_first answer.all
-    → new.card.state ≡ after_reset old.card.state
+pub leads_reset : (answer anew : AnswerToReset) (old new : EndOf CardView) (plans : Cursor)
+    → anew ≡ at_first answer.all → new.card.state ≡ after_reset old.card.state
     → ((past : Past) → IsReady past (old, plans)
     → IsReady (reset_to past new.card.state) (new, plans))
-    → Appends before after (fixed_text fixed.Reset)
-    → WritesBy (λ o text n. RunsLine o Reset text n) answer (old, plans) anew (new, plans) before
-    after
-writes_reset answer anew old new plans before after begins state ready_again appends =
-    λ past ready.
+    → LeadsBy (λ o n. RunsLine o Reset reset_text n) answer (old, plans) anew (new, plans)
+leads_reset answer anew old new plans begins state ready_again = λ past ready.
     let r = ready_again past ready in (
-      fixed_text fixed.Reset,
       reset_to past new.card.state,
       r,
       (
@@ -377,5 +376,4 @@ writes_reset answer anew old new plans before after begins state ready_again app
         begins,
         refl,
       ),
-      appends,
     )

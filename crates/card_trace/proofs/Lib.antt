@@ -5,7 +5,6 @@ pub mod CommandLineLemmas
 pub mod ScriptLineLemmas
 pub mod ScriptWordLemmas
 pub mod ScriptFieldLemmas
-pub mod ScriptKeywordLemmas
 pub mod ScriptRefusalLemmas
 pub mod ScriptTableLemmas
 pub mod ScriptPlayLemmas

@@ -8,15 +8,16 @@ use Rattle.std.specs.List.{slice_split}
 use Rattle.std.specs.Str.Lines.{lines, lines_of_parts}
 use Rattle.std.proofs.KnownBytes.{Appends-nil}
 use Rattle.card_trace.specs.declared.play_fault.PlayFault.{PlayFault}
-use Rattle.card_trace.specs.declared.play_fault.PlayFault.TheVariants.{Script, Read, Write, InputTooLong, OutOfMemory}
+use Rattle.card_trace.specs.declared.play_fault.PlayFault.TheVariants.{Script as Refused, Read, Write, InputTooLong, OutOfMemory}
 use Rattle.card_trace.specs.declared.script.reason.Reason.{Reason}
 use Rattle.card_trace.specs.declared.script.reading.TheConstants.{SCRIPT_LIMIT}
 use Rattle.card_trace.specs.declared.script.refusal.Refusal.{Refusal}
 use Rattle.card_trace.specs.declared.script.refusal.Refusal.TheVariants.{Line, OutOfMemory as NoMemory}
 use Rattle.card_trace.specs.ScriptReasons.{fault_at, OnReason}
 use Rattle.card_trace.specs.ScriptReading.{IsReadingFault}
-use Rattle.card_trace.specs.ScriptFaults.{IsLeftAfter, Stops, IsNotBegun}
-use Rattle.card_trace.specs.LineFaults.{IsFaultOfLine, IsWritingFault}
+use Rattle.card_trace.specs.Script.{Script, Building}
+use Rattle.card_trace.specs.ScriptFaults.{IsLeftAfter, ScriptStops, IsNotBegun}
+use Rattle.card_trace.specs.LineFaults.{IsFaultOfLine}
 
 -- of bytes that are the script's
 pub of_script : (script : Option (List ℕ)) (items : List ℕ) (P : List ℕ → Type 0)
@@ -69,29 +70,6 @@ pub fault_passed : {T E : Type 0} (r : Result T E) (e : E) (Q : E → Type 0)
 fault_passed (Ok x) e Q same h = absurd same
 fault_passed (Err f) e Q same h = subst Q (sym same) h
 
-pub faults_more : {T E : Type 0} (r : Result T E) (P Q : E → Type 0) → ((e : E) → P e → Q e)
-    → IfErr r P → IfErr r Q
-faults_more (Ok x) P Q f h = tt
-faults_more (Err e) P Q f h = f e h
-
-pub of_line_more : (R S : Reason → Type 0) (number : ℕ) (old new : Option (List ℕ))
-    (fault : PlayFault) → ((reason : Reason) → R reason → S reason)
-    → IsFaultOfLine R number old new fault → IsFaultOfLine S number old new fault
-of_line_more R S number old new (Script n reason) f (same, refuses, unwritten) =
-    (same, f reason refuses, unwritten)
-of_line_more R S number old new OutOfMemory f h = h
-of_line_more R S number old new Write f h = h
-of_line_more R S number old new Read f h = h
-of_line_more R S number old new InputTooLong f h = h
-
-pub of_writing : (R : Reason → Type 0) (number : ℕ) (old new : Option (List ℕ)) (fault : PlayFault)
-    → IsWritingFault old new fault → IsFaultOfLine R number old new fault
-of_writing R number old new (Script n reason) h = absurd h
-of_writing R number old new OutOfMemory h = h
-of_writing R number old new Write h = h
-of_writing R number old new Read h = h
-of_writing R number old new InputTooLong h = h
-
 -- a refusal of the line, before which nothing is written
 pub of_refusal : (R S : Reason → Type 0) (number : ℕ) (written : Option (List ℕ))
     (refusal : Refusal) (fault : PlayFault) → fault ≡ fault_at number refusal
@@ -103,26 +81,24 @@ of_refusal R S number written NoMemory fault is f h =
     subst (λ x. IsFaultOfLine S number written written x) (sym is) refl
 
 -- where nothing was read, nothing is written
-pub stops_unread : {State : Type 0} (Does : List (List ℕ) → List ℕ → State → Type 0)
-    (Refuses : State → List ℕ → Reason → Type 0) (start : State) → Does [] [] start
-    → (script old : Option (List ℕ)) (fault : PlayFault) → IsReadingFault fault
+pub stops_unread : (s : Script) (script old : Option (List ℕ)) (fault : PlayFault)
+    → IsReadingFault fault
     → (fault ≡ InputTooLong → IfSome script (λ bytes. SCRIPT_LIMIT < length bytes))
-    → Stops Does Refuses script old old fault
-stops_unread Does Refuses start none script old Read is long = refl
-stops_unread Does Refuses start none script old InputTooLong is long = (refl, long refl)
-stops_unread Does Refuses start none script old OutOfMemory is long =
-    ([], Appends-nil old, of script) where
-      of : (s : Option (List ℕ)) → IfSome s (λ bytes. IsLeftAfter Does (lines bytes) [])
-      of None = tt
-      of (Some bytes) = record {
-        before = [];
-        others = lines bytes;
-        is_cut = refl;
-        state = start;
-        does = none;
-      }
-stops_unread Does Refuses start none script old (Script line reason) is long = absurd is
-stops_unread Does Refuses start none script old Write is long = absurd is
+    → ScriptStops s script old old fault
+stops_unread s script old Read is long = refl
+stops_unread s script old InputTooLong is long = (refl, long refl)
+stops_unread s script old OutOfMemory is long = ([], Appends-nil old, of script) where
+  of : (read : Option (List ℕ)) → IfSome read (λ bytes. IsLeftAfter s (lines bytes) [])
+  of None = tt
+  of (Some bytes) = record {
+    before = [];
+    others = lines bytes;
+    is_cut = refl;
+    state = Building s.empty;
+    does = (refl, refl);
+  }
+stops_unread s script old (Refused line reason) is long = absurd is
+stops_unread s script old Write is long = absurd is
 
 pub not_begun : {T : Type 0} (r : Result T PlayFault) (fault : PlayFault)
     (script old : Option (List ℕ)) → IsErrAnd r (λ e. e ≡ fault) → IsReadingFault fault
@@ -139,9 +115,3 @@ pub within_limit : (script : Option (List ℕ)) (items : List ℕ) (P : Type 0)
 within_limit script items P read fits =
     of_script script items (λ bytes. SCRIPT_LIMIT < length bytes → P) read
     (λ long. absurd (omega (arith, long, fits)))
-
--- a writer that fails
-pub write_fails : {T : Type 0} (r : Result T PlayFault) (old new : Option (List ℕ))
-    → IfErr r (λ fault. fault ≡ Write) → IfErr r (IsWritingFault old new)
-write_fails r old new fails =
-    faults_more r _ _ (λ f is. subst (λ x. IsWritingFault old new x) (sym is) tt) fails

@@ -1,11 +1,9 @@
 -- The fields of lines, where the words are known.
-use Rattle.std.proofs.Common.{◌≡◌, ℕ, List, [], ◌∷◌, Bool, false, sym, subst, ◌∙◌}
+use Rattle.std.proofs.Common.{◌≡◌, ℕ, List, [], ◌∷◌, sym, subst, ◌∙◌}
 use Rattle.t0_core.specs.Plan.{Course}
-use Rattle.card_trace.specs.declared.script.section.Section.{Section}
-use Rattle.card_trace.specs.declared.script.section.Section.TheVariants as section
 use Rattle.card_trace.specs.ScriptFields.{IsTagText, IsValueText, IsPlanText}
 use Rattle.card_trace.proofs.ScriptFieldLemmas.{same_value}
-use Rattle.card_trace.specs.ScriptTable.{AreEntryFields, ArePlanFields, MayStandIn}
+use Rattle.card_trace.specs.ScriptTable.{AreEntryFields, ArePlanFields}
 
 pub entry_texts : (fields : List (List ℕ)) (a b tag value : List ℕ) → fields ≡ a ∷ b ∷ []
     → AreEntryFields fields tag value → IsTagText a tag × IsValueText b value
@@ -26,15 +24,6 @@ plan_texts fields a b plan e h =
     let P : List ℕ → Type 0 = λ text. IsPlanText text h.cut_text plan in
     let Q : List ℕ → Type 0 = λ text. IsPlanText a text plan in
     subst Q second (subst P first h.is_plan)
-
--- in the table section every line may stand, and one that is no table line may everywhere
-pub stands_early : (s : Section) (late : Bool) → s ≡ section.Building → MayStandIn s late
-stands_early section.Building late e = tt
-stands_early section.Running late e = cc e
-
-pub stands_always : (s : Section) (late : Bool) → late ≡ false → MayStandIn s late
-stands_always section.Building late e = tt
-stands_always section.Running late e = e
 
 -- the fields of an entry stand for one value
 pub same_entry_value : (fields : List (List ℕ)) (s t a b : List ℕ) → AreEntryFields fields s a

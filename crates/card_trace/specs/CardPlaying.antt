@@ -1,6 +1,5 @@
--- What a player of scripts of `card` stands for. Words of functions in the middle.
-use Rattle.std.specs.Prelude.{◌≡◌, ◌+◌, ℕ, suc, List, [], ◌∷◌, length, Option, if◌then◌else◌}
-use Rattle.std.specs.Io.KnownBytes.{Appends}
+-- What a lone card stands for. Words of functions in the middle.
+use Rattle.std.specs.Prelude.{◌≡◌, ◌+◌, ℕ, suc, List, [], ◌∷◌, length, if◌then◌else◌}
 use Rattle.t0_core.specs.Character.{Character}
 use Rattle.t0_core.specs.Plan.{Course, Cursor, plan_kept}
 use Rattle.t0_core.specs.CardSide.{Stage, EndOf, listens, still_to_go}
@@ -8,13 +7,12 @@ use Rattle.t0_core.specs.CardHistory.{under_way, IsTakenLast}
 use Rattle.object_card.specs.CardView.{CardView}
 use Rattle.card_trace.specs.declared.card_table.CardTable.{CardTable}
 use Rattle.card_trace.specs.declared.lone_card.LoneCard.{LoneCard}
-use Rattle.card_trace.specs.declared.card_player.CardPlayer.{CardPlayer}
-use Rattle.card_trace.specs.declared.card_player.CardPlayer.TheVariants as player
-use Rattle.card_trace.specs.CardScripts.{Past, heard, RunningEnd, RunningCard, IsLed, TakeInTurn, CardRun, Building, Running, IsUnderWay}
+use Rattle.card_trace.specs.CardScripts.{Past, heard, RunningEnd, RunningCard, IsLed, TakeInTurn, Built}
 
 -- what has been added by table lines
-abbrev pub built : {A : Type 0} → CardTable A → CardRun
-built table = Building table.builder table.plans.items table.answer
+abbrev pub built : {A : Type 0} → CardTable A → Built
+built table =
+    record { tables = table.builder; plans = table.plans.items; answer = table.answer }
 
 -- a card's end, and the cursor over the plans that it is given
 abbrev pub AtWork : Type 0
@@ -64,28 +62,14 @@ at_work card = (card.end, card.plans)
 abbrev pub card_at : {A : Type 0} → Past → LoneCard A → RunningCard
 card_at past card = record { answer = card.opening; end = end_at past (at_work card) }
 
--- Whatever led to the card as it was, more of it leads to it as it is, and the text between the
--- two is written.
-abbrev pub Writes : {A : Type 0} → (RunningCard → List ℕ → RunningCard → Type 0) → LoneCard A
-    → LoneCard A → Option (List ℕ) → Option (List ℕ) → Type 0
-Writes Between old new before after =
-    (past : Past) → IsReady past (at_work old) →
-    (text : List ℕ) × (more : Past) × IsReady more (at_work new)
-    × Between (card_at past old) text (card_at more new) × Appends before after text
+-- Whatever led to the card as it was, more of it leads to it as it is, and between the two stands
+-- this.
+abbrev pub LeadsTo : {A : Type 0} → (RunningCard → RunningCard → Type 0) → LoneCard A → LoneCard A
+    → Type 0
+LeadsTo Between old new = (past : Past) → IsReady past (at_work old) →
+    (more : Past) × IsReady more (at_work new) × Between (card_at past old) (card_at more new)
 
--- the card runs from here on
-abbrev pub RunsFrom : {A : Type 0} → CardRun → LoneCard A → Type 0
-RunsFrom state card =
-    (past : Past) × IsReady past (at_work card) × IsUnderWay state (card_at past card)
-
--- A player stands for what has been built, or for a card after anything that may have led to it.
-abbrev pub StandsFor : {A : Type 0} → CardPlayer A → CardRun → Type 0
-StandsFor (player.Building table) state = state ≡ built table
-StandsFor (player.Running card) state =
-    (past : Past) × IsReady past (at_work card) × (state ≡ Running (card_at past card))
-
--- what a line did: its text is written, and the player stands where it leads
-abbrev pub Played : {A : Type 0} → (List ℕ → CardRun → Type 0) → CardPlayer A
-    → Option (List ℕ) → Option (List ℕ) → Type 0
-Played Does player before after = (text : List ℕ) × (next : CardRun) × StandsFor player next
-    × Appends before after text × Does text next
+-- a card stands for that after anything that may have led to it
+abbrev pub StandsFor : {A : Type 0} → LoneCard A → RunningCard → Type 0
+StandsFor card running =
+    (past : Past) × IsReady past (at_work card) × (running ≡ card_at past card)

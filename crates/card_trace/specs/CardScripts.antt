@@ -1,5 +1,5 @@
--- What a script of `card` stands for: its lines are carried out in order on the card alone, its
--- answer to reset and its end, and print text.
+-- What the lines of a script of `card` do: they build a card, and run it alone, its answer to reset
+-- and its end.
 use Rattle.std.specs.Prelude.{◌≡◌, ◌≢◌, ◌≤◌, ◌⊎◌, ℕ, List, [], ◌∷◌, ◌++◌, length, Option, Some, None, true, false}
 use Rattle.t0_core.specs.declared.end.End.TheVariants.{Terminal, Card}
 use Rattle.t0_core.specs.Character.{Character, sent_by}
@@ -13,19 +13,14 @@ use Rattle.object_card.specs.Tables.{Application}
 use Rattle.object_card.specs.State.{CardState, after_reset}
 use Rattle.object_card.specs.CardMeaning.{Does}
 use Rattle.object_card.specs.Builder.{new_card}
-use Rattle.card_trace.specs.declared.fixed_line.FixedLine.TheVariants as fixed
-use Rattle.card_trace.specs.declared.play_fault.PlayFault.{PlayFault}
 use Rattle.card_trace.specs.declared.script.reason.Reason.{Reason}
 use Rattle.card_trace.specs.declared.script.refusal.Refusal.TheVariants.{Line}
-use Rattle.card_trace.specs.declared.script.section.Section.{Section}
-use Rattle.card_trace.specs.declared.script.section.Section.TheVariants as section
 use Rattle.card_trace.specs.AnswerToReset.{AnswerToReset, at_first, characters_of, up_to, without, AreOfAnswer, RefusesAnswer}
-use Rattle.card_trace.specs.FixedText.{fixed_text}
+use Rattle.card_trace.specs.PrintedText.{reset_text, not_listening_text}
 use Rattle.card_trace.specs.TableText.{table_text}
 use Rattle.card_trace.specs.TraceText.{handed_out_text}
-use Rattle.card_trace.specs.ScriptCard.{Part, Adds, Atr, Plan, Act, Take, HandOut, Reset, Table, CardMeaning, Builds, Runs, IsCardLine}
-use Rattle.card_trace.specs.ScriptFaults.{Stops}
-use Rattle.card_trace.specs.ScriptLines.{IsDone, AreDone, ScriptWrites, RefusesLine}
+use Rattle.card_trace.specs.Script.{Script}
+use Rattle.card_trace.specs.ScriptCard.{Part, Adds, Atr, Plan, Act, Take, HandOut, Reset, Table, SaysPart, SaysAct}
 use Rattle.card_trace.specs.Scripts.{IsAdded, IsNotAdded}
 
 -- What led to a card's end: all events since the card was built, whose state was the first; and
@@ -66,16 +61,6 @@ TakeInTurn (next ∷ left) (plan ∷ taken) still_left =
 pub record RunningCard : Type 0 where
   pub answer : AnswerToReset
   pub end : RunningEnd
-
--- Before the first run line there are the tables of the card that is built, the plans, and the
--- answer to reset, where the script has one; from then on the card that runs.
-pub data CardRun : Type 0 where
-  Building : (tables : List Application) (plans : List Course) (answer : Option (List ℕ)) → CardRun
-  Running : (card : RunningCard) → CardRun
-
-abbrev pub section_of : CardRun → Section
-section_of (Building tables plans answer) = section.Building
-section_of (Running card) = section.Running
 
 -- with these characters, for which these plans were taken
 abbrev pub heard : Past → List Character → List Course → Past
@@ -121,7 +106,7 @@ pub record TakesCharacters (old : RunningEnd) (bytes text : List ℕ) (new : Run
   pub all : bytes ≡ taken ++ refused
   pub goes_on : GoesOnBy old (sent_by Terminal taken) new
   pub prints : ((refused ≡ []) × (text ≡ []))
-      ⊎ ((refused ≢ []) × (listens new.stage ≡ false) × (text ≡ fixed_text fixed.NotListening))
+      ⊎ ((refused ≢ []) × (listens new.stage ≡ false) × (text ≡ not_listening_text))
 
 -- no more than are asked for, and fewer only where the end listens then
 abbrev pub IsEnough : Option ℕ → ℕ → Stage → Type 0
@@ -141,7 +126,7 @@ pub record HandsOut (old : RunningEnd) (most : Option ℕ) (text : List ℕ) (ne
 pub data Takes (old : RunningCard) (bytes text : List ℕ) (new : RunningCard) : Type 0 where
   listens_now : old.answer.left ≡ [] → TakesCharacters old.end bytes text new.end
       → new.answer ≡ old.answer → Takes old bytes text new
-  answers_first : old.answer.left ≢ [] → new ≡ old → text ≡ fixed_text fixed.NotListening
+  answers_first : old.answer.left ≢ [] → new ≡ old → text ≡ not_listening_text
       → Takes old bytes text new
 
 -- What a `<` line does: what is left of the answer to reset is handed out, or so many characters
@@ -153,12 +138,12 @@ pub data HandsOutNext (old : RunningCard) (most : Option ℕ) (text : List ℕ) 
   of_end : old.answer.left ≡ [] → HandsOut old.end most text new.end → new.answer ≡ old.answer
       → HandsOutNext old most text new
 
--- a run line is carried out on the card, and prints this text
+-- an act is carried out on the card, and prints this text
 abbrev pub RunsLine : RunningCard → Act → List ℕ → RunningCard → Type 0
 RunsLine old (Take bytes) text new = Takes old bytes text new
 RunsLine old (HandOut most) text new = HandsOutNext old most text new
 RunsLine old Reset text new = IsReset old.end new.end
-    × (new.answer ≡ at_first old.answer.all) × (text ≡ fixed_text fixed.Reset)
+    × (new.answer ≡ at_first old.answer.all) × (text ≡ reset_text)
 RunsLine old Table text new =
     (new ≡ old) × (text ≡ table_text old.end.standing.applications)
 
@@ -172,57 +157,41 @@ pub record IsFresh (tables : List Application) (plans : List Course) (e : Runnin
   pub all_left : e.left ≡ plans
   pub is_led : IsLed e
 
--- the card that runs, at the first run line that which has been built
-abbrev pub IsUnderWay : CardRun → RunningCard → Type 0
-IsUnderWay (Building tables plans answer) card =
-    (card.answer ≡ at_first (characters_of answer)) × IsFresh tables plans card.end
-IsUnderWay (Running now) card = card ≡ now
+-- What table lines have added: the tables of the card, the plans, and the answer to reset, if the
+-- script has one.
+pub record Built : Type 0 where
+  pub tables : List Application
+  pub plans : List Course
+  pub answer : Option (List ℕ)
 
--- the card that is built, with what a table line says
-abbrev pub IsBuilt : CardRun → Part → CardRun → Type 0
-IsBuilt (Building tables plans answer) (Adds addition) new = (after : List Application)
-    × IsAdded tables addition after × (new ≡ Building after plans answer)
-IsBuilt (Building tables plans answer) (Atr bytes) new =
-    (answer ≡ None) × AreOfAnswer bytes × (new ≡ Building tables plans (Some bytes))
-IsBuilt (Building tables plans answer) (Plan plan) new =
-    new ≡ Building tables (plans ++ plan ∷ []) answer
-IsBuilt (Running card) part new = ⊥
+-- what is built, with a part more
+abbrev pub IsBuilt : Built → Part → Built → Type 0
+IsBuilt old (Adds addition) new = (after : List Application) × IsAdded old.tables addition after
+    × (new ≡ record old { tables = after })
+IsBuilt old (Atr bytes) new =
+    (old.answer ≡ None) × AreOfAnswer bytes × (new ≡ record old { answer = Some bytes })
+IsBuilt old (Plan plan) new = new ≡ record old { plans = old.plans ++ plan ∷ [] }
 
--- a line is carried out, and prints this text
-abbrev pub DoesLine : CardRun → CardMeaning → List ℕ → CardRun → Type 0
-DoesLine old (Builds part) text new = (text ≡ []) × IsBuilt old part new
-DoesLine old (Runs act) text new = (card next : RunningCard) × IsUnderWay old card
-    × RunsLine card act text next × (new ≡ Running next)
+-- a part is refused for this reason: by the builder, or as it is no answer to reset, or the second
+-- one
+abbrev pub IsNotBuilt : Built → Part → Reason → Type 0
+IsNotBuilt old (Adds addition) reason = IsNotAdded old.tables addition (Line reason)
+IsNotBuilt old (Atr bytes) reason = RefusesAnswer old.answer bytes reason
+IsNotBuilt old (Plan plan) reason = ⊥
 
--- the line says something that is carried out, or it is passed over
-abbrev pub DoesOrPasses : CardRun → List ℕ → List ℕ → CardRun → Type 0
-DoesOrPasses = IsDone section_of IsCardLine DoesLine
-
--- lines one after another
-abbrev pub DoesAll : CardRun → List (List ℕ) → List ℕ → CardRun → Type 0
-DoesAll = AreDone DoesOrPasses
-
--- what `card` writes for the bytes that it reads
-abbrev pub CardWrites : Option (List ℕ) → Option (List ℕ) → Option (List ℕ) → Type 0
-CardWrites = ScriptWrites (DoesAll (Building [] [] None))
-
--- what a table line says is refused for this reason: by the builder, or as it is no answer to
--- reset, or the second one
-abbrev pub IsNotBuilt : CardRun → Part → Reason → Type 0
-IsNotBuilt (Building tables plans answer) (Adds addition) reason =
-    IsNotAdded tables addition (Line reason)
-IsNotBuilt (Building tables plans answer) (Atr bytes) reason = RefusesAnswer answer bytes reason
-IsNotBuilt state part reason = ⊥
-
-abbrev pub RefusesMeaning : CardRun → CardMeaning → Reason → Type 0
-RefusesMeaning state (Builds part) reason = IsNotBuilt state part reason
-RefusesMeaning state (Runs act) reason = ⊥
-
--- a line is refused for this reason
-abbrev pub RefusesCardLine : CardRun → List ℕ → Reason → Type 0
-RefusesCardLine = RefusesLine section_of IsCardLine RefusesMeaning
-
--- where `card` stops at a fault
-abbrev pub CardStops : Option (List ℕ) → Option (List ℕ) → Option (List ℕ) → PlayFault → Type 0
-CardStops script old new fault =
-    Stops (DoesAll (Building [] [] None)) RefusesCardLine script old new fault
+-- the scripts of `card`
+abbrev pub card_script : Script
+card_script = record {
+  Part = Part;
+  Act = Act;
+  Table = Built;
+  Card = RunningCard;
+  SaysPart = SaysPart;
+  SaysAct = SaysAct;
+  empty = record { tables = []; plans = []; answer = None };
+  Adds = IsBuilt;
+  Refuses = IsNotBuilt;
+  Begins = λ built card. (card.answer ≡ at_first (characters_of built.answer))
+      × IsFresh built.tables built.plans card.end;
+  Does = RunsLine;
+}

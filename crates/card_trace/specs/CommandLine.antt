@@ -11,8 +11,10 @@ use Rattle.clap.specs.declared.error.kind.ErrorKind.TheVariants as kind
 use Rattle.tlv_core.specs.Spelling.{Forest, Spells}
 use Rattle.card_trace.specs.ForestText.{forest_text}
 use Rattle.tlv_core.specs.FirstFault.{IsFirstFault}
-use Rattle.card_trace.specs.Scripts.{PlayWrites, PlayStops}
-use Rattle.card_trace.specs.CardScripts.{CardWrites, CardStops}
+use Rattle.card_trace.specs.Script.{ScriptWrites}
+use Rattle.card_trace.specs.ScriptFaults.{ScriptStops}
+use Rattle.card_trace.specs.Scripts.{play_script}
+use Rattle.card_trace.specs.CardScripts.{card_script}
 use Rattle.card_trace.specs.declared.objects_fault.ObjectsFault.{ObjectsFault}
 use Rattle.card_trace.specs.declared.objects_fault.ObjectsFault.TheVariants as objects
 use Rattle.card_trace.specs.declared.program_fault.ProgramFault.{ProgramFault}
@@ -74,8 +76,8 @@ pub record PrintsTree (digits : List ℕ) (old new : Option (List ℕ)) : Type 0
 
 -- what is written for a script or for digits, where no fault comes up
 abbrev pub Does : Asked → Option (List ℕ) → Option (List ℕ) → Option (List ℕ) → Type 0
-Does Play script old new = PlayWrites script old new
-Does Card script old new = CardWrites script old new
+Does Play script old new = ScriptWrites play_script script old new
+Does Card script old new = ScriptWrites card_script script old new
 Does (Objects digits) script old new = PrintsTree digits old new
 
 -- digits spell no bytes, or memory was wanting for them
@@ -94,8 +96,8 @@ TreeStops bytes old new objects.Write = Unit {0}
 -- what stands where what is asked for was not done, for this fault
 abbrev pub Stops : Asked → Option (List ℕ) → Option (List ℕ) → Option (List ℕ) → ProgramFault
     → Type 0
-Stops Play script old new (fault.Play f) = PlayStops script old new f
-Stops Card script old new (fault.Play f) = CardStops script old new f
+Stops Play script old new (fault.Play f) = ScriptStops play_script script old new f
+Stops Card script old new (fault.Play f) = ScriptStops card_script script old new f
 Stops (Objects digits) script old new (fault.Objects f) =
     (bytes : List ℕ) × (decode_of digits ≡ Ok bytes) × TreeStops bytes old new f
 Stops (Objects digits) script old new fault.BadHex = (new ≡ old) × IsDigitsFault digits fault.BadHex

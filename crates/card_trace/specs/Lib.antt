@@ -3,11 +3,12 @@ pub mod TraceText
 pub mod TableText
 pub mod MarkedLines
 pub mod ForestText
-pub mod FixedText
+pub mod PrintedText
 pub mod ScriptReading
 pub mod ScriptFaults
 pub mod LineFaults
-pub mod ScriptLines
+pub mod Script
+pub mod LineMeaning
 pub mod Scripts
 pub mod CommandLine
 pub mod ScriptReasons

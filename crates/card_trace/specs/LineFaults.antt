@@ -4,14 +4,6 @@ use Rattle.card_trace.specs.declared.play_fault.PlayFault.{PlayFault}
 use Rattle.card_trace.specs.declared.play_fault.PlayFault.TheVariants.{Script, Read, Write, InputTooLong, OutOfMemory}
 use Rattle.card_trace.specs.declared.script.reason.Reason.{Reason}
 
--- a fault of writing: before want of memory nothing is written
-abbrev pub IsWritingFault : Option (List ℕ) → Option (List ℕ) → PlayFault → Type 0
-IsWritingFault old new OutOfMemory = new ≡ old
-IsWritingFault old new Write = Unit {0}
-IsWritingFault old new (Script line reason) = ⊥
-IsWritingFault old new Read = ⊥
-IsWritingFault old new InputTooLong = ⊥
-
 -- A fault of the line of this number, which writes nothing where it is refused or wants memory.
 abbrev pub IsFaultOfLine : (Reason → Type 0) → ℕ → Option (List ℕ) → Option (List ℕ) → PlayFault
     → Type 0

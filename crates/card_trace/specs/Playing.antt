@@ -1,26 +1,17 @@
--- What a player stands for, and what it refuses.
-use Rattle.card_trace.specs.declared.script.reason.Reason.{Reason}
-use Rattle.card_trace.specs.declared.script.refusal.Refusal.TheVariants.{Line}
-use Rattle.card_trace.specs.ScriptFields.{AreOfAgreedCommand}
-use Rattle.card_trace.specs.ScriptPlay.{PlayMeaning, Adds, Plan, Run, Send, Reset, Table}
+-- What a player stands for, and what a line that was read says.
+use Rattle.std.specs.Prelude.{◌≡◌}
+use Rattle.card_trace.specs.declared.both_ends.BothEnds.{BothEnds}
 use Rattle.card_trace.specs.declared.player.Player.{Player}
 use Rattle.card_trace.specs.declared.player.Player.TheVariants as player
-use Rattle.card_trace.specs.declared.player.Running.{Running as RunningOf}
-use Rattle.card_trace.specs.Scripts.{PlayState, Building, Running, IsRefused}
+use Rattle.card_trace.specs.Script.{Script, State, Building, Running}
+use Rattle.card_trace.specs.Scripts.{InSession}
 
-abbrev pub running_of : {A : Type 0} → RunningOf A → PlayState
-running_of running = Running running.session.state running.plans.items
+abbrev pub in_session : {A : Type 0} → BothEnds A → InSession
+in_session ends = record { card = ends.session.state; plans = ends.plans.items }
 
-abbrev pub state_of : {A : Type 0} → Player A → PlayState
-state_of (player.Building tables) = Building tables
-state_of (player.Running running) = running_of running
-
--- what is refused of what a line says: what the builder does not take, and bytes that are no
--- command agreed with the card
-abbrev pub RefusesSaid : PlayState → PlayMeaning → Reason → Type 0
-RefusesSaid state (Adds addition) reason = IsRefused state addition (Line reason)
-RefusesSaid state (Send bytes) reason = ¬ AreOfAgreedCommand bytes
-RefusesSaid state (Plan plan) reason = ⊥
-RefusesSaid state (Run operation) reason = ⊥
-RefusesSaid state Reset reason = ⊥
-RefusesSaid state Table reason = ⊥
+-- by what a table and a card stand for
+abbrev pub Stands : {T R : Type 0} (s : Script) → (T → s.Table) → (R → s.Card → Type 0)
+    → Player T R → State s → Type 0
+Stands s table_of StandsFor (player.Building table) state = state ≡ Building (table_of table)
+Stands s table_of StandsFor (player.Running runner) state =
+    (card : s.Card) × StandsFor runner card × (state ≡ Running card)

@@ -1,14 +1,12 @@
 -- What the lines of a script say that both programs have.
-use Rattle.std.specs.Prelude.{◌≡◌, ℕ, List, [], ◌∷◌, Bool, false}
+use Rattle.std.specs.Prelude.{◌≡◌, ℕ, List, [], ◌∷◌}
 use Rattle.t0_core.specs.Plan.{Course}
 use Rattle.card_trace.specs.declared.script.keyword.TableWord.{TableWord}
 use Rattle.card_trace.specs.declared.script.keyword.TableWord.TheVariants as word
 use Rattle.card_trace.specs.declared.script.keyword.Keyword.{Keyword}
-use Rattle.card_trace.specs.declared.script.section.Section.{Section}
-use Rattle.card_trace.specs.declared.script.section.Section.TheVariants as section
+use Rattle.card_trace.specs.declared.script.keyword.Keyword.TheVariants as keywords
 use Rattle.card_trace.specs.declared.script.table_line.TableLine.{TableLine}
 use Rattle.card_trace.specs.declared.script.table_line.TableLine.TheVariants as line
-use Rattle.card_trace.specs.ScriptKeywords.{keyword_text}
 use Rattle.card_trace.specs.ScriptFields.{IsAidText, IsTagText, IsValueText, IsPlanText}
 
 -- what a table line adds: an application, or an entry of the last one
@@ -52,16 +50,7 @@ AreTableFields (App aid) fields = OneField fields (λ text. IsAidText text aid)
 AreTableFields (Object tag value) fields = AreEntryFields fields tag value
 AreTableFields (Locked tag value) fields = AreEntryFields fields tag value
 
--- whether a line may stand in a section: behind the first run line no table line stands
-abbrev pub MayStandIn : Section → Bool → Type 0
-MayStandIn section.Building is_table_line = Unit {0}
-MayStandIn section.Running is_table_line = is_table_line ≡ false
-
--- In this section these words say this: its keyword, and its fields behind that.
-pub record IsLine {Meaning : Type 0} (keyword_of : Meaning → Keyword)
-    (AreFields : Meaning → List (List ℕ) → Type 0) (is_table_line : Meaning → Bool)
-    (section : Section) (words : List (List ℕ)) (meaning : Meaning) : Type 0 where
-  pub fields : List (List ℕ)
-  pub is_line : words ≡ keyword_text (keyword_of meaning) ∷ fields
-  pub are_fields : AreFields meaning fields
-  pub stands : MayStandIn section (is_table_line meaning)
+-- a table line that adds this
+abbrev pub SaysAddition : Addition → Keyword → List (List ℕ) → Type 0
+SaysAddition addition keyword fields =
+    (keyword ≡ keywords.Adds (table_word addition)) × AreTableFields addition fields

@@ -1,8 +1,8 @@
 //! What the table lines of a script of `card` have added: what the card holds, and how it is to
 //! answer.
-ghost use Rattle.std.specs.Prelude.{◌≡◌, [], Some, None, OnOk, IfErr};
+ghost use Rattle.std.specs.Prelude.{◌≡◌, Some, None, OnOk, IfErr};
 ghost use Rattle.card_trace.specs.ScriptCard.{part_of};
-ghost use Rattle.card_trace.specs.CardScripts.{Building, IsBuilt, IsNotBuilt};
+ghost use Rattle.card_trace.specs.CardScripts.{card_script, IsBuilt, IsNotBuilt};
 ghost use Rattle.card_trace.specs.CardPlaying.{built};
 ghost use Rattle.card_trace.specs.AnswerToReset.{AreOfAnswer, RefusesAnswer};
 ghost use Rattle.card_trace.specs.ScriptReasons.{OnReason};
@@ -28,7 +28,7 @@ pub struct CardTable<A: Allocator + Copy> {
 impl<A: Allocator + Copy> CardTable<A> {
     /// Nothing yet.
     pub fn new(alloc: A) -> CardTable<A>
-        ensures { built result ≡ Building [] [] None }
+        ensures { built result ≡ card_script.empty }
     {
         CardTable {
             builder: CardBuilder::new(alloc),

@@ -1,8 +1,12 @@
-//! How the program ends: its exit status, and the fault that it tells.
-ghost use Rattle.std.specs.Prelude.{◌≡◌, OnOk, OnErr, IfErr};
+//! How the program ends: its exit status, and what it tells on standard error.
+ghost use Rattle.std.specs.Prelude.{◌≡◌, ◌≢◌, ◌≤◌, ◌⊎◌, OnOk, OnErr, IfErr};
+ghost use Rattle.clap.specs.Words.{kind_of};
+ghost use Rattle.card_trace.specs.CommandLine.{IsCall};
 ghost use Rattle.card_trace.specs.FaultTexts.{Tells};
 
 use crate::program_fault::ProgramFault;
+use clap::Error;
+use clap::error::ErrorKind;
 use std::io::Write;
 
 /// How the program ends.
@@ -33,4 +37,42 @@ pub fn ending_after<F: Write>(outcome: &Result<(), ProgramFault>, faults: &mut F
             is_told: faults.writeln(fault).is_ok(),
         },
     }
+}
+
+/// How the program ends with what the parser answered in place of matches. Help and the version go
+/// to `output`, and a refusal to `faults`.
+pub fn ending_unparsed<W: Write, F: Write>(error: &Error, output: &mut W, faults: &mut F) -> Ending
+    ensures status { result.status ≤ 2 }
+    ensures memory { kind_of error.now ≡ ErrorKind.OutOfMemory →
+        (result.status ≡ 1) × (W.contents output.new ≡ W.contents output.old)
+        × Tells result.is_told (F.contents faults.old) (F.contents faults.new)
+        ProgramFault.OutOfMemory }
+    ensures mistake { ¬ IsCall (kind_of error.now) →
+        kind_of error.now ≢ ErrorKind.OutOfMemory → result.status ≡ 2 }
+    ensures called { result.status ≡ 0 → IsCall (kind_of error.now) }
+    ensures unanswered { result.status ≡ 1 → (kind_of error.now ≡ ErrorKind.OutOfMemory)
+        ⊎ (IsCall (kind_of error.now) × Tells result.is_told (F.contents faults.old)
+        (F.contents faults.new) ProgramFault.Write) }
+    ensures quiet { result.status ≡ 0 → F.contents faults.new ≡ F.contents faults.old }
+    ensures refused { result.status ≡ 2 → ¬ IsCall (kind_of error.now)
+        × (kind_of error.now ≢ ErrorKind.OutOfMemory)
+        × (W.contents output.new ≡ W.contents output.old) }
+{
+    match error.kind() {
+        ErrorKind::OutOfMemory => ending_after(&Err(ProgramFault::OutOfMemory), faults),
+        ErrorKind::DisplayHelp | ErrorKind::DisplayVersion => {
+            ending_after(&shown(error, output), faults)
+        }
+        _ => Ending {
+            status: 2,
+            is_told: faults.write_fmt(error).is_ok(),
+        },
+    }
+}
+
+/// Writes the help, or the version.
+fn shown<W: Write>(error: &Error, output: &mut W) -> Result<(), ProgramFault>
+    ensures { IfErr result (λ fault. fault ≡ ProgramFault.Write) }
+{
+    output.write_fmt(error).map_err(|_| ProgramFault::Write)
 }

@@ -1,22 +1,25 @@
-//! The card of a script of `card`, which runs alone, and what run lines do to it.
-ghost use Rattle.std.specs.Prelude.{◌≡◌, ◌<◌, ℕ, [], ◌∷◌, length, None, Some, nat_lt, true, OnOk, IfOk, IfErr, IfSome, MatchOption};
+//! What a script of `card` is played on: a card alone.
+ghost use Rattle.std.specs.Prelude.{◌≡◌, ◌<◌, ℕ, [], ◌∷◌, length, None, Some, nat_lt, true, IfOk, IfSome, MatchOption};
 ghost use Rattle.t0_core.specs.declared.end.End.TheVariants.{Card};
 ghost use Rattle.t0_core.specs.Character.{sent_by};
 ghost use Rattle.t0_core.specs.CardSide.{listens};
-ghost use Rattle.card_trace.specs.ScriptCard.{act_of};
-ghost use Rattle.card_trace.specs.CardScripts.{Takes, HandsOutNext, IsEnough, RunsLine};
-ghost use Rattle.card_trace.specs.CardPlaying.{built, may_hand_out, LeadOn, Writes, RunsFrom};
-ghost use Rattle.card_trace.specs.LineFaults.{IsWritingFault};
+ghost use Rattle.card_trace.specs.ScriptCard.{part_of as part_said, act_of as act_said};
+ghost use Rattle.card_trace.specs.CardScripts.{card_script, Takes, HandsOutNext, IsEnough};
+ghost use Rattle.card_trace.specs.CardPlaying.{built, may_hand_out, LeadOn, LeadsTo, StandsFor};
+ghost use Rattle.card_trace.specs.PrintedText.{printed_text};
 
 use crate::card_table::CardTable;
-use crate::fixed_line::FixedLine;
 use crate::opening::Opening;
-use crate::play_fault::PlayFault;
-use crate::printing::{write_fixed, write_handed_out, write_table};
-use crate::script::card_line::CardAct;
+use crate::printed::Printed;
+use crate::runner::Runner;
+use crate::script::card_line::{CardAct, CardPart, read_act, read_part};
+use crate::script::keyword::Keyword;
+use crate::script::line::Line;
+use crate::script::refusal::Refusal;
+use crate::script::section::Section;
+use crate::text::{handed_out_text, table_text};
 use object_card::ObjectCard;
 use std::alloc::{AllocError, Allocator};
-use std::io::Write;
 use t0_core::{CardEnd, PlanQueue, Turn};
 
 /// A card without a terminal: what it hands out first, its end of the line, and the plans for it.
@@ -27,11 +30,49 @@ pub struct LoneCard<A: Allocator + Copy> {
     plans: PlanQueue<A>,
 }
 
-impl<A: Allocator + Copy> LoneCard<A> {
-    /// The card that was built, which has heard nothing yet.
-    pub fn of(table: CardTable<A>) -> Result<LoneCard<A>, AllocError>
-        ensures { IfOk result (RunsFrom (built table)) }
-    {
+impl<A: Allocator + Copy> Runner for LoneCard<A> {
+    type Alloc = A;
+
+    type Part = CardPart<A>;
+
+    type Act = CardAct<A>;
+
+    type Table = CardTable<A>;
+
+    ghost script = { card_script };
+
+    ghost part_of = { part_said };
+
+    ghost act_of = { act_said };
+
+    ghost table_of = { built };
+
+    ghost StandsFor = { StandsFor };
+
+    fn read(
+        alloc: A,
+        section: Section,
+        keyword: Keyword,
+        rest: &[u8],
+    ) -> Result<Line<CardPart<A>, CardAct<A>>, Refusal> {
+        match keyword {
+            Keyword::Adds(_) | Keyword::Atr | Keyword::Plan => {
+                section.takes_table_line()?;
+                Ok(Line::Builds(read_part(alloc, keyword, rest)?))
+            }
+            _ => Ok(Line::Runs(read_act(alloc, keyword, rest)?)),
+        }
+    }
+
+    fn table(alloc: A) -> CardTable<A> {
+        CardTable::new(alloc)
+    }
+
+    fn add(table: &mut CardTable<A>, part: CardPart<A>) -> Result<(), Refusal> {
+        table.add(part)
+    }
+
+    fn of(_alloc: A, table: CardTable<A>) -> Result<LoneCard<A>, AllocError> {
         let card = table.builder.finish()?;
         Ok(LoneCard {
             opening: Opening::of(table.answer),
@@ -40,70 +81,55 @@ impl<A: Allocator + Copy> LoneCard<A> {
         })
     }
 
-    /// Carries out what a run line says.
-    pub fn carry_out<W: Write>(
-        &mut self,
-        alloc: A,
-        act: CardAct<A>,
-        writer: &mut W,
-    ) -> Result<(), PlayFault>
-        ensures written { OnOk result (Writes
-            (λ old text new. RunsLine old (act_of act) text new) self.old self.new
-            (W.contents writer.old) (W.contents writer.new)) }
-        ensures fault { IfErr result
-            (IsWritingFault (W.contents writer.old) (W.contents writer.new)) }
-    {
+    fn carry_out(&mut self, alloc: A, act: CardAct<A>) -> Result<Printed<A>, AllocError> {
         match act {
-            CardAct::Take(characters) => self.take(characters.bytes(), writer),
-            CardAct::HandOut(most) => self.hand_out(alloc, most, writer),
+            CardAct::Take(characters) => Ok(self.take(characters.bytes())),
+            CardAct::HandOut(most) => {
+                let text = self.hand_out(alloc, most)?;
+                Ok(Printed::Lines(text))
+            }
             CardAct::Reset => {
                 self.opening.begin_anew();
                 self.end.reset();
-                write_fixed(FixedLine::Reset, writer)
+                Ok(Printed::Reset)
             }
-            CardAct::Table => write_table(alloc, self.end.card(), writer),
+            CardAct::Table => {
+                let text = table_text(alloc, self.end.card())?;
+                Ok(Printed::Lines(text))
+            }
         }
     }
+}
 
+impl<A: Allocator + Copy> LoneCard<A> {
     /// The card takes these characters, none of them before its answer to reset is over, and up to
     /// the first that it refuses, which is told.
-    fn take<W: Write>(&mut self, characters: &[u8], writer: &mut W) -> Result<(), PlayFault>
-        ensures written { OnOk result (Writes
-            (λ old text new. Takes old characters.now text new) self.old self.new
-            (W.contents writer.old) (W.contents writer.new)) }
-        ensures fault { IfErr result
-            (IsWritingFault (W.contents writer.old) (W.contents writer.new)) }
+    fn take(&mut self, characters: &[u8]) -> Printed<A>
+        ensures { LeadsTo (λ old new. Takes old characters.now (printed_text result) new)
+            self.old self.new }
     {
         if !self.opening.is_over() {
-            return write_fixed(FixedLine::NotListening, writer);
+            return Printed::NotListening;
         }
         if self.end.take_bytes(characters) < characters.len() {
-            return write_fixed(FixedLine::NotListening, writer);
+            return Printed::NotListening;
         }
-        Ok(())
+        Printed::Nothing
     }
 
     /// The card hands out what is left of its answer to reset, or else the characters of its end,
-    /// at most so many where it is said, and they are written.
-    fn hand_out<W: Write>(
-        &mut self,
-        alloc: A,
-        most: Option<u16>,
-        writer: &mut W,
-    ) -> Result<(), PlayFault>
-        ensures written { OnOk result (Writes
-            (λ old text new. HandsOutNext old most text new) self.old self.new
-            (W.contents writer.old) (W.contents writer.new)) }
-        ensures fault { IfErr result
-            (IsWritingFault (W.contents writer.old) (W.contents writer.new)) }
+    /// at most so many where it is said: their line.
+    fn hand_out(&mut self, alloc: A, most: Option<u16>) -> Result<Vec<u8, A>, AllocError>
+        ensures { IfOk result (λ text. LeadsTo (λ old new. HandsOutNext old most text.items new)
+            self.old self.new) }
     {
         if self.opening.is_over() {
             let characters = handed_out(alloc, &mut self.end, &mut self.plans, most)?;
-            return write_handed_out(alloc, &characters, writer);
+            return handed_out_text(alloc, &characters);
         }
-        write_handed_out(alloc, self.opening.next_characters(most), writer)?;
+        let text = handed_out_text(alloc, self.opening.next_characters(most))?;
         self.opening.pass(most);
-        Ok(())
+        Ok(text)
     }
 }
 

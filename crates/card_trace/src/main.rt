@@ -1,33 +1,28 @@
 //! A terminal and a card in dialogue, and the trace of it.
 #![tactic(auto)]
 
-mod card;
-mod card_player;
+mod both_ends;
 mod card_table;
 mod command_line;
 mod ending;
-mod fixed_line;
 mod help;
 mod lone_card;
 mod main_status;
 mod objects;
 mod objects_fault;
 mod opening;
-mod play;
 mod play_fault;
 mod player;
-mod printing;
+mod printed;
 mod program_fault;
+mod runner;
 mod script;
-mod table;
+mod scripts;
 mod text;
-mod trace;
-mod unread_words;
 
-use main_status::main_status;
+use main_status::{ending_without_words, main_status};
 use std::process::ExitCode;
 use std::{env, io};
-use unread_words::ending_without_words;
 
 /// Runs the program on its own words and streams.
 fn main(rt: HostRuntime) -> ExitCode {

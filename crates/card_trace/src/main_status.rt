@@ -1,21 +1,20 @@
 //! The program over any reader and writers.
-ghost use Rattle.std.specs.Prelude.{◌≡◌, ◌≢◌, ◌≤◌, ◌⊎◌, [], map, Ok, IfOk, IfErr, OnOk, Bool, string_bytes};
+ghost use Rattle.std.specs.IoError.{error_kind};
+ghost use Rattle.std.specs.Prelude.{◌≡◌, ◌≢◌, ◌≤◌, [], map, Ok, IfOk, IfErr, OnOk, Bool, string_bytes};
 ghost use Rattle.hex.specs.Hex.{decode_of};
-ghost use Rattle.clap.specs.Words.{kind_of, subcommand_of, fault_of};
-ghost use Rattle.card_trace.specs.CommandLine.{program, asked_by, Does, Runs, IsDigitsFault, Stops, StopsAt, IsCall, AreCall, AreRefused, IsUnanswered};
+ghost use Rattle.clap.specs.Words.{subcommand_of, fault_of};
+ghost use Rattle.card_trace.specs.CommandLine.{program, asked_by, Does, Runs, IsDigitsFault, Stops, StopsAt, AreCall, AreRefused, IsUnanswered};
 ghost use Rattle.card_trace.specs.FaultTexts.{Tells};
 
-use crate::card::card_lines;
 use crate::command_line::{Request, parsed};
-use crate::ending::{Ending, ending_after};
+use crate::ending::{Ending, ending_after, ending_unparsed};
+use crate::help;
 use crate::objects::print_objects;
-use crate::play::play_lines;
 use crate::program_fault::ProgramFault;
-use clap::Error;
-use clap::error::ErrorKind;
+use crate::scripts::{card_lines, play_lines};
 use hex::FromHexError;
 use std::alloc::Global;
-use std::io::{Read, Write};
+use std::io::{Error, ErrorKind, Read, Write};
 
 /// Runs the program on its words, of which the first is its name, and answers its exit status.
 ///
@@ -85,7 +84,7 @@ pub fn ended<R: Read, W: Write, F: Write>(
 {
     match parsed(alloc, words) {
         Ok(request) => ending_after(&run(alloc, request, input, output), faults),
-        Err(error) => answered(&error, output, faults),
+        Err(error) => ending_unparsed(&error, output, faults),
     }
 }
 
@@ -128,40 +127,19 @@ fn bytes_of(alloc: Global, digits: &str) -> Result<Vec<u8>, ProgramFault>
     }
 }
 
-/// How the program ends with what the parser answered in place of matches. Help and the version go
-/// to `output`, and a refusal to `faults`.
-fn answered<W: Write, F: Write>(error: &Error, output: &mut W, faults: &mut F) -> Ending
-    ensures status { result.status ≤ 2 }
-    ensures memory { kind_of error.now ≡ ErrorKind.OutOfMemory →
-        (result.status ≡ 1) × (W.contents output.new ≡ W.contents output.old)
+/// How the program ends where the words can't be had, which is told on `faults`: with status 1 for
+/// want of memory, and else with 2, as one of them is not UTF-8.
+pub fn ending_without_words<F: Write>(error: &Error, faults: &mut F) -> Ending
+    ensures memory { error_kind error.now ≡ ErrorKind.OutOfMemory → (result.status ≡ 1)
         × Tells result.is_told (F.contents faults.old) (F.contents faults.new)
         ProgramFault.OutOfMemory }
-    ensures mistake { ¬ IsCall (kind_of error.now) →
-        kind_of error.now ≢ ErrorKind.OutOfMemory → result.status ≡ 2 }
-    ensures called { result.status ≡ 0 → IsCall (kind_of error.now) }
-    ensures unanswered { result.status ≡ 1 → (kind_of error.now ≡ ErrorKind.OutOfMemory)
-        ⊎ (IsCall (kind_of error.now) × Tells result.is_told (F.contents faults.old)
-        (F.contents faults.new) ProgramFault.Write) }
-    ensures quiet { result.status ≡ 0 → F.contents faults.new ≡ F.contents faults.old }
-    ensures refused { result.status ≡ 2 → ¬ IsCall (kind_of error.now)
-        × (kind_of error.now ≢ ErrorKind.OutOfMemory)
-        × (W.contents output.new ≡ W.contents output.old) }
+    ensures refused { error_kind error.now ≢ ErrorKind.OutOfMemory → result.status ≡ 2 }
 {
     match error.kind() {
         ErrorKind::OutOfMemory => ending_after(&Err(ProgramFault::OutOfMemory), faults),
-        ErrorKind::DisplayHelp | ErrorKind::DisplayVersion => {
-            ending_after(&shown(error, output), faults)
-        }
         _ => Ending {
             status: 2,
-            is_told: faults.write_fmt(error).is_ok(),
+            is_told: faults.write_all(help::NO_UTF_8.as_bytes()).is_ok(),
         },
     }
-}
-
-/// Writes the help, or the version.
-fn shown<W: Write>(error: &Error, output: &mut W) -> Result<(), ProgramFault>
-    ensures { IfErr result (λ fault. fault ≡ ProgramFault.Write) }
-{
-    output.write_fmt(error).map_err(|_| ProgramFault::Write)
 }

@@ -2,6 +2,7 @@
 pub mod card_line;
 pub mod fields;
 pub mod keyword;
+pub mod line;
 pub mod lines;
 mod places;
 pub mod play_line;

@@ -1,30 +1,20 @@
 //! The lines of `card`.
-ghost use Rattle.std.specs.Prelude.{◌≡◌, ◌≢◌, ℕ, List, [], Option, IfOk, IfErr, MatchOption};
+ghost use Rattle.std.specs.Prelude.{ℕ, List, Option, IfOk, IfErr};
 ghost use Rattle.card_trace.specs.ScriptReasons.{OnReason};
 ghost use Rattle.card_trace.specs.ScriptFields.{IsHexText};
 ghost use Rattle.card_trace.specs.ScriptTable.{OneField};
-ghost use Rattle.card_trace.specs.ScriptWords.{words_in, words_of};
-ghost use Rattle.card_trace.specs.ScriptCard.{Part, Act, CardMeaning, part_of, act_of, card_meaning, IsMostText, part_keyword, act_keyword, ArePartFields, AreActFields, IsCardLine};
+ghost use Rattle.card_trace.specs.ScriptWords.{words_in};
+ghost use Rattle.card_trace.specs.ScriptCard.{Part, Act, part_of, act_of, IsMostText, SaysPart, SaysAct};
 
 use crate::script::fields::{read_hex, read_number, read_plan};
 use crate::script::keyword::Keyword;
 use crate::script::reason::Reason;
 use crate::script::refusal::Refusal;
-use crate::script::section::Section;
 use crate::script::table_line::{TableLine, read_table_line};
-use crate::script::words::{at_most_one_word, first_of_line, no_word, one_word, two_words};
+use crate::script::words::{at_most_one_word, no_word, one_word, two_words};
 use card_terminal::Bytes;
 use std::alloc::{Allocator, Global};
 use t0_core::Plan;
-
-/// What a line of a script of `card` says.
-#[derive(Drop)]
-pub enum CardLine<A: Allocator = Global> {
-    /// A table line: a part of the card.
-    Builds(CardPart<A>),
-    /// A run line: what is done with the card.
-    Runs(CardAct<A>),
-}
 
 /// What a table line of `card` says.
 #[derive(Drop)]
@@ -50,43 +40,15 @@ pub enum CardAct<A: Allocator = Global> {
     Table,
 }
 
-/// What a line of `card` says; `None` for one that is passed over. The refusals are those of
-/// `read_play_line`, in its order; a plan is a table line here.
-pub fn read_card_line<A: Allocator + Copy>(
-    alloc: A,
-    line: &[u8],
-    section: Section,
-) -> Result<Option<CardLine<A>>, Refusal>
-    ensures ok { IfOk result (λ said. MatchOption said (words_of line.now ≡ [])
-        (λ said. IsCardLine section (words_of line.now) (card_meaning said))) }
-    ensures refused { IfErr result (λ refusal. OnReason refusal (λ _.
-        (words_of line.now ≢ []) × ((meaning : CardMeaning) →
-        ¬ IsCardLine section (words_of line.now) meaning))) }
-{
-    let Some((word, rest)) = first_of_line(line) else {
-        return Ok(None);
-    };
-    let keyword = Keyword::of(word).ok_or(Reason::UnknownWord)?;
-    let said = match keyword {
-        Keyword::Adds(_) | Keyword::Atr | Keyword::Plan => {
-            section.takes_table_line()?;
-            CardLine::Builds(read_part(alloc, keyword, rest)?)
-        }
-        _ => CardLine::Runs(read_act(alloc, keyword, rest)?),
-    };
-    Ok(Some(said))
-}
-
 /// The part of the card with this first word, of which this is left.
-fn read_part<A: Allocator + Copy>(
+pub fn read_part<A: Allocator + Copy>(
     alloc: A,
     keyword: Keyword,
     rest: &[u8],
 ) -> Result<CardPart<A>, Refusal>
-    ensures ok { IfOk result (λ part. (part_keyword (part_of part) ≡ keyword)
-        × ArePartFields (part_of part) (words_in rest.now)) }
+    ensures ok { IfOk result (λ part. SaysPart (part_of part) keyword (words_in rest.now)) }
     ensures refused { IfErr result (λ refusal. OnReason refusal (λ _.
-        (part : Part) → part_keyword part ≡ keyword → ¬ ArePartFields part (words_in rest.now))) }
+        (part : Part) → ¬ SaysPart part keyword (words_in rest.now))) }
 {
     match keyword {
         Keyword::Adds(word) => Ok(CardPart::Adds(read_table_line(alloc, word, rest)?)),
@@ -100,11 +62,14 @@ fn read_part<A: Allocator + Copy>(
 }
 
 /// What a run line of `card` with this first word says, of which this is left.
-fn read_act<A: Allocator>(alloc: A, keyword: Keyword, rest: &[u8]) -> Result<CardAct<A>, Refusal>
-    ensures ok { IfOk result (λ act. (act_keyword (act_of act) ≡ keyword)
-        × AreActFields (act_of act) (words_in rest.now)) }
+pub fn read_act<A: Allocator>(
+    alloc: A,
+    keyword: Keyword,
+    rest: &[u8],
+) -> Result<CardAct<A>, Refusal>
+    ensures ok { IfOk result (λ act. SaysAct (act_of act) keyword (words_in rest.now)) }
     ensures refused { IfErr result (λ refusal. OnReason refusal (λ _.
-        (act : Act) → act_keyword act ≡ keyword → ¬ AreActFields act (words_in rest.now))) }
+        (act : Act) → ¬ SaysAct act keyword (words_in rest.now))) }
 {
     match keyword {
         Keyword::Take => Ok(CardAct::Take(read_characters(alloc, rest)?)),

@@ -8,15 +8,16 @@ use Rattle.card_trace.proofs.main_status.ended.Goals as goal
 
 pub returns-in-Err-clause-refused : goal.returns-in-Err-clause-refused
 returns-in-Err-clause-refused g c =
-    λ two. let refused = c.answered.ensures.refused two in
+    λ two. let refused = c.ending_unparsed.ensures.refused two in
     refused_for (fault_of program (map string_bytes c.args.words.now))
     (kind_of c.in-Err.error) c.in-Err.ensures.err refused.0 refused.1
 
 pub returns-in-Err-clause-unanswered : goal.returns-in-Err-clause-unanswered
 returns-in-Err-clause-unanswered g c =
     λ some one. unanswered_for (fault_of program (map string_bytes c.args.words.now))
-    (kind_of c.in-Err.error) (Tells c.answered.result.is_told _ _) c.in-Err.ensures.err
-    (λ memory. (c.answered.ensures.memory memory).2) (c.answered.ensures.unanswered one)
+    (kind_of c.in-Err.error) (Tells c.ending_unparsed.result.is_told _ _) c.in-Err.ensures.err
+    (λ memory. (c.ending_unparsed.ensures.memory memory).2)
+    (c.ending_unparsed.ensures.unanswered one)
 
 pub returns-in-Ok-clause-stops : goal.returns-in-Ok-clause-stops
 returns-in-Ok-clause-stops g c =
@@ -29,5 +30,5 @@ returns-in-Ok-clause-stops g c =
 pub returns-in-Err-clause-stops : goal.returns-in-Err-clause-stops
 returns-in-Err-clause-stops g c =
     λ none one. stops_unread (map string_bytes c.args.words.now) (kind_of c.in-Err.error) _ _ _
-    (Tells c.answered.result.is_told _ _) c.in-Err.ensures.err
-    (λ memory. let all = c.answered.ensures.memory memory in (all.1, all.2)) none
+    (Tells c.ending_unparsed.result.is_told _ _) c.in-Err.ensures.err
+    (λ memory. let all = c.ending_unparsed.ensures.memory memory in (all.1, all.2)) none

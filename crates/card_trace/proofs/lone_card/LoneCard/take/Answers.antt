@@ -1,18 +1,15 @@
 use Rattle.std.proofs.Common.{◌<◌, [], length, take, drop, inl, inr, refl, sym, ◌∙◌, append-nil, arith}
-use Rattle.std.proofs.KnownBytes.{Appends-nil}
 use Rattle.std.proofs.lemmas.List.{take-append-drop, take_all}
 use Rattle.t0_core.specs.declared.end.End.TheVariants.{Terminal}
 use Rattle.t0_core.specs.Character.{sent_by}
-use Rattle.card_trace.specs.declared.fixed_line.FixedLine.TheVariants as fixed
-use Rattle.card_trace.specs.FixedText.{fixed_text}
+use Rattle.card_trace.specs.PrintedText.{not_listening_text}
 use Rattle.card_trace.specs.CardScripts.{Takes, listens_now}
-use Rattle.card_trace.proofs.ScriptLineLemmas.{on_ok}
-use Rattle.card_trace.proofs.CardLemmas.{lead_take, lead_taken, writes_led, some_left, silent_then}
+use Rattle.card_trace.proofs.CardLemmas.{lead_take, lead_taken, leads_by, some_left, silent_then}
 use Rattle.card_trace.proofs.lone_card.LoneCard.take.Goals as goal
 
-pub returns-then-take_bytes-characters-clause-written :
-    goal.returns-then-take_bytes-characters-clause-written
-returns-then-take_bytes-characters-clause-written g c =
+pub returns-then-take_bytes-characters :
+    goal.returns-then-take_bytes-characters
+returns-then-take_bytes-characters g c =
     let now = c.args.self.now in
     let bytes = c.args.characters.now in
     let count = c.take_bytes.result in
@@ -22,9 +19,8 @@ returns-then-take_bytes-characters-clause-written g c =
     let led = lead_taken _ now.plans
     (λ old b next t. lead_take old next b t.taken t.led t.led_under now.plans)
     now.end new (take count bytes) c.take_bytes.ensures.taken in
-    on_ok c.write_fixed-then-take_bytes-characters.result _ _
-    (writes_led (λ o text n. Takes o bytes text n) now.opening (now.end, now.plans)
-    (new, now.plans) (sent_by Terminal (take count bytes)) (fixed_text fixed.NotListening) _ _ led
+    leads_by (λ o n. Takes o bytes not_listening_text n) now.opening (now.end, now.plans)
+    (new, now.plans) (sent_by Terminal (take count bytes)) led
     (λ past more goes. listens_now over
     (record {
       taken = take count bytes;
@@ -36,11 +32,10 @@ returns-then-take_bytes-characters-clause-written g c =
         silent_then count (length bytes) _ c.take_bytes.ensures.all fewer,
         refl,
       );
-    }) refl))
-    c.write_fixed-then-take_bytes-characters.ensures.written
+    }) refl)
 
-pub returns-clause-written : goal.returns-clause-written
-returns-clause-written g c =
+pub returns : goal.returns
+returns g c =
     let now = c.args.self.now in
     let bytes = c.args.characters.now in
     let count = c.take_bytes.result in
@@ -50,8 +45,8 @@ returns-clause-written g c =
     let led = lead_taken _ now.plans
     (λ old b next t. lead_take old next b t.taken t.led t.led_under now.plans)
     now.end new (take count bytes) c.take_bytes.ensures.taken in
-    writes_led (λ o text n. Takes o bytes text n) now.opening (now.end, now.plans)
-    (new, now.plans) (sent_by Terminal (take count bytes)) [] _ _ led
+    leads_by (λ o n. Takes o bytes [] n) now.opening (now.end, now.plans) (new, now.plans)
+    (sent_by Terminal (take count bytes)) led
     (λ past more goes. listens_now over
     (record {
       taken = take count bytes;
@@ -60,4 +55,3 @@ returns-clause-written g c =
       goes_on = goes;
       prints = inl (refl, refl);
     }) refl)
-    (Appends-nil _)

@@ -1,11 +1,11 @@
 -- A table line is its keyword and its fields.
-use Rattle.std.proofs.Common.{◌≡◌, ◌∙◌, ℕ, List}
+use Rattle.std.proofs.Common.{ℕ, List, subst}
 use Rattle.t0_core.specs.Plan.{Course}
 use Rattle.card_trace.specs.declared.script.reason.Reason.{Reason}
 use Rattle.card_trace.specs.ScriptWords.{words_in}
 use Rattle.card_trace.specs.ScriptFields.{IsHexText, IsPlanText}
 use Rattle.card_trace.specs.ScriptTable.{OneField}
-use Rattle.card_trace.specs.ScriptCard.{Part, part_keyword, ArePartFields}
+use Rattle.card_trace.specs.ScriptCard.{Part, SaysPart}
 use Rattle.card_trace.proofs.ScriptTableLemmas.{plan_texts}
 use Rattle.card_trace.proofs.ScriptCardLemmas.{plan_says, atr_says}
 use Rattle.card_trace.proofs.ScriptRefusalLemmas.{passed_on}
@@ -17,12 +17,12 @@ returns-in_err-read_characters-in-Atr-clause-refused g c =
     let rest = words_in c.args.rest.now in
     let P : Reason → Type 0 = λ _. (bytes : List ℕ)
     → OneField rest (λ text. IsHexText text bytes) → ⊥ in
-    let Q : Reason → Type 0 = λ _. (part : Part) → part_keyword part ≡ c.args.keyword
-    → ArePartFields part rest → ⊥ in
+    let Q : Reason → Type 0 = λ _. (part : Part) → SaysPart part c.args.keyword rest → ⊥ in
     passed_on c.from_residual-in_err-read_characters-in-Atr.result
     c.in_err-read_characters-in-Atr.field-0.0 P Q
     c.from_residual-in_err-read_characters-in-Atr.ensures.1
-    (λ _ none part is fields. let said = atr_says part rest (is ∙ c.in-Atr.is) fields in
+    (λ _ none part says.
+    let said = atr_says part rest (subst (λ k. SaysPart part k rest) c.in-Atr.is says) in
     none said.0 said.1)
     c.in_err-read_characters-in-Atr.ensures.refused
 
@@ -33,11 +33,11 @@ returns-in_err-read_plan-in-Plan-clause-refused g c =
     let a = c.in_ok-steps-in-Plan.steps.now in
     let b = c.in_ok-steps-in-Plan.cut.now in
     let P : Reason → Type 0 = λ _. (plan : Course) → IsPlanText a b plan → ⊥ in
-    let Q : Reason → Type 0 = λ _. (part : Part) → part_keyword part ≡ c.args.keyword
-    → ArePartFields part rest → ⊥ in
+    let Q : Reason → Type 0 = λ _. (part : Part) → SaysPart part c.args.keyword rest → ⊥ in
     passed_on c.from_residual-in_err-read_plan-in-Plan.result
     c.in_err-read_plan-in-Plan.field-0.0 P Q
     c.from_residual-in_err-read_plan-in-Plan.ensures.1
-    (λ _ none part is fields. let said = plan_says part rest (is ∙ c.in-Plan.is) fields in
+    (λ _ none part says.
+    let said = plan_says part rest (subst (λ k. SaysPart part k rest) c.in-Plan.is says) in
     none said.0 (plan_texts rest a b said.0 c.in_ok-steps-in-Plan.ensures said.1))
     c.in_err-read_plan-in-Plan.ensures.refused

@@ -1,7 +1,0 @@
-use Rattle.std.proofs.Common.{◌≡◌, ◌++◌}
-use Rattle.card_trace.specs.ForestText.{indent}
-use Rattle.card_trace.proofs.objects.push_indent.Given as goal
-
--- so many levels are written
-abbrev pub invariant-loop-level : goal.invariant-loop-level
-invariant-loop-level g l = l.text.items ≡ l.fn.text.items ++ indent l._level

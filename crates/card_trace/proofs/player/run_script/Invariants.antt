@@ -1,0 +1,11 @@
+use Rattle.card_trace.specs.Playing.{Stands}
+use Rattle.card_trace.specs.Script.{State}
+use Rattle.card_trace.proofs.ScriptLoopLemmas.{AreCarriedOut}
+use Rattle.card_trace.proofs.player.run_script.Given as goal
+
+-- the lines so far have been carried out, and the others are still to come
+abbrev pub invariant-loop-line : goal.invariant-loop-line
+invariant-loop-line g l = let s = g.R.Runner.script in (state : State s)
+    × Stands s g.R.Runner.table_of g.R.Runner.StandsFor l.player state
+    × AreCarriedOut s l.initial.line-iterator (g.W.Write.contents l.fn.writer)
+    (g.W.Write.contents l.writer) state l.line-iterator l.number

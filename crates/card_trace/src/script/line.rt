@@ -1,0 +1,46 @@
+//! A line of a script.
+ghost use Rattle.std.specs.Prelude.{◌≡◌, [], IfOk, IfErr, MatchOption};
+ghost use Rattle.card_trace.specs.LineMeaning.{meaning_of};
+ghost use Rattle.card_trace.specs.Script.{Says, SaysNothing};
+ghost use Rattle.card_trace.specs.ScriptReasons.{OnReason};
+ghost use Rattle.card_trace.specs.ScriptWords.{words_of};
+
+use crate::runner::Runner;
+use crate::script::keyword::Keyword;
+use crate::script::reason::Reason;
+use crate::script::refusal::Refusal;
+use crate::script::section::Section;
+use crate::script::words::first_of_line;
+
+/// What a line of a script says.
+#[derive(Drop)]
+pub enum Line<P, A> {
+    /// A table line: a part of the card.
+    Builds(P),
+    /// A run line: what is done with the card.
+    Runs(A),
+}
+
+/// What a line says; `None` for one that is passed over.
+///
+/// The first reason that holds is given: an unknown word, a table line in the run section, a wrong
+/// number of words, and then those of the fields from left to right. `OutOfMemory` where memory is
+/// wanting for a field.
+pub fn read_line<R: Runner>(
+    alloc: R::Alloc,
+    section: Section,
+    line: &[u8],
+) -> Result<Option<Line<R::Part, R::Act>>, Refusal>
+    ensures ok { IfOk result (λ said. MatchOption said (words_of line.now ≡ [])
+        (λ said. Says R.script section (words_of line.now)
+        (meaning_of R.script R.part_of R.act_of said))) }
+    ensures refused { IfErr result (λ refusal.
+        OnReason refusal (λ _. SaysNothing R.script section line.now)) }
+{
+    let Some((word, rest)) = first_of_line(line) else {
+        return Ok(None);
+    };
+    let keyword = Keyword::of(word).ok_or(Reason::UnknownWord)?;
+    let said = R::read(alloc, section, keyword, rest)?;
+    Ok(Some(said))
+}

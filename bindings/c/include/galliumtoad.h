@@ -1,53 +1,55 @@
 /* galliumtoad.h: data objects of smart cards, answers to reset, and both ends of a dialogue by T=0
  * or by whole commands, for C99 and C++.
  *
- * The functions are those of a proved library: what a comment below says of answers and of the
- * state after them is its contract, proved of the machine's library. This header is tested, not
- * proved: its functions look for NULL, call the library, and return texts. The caller's part:
+ * The functions call a proved library. What a comment below says of results, and of the state after
+ * them, is the library's contract, and is proved. This header is tested, not proved: its functions
+ * check for NULL, call the library, and return texts. The caller's part:
  *
- * - A pointer with a count is that many elements, all readable and, without const, writable. It
- *   may be NULL where the count is 0. Every other pointer must not be NULL; where one is, the
- *   answer is GT_NULL and nothing is done. Pointers are aligned as their types ask.
- * - What the arguments of one call point to does not overlap, unless all of it is const, or the
- *   comment of the function allows it.
+ * - A pointer with a count is that many elements, all readable and, without const, writable. It may
+ *   be NULL if the count is 0. No other pointer may be NULL: if one is, the call returns GT_NULL
+ *   and does nothing. Pointers are aligned as their types require.
+ * - The memory that the arguments of one call point to does not overlap, unless all of it is const
+ *   or the comment of the function allows it.
  * - A handle (gt_exchange, gt_terminal, gt_t1, gt_card, gt_session) is all zero before its first
- *   use: GT_INIT, or static storage. Its fields are the library's: nothing else reads or writes
- *   them. It may be moved by assignment where the old copy is never used again; two copies must not
- *   both be used.
- * - A handle may go from one thread to another, and is for one at a time: each call writes to it,
- *   also one that only asks, so none takes it as const. What the next thread does with it comes
- *   after what the one before did, by a lock, by the start or the end of a thread, or by an atomic
- *   that is sequentially consistent. Different handles may be used by different threads at once.
- * - No function is called from a signal handler, or in the child of a fork of a process with
- *   threads.
+ *   use: GT_INIT, or static storage. Only the library reads or writes its fields. You may move a
+ *   handle by assignment if you never use the old copy again. Never use two copies.
+ * - A handle may pass from one thread to another, and only one uses it at a time: each call writes
+ *   to it, also one that only asks, so none takes it as const. A lock, the start or the end of a
+ *   thread, or a sequentially consistent atomic orders the use by one thread before the use by the
+ *   next. Different threads may use different handles at once.
+ * - Call no function from a signal handler, or in the child of a fork of a process with threads.
  *
- * What a function gets it copies: nothing is kept of any buffer after a call. No function
- * blocks, prints or aborts, and it calls nothing of the caller's but the functions for memory.
+ * A function copies its input, and keeps no reference to any buffer after the call. No function
+ * blocks, prints or aborts. None calls the caller's code, except the functions for memory.
  *
- * Every function but those of texts, of the version, gt_is_object and the .._free ones answers a
- * code of the list below: 0 or above where it went well, below 0 a fault: compare with < 0, not
- * with != 0. The numbers are fixed. A function's comment names all faults that it may answer, but
- * for three: GT_NULL (above), GT_EMPTY, which each function with a handle answers where that holds
- * nothing, unless its comment says otherwise, and GT_STATE of an operation at the other level (see
- * `gt_exchange_apdu`). Where more than one holds it is the first of
- * GT_NULL, GT_EMPTY, GT_STATE, and then of the comment's, in its order; in gt_session_start and
- * gt_session_end, which have two handles, GT_STATE comes before GT_EMPTY. After a fault nothing has
- * changed, neither the handle nor what the other pointers point to, but for what the comment says.
+ * Every function returns a code of the list below, except those of texts, of the version,
+ * gt_is_object and the .._free ones. 0 or above is success, below 0 is a fault: compare with < 0,
+ * not with != 0. The numbers are fixed. A function's comment names all faults that it may return,
+ * except three:
  *
- * A code is about the call, a status about the card: GT_OK with status 6982 is a call that went
- * well, and a value that is not stored. Look at both; the statuses are listed above "A session".
+ * - GT_NULL: see above.
+ * - GT_EMPTY: the handle holds nothing. Each function with a handle returns it, unless its comment
+ *   says otherwise.
+ * - GT_STATE: the operation is at the other level (see `gt_exchange_apdu`).
  *
- * Targets: Linux on x86-64-v2 and on 64-bit ARM (AArch64, the small end first). There is none with
- * 32 bits: the toolchain refuses them, since usize has 64 bits in its logic. Memory comes by malloc
- * and free, and is wiped before it is given back, or by the caller's own three functions, which
- * must not throw or longjmp: galliumtoad_heap.h says which, and what is then theirs. Linking also
- * asks for memcpy, memmove and memset.
- */
+ * If more than one holds, the result is the first of GT_NULL, GT_EMPTY, GT_STATE, and then of the
+ * comment's, in its order. In gt_session_start and gt_session_end, which have two handles, GT_STATE
+ * comes before GT_EMPTY. After a fault nothing has changed, neither the handle nor what the other
+ * pointers point to, except as the comment says.
+ *
+ * A code is about the call, a status about the card: GT_OK with status 6982 is a call that
+ * succeeded, and a value that is not stored. Check both. The statuses are listed above "A session".
+ *
+ * Targets: Linux on x86-64-v2 and on little-endian 64-bit ARM (AArch64). 32-bit targets are not
+ * supported: the toolchain refuses them, because usize has 64 bits in its logic. Memory comes from
+ * malloc and free, and is wiped before it is freed. The caller's own three functions may replace
+ * these, and must not throw or longjmp: galliumtoad_heap.h describes them and their duties. Linking
+ * also requires memcpy, memmove and memset. */
 #ifndef GALLIUMTOAD_H
 #define GALLIUMTOAD_H
 
-/* Of this header, and of the library with it. Before 1.0 another minor number may have other
- * functions. */
+/* The version of this header, and of the library with it. Before 1.0 another minor number may have
+ * other functions. */
 #define GT_VERSION_MAJOR 0
 #define GT_VERSION_MINOR 2
 #define GT_VERSION_PATCH 0
@@ -74,7 +76,7 @@ extern "C" {
 #define GT_FUNCTION static inline
 #endif
 
-/* For a function whose answer the caller must look at. */
+/* For a function whose result the caller must check. */
 #ifdef __GNUC__
 #define GT_MUST_CHECK __attribute__((warn_unused_result)) GT_FUNCTION
 #else
@@ -88,38 +90,38 @@ extern "C" {
 /* ---- Codes ----------------------------------------------------------------------------------- */
 
 enum {
-    GT_OK = 0,              /* it went well; of a turn (.._next, .._turn): the end listens */
-    GT_SENDS = 1,           /* of a turn: a character is handed out; of .._send_bytes: all that
-                             * there is room for */
-    GT_DONE = 2,            /* of an exchange's turn: it is over, and has an answer */
+    GT_OK = 0,              /* success; of a turn (.._next, .._turn): the end listens */
+    GT_SENDS = 1,           /* of a turn: a character to send; of .._send_bytes: the buffer is
+                             * full */
+    GT_DONE = 2,            /* of an exchange's turn: it has ended, and has an answer */
 
     GT_NULL = -1,           /* a pointer is NULL */
     GT_EMPTY = -2,          /* the handle holds nothing */
-    GT_STATE = -3,          /* not now: the handle's state has no place for the call */
-    GT_MEMORY = -4,         /* memory is wanting */
+    GT_STATE = -3,          /* not now: the handle's state does not allow the call */
+    GT_MEMORY = -4,         /* memory ran out */
     GT_ARGUMENT = -5,       /* an argument is out of its range */
-    GT_BUFFER = -6,         /* there is too little room for what is to be copied out; the buffer is
-                             * as it was, but of gt_objects, which fills it as far as it goes */
+    GT_BUFFER = -6,         /* too little room for the output; the buffer is unchanged, except by
+                             * gt_objects, which fills it as far as it goes */
     GT_BUSY = -7,           /* a chain is pending at the card */
     GT_NOT_FOUND = -8,      /* what was asked for is not there */
     GT_FAILED = -9,         /* of an exchange's turn: it has failed for good */
     GT_PLANS = -10,         /* GT_PLANS_LIMIT plans wait already */
 
     /* of a card under construction */
-    GT_APP_TWICE = -20,     /* the identifier is that of an application before it */
-    GT_TOO_MANY_APPS = -21, /* there are as many applications as a card may have */
+    GT_APP_TWICE = -20,     /* an earlier application has this identifier */
+    GT_TOO_MANY_APPS = -21, /* the card has as many applications as it may */
     GT_NO_APP = -22,        /* there is no application to hold the data object */
-    GT_VALUE_TOO_LONG = -23, /* the value has more bytes than a value may have */
+    GT_VALUE_TOO_LONG = -23, /* the value exceeds the limit on a value */
     GT_NOT_OBJECTS = -24,   /* the tag is that of a template, and the value is no list of objects;
                              * those of a value are at level 2, so a list may have 15 levels */
-    GT_TABLE_FULL = -25,    /* the application has as many data objects as it may have */
+    GT_TABLE_FULL = -25,    /* the application has as many data objects as it may */
 
     /* of the line */
     GT_NOT_LISTENING = -30, /* the end has characters to send */
-    GT_BAD_PROCEDURE = -31, /* neither a procedure byte nor a first status byte where one is due */
-    GT_TOO_LONG = -32,      /* the response has more bytes than it may: 16,384, or a limit below */
-    GT_STALLED = -33,       /* a GET RESPONSE has brought nothing, and the card announces more */
-    GT_AFTER_END = -34,     /* the exchange is over, or has failed */
+    GT_BAD_PROCEDURE = -31, /* unexpected byte: neither a procedure byte nor a first status byte */
+    GT_TOO_LONG = -32,      /* the response exceeds its limit: 16,384 bytes, or fewer */
+    GT_STALLED = -33,       /* a GET RESPONSE brought nothing, and the card announces more */
+    GT_AFTER_END = -34,     /* the exchange has ended, or has failed */
 
     /* of objects */
     GT_TAG_CUT = -40,       /* the list ends inside a tag */
@@ -140,7 +142,7 @@ enum {
     GT_NOT_ASKED = -62,     /* data came back, and the TPDU or command asks for none */
     GT_TOO_MANY = -63,      /* more data came back than the TPDU or command asks for */
     GT_NO_TPDU = -64,       /* the bytes are no whole TPDU */
-    GT_WANTS_DATA = -65,    /* the card takes data, and the TPDU has none: both ends would wait */
+    GT_WANTS_DATA = -65,    /* the card takes data, and the TPDU has none: deadlock */
     GT_SENDS_DATA = -66,    /* the card sends data, and the TPDU asks for none */
 
     /* of an answer to reset */
@@ -148,26 +150,26 @@ enum {
     GT_ATR_CUT = -71,       /* the bytes end before a character that is announced */
     GT_ATR_TOO_LONG = -72,  /* there are 33 bytes, the most, and another is announced, or is TCK */
     GT_ATR_ORDER = -73,     /* the T that this TD names is below the one before it, or 15 in TD1 */
-    GT_ATR_SURPLUS = -74,   /* characters stand behind the end */
-    GT_ATR_CHECK_MISSING = -75, /* TCK is due, as a T other than 0 is named, and the bytes end */
-    GT_ATR_CHECK_NOT_DUE = -76, /* one byte stands behind the end, and TCK is not due */
+    GT_ATR_SURPLUS = -74,   /* characters follow the end */
+    GT_ATR_CHECK_MISSING = -75, /* TCK is missing, which a T other than 0 requires */
+    GT_ATR_CHECK_NOT_DUE = -76, /* one byte follows the end, and TCK is not expected */
     GT_ATR_CHECK_WRONG = -77, /* TCK doesn't make the exclusive-or of all characters after TS 00 */
 
     /* of a PPS response */
     GT_PPS_NO_PPSS = -80,   /* the first byte is not FF */
-    GT_PPS_CUT = -81,       /* the bytes end before a character that is due */
+    GT_PPS_CUT = -81,       /* the bytes end before an expected character */
     GT_PPS_RESERVED = -82,  /* bit 8 of PPS0 is 1, which is reserved */
-    GT_PPS_SURPLUS = -83,   /* characters stand behind PCK */
+    GT_PPS_SURPLUS = -83,   /* characters follow PCK */
     GT_PPS_CHECK_WRONG = -84, /* PCK doesn't make the exclusive-or of all characters 00 */
 
     /* why a terminal's end at T=1 gave up; GT_TOO_LONG is another cause */
-    GT_TRIES_SPENT = -90,   /* no block brought it a step forward, too often in a row */
+    GT_TRIES_SPENT = -90,   /* too many receptions in a row brought no step forward */
     GT_EXTENSIONS_SPENT = -91, /* the card asked for more time or another IFSC too often */
     GT_ABORTED = -92        /* the card ended the chain in progress: S(ABORT request) */
 };
 
-/* What a code says, in a few words: a string that stays. Of a number that is no code: "unknown
- * code". Not proved: it is the list above again. */
+/* Returns what a code means, in a few words: a string that stays valid. For a number that is no
+ * code it is "unknown code". Not proved: it repeats the list above. */
 GT_FUNCTION const char *gt_text(int32_t code) {
     switch (code) {
     case GT_OK: return "ok";
@@ -230,8 +232,8 @@ GT_FUNCTION const char *gt_text(int32_t code) {
     }
 }
 
-/* Says in a few words what a status word of a card here means: a string that stays. Any other is
- * "unknown status". The list above "A session" says more of each. Not proved. */
+/* Returns what a status word of a card here means, in a few words: a string that stays valid. For
+ * any other it is "unknown status". The list above "A session" says more of each. Not proved. */
 GT_FUNCTION const char *gt_status_text(uint16_t status) {
     switch (status >> 8) {
     case 0x61: return "more data wait";
@@ -276,24 +278,24 @@ enum {
     GT_PPS_LIMIT = 6,           /* the most bytes of a PPS request or response */
     GT_PLANS_LIMIT = 1048576,   /* the most plans that wait at a card, or in a session */
     GT_BLOCK_LIMIT = 258,       /* the most bytes of a block of T=1: NAD, PCB, LEN, 254 and LRC */
-    GT_T1_TRIES = 4,            /* what `gt_t1_new` is usually given: EMV has 2 .. */
-    GT_T1_EXTENSIONS = 16       /* .. and so many requests of the card in one command */
+    GT_T1_TRIES = 4,            /* the usual `tries` of `gt_t1_new`; EMV has 2 */
+    GT_T1_EXTENSIONS = 16       /* its usual `extensions` */
 };
 
-/* One object of a list. A tag is the number that its one to three bytes are: 0x50, 0x5F20,
- * 0x9F8101; "%02X" prints it so. Sizes and places are counted in bytes, places from 0 for the
- * first byte of the list. */
+/* One object of a list. A tag is the number that its one to three bytes make: 0x50, 0x5F20,
+ * 0x9F8101; "%02X" prints it so. Sizes and places count bytes, places from 0 for the first byte of
+ * the list. */
 typedef struct {
     uint32_t tag;
     uint8_t level;          /* from 1 to GT_LEVELS_LIMIT */
-    uint8_t constructed;    /* 1 where the value is a list of objects, else 0 */
+    uint8_t constructed;    /* 1 if the value is a list of objects, else 0 */
     size_t place, size;     /* the first byte of its tag; tag, length and value together */
-    size_t value, length;   /* the first byte of its value; how many bytes that has */
+    size_t value, length;   /* the first byte of its value; the number of its bytes */
 } gt_object;
 
 enum { GT_TERMINAL = 0, GT_CARD = 1 };
 
-/* A character that has gone over the line. */
+/* A character that passed over the line. */
 typedef struct {
     uint8_t from;           /* GT_TERMINAL or GT_CARD */
     uint8_t byte;
@@ -304,27 +306,28 @@ enum { GT_STOP_NONE = 0, GT_STOP_LOW = 1, GT_STOP_HIGH = 2, GT_STOP_EITHER = 3 }
 enum { GT_CLASS_A = 1, GT_CLASS_B = 2, GT_CLASS_C = 4 };
 enum { GT_LRC = 1, GT_CRC = 2 };
 
-/* What is known of a command if a terminal's end at T=1 gave up: the card has not carried it out,
- * since its last block never went out; it may have; or it has, and a part of its response came. */
+/* What is known of a command if a terminal's end at T=1 gave up. The card has not carried it out,
+ * since its last block never went out; or it may have; or it has, and sent a part of its
+ * response. */
 enum { GT_NOT_CARRIED_OUT = 0, GT_UNKNOWN = 1, GT_IN_PART = 2 };
 
 /* The form of historical bytes, by the first of them (ISO/IEC 7816-4, 12.1.1). */
 enum {
-    GT_HISTORY_NONE = 0,        /* there are none */
+    GT_HISTORY_NONE = 0,        /* they are missing */
     GT_HISTORY_STATUS = 1,      /* 00: objects in COMPACT-TLV, and a status of three bytes */
-    GT_HISTORY_DIR = 2,         /* 10: the byte behind it refers to a record of EF.DIR */
-    GT_HISTORY_OBJECTS = 3,     /* 80: objects in COMPACT-TLV, of which the last may be a status */
+    GT_HISTORY_DIR = 2,         /* 10: the next byte refers to a record of EF.DIR */
+    GT_HISTORY_OBJECTS = 3,     /* 80: objects in COMPACT-TLV; the last may be a status */
     GT_HISTORY_RESERVED = 4,    /* 81 to 8F */
     GT_HISTORY_OWN = 5          /* any other: the maker's own form */
 };
 
-/* What an answer to reset says of T=1, by the first TA, TB and TC for T=1 or, where they are not
- * there, by the standard's defaults (ISO/IEC 7816-3, clause 11). */
+/* What an answer to reset says of T=1, by the first TA, TB and TC for T=1. For a missing one the
+ * standard's default holds (ISO/IEC 7816-3, clause 11). */
 typedef struct {
     uint8_t ifsc;               /* IFSC, 1 to 254: the longest field of a block that the card takes;
                                  * 0: reserved */
-    uint8_t edc;                /* the error detection code, by the number of its bytes: GT_LRC or
-                                 * GT_CRC; 0: reserved */
+    uint8_t edc;                /* the error detection code, by the number of its bytes: GT_LRC
+                                 * or GT_CRC; 0: reserved */
     uint8_t bwi;                /* BWI, 0 to 9; 0 with bwt_etu 0: reserved */
     uint8_t cwi;                /* CWI, 0 to 15 */
     uint16_t cwt_etu;           /* CWT: the most from one character of a block to the next, in etu:
@@ -337,27 +340,28 @@ typedef struct {
                                  * bwt_etu. An S(WTX) multiplies both for one block */
 } gt_atr_t1;
 
-/* What an answer to reset says, by its characters or, where they are not there, by the standard's
- * defaults (ISO/IEC 7816-3, 8.2 and 8.3). Of what is said by a code that is reserved, it is 0. */
+/* What an answer to reset says, by its characters. For a missing one the standard's default holds
+ * (ISO/IEC 7816-3, 8.2 and 8.3). A reserved code gives 0. */
 typedef struct {
-    size_t length;              /* its bytes, TS and TCK among them: 2 to GT_ATR_LIMIT */
+    size_t length;              /* the number of its bytes, TS and TCK included: 2 to
+                                 * GT_ATR_LIMIT */
     size_t historical;          /* the place of the first historical byte, from 0 for TS */
-    size_t historical_count;    /* how many they are, 0 to 15 */
+    size_t historical_count;    /* their number, 0 to 15 */
     uint8_t category;           /* their form: GT_HISTORY_NONE .. GT_HISTORY_OWN */
     uint8_t convention;         /* GT_DIRECT or GT_INVERSE */
-    uint8_t protocol_count;     /* how many protocols are offered, 1 to GT_PROTOCOLS_LIMIT */
-    uint8_t protocols[GT_PROTOCOLS_LIMIT]; /* T of each, in the order offered, and 0 behind these */
-    uint8_t names_15;           /* 1 where T=15 is named, which is no protocol, else 0 */
+    uint8_t protocol_count;     /* the number of protocols offered, 1 to GT_PROTOCOLS_LIMIT */
+    uint8_t protocols[GT_PROTOCOLS_LIMIT]; /* T of each, in the order offered; then 0 */
+    uint8_t names_15;           /* 1 if T=15 is named, which is no protocol, else 0 */
     uint8_t rate_code;          /* TA1, or 0x11: the codes of Fi and of Di, as PPS1 has them */
     uint8_t di;                 /* Di; 0: reserved */
     uint8_t extra_guard_time;   /* N: TC1, or 0 */
     uint8_t waiting_integer;    /* WI of T=0: TC2, or 10; 0: reserved */
     uint8_t specific;           /* 1 in specific mode; else 0, and the next three are 0 */
-    uint8_t specific_t;         /* the protocol with which the card goes on at once */
-    uint8_t can_change;         /* 1 where the card can change to negotiable mode, else 0 */
-    uint8_t implicit;           /* 1 where Fi and Di are implicit, and not those of TA1, else 0 */
+    uint8_t specific_t;         /* the protocol of the card after its answer, at once */
+    uint8_t can_change;         /* 1 if the card can change to negotiable mode, else 0 */
+    uint8_t implicit;           /* 1 if Fi and Di are implicit, and not those of TA1, else 0 */
     uint8_t clock_stop;         /* GT_STOP_NONE .. GT_STOP_EITHER: where the clock may stop */
-    uint8_t classes;            /* the sum of those that the card takes: GT_CLASS_A (5 V),
+    uint8_t classes;            /* the sum of the classes that the card takes: GT_CLASS_A (5 V),
                                  * GT_CLASS_B (3 V) and GT_CLASS_C (1.8 V); 0: reserved */
     uint16_t fi;                /* Fi; 0: reserved */
     uint16_t max_khz;           /* the highest clock frequency in kHz; 0 with Fi */
@@ -365,58 +369,57 @@ typedef struct {
     uint16_t guard_etu_t1;      /* .. and in T=1 .. */
     uint16_t guard_indicated;   /* .. and in each as many times Fi/Di clock cycles, by TA1, more */
     uint32_t waiting_time;      /* of T=0 in clock cycles, WI * 960 * Fi; 0 with WI or Fi */
-    gt_atr_t1 t1;               /* what is said of T=1 */
+    gt_atr_t1 t1;               /* what it says of T=1 */
 } gt_atr;
 
 /* Handles: 16 bytes each, which the caller owns; their content is on the heap. Each has these
  * calls, in the order of use; those after .. may come at any time in between:
  *
- *   gt_exchange_  start or start_within; next and take, send_bytes and receive_bytes, tpdu and
+ * - gt_exchange_  start or start_within; next and take, send_bytes and receive_bytes, tpdu and
  *                 answered, or apdu and responded; answer; free
- *   gt_terminal_  new or new_within; then, again and again: select, get, put or send; those of an
+ * - gt_terminal_  new or new_within; then, again and again: select, get, put or send; those of an
  *                 exchange; answer; .. reset; free
- *   gt_t1_        new; then, again and again: begin; send_bytes, receive_bytes or missed; response
+ * - gt_t1_        new; then, again and again: begin; send_bytes, receive_bytes or missed; response
  *                 or fault; .. reset; free
- *   gt_card_      new; app and object; finish; take and turn, send_bytes and receive_bytes, tpdu
+ * - gt_card_      new; app and object; finish; take and turn, send_bytes and receive_bytes, tpdu
  *                 or apdu; or t1_begin, then t1_receive_bytes or t1_missed, and t1_send_bytes; ..
  *                 plan, selected, app_at, entry_at, reset; free
- *   gt_session_   start, with a card; listen, to call heard; select, get, put or send; .. answer,
+ * - gt_session_   start, with a card; listen, to call heard; select, get, put or send; .. answer,
  *                 heard, idle, plan, selected, app_at, entry_at, reset; end, which gives the card
  *                 back, or free
  *
- * The most bytes that are asked of the heap at once, without what the heap itself needs for each
+ * The most bytes that a handle asks of the heap at once, without the heap's own needs for each
  * block:
  *
- *   an exchange   256 and its limit on the response, which is 16,384 where none is given, and the
+ * - an exchange   256 and its limit on the response, which is 16,384 if none is given, and the
  *                 bytes of the command's data: at most 16,895
- *   a terminal    296, and from the first operation on its limit on a response, which is 16,384
- *                 where none is given, and the bytes that it has sent as data, of an identifier, a
- *                 value or a command, in the operation with the most. Where one has more than any
- *                 before, the copy of those is held until that of these is made
- *   by commands   an exchange and a terminal take room for the response and the data once more. A
+ * - a terminal    296. The first operation adds its limit on a response, 16,384 if none is given,
+ *                 and the data that it sends: an identifier, a value or a command. That part grows
+ *                 with the longest data so far; the old copy stays until the new one is made
+ * - by commands   an exchange and a terminal take room for the response and the data once more. A
  *                 terminal frees the other room with the first response
- *   a card        9,971 with one application and one object of 3 bytes, and 26,618 together with a
+ * - a card        9,971 with one application and one object of 3 bytes, and 26,618 together with a
  *                 gt_exchange of SELECT or GET DATA; 4,240,600 with all that a card can hold
- *   gt_t1         368, and the bytes of its command, and up to three times those of the response
- *   a session     26,500 with that small card, for a select, a put of 3 bytes and a get; 42,878 for
+ * - gt_t1         368, and the bytes of its command, and up to three times those of the response
+ * - a session     26,500 with that small card, for a select, a put of 3 bytes and a get; 42,878 for
  *                 a put and a get of 8,192 bytes. If somebody listens, 26,756 and 116,592
- *   plans         at most 192 for each of the most plans that waited at once since none did; and
+ * - plans         at most 192 for each of the most plans that waited at once since none did; and
  *                 one for each letter, until the next plan is taken
  *
  * All that a freed handle held goes back to the heap, and is wiped (galliumtoad_heap.h). Until then
  * a handle keeps these bytes, secrets included:
  *
- *   an exchange   its command and the response
- *   a terminal    what it sent and received, until a later operation overwrites it, or
+ * - an exchange   its command and the response
+ * - a terminal    what it sent and received, until a later operation overwrites it, or
  *                 gt_terminal_reset
- *   gt_t1         its command, the response and the card's last block, until the next ones
+ * - gt_t1         its command, the response and the card's last block, until the next ones
  *                 overwrite them, or gt_t1_reset
- *   a card        each value, until another is stored under its tag; the bytes of a TPDU, until its
+ * - a card        each value, until another is stored under its tag; the bytes of a TPDU, until its
  *                 second status byte; those of a chain, until it is stored, refused or dropped. It
  *                 is proved that the last two are then cleared. At T=1 also the terminal's last
- *                 block, what came of a command and the response, until the next ones overwrite
- *                 them
- *   a session     those of its card; the last answer and, if somebody listens, its characters,
+ *                 block, the bytes of a command so far and the response, until the next ones
+ *                 overwrite them
+ * - a session     those of its card; the last answer and, if somebody listens, its characters,
  *                 until the next operation is carried out, or gt_session_end */
 typedef struct { bool live; void *held; } gt_exchange;
 typedef struct { bool live; void *held; } gt_terminal;
@@ -426,7 +429,7 @@ typedef struct { bool live; void *held; } gt_session;
 
 /* ---- The archive's functions -----------------------------------------------------------------
  *
- * Do not call these: they do not look for NULL. Those below do, and call them. */
+ * Do not call these: they do not check for NULL. The functions below check, and call them. */
 
 int32_t galliumtoad_objects(const uint8_t *bytes, size_t n, gt_object *objects, size_t room,
                             size_t *count, size_t *place);
@@ -535,14 +538,14 @@ int32_t galliumtoad_session_entry_at(gt_session *s, size_t app, size_t entry, ui
 int32_t galliumtoad_session_end(gt_session *s, gt_card *c);
 void galliumtoad_session_free(gt_session *s);
 
-/* For the functions below alone. Bytes to read: of none, any that are there. */
+/* Only for the functions below. A pointer to bytes: for NULL one to a byte that can be read. */
 static inline const uint8_t *gt_bytes_(const uint8_t *bytes) {
     static const uint8_t none[1] = { 0 };
     return bytes ? bytes : none;
 }
 
-/* For the functions below alone. A card carries out a copy of these bytes, which is wiped. One byte
- * more than the longest command is no command and no TPDU, as any more are. */
+/* Only for the functions below. A card carries out a copy of these bytes, which is wiped. Longer
+ * input is cut to one byte more than the longest command: no command and no TPDU, as before. */
 static inline int32_t gt_pass_(int32_t (*carry_out)(gt_card *, const uint8_t *, size_t, uint8_t *,
                                                     size_t, size_t *),
                                gt_card *c, const uint8_t *bytes, size_t n, uint8_t *answer,
@@ -561,21 +564,22 @@ static inline int32_t gt_pass_(int32_t (*carry_out)(gt_card *, const uint8_t *, 
 
 /* ---- Data objects (EMV Book 3, Annex B) ------------------------------------------------------
  *
- * `bytes` are a list of objects: each a tag, a length and a value. Padding, 00 before, between and
- * behind objects, is skipped: no object contains it. A length is 00 to 7F, 81 and one byte, or 82
- * and two bytes, which is the longest form; 83 and above are GT_LENGTH_FORM. The value of a
- * constructed object (a template) is such a list, one level further in; the list itself is at level
- * 1. These functions take no memory. */
+ * `bytes` is a list of objects: each a tag, a length and a value. Padding, 00 before, between and
+ * after objects, is skipped: no object contains it. A length is 00 to 7F, 81 and one byte, or 82
+ * and two bytes, the longest form; 83 and above are GT_LENGTH_FORM. The value of a constructed
+ * object (a template) is such a list, one level further in. The list itself is at level 1. These
+ * functions take no memory. */
 
-/* All objects of all levels of a list, in the order of their first bytes: a template comes before
- * the objects in it. `count` gets how many there are. With room 0 they are checked and counted
- * alone, which is GT_OK, and `objects` may be NULL; `count` and `place` may not.
+/* Lists all objects of all levels of a list, in the order of their first bytes: a template comes
+ * before the objects in it. `count` gets their number. With room 0 the call only checks and counts,
+ * and returns GT_OK; `objects` may then be NULL. `count` and `place` may not. The call takes some
+ * KB of stack for 16 levels.
  *
- * GT_OK: all of them stand in `objects`, from its front, or room is 0. GT_BUFFER: there are more
- * than there is room for; `count` is how many there are, and the first `room` of them stand in
- * `objects`. GT_TAG_CUT to GT_TOO_DEEP: the bytes are no list of objects; this is their first
- * fault, and `place` gets the place of the innermost object at fault. `place` changes with a
- * fault alone. Some KB of stack are taken for 16 levels. */
+ * - GT_OK: all of them are in `objects`, from its front, or room is 0.
+ * - GT_BUFFER: there are more than `room`; `count` is their number, and the first `room` of them
+ *   are in `objects`.
+ * - GT_TAG_CUT to GT_TOO_DEEP: the bytes are no list of objects. This is their first fault, and
+ *   `place` gets the place of the innermost object at fault. Nothing else changes `place`. */
 GT_MUST_CHECK int32_t gt_objects(const uint8_t *bytes, size_t n, gt_object *objects, size_t room,
                                  size_t *count, size_t *place) {
     gt_object none;
@@ -583,16 +587,18 @@ GT_MUST_CHECK int32_t gt_objects(const uint8_t *bytes, size_t n, gt_object *obje
     return galliumtoad_objects(gt_bytes_(bytes), n, objects ? objects : &none, room, count, place);
 }
 
-/* The object at a path: the first one, in the order of the bytes, whose tags from level 1 down to
- * its own are the `steps` numbers of `path`. With { 0x6F, 0x84 } it is the first 84 in a 6F, with
- * { 0x84 } the first 84 at level 1. `object` gets its places in `bytes`: its value is the
- * object->length bytes from bytes + object->value on.
+/* Finds the object at a path: the first one, in the order of the bytes, whose tags from level 1
+ * down to its own are the `steps` numbers of `path`. With { 0x6F, 0x84 } it is the first 84 in a
+ * 6F, with { 0x84 } the first 84 at level 1. `object` gets its places in `bytes`: its value is the
+ * object->length bytes from bytes + object->value on. Neither `object` nor `place` may be NULL.
  *
- * GT_OK: it is there. GT_NOT_FOUND: the bytes are a list of objects, and none is there; so it is
- * for a path of no steps. GT_ARGUMENT: a step is no tag of one to three bytes, whatever the bytes
- * are. GT_TAG_CUT to GT_TOO_DEEP: the bytes are no list of objects, wherever the path leads; this
- * is their first fault, and `place` gets its place as in `gt_objects`. `object` changes with
- * GT_OK alone, `place` with a fault of the bytes alone; neither may be NULL. */
+ * - GT_OK: it is there. Nothing else changes `object`.
+ * - GT_NOT_FOUND: the bytes are a list of objects without such an object, or the path has no
+ *   steps.
+ * - GT_ARGUMENT: a step is no tag of one to three bytes, whatever the bytes are.
+ * - GT_TAG_CUT to GT_TOO_DEEP: the bytes are no list of objects, wherever the path leads. This is
+ *   their first fault, and `place` gets its place as in `gt_objects`. Nothing else changes
+ *   `place`. */
 GT_MUST_CHECK int32_t gt_find(const uint8_t *bytes, size_t n, const uint32_t *path, size_t steps,
                               gt_object *object, size_t *place) {
     static const uint32_t none[1] = { 0 };
@@ -600,20 +606,23 @@ GT_MUST_CHECK int32_t gt_find(const uint8_t *bytes, size_t n, const uint32_t *pa
     return galliumtoad_find(gt_bytes_(bytes), n, path ? path : none, steps, object, place);
 }
 
-/* Whether the bytes are one object with this tag: its tag, length and value, with no padding and
- * nothing else. The data of an answer to GET DATA are. Some cards answer 9000 with the value alone.
+/* Returns whether the bytes are one object with this tag: its tag, length and value, with no
+ * padding and nothing else. The data of an answer to GET DATA are one. Some cards answer 9000 with
+ * the value alone.
  *
- * 1: they are. 0: they are not, or there are none, or `bytes` is NULL. */
+ * - 1: they are.
+ * - 0: they are not, or `n` is 0, or `bytes` is NULL. */
 GT_MUST_CHECK int gt_is_object(const uint8_t *bytes, size_t n, uint32_t tag) {
     gt_object object;
     size_t place;
     return gt_find(bytes, n, &tag, 1, &object, &place) == GT_OK && object.size == n;
 }
 
-/* The tag, and the length in its shortest spelling, as an object begins: 2 to 6 bytes at the
- * front of `head`. `len` gets how many.
+/* Writes the tag, and the length in its shortest form, as an object begins: 2 to 6 bytes at the
+ * front of `head`. `len` gets their number.
  *
- * GT_OK. GT_ARGUMENT: no tag of one to three bytes has this number. */
+ * - GT_OK.
+ * - GT_ARGUMENT: no tag of one to three bytes has this number. */
 GT_MUST_CHECK int32_t gt_head(uint32_t tag, uint16_t length, uint8_t head[6], size_t *len) {
     if (!head || !len) return GT_NULL;
     return galliumtoad_head(tag, length, head, 6, len);
@@ -623,40 +632,46 @@ GT_MUST_CHECK int32_t gt_head(uint32_t tag, uint16_t length, uint8_t head[6], si
  *
  * These functions take no memory. */
 
-/* What an answer to reset says, from its bytes, all of them and no more. Of the inverse convention
- * they are as they are meant: TS is 3F.
+/* Reads an answer to reset: `bytes` is all of it and no more. In the inverse convention the bytes
+ * are as they are meant: TS is 3F.
  *
- * GT_OK. GT_ATR_NO_TS to GT_ATR_CHECK_WRONG: the bytes are no answer to reset; this is their first
- * fault from the left, with a wrong check byte as the last, and `place` gets the place of the first
- * byte at fault, from 0 for TS, or how many bytes there are where one is wanting. `atr` changes
- * with GT_OK alone, `place` with a fault of the bytes alone. While it is GT_ATR_CUT or
- * GT_ATR_CHECK_MISSING, read one more byte: there are never more than GT_ATR_LIMIT. */
+ * - GT_OK: nothing else changes `atr`.
+ * - GT_ATR_NO_TS to GT_ATR_CHECK_WRONG: the bytes are no answer to reset. This is their first fault
+ *   from the left; a wrong check byte comes last. `place` gets the place of the first byte at
+ *   fault, from 0 for TS, or the number of bytes if one is missing. Nothing else changes `place`.
+ *
+ * While the result is GT_ATR_CUT or GT_ATR_CHECK_MISSING, read one more byte: there are never more
+ * than GT_ATR_LIMIT. */
 GT_MUST_CHECK int32_t gt_atr_read(const uint8_t *bytes, size_t n, gt_atr *atr, size_t *place) {
     if ((!bytes && n) || !atr || !place) return GT_NULL;
     return galliumtoad_atr_read(gt_bytes_(bytes), n, atr, place);
 }
 
-/* Of PPS1 to PPS3: it is not there. */
+/* PPS1, PPS2 or PPS3 is absent. */
 #define GT_ABSENT 256u
 
-/* A terminal's PPS request for protocol `t`, 0 to 15, with the bytes of PPS1 (the codes of Fi and
- * Di, as TA1 has them), PPS2 and PPS3, or GT_ABSENT for each: its bytes stand at the front of
- * `request`, and `n` gets how many they are, 3 to 6. Whether the card offers what is asked for is
- * the caller's to know: one that doesn't may stay silent.
+/* Writes a terminal's PPS request for protocol `t`, 0 to 15, to the front of `request`. `pps1` (the
+ * codes of Fi and Di, as TA1 has them), `pps2` and `pps3` are bytes, or GT_ABSENT. `n` gets the
+ * length of the request, 3 to 6 bytes. The caller knows whether the card offers this: one that
+ * doesn't may stay silent.
  *
- * GT_OK. GT_ARGUMENT: `t` is above 15, or one of the others above 256. */
+ * - GT_OK.
+ * - GT_ARGUMENT: `t` is above 15, or one of the others above 256. */
 GT_MUST_CHECK int32_t gt_pps_request(uint8_t t, uint16_t pps1, uint16_t pps2, uint16_t pps3,
                                      uint8_t request[GT_PPS_LIMIT], size_t *n) {
     if (!request || !n) return GT_NULL;
     return galliumtoad_pps_request(t, pps1, pps2, pps3, request, GT_PPS_LIMIT, n);
 }
 
-/* Whether a card's response accepts a request (9.3): 1 where it names the same protocol, and each
- * of PPS1 to PPS3 is as it was asked for or is not there, which accepts all but that one: without
- * PPS1 Fi is 372 and Di 1. Else 0, and then the card is to be reset or given up. Compare with == 1.
+/* Returns whether a card's response accepts a request (9.3). It does if it names the same protocol,
+ * and each of PPS1 to PPS3 is as requested or absent. An absent one is the only one that the card
+ * does not accept: without PPS1 Fi is 372 and Di 1. Compare with == 1.
  *
- * GT_ARGUMENT: `request` is no PPS request. GT_PPS_NO_PPSS to GT_PPS_CHECK_WRONG: `response` is no
- * response; this is its first fault from the left, with a wrong PCK as the last. */
+ * - 1: it does.
+ * - 0: it does not. Reset the card, or give it up.
+ * - GT_ARGUMENT: `request` is no PPS request.
+ * - GT_PPS_NO_PPSS to GT_PPS_CHECK_WRONG: `response` is no PPS response. This is its first fault
+ *   from the left; a wrong PCK comes last. */
 GT_MUST_CHECK int32_t gt_pps_agreed(const uint8_t *request, size_t n, const uint8_t *response,
                                     size_t m) {
     if ((!request && n) || (!response && m)) return GT_NULL;
@@ -665,12 +680,12 @@ GT_MUST_CHECK int32_t gt_pps_agreed(const uint8_t *request, size_t n, const uint
 
 /* ---- The version ----------------------------------------------------------------------------- */
 
-/* The version of the header that the library was built for, as GT_VERSION has that of this one. */
+/* Returns the version of the header that the library was built for, in the form of GT_VERSION. */
 GT_FUNCTION uint32_t gt_version(void) {
     return galliumtoad_version();
 }
 
-/* Whether the library is one for this header: 1 where both have the same major and the same minor
+/* Returns whether the library fits this header: 1 if both have the same major and the same minor
  * number, else 0. */
 GT_MUST_CHECK int gt_version_fits(void) {
     return gt_version() / 0x100 == GT_VERSION / 0x100;
@@ -678,46 +693,51 @@ GT_MUST_CHECK int gt_version_fits(void) {
 
 /* ---- A terminal's exchange of one command (ISO/IEC 7816-3, clause 12) ------------------------ */
 
-/* Begins the exchange of a command (ISO/IEC 7816-4, 5.1, short lengths: CLA INS P1 P2, then
- * nothing, or Le, or Lc and data, or Lc, data and Le) in a handle that holds nothing. The command
- * is copied. All memory of an exchange is taken here.
+/* Starts the exchange of a command, in a handle that holds nothing. The command has short lengths
+ * (ISO/IEC 7816-4, 5.1): CLA INS P1 P2, then nothing, or Le, or Lc and data, or Lc, data and Le. It
+ * is copied. By characters and TPDUs an exchange takes all its memory here.
  *
- * An exchange may be several TPDUs. Where the card answers 6CXX to one that asks for data, that is
- * sent again with XX, once, unless XX is more than is still wanted. Where it answers 61XX, and more
- * is wanted, GET RESPONSE is sent for it. Any other status ends the exchange, and so does 61XX
- * where no more is wanted. With Le 00 all there is is wanted, with another Le as many bytes at
- * most, without Le none: a SELECT without Le is over at 61XX, with no data. So end a command with
- * 00 for a whole answer.
+ * An exchange may be several TPDUs. If the card answers 6CXX to one that asks for data, the
+ * terminal sends it again with XX, once, unless XX is more than it still wants. If the card answers
+ * 61XX, and the terminal wants more, it sends GET RESPONSE. Any other status ends the exchange, and
+ * so does 61XX if it wants no more. With Le 00 it wants all there is, with another Le at most that
+ * many bytes, without Le none: a SELECT without Le ends at 61XX, with no data. So end a command
+ * with 00 for a whole answer.
  *
- * Over T=0 no header says which way data move: both ends have to know it from INS. With a command
- * that the card takes the other way (`gt_session_send` names them) the card may be handed
- * characters while it sends (GT_NOT_LISTENING), or both wait for ever, as with 00 A4 04 00 05:
- * `gt_exchange_next` and then `gt_card_turn` answer GT_OK. Free the exchange then, and reset the
+ * Over T=0 no header says which way data move: both ends must know it from INS. `gt_session_send`
+ * names the commands that the card takes the other way. With one of these the card may get
+ * characters while it sends (GT_NOT_LISTENING), or both ends deadlock, as with 00 A4 04 00 05:
+ * `gt_exchange_next` and then `gt_card_turn` return GT_OK. Free the exchange then, and reset the
  * card.
  *
- * GT_OK: it has begun, and sends first. GT_STATE: the handle holds an exchange. GT_TOO_SHORT,
- * GT_BAD_LENGTH, GT_INVALID_INS: the bytes are no command. GT_MEMORY. Never GT_EMPTY. */
+ * - GT_OK: it has started, and sends first.
+ * - GT_STATE: the handle holds an exchange.
+ * - GT_TOO_SHORT, GT_BAD_LENGTH, GT_INVALID_INS: the bytes are no command.
+ * - GT_MEMORY. Never GT_EMPTY. */
 GT_MUST_CHECK int32_t gt_exchange_start(gt_exchange *e, const uint8_t *command, size_t n) {
     if (!e || (!command && n)) return GT_NULL;
     return galliumtoad_exchange_start(e, gt_bytes_(command), n);
 }
 
-/* The same, where the response may have `limit` bytes at most, 0 to GT_RESPONSE_LIMIT: no more
- * memory is taken for it. The first byte that is over is GT_TOO_LONG.
+/* As `gt_exchange_start`, for a response of at most `limit` bytes, 0 to GT_RESPONSE_LIMIT. The
+ * exchange takes no more memory for it. The first byte beyond is GT_TOO_LONG.
  *
- * As above, with GT_ARGUMENT before GT_MEMORY: `limit` is above GT_RESPONSE_LIMIT. */
+ * - GT_ARGUMENT, before GT_MEMORY: `limit` is above GT_RESPONSE_LIMIT.
+ * - The others as above. */
 GT_MUST_CHECK int32_t gt_exchange_start_within(gt_exchange *e, const uint8_t *command, size_t n,
                                                size_t limit) {
     if (!e || (!command && n)) return GT_NULL;
     return galliumtoad_exchange_start_within(e, gt_bytes_(command), n, limit);
 }
 
-/* What the terminal does now.
+/* Returns what the terminal does now.
  *
- * GT_SENDS: `byte` gets a character for the card, which is to be sent now. GT_OK: it waits for a
- * character of the card, for `gt_exchange_take`. GT_DONE: the exchange is over, and has its
- * answer. GT_FAILED: it has failed for good. Only GT_SENDS changes `byte` and the exchange: asked
- * again it hands out the next character. */
+ * - GT_SENDS: `byte` gets a character for the card. Send it now.
+ * - GT_OK: it waits for a character of the card, for `gt_exchange_take`.
+ * - GT_DONE: the exchange has ended, and has its answer.
+ * - GT_FAILED: it has failed for good.
+ *
+ * Only GT_SENDS changes `byte` and the exchange: the next call hands out the next character. */
 GT_MUST_CHECK int32_t gt_exchange_next(gt_exchange *e, uint8_t *byte) {
     if (!e || !byte) return GT_NULL;
     return galliumtoad_exchange_next(e, byte);
@@ -725,24 +745,26 @@ GT_MUST_CHECK int32_t gt_exchange_next(gt_exchange *e, uint8_t *byte) {
 
 /* Takes a character of the card.
  *
- * GT_OK: it is taken. GT_BAD_PROCEDURE, GT_TOO_LONG, GT_STALLED: with this character the exchange
- * has failed for good. GT_NOT_LISTENING: it has characters to send. GT_AFTER_END: it is over, or
- * has failed. The last two change nothing. */
+ * - GT_OK: it is taken.
+ * - GT_BAD_PROCEDURE, GT_TOO_LONG, GT_STALLED: with it the exchange has failed for good.
+ * - GT_NOT_LISTENING: the exchange has characters to send. Nothing has changed.
+ * - GT_AFTER_END: it has ended, or has failed. Nothing has changed. */
 GT_MUST_CHECK int32_t gt_exchange_take(gt_exchange *e, uint8_t byte) {
     if (!e) return GT_NULL;
     return galliumtoad_exchange_take(e, byte);
 }
 
-/* The next two pass characters by buffers, for a line that carries many at once: each is so many
- * calls of the two above, and stops where one of them has another answer.
+/* The next two pass characters by buffers, for a line that carries many at once. Each repeats one
+ * of the two above, and stops when that returns something else.
  *
- * Hands out what the terminal sends now, `room` characters at most: they stand at the front of
- * `bytes`, and `n` gets how many. What stands behind them stays as it was.
+ * Hands out what the terminal sends now, at most `room` characters, at the front of `bytes`. `n`
+ * gets their number, which may be 0. The rest of `bytes` is unchanged.
  *
- * GT_SENDS: `bytes` is full, with `room` characters, and there may be more: ask again. So it is
- * with room 0, whatever the exchange does next. The others are the answer of `gt_exchange_next`
- * behind the last character: GT_OK: it waits for a character of the card. GT_DONE: the exchange is
- * over. GT_FAILED: it has failed for good. With each of them `n` is told, and may be 0. */
+ * - GT_SENDS: `bytes` is full, with `room` characters, and there may be more: call again. With room
+ *   0 it is always this, whatever the exchange does next.
+ * - GT_OK: after them it waits for a character of the card.
+ * - GT_DONE: after them the exchange has ended.
+ * - GT_FAILED: it has failed for good. `n` is set here too. */
 GT_MUST_CHECK int32_t gt_exchange_send_bytes(gt_exchange *e, uint8_t *bytes, size_t room,
                                              size_t *n) {
     uint8_t none = 0;
@@ -750,28 +772,30 @@ GT_MUST_CHECK int32_t gt_exchange_send_bytes(gt_exchange *e, uint8_t *bytes, siz
     return galliumtoad_exchange_send_bytes(e, bytes ? bytes : &none, room, n);
 }
 
-/* Takes `n` characters of the card, one after another, up to the first that is a fault, and no
- * further; `taken` gets how many were taken before it.
+/* Takes `n` characters of the card, one after another, up to the first fault. `taken` gets the
+ * number taken before it. Those after it were not looked at.
  *
- * GT_OK: all were taken; so it is with `n` 0. Another code is the fault of the character at the
- * place `taken`, as `gt_exchange_take` tells it, and those behind it were not looked at. GT_OK
- * with some taken may be the end of the exchange: `gt_exchange_send_bytes` tells. After
- * GT_BAD_PROCEDURE, GT_TOO_LONG, GT_STALLED the exchange has failed for good. GT_NOT_LISTENING: it
- * has characters to send now, behind those taken; GT_AFTER_END: it is over, or has failed: of
- * these two the character has changed nothing. With each of them `taken` is told. */
+ * - GT_OK: all were taken, also if `n` is 0. This may end the exchange: see
+ *   `gt_exchange_send_bytes`.
+ * - GT_BAD_PROCEDURE, GT_TOO_LONG, GT_STALLED: with the character at the place `taken` the exchange
+ *   has failed for good.
+ * - GT_NOT_LISTENING: after those taken it has characters to send. The next one has changed
+ *   nothing.
+ * - GT_AFTER_END: it has ended, or has failed. The next one has changed nothing. */
 GT_MUST_CHECK int32_t gt_exchange_receive_bytes(gt_exchange *e, const uint8_t *bytes, size_t n,
                                                 size_t *taken) {
     if (!e || (!bytes && n) || !taken) return GT_NULL;
     return galliumtoad_exchange_receive_bytes(e, gt_bytes_(bytes), n, taken);
 }
 
-/* The answer of an exchange that is over: `status` gets the status word (0x9000), `len` the number
- * of data bytes, 0 to GT_RESPONSE_LIMIT, and `data` those. It can be asked for again, until the
- * exchange is freed.
+/* Copies the answer of an exchange that has ended: `status` gets the status word (0x9000), `len`
+ * the number of data bytes, 0 to GT_RESPONSE_LIMIT, and `data` these bytes. Each further call gives
+ * the same, until the exchange is freed.
  *
- * GT_OK: all of it. GT_BUFFER: `room` is less than the data; `status` and `len` are the answer's,
- * and `data` is as it was. GT_STATE: there is no answer, since the exchange is under way or has
- * failed. */
+ * - GT_OK: all of it.
+ * - GT_BUFFER: `room` is less than the data. `status` and `len` are the answer's, `data` is
+ *   unchanged.
+ * - GT_STATE: there is no answer, since the exchange is in progress or has failed. */
 GT_MUST_CHECK int32_t gt_exchange_answer(gt_exchange *e, uint16_t *status,
                                          uint8_t *data, size_t room, size_t *len) {
     uint8_t none = 0;
@@ -779,28 +803,29 @@ GT_MUST_CHECK int32_t gt_exchange_answer(gt_exchange *e, uint16_t *status,
     return galliumtoad_exchange_answer(e, status, data ? data : &none, room, len);
 }
 
-/* The next two are for a reader that carries whole TPDUs, as PC/SC does (SCardTransmit at T=0). Its
- * bytes are the header alone, where no data move; the header and P3, where at most P3 bytes come
- * back (00: 256); or the header, P3 from 01 on, and so many bytes of data. Its answer is data, and
- * then SW1 SW2.
+/* The next two are for a reader that carries whole TPDUs, as PC/SC does (SCardTransmit at T=0). A
+ * TPDU is the header alone, if no data move; the header and P3, if at most P3 bytes come back (00:
+ * 256); or the header, P3 from 01 on, and P3 bytes of data. Its answer is data, and then SW1 SW2.
  *
- * The TPDU that is due, where none of its characters has gone: its bytes stand at the front of
- * `tpdu`, `n` gets how many they are, 4 to 260, and `most` how many bytes of data may come back,
- * 0 to 256. Asked again it says the same.
+ * Copies the next TPDU to the front of `tpdu`, if none of its characters was sent. `n` gets its
+ * length, 4 to 260 bytes, and `most` how many bytes of data may come back, 0 to 256.
  *
- * GT_OK. GT_NOT_DUE: a character of the TPDU has gone, or the exchange is over or has failed. */
+ * - GT_OK: the next call gives the same.
+ * - GT_NOT_DUE: a character of the TPDU was sent, or the exchange has ended or has failed. */
 GT_MUST_CHECK int32_t gt_exchange_tpdu(gt_exchange *e, uint8_t tpdu[GT_TPDU_LIMIT],
                                        size_t *n, size_t *most) {
     if (!e || !tpdu || !n || !most) return GT_NULL;
     return galliumtoad_exchange_tpdu(e, tpdu, GT_TPDU_LIMIT, n, most);
 }
 
-/* Takes the answer to that TPDU, which goes on then as after the characters of any TPDU that brings
- * these data and this status: another one is due, or the exchange is over.
+/* Takes the answer to that TPDU. The exchange continues as after the characters of any TPDU that
+ * brings these data and this status: another TPDU follows, or it has ended.
  *
- * GT_OK. GT_NO_STATUS: the last two bytes are no status word (6X but 60, or 9X, and any byte).
- * GT_NOT_DUE: see `gt_exchange_tpdu`. GT_NOT_ASKED, GT_TOO_MANY: more data came back than may.
- * GT_TOO_LONG, GT_STALLED: the exchange has failed for good. */
+ * - GT_OK.
+ * - GT_NO_STATUS: the last two bytes are no status word (6X except 60, or 9X, and any byte).
+ * - GT_NOT_DUE: see `gt_exchange_tpdu`.
+ * - GT_NOT_ASKED, GT_TOO_MANY: more data came back than may.
+ * - GT_TOO_LONG, GT_STALLED: the exchange has failed for good. */
 GT_MUST_CHECK int32_t gt_exchange_answered(gt_exchange *e, const uint8_t *answer, size_t n) {
     if (!e || (!answer && n)) return GT_NULL;
     return galliumtoad_exchange_answered(e, gt_bytes_(answer), n);
@@ -808,126 +833,136 @@ GT_MUST_CHECK int32_t gt_exchange_answered(gt_exchange *e, const uint8_t *answer
 
 /* The next two are for a reader that carries whole commands (APDUs), as PC/SC does for a card at
  * T=1 or without contacts. The first is the exchange's own command, with its Le. GET RESPONSE
- * follows 61XX. After 6CXX a command of case 2 goes once more.
+ * follows 61XX. After 6CXX the terminal sends a command of case 2 once more.
  *
- * The first character that goes, or the first answer that is taken, sets the level: characters and
- * TPDUs, or commands. Calls of the other level return GT_STATE from then on, and nothing changes.
+ * The first character sent, or the first answer taken, sets the level: characters and TPDUs, or
+ * commands. From then on calls of the other level return GT_STATE, and change nothing.
  *
  * Copies the command to send now to the front of `apdu`. `n` gets its length, 4 to GT_APDU_LIMIT
- * bytes. `most` gets how many bytes of data may come back, 0 to 256.
+ * bytes, and `most` how many bytes of data may come back, 0 to 256.
  *
- * GT_OK: the next call gives the same. GT_NOT_DUE: the exchange is over or has failed. GT_MEMORY:
- * it ran out for this level, which takes its memory by the first of these calls. */
+ * - GT_OK: the next call gives the same.
+ * - GT_NOT_DUE: the exchange has ended or has failed.
+ * - GT_MEMORY: it ran out for this level, which takes its memory by the first of these calls. */
 GT_MUST_CHECK int32_t gt_exchange_apdu(gt_exchange *e, uint8_t apdu[GT_APDU_LIMIT],
                                        size_t *n, size_t *most) {
     if (!e || !apdu || !n || !most) return GT_NULL;
     return galliumtoad_exchange_apdu(e, apdu, GT_APDU_LIMIT, n, most);
 }
 
-/* Takes the response to that command: data, and then SW1 SW2. Another command is due then, or the
- * exchange is over.
+/* Takes the response to that command: data, and then SW1 SW2. Another command follows, or the
+ * exchange has ended.
  *
- * GT_OK. GT_NO_STATUS: see `gt_exchange_answered`. GT_NOT_DUE, GT_MEMORY: see `gt_exchange_apdu`.
- * GT_NOT_ASKED, GT_TOO_MANY: more data came back than may. After each of these nothing has changed.
- * GT_TOO_LONG, GT_STALLED: the exchange has failed for good. */
+ * - GT_OK.
+ * - GT_NO_STATUS: see `gt_exchange_answered`. Nothing has changed.
+ * - GT_NOT_DUE, GT_MEMORY: see `gt_exchange_apdu`. Nothing has changed.
+ * - GT_NOT_ASKED, GT_TOO_MANY: more data came back than may. Nothing has changed.
+ * - GT_TOO_LONG, GT_STALLED: the exchange has failed for good. */
 GT_MUST_CHECK int32_t gt_exchange_responded(gt_exchange *e, const uint8_t *response, size_t n) {
     if (!e || (!response && n)) return GT_NULL;
     return galliumtoad_exchange_responded(e, gt_bytes_(response), n);
 }
 
-/* Gives the memory back, at any time; the handle holds nothing then, and may be used again. Of one
- * that holds nothing, or NULL, it is harmless. */
+/* Frees the exchange, at any time. The handle then holds nothing, and may be used again. Does
+ * nothing for a handle that holds nothing, or for NULL. */
 GT_FUNCTION void gt_exchange_free(gt_exchange *e) {
     if (e) galliumtoad_exchange_free(e);
 }
 
 /* ---- A terminal, for the objects of a card over any line -------------------------------------
  *
- * An operation is several commands and many TPDUs: a terminal sends them one after another, and the
+ * An operation is several commands and many TPDUs. A terminal sends them one after another; the
  * caller carries its characters, or its whole TPDUs, to a card and back. `gt_terminal_select`,
- * `_get`, `_put` and `_send` begin one; `gt_terminal_next` says when it is over, and
- * `gt_terminal_answer` tells its answer, the status and the data of its last command.
+ * `_get`, `_put` and `_send` start one. `gt_terminal_next` says when it has ended.
+ * `gt_terminal_answer` gives its answer, the status and the data of its last command.
  *
- * The memory of an operation, room for a response and a copy of the data that go to the card, is
- * kept for the next, which takes more only for more data than any before. `gt_terminal_reset` and
- * `gt_terminal_free` give it back. */
+ * A terminal keeps the memory of an operation for the next: room for a response, and a copy of the
+ * data that go to the card. The next takes more only for more data than any before.
+ * `gt_terminal_reset` and `gt_terminal_free` free it. */
 
-/* A terminal that has begun no operation, in a handle that holds nothing.
+/* Makes a terminal that has started no operation, in a handle that holds nothing.
  *
- * GT_OK. GT_STATE: the handle holds one. GT_MEMORY. Never GT_EMPTY. */
+ * - GT_OK.
+ * - GT_STATE: the handle holds one.
+ * - GT_MEMORY. Never GT_EMPTY. */
 GT_MUST_CHECK int32_t gt_terminal_new(gt_terminal *t) {
     if (!t) return GT_NULL;
     return galliumtoad_terminal_new(t);
 }
 
-/* The same, where the response to a command may have `limit` bytes at most, 0 to
- * GT_RESPONSE_LIMIT: no operation takes more memory for it, and the first byte that is over is
- * GT_TOO_LONG.
+/* As `gt_terminal_new`, for responses of at most `limit` bytes to a command, 0 to
+ * GT_RESPONSE_LIMIT. No operation takes more memory for one. The first byte beyond is GT_TOO_LONG.
  *
- * As above, with GT_ARGUMENT before GT_MEMORY: `limit` is above GT_RESPONSE_LIMIT. */
+ * - GT_ARGUMENT, before GT_MEMORY: `limit` is above GT_RESPONSE_LIMIT.
+ * - The others as above. */
 GT_MUST_CHECK int32_t gt_terminal_new_within(gt_terminal *t, size_t limit) {
     if (!t) return GT_NULL;
     return galliumtoad_terminal_new_within(t, limit);
 }
 
-/* Drops the operation that has begun, if any, wherever it is, and gives back the memory that was
- * kept for the next. The card is told nothing of it: reset that, too. GT_OK. */
+/* Drops the operation that has started, if any, at any point of it, and frees the memory kept for
+ * the next. The card does not notice: reset it too. Returns GT_OK. */
 GT_FUNCTION int32_t gt_terminal_reset(gt_terminal *t) {
     if (!t) return GT_NULL;
     return galliumtoad_terminal_reset(t);
 }
 
-/* Begins the selection of an application by its identifier. All memory that the operation needs,
- * beside what an earlier one has left, is taken here.
+/* Starts the selection of an application by its identifier. By characters and TPDUs an operation
+ * takes all its memory here, beside what an earlier one has left.
  *
- * GT_OK: it has begun, and sends first. After a fault nothing has changed: GT_STATE: an operation
- * is under way. GT_ARGUMENT: the identifier has not 5 to 16 bytes. GT_MEMORY. */
+ * - GT_OK: it has started, and sends first.
+ * - GT_STATE: an operation is in progress. Nothing has changed.
+ * - GT_ARGUMENT: the identifier does not have 5 to 16 bytes. Nothing has changed.
+ * - GT_MEMORY: nothing has changed. */
 GT_MUST_CHECK int32_t gt_terminal_select(gt_terminal *t, const uint8_t *aid, size_t n) {
     if (!t || (!aid && n)) return GT_NULL;
     return galliumtoad_terminal_select(t, gt_bytes_(aid), n);
 }
 
-/* Begins the reading of a data object. Faults as above, with GT_ARGUMENT where GET DATA can't name
+/* Starts the reading of a data object. Results as above, except GT_ARGUMENT: GET DATA can't name
  * the tag (see `gt_card_object`). */
 GT_MUST_CHECK int32_t gt_terminal_get(gt_terminal *t, uint32_t tag) {
     if (!t) return GT_NULL;
     return galliumtoad_terminal_get(t, tag);
 }
 
-/* Begins the storing of a value, which is copied and sent in pieces of up to 255 bytes, up to the
- * first that is answered with another status than 9000. Faults as above, with GT_ARGUMENT where PUT
- * DATA can't name the tag. */
+/* Starts the storing of a value, which is copied. It is sent in pieces of up to 255 bytes, up to
+ * the first one that gets another status than 9000. Results as above, except GT_ARGUMENT: PUT DATA
+ * can't name the tag. */
 GT_MUST_CHECK int32_t gt_terminal_put(gt_terminal *t, uint32_t tag, const uint8_t *value,
                                       size_t n) {
     if (!t || (!value && n)) return GT_NULL;
     return galliumtoad_terminal_put(t, tag, gt_bytes_(value), n);
 }
 
-/* Begins the exchange of any one command (as `gt_exchange_start` takes it), which is copied.
+/* Starts the exchange of any one command (as `gt_exchange_start` takes it), which is copied.
  *
- * GT_OK. After a fault nothing has changed: GT_STATE: an operation is under way. GT_TOO_SHORT,
- * GT_BAD_LENGTH, GT_INVALID_INS: the bytes are no command. GT_MEMORY. */
+ * - GT_OK.
+ * - GT_STATE: an operation is in progress. Nothing has changed.
+ * - GT_TOO_SHORT, GT_BAD_LENGTH, GT_INVALID_INS: the bytes are no command. Nothing has changed.
+ * - GT_MEMORY: nothing has changed. */
 GT_MUST_CHECK int32_t gt_terminal_send(gt_terminal *t, const uint8_t *command, size_t n) {
     if (!t || (!command && n)) return GT_NULL;
     return galliumtoad_terminal_send(t, gt_bytes_(command), n);
 }
 
-/* What the terminal does now, as `gt_exchange_next` of its operation. GT_STATE: none has begun. */
+/* Returns what the terminal does now, as `gt_exchange_next` of its operation. GT_STATE: none has
+ * started. */
 GT_MUST_CHECK int32_t gt_terminal_next(gt_terminal *t, uint8_t *byte) {
     if (!t || !byte) return GT_NULL;
     return galliumtoad_terminal_next(t, byte);
 }
 
 /* Takes a character of the card, as `gt_exchange_take`: GT_BAD_PROCEDURE, GT_TOO_LONG and
- * GT_STALLED end the operation. GT_AFTER_END: it is over or has failed, or none has begun. */
+ * GT_STALLED end the operation. GT_AFTER_END: it has ended or failed, or none has started. */
 GT_MUST_CHECK int32_t gt_terminal_take(gt_terminal *t, uint8_t byte) {
     if (!t) return GT_NULL;
     return galliumtoad_terminal_take(t, byte);
 }
 
-/* Hands out what the terminal sends now, as `gt_exchange_send_bytes` of its operation: that goes
- * from one of its commands to the next. GT_STATE: none has begun; `bytes` and `n` are as they were,
- * also with room 0. */
+/* Hands out what the terminal sends now, as `gt_exchange_send_bytes` of its operation, from one of
+ * its commands to the next. GT_STATE: none has started; `bytes` and `n` are unchanged, also with
+ * room 0. */
 GT_MUST_CHECK int32_t gt_terminal_send_bytes(gt_terminal *t, uint8_t *bytes, size_t room,
                                              size_t *n) {
     uint8_t none = 0;
@@ -936,15 +971,15 @@ GT_MUST_CHECK int32_t gt_terminal_send_bytes(gt_terminal *t, uint8_t *bytes, siz
 }
 
 /* Takes characters of the card, as `gt_exchange_receive_bytes`: GT_BAD_PROCEDURE, GT_TOO_LONG and
- * GT_STALLED end the operation. GT_AFTER_END: it is over or has failed, or none has begun. */
+ * GT_STALLED end the operation. GT_AFTER_END: it has ended or failed, or none has started. */
 GT_MUST_CHECK int32_t gt_terminal_receive_bytes(gt_terminal *t, const uint8_t *bytes, size_t n,
                                                 size_t *taken) {
     if (!t || (!bytes && n) || !taken) return GT_NULL;
     return galliumtoad_terminal_receive_bytes(t, gt_bytes_(bytes), n, taken);
 }
 
-/* The whole TPDU that is due, as `gt_exchange_tpdu`. GT_NOT_DUE: also where no operation has
- * begun. */
+/* Copies the next whole TPDU, as `gt_exchange_tpdu`. GT_NOT_DUE: also if no operation has
+ * started. */
 GT_MUST_CHECK int32_t gt_terminal_tpdu(gt_terminal *t, uint8_t tpdu[GT_TPDU_LIMIT],
                                        size_t *n, size_t *most) {
     if (!t || !tpdu || !n || !most) return GT_NULL;
@@ -957,8 +992,8 @@ GT_MUST_CHECK int32_t gt_terminal_answered(gt_terminal *t, const uint8_t *answer
     return galliumtoad_terminal_answered(t, gt_bytes_(answer), n);
 }
 
-/* The command to send now, as `gt_exchange_apdu`; each operation has a level of its own. GT_STATE:
- * also if no operation has begun. */
+/* Copies the command to send now, as `gt_exchange_apdu`. Each operation has a level of its own.
+ * GT_STATE: also if no operation has started. */
 GT_MUST_CHECK int32_t gt_terminal_apdu(gt_terminal *t, uint8_t apdu[GT_APDU_LIMIT],
                                        size_t *n, size_t *most) {
     if (!t || !apdu || !n || !most) return GT_NULL;
@@ -971,8 +1006,8 @@ GT_MUST_CHECK int32_t gt_terminal_responded(gt_terminal *t, const uint8_t *respo
     return galliumtoad_terminal_responded(t, gt_bytes_(response), n);
 }
 
-/* The answer of an operation that is over, as `gt_exchange_answer`. It can be asked for again until
- * the next operation begins, or a reset. GT_STATE: there is none. */
+/* Copies the answer of an operation that has ended, as `gt_exchange_answer`, also again, until the
+ * next operation starts, or a reset. GT_STATE: no operation has ended. */
 GT_MUST_CHECK int32_t gt_terminal_answer(gt_terminal *t, uint16_t *status,
                                          uint8_t *data, size_t room, size_t *len) {
     uint8_t none = 0;
@@ -980,8 +1015,8 @@ GT_MUST_CHECK int32_t gt_terminal_answer(gt_terminal *t, uint16_t *status,
     return galliumtoad_terminal_answer(t, status, data ? data : &none, room, len);
 }
 
-/* Gives the memory back, at any time; the handle holds nothing then, and may be used again. Of one
- * that holds nothing, or NULL, it is harmless. */
+/* Frees the terminal, at any time. The handle then holds nothing, and may be used again. Does
+ * nothing for a handle that holds nothing, or for NULL. */
 GT_FUNCTION void gt_terminal_free(gt_terminal *t) {
     if (t) galliumtoad_terminal_free(t);
 }
@@ -992,51 +1027,60 @@ GT_FUNCTION void gt_terminal_free(gt_terminal *t) {
  * that may damage and lose them. Drive it by `gt_terminal_apdu` and `gt_terminal_responded`. For
  * each command:
  *
- *   gt_t1_begin(&t, apdu, n);
- *   while (gt_t1_send_bytes(&t, block, sizeof block, &n, &waits) == GT_OK) {
- *       .. send the n bytes; then receive bytes, and hand them on as they come:
- *       gt_t1_receive_bytes(&t, bytes, count, &taken);       until that is GT_SENDS
- *       .. or, if no block begins or the block stops, or a character has a wrong parity:
- *       gt_t1_missed(&t);
- *   }
- *   gt_t1_response(&t, response, sizeof response, &n);       or gt_t1_fault
+ * ```
+ * gt_t1_begin(&t, apdu, n);
+ * while (gt_t1_send_bytes(&t, block, sizeof block, &n, &waits) == GT_OK) {
+ *     .. send the n bytes; then hand on each received byte, until this is GT_SENDS:
+ *     gt_t1_receive_bytes(&t, bytes, count, &taken);
+ *     .. or, if no block begins or the block stops, or a character has a wrong parity:
+ *     gt_t1_missed(&t);
+ * }
+ * gt_t1_response(&t, response, sizeof response, &n);       or gt_t1_fault
+ * ```
  *
- * The caller keeps the times, which `gt_atr.t1` has: the first byte of an answer comes within BWT
- * times `waits` after the last one that was sent, each further one within CWT, and the next block
- * goes BGT after the last of them at the earliest.
+ * The caller keeps the times, which `gt_atr.t1` has. The first byte of an answer comes within BWT
+ * times `waits` after the last one sent, each further one within CWT. The next block goes BGT after
+ * the last of them at the earliest.
  *
  * Before the first command the end sends S(IFS request) with 254. It keeps NAD 00, gives up after
- * so many tries, and never sends S(RESYNCH request): reset card and end instead (profile). */
+ * `tries`, and never sends S(RESYNCH request): reset card and end instead (profile). */
 
 /* Makes an end, as after a reset of the card, in a handle that holds nothing. `edc` and `ifsc` are
- * those of `gt_atr.t1`: LRC alone is supported. It survives `tries` receptions in a row that bring
- * no step forward, one more makes it give up; it grants `extensions` requests of the card in one
- * command; and takes responses of `limit` bytes at most, the status among them. GT_T1_TRIES,
+ * those of `gt_atr.t1`; only LRC is supported. The end survives `tries` receptions in a row that
+ * bring no step forward, and gives up at one more. It grants `extensions` requests of the card in
+ * one command. It takes responses of at most `limit` bytes, status included. GT_T1_TRIES,
  * GT_T1_EXTENSIONS and GT_ANSWER_LIMIT suit short commands.
  *
- * GT_OK. GT_STATE: the handle holds an end. GT_ARGUMENT: `edc` is not GT_LRC, or `ifsc` is 0 or
- * 255. GT_MEMORY. Never GT_EMPTY. */
+ * - GT_OK.
+ * - GT_STATE: the handle holds an end.
+ * - GT_ARGUMENT: `edc` is not GT_LRC, or `ifsc` is 0 or 255.
+ * - GT_MEMORY. Never GT_EMPTY. */
 GT_MUST_CHECK int32_t gt_t1_new(gt_t1 *t, uint8_t edc, uint8_t ifsc, uint8_t tries,
                                 uint8_t extensions, size_t limit) {
     if (!t) return GT_NULL;
     return galliumtoad_t1_new(t, edc, ifsc, tries, extensions, limit);
 }
 
-/* Begins a command, which is copied.
+/* Starts a command, which is copied.
  *
- * GT_OK. GT_STATE: a command is in progress, or the end gave up. GT_MEMORY. */
+ * - GT_OK.
+ * - GT_STATE: a command is in progress, or the end gave up.
+ * - GT_MEMORY. */
 GT_MUST_CHECK int32_t gt_t1_begin(gt_t1 *t, const uint8_t *apdu, size_t n) {
     if (!t || (!apdu && n)) return GT_NULL;
     return galliumtoad_t1_begin(t, gt_bytes_(apdu), n);
 }
 
-/* The block to send now: `bytes` gets it, `n` its length, 4 to GT_BLOCK_LIMIT, and `waits` how many
- * times BWT the card has for its answer: 1, or as many as it asked for. Asked again it is the same
- * block, until one of the next two calls.
+/* Copies the block to send now to `bytes`. `n` gets its length, 4 to GT_BLOCK_LIMIT. `waits` gets
+ * how many times BWT the card has for its answer: 1, or as many as it asked for. Each further call
+ * gives the same block, until one of the next two calls.
  *
- * GT_OK. GT_DONE: no command is in progress; the last one is answered, or none has begun.
- * GT_FAILED: the end gave up. GT_MEMORY. GT_BUFFER: `room` is less than the block; `n` and `waits`
- * are the block's, `bytes` is as it was. */
+ * - GT_OK.
+ * - GT_DONE: no command is in progress. The last one has its response, or none has started.
+ * - GT_FAILED: the end gave up.
+ * - GT_MEMORY.
+ * - GT_BUFFER: `room` is less than the block; `n` and `waits` are the block's, `bytes` is
+ *   unchanged. */
 GT_MUST_CHECK int32_t gt_t1_send_bytes(gt_t1 *t, uint8_t *bytes, size_t room, size_t *n,
                                        uint8_t *waits) {
     uint8_t none = 0;
@@ -1044,76 +1088,82 @@ GT_MUST_CHECK int32_t gt_t1_send_bytes(gt_t1 *t, uint8_t *bytes, size_t room, si
     return galliumtoad_t1_send_bytes(t, bytes ? bytes : &none, room, n, waits);
 }
 
-/* Takes bytes of the card, up to the end of its block. `taken` gets how many. Those that are left
- * are none of the block: drop them, and what else comes before the next block is sent.
+/* Takes bytes of the card, up to the end of its block. `taken` gets their number. The rest is not
+ * part of the block: drop it, and what else comes before the next block is sent.
  *
- * GT_OK: all are taken, and the block goes on. GT_SENDS: the block is whole, valid or not, and
- * `gt_t1_send_bytes` has the next one, or ends. GT_STATE: no block is awaited, since no command is
- * in progress or the end gave up. GT_MEMORY: `taken` bytes are kept; call again with those that are
- * left, or none, or call `gt_t1_missed`. */
+ * - GT_OK: all are taken, and the block continues.
+ * - GT_SENDS: the block is whole, valid or not. `gt_t1_send_bytes` has the next one, or ends.
+ * - GT_STATE: no block is awaited, since no command is in progress or the end gave up.
+ * - GT_MEMORY: `taken` bytes are kept. Call again with the rest, or none, or call
+ *   `gt_t1_missed`. */
 GT_MUST_CHECK int32_t gt_t1_receive_bytes(gt_t1 *t, const uint8_t *bytes, size_t n,
                                           size_t *taken) {
     if (!t || (!bytes && n) || !taken) return GT_NULL;
     return galliumtoad_t1_receive_bytes(t, gt_bytes_(bytes), n, taken);
 }
 
-/* No valid block of the card came: none began in time, one stopped for longer than CWT, or a
- * character had a wrong parity. What came of the block is dropped.
+/* Reports that no valid block of the card came: none began in time, one stopped for longer than
+ * CWT, or a character had a wrong parity. The received part of the block is dropped.
  *
- * GT_OK: `gt_t1_send_bytes` has the next block, or the end gave up. GT_STATE: no block is
- * awaited. */
+ * - GT_OK: `gt_t1_send_bytes` has the next block, or the end gave up.
+ * - GT_STATE: no block is awaited. */
 GT_MUST_CHECK int32_t gt_t1_missed(gt_t1 *t) {
     if (!t) return GT_NULL;
     return galliumtoad_t1_missed(t);
 }
 
-/* The response to the last command: data, and then SW1 SW2, at the front of `response`; `len` gets
- * their number. It is for `gt_terminal_responded`, which looks at its form.
+/* Copies the response to the last command: data, and then SW1 SW2, at the front of `response`.
+ * `len` gets its length. Hand it to `gt_terminal_responded`, which checks its form.
  *
- * GT_OK. GT_STATE: a command is in progress, or the end gave up. GT_BUFFER: `room` is less than the
- * response; `len` is its length, `response` is as it was. */
+ * - GT_OK.
+ * - GT_STATE: a command is in progress, or the end gave up.
+ * - GT_BUFFER: `room` is less than the response; `len` is its length, `response` is unchanged. */
 GT_MUST_CHECK int32_t gt_t1_response(gt_t1 *t, uint8_t *response, size_t room, size_t *len) {
     uint8_t none = 0;
     if (!t || (!response && room) || !len) return GT_NULL;
     return galliumtoad_t1_response(t, response ? response : &none, room, len);
 }
 
-/* Why the end gave up: `cause` gets GT_TRIES_SPENT, GT_EXTENSIONS_SPENT, GT_ABORTED or GT_TOO_LONG,
- * and `outcome` what is known of the command: GT_NOT_CARRIED_OUT, GT_UNKNOWN or GT_IN_PART. From
- * then on only `gt_t1_reset`, after a reset of the card, lets a command begin.
+/* Returns why the end gave up: `cause` gets GT_TRIES_SPENT, GT_EXTENSIONS_SPENT, GT_ABORTED or
+ * GT_TOO_LONG. `outcome` gets what is known of the command: GT_NOT_CARRIED_OUT, GT_UNKNOWN or
+ * GT_IN_PART. From then on a command can start only after `gt_t1_reset`, after a reset of the card.
  *
- * GT_OK. GT_NOT_FOUND: it has not given up. */
+ * - GT_OK.
+ * - GT_NOT_FOUND: it has not given up. */
 GT_MUST_CHECK int32_t gt_t1_fault(gt_t1 *t, int32_t *cause, int32_t *outcome) {
     if (!t || !cause || !outcome) return GT_NULL;
     return galliumtoad_t1_fault(t, cause, outcome);
 }
 
-/* Makes the end as it was after `gt_t1_new`, at any time, when the card was reset: the command in
- * progress and the last response are dropped. GT_OK. */
+/* Makes the end as it was after `gt_t1_new`, at any time, when the card was reset. It drops the
+ * command in progress and the last response. Returns GT_OK. */
 GT_FUNCTION int32_t gt_t1_reset(gt_t1 *t) {
     if (!t) return GT_NULL;
     return galliumtoad_t1_reset(t);
 }
 
-/* Gives the memory back, at any time; the handle holds nothing then, and may be used again. Of one
- * that holds nothing, or NULL, it is harmless. */
+/* Frees the end, at any time. The handle then holds nothing, and may be used again. Does nothing
+ * for a handle that holds nothing, or for NULL. */
 GT_FUNCTION void gt_t1_free(gt_t1 *t) {
     if (t) galliumtoad_t1_free(t);
 }
 
 /* ---- A card (ISO/IEC 7816-4; this project's profile) -----------------------------------------
  *
- * A card holds up to 8 applications, each with up to 64 data objects of up to 8,192 bytes. From
- * `gt_card_new` on it is under construction: `gt_card_app`, `gt_card_object` and `gt_card_finish`
- * are for this time, and each application gets its objects before the next one is added. From
- * `gt_card_finish` on it is finished, and answers a terminal, character by character
- * (`gt_card_take`, `gt_card_turn`), to SELECT, GET DATA, PUT DATA and GET RESPONSE: the functions
- * below that one are for this time, also those that tell what the card holds. `gt_card_free` is
- * for any time. */
-
-/* Begins a card without applications, in a handle that holds nothing.
+ * A card holds up to 8 applications, each with up to 64 data objects of up to 8,192 bytes. After
+ * `gt_card_new` it is under construction: call `gt_card_app`, `gt_card_object` and
+ * `gt_card_finish`. Each application gets its objects before the next one is added.
  *
- * GT_OK. GT_STATE: the handle holds a card. GT_MEMORY. Never GT_EMPTY. */
+ * After `gt_card_finish` it is finished: it answers a terminal, character by character
+ * (`gt_card_take`, `gt_card_turn`), to SELECT, GET DATA, PUT DATA and GET RESPONSE. The functions
+ * after `gt_card_finish` are for this time, also those that return what the card holds.
+ * `gt_card_free` is for any time. */
+
+/* Starts a card without applications, in a handle that holds nothing.
+ *
+ * - GT_OK.
+ * - GT_STATE: the handle holds a card.
+ * - GT_MEMORY. Never GT_EMPTY. */
 GT_MUST_CHECK int32_t gt_card_new(gt_card *c) {
     if (!c) return GT_NULL;
     return galliumtoad_card_new(c);
@@ -1122,32 +1172,42 @@ GT_MUST_CHECK int32_t gt_card_new(gt_card *c) {
 /* Adds an application, with an identifier of 5 to 16 bytes and no data objects, to a card under
  * construction.
  *
- * GT_OK. GT_STATE: the card is finished. GT_ARGUMENT: the identifier has another length.
- * GT_APP_TWICE: it is that of an application before. GT_TOO_MANY_APPS: there are 8. GT_MEMORY. */
+ * - GT_OK.
+ * - GT_STATE: the card is finished.
+ * - GT_ARGUMENT: the identifier has another length.
+ * - GT_APP_TWICE: an earlier application has it.
+ * - GT_TOO_MANY_APPS: there are 8.
+ * - GT_MEMORY. */
 GT_MUST_CHECK int32_t gt_card_app(gt_card *c, const uint8_t *aid, size_t n) {
     if (!c || (!aid && n)) return GT_NULL;
     return galliumtoad_card_app(c, gt_bytes_(aid), n);
 }
 
-/* Adds a data object to the last application of a card under construction. One that is there under
- * the tag gets the new value in its place. With `locked` other than 0 no command changes it; the
- * last call for a tag counts.
+/* Adds a data object to the last application of a card under construction. If it has one under this
+ * tag, the new value replaces the old. With `locked` other than 0 no command changes it; the last
+ * call for a tag counts.
  *
- * GT_OK. GT_STATE: the card is finished. GT_ARGUMENT: GET DATA can't name the tag. It can name one
- * byte 40 to FE whose bits 5 to 1 are not all ones, and two bytes of which the first is 5F, 7F, 9F,
- * BF, DF or FF and the second 01 to 7F. GT_NO_APP: there is no application yet. GT_VALUE_TOO_LONG:
- * `n` is above 8,192. GT_NOT_OBJECTS: the tag is that of a template (bit 6 of its first byte is
- * set, as in 70 and FF01, and not in 5F20 and DF01), and the value is no list of objects.
- * GT_TABLE_FULL: the tag is new, and the application has 64. GT_MEMORY. */
+ * - GT_OK.
+ * - GT_STATE: the card is finished.
+ * - GT_ARGUMENT: GET DATA can't name the tag. It can name one byte 40 to FE whose bits 5 to 1 are
+ *   not all ones. It can name two bytes: 5F, 7F, 9F, BF, DF or FF, and then 01 to 7F.
+ * - GT_NO_APP: there is no application yet.
+ * - GT_VALUE_TOO_LONG: `n` is above 8,192.
+ * - GT_NOT_OBJECTS: the tag is that of a template (bit 6 of its first byte is set, as in 70 and
+ *   FF01, and not in 5F20 and DF01), and the value is no list of objects.
+ * - GT_TABLE_FULL: the tag is new, and the application has 64.
+ * - GT_MEMORY. */
 GT_MUST_CHECK int32_t gt_card_object(gt_card *c, uint32_t tag, const uint8_t *value, size_t n,
                                      int locked) {
     if (!c || (!value && n)) return GT_NULL;
     return galliumtoad_card_object(c, tag, gt_bytes_(value), n, locked != 0);
 }
 
-/* The card is finished: nothing is selected, and it waits for the first character of a header.
+/* Finishes the card: nothing is selected, and it waits for the first character of a header.
  *
- * GT_OK. GT_STATE: it was finished before. GT_MEMORY: what was built is as it was. */
+ * - GT_OK.
+ * - GT_STATE: it was finished before.
+ * - GT_MEMORY: the card under construction is unchanged. */
 GT_MUST_CHECK int32_t gt_card_finish(gt_card *c) {
     if (!c) return GT_NULL;
     return galliumtoad_card_finish(c);
@@ -1155,52 +1215,60 @@ GT_MUST_CHECK int32_t gt_card_finish(gt_card *c) {
 
 /* Takes a character of the terminal.
  *
- * GT_OK. GT_STATE: the card is not finished yet. GT_NOT_LISTENING: it has characters to send. */
+ * - GT_OK.
+ * - GT_STATE: the card is not finished yet.
+ * - GT_NOT_LISTENING: it has characters to send. */
 GT_MUST_CHECK int32_t gt_card_take(gt_card *c, uint8_t byte) {
     if (!c) return GT_NULL;
     return galliumtoad_card_take(c, byte);
 }
 
-/* What the card does now.
+/* Returns what the card does now.
  *
- * GT_SENDS: `byte` gets a character for the terminal. GT_OK: the card waits for a character of
- * the terminal, for `gt_card_take`. GT_STATE: it is not finished yet. Only GT_SENDS changes `byte`
- * and the card. A put is stored when the second status byte has been handed out, not before. */
+ * - GT_SENDS: `byte` gets a character for the terminal.
+ * - GT_OK: the card waits for a character of the terminal, for `gt_card_take`.
+ * - GT_STATE: it is not finished yet.
+ *
+ * Only GT_SENDS changes `byte` and the card. A put is stored when the second status byte has been
+ * handed out, not before. */
 GT_MUST_CHECK int32_t gt_card_turn(gt_card *c, uint8_t *byte) {
     if (!c || !byte) return GT_NULL;
     return galliumtoad_card_turn(c, byte);
 }
 
-/* The next two pass characters by buffers: each is so many calls of the two above.
+/* The next two pass characters by buffers: each repeats one of the two above.
  *
- * Hands out what the card sends now, `room` characters at most: they stand at the front of `bytes`,
- * and `n` gets how many. What stands behind them stays as it was.
+ * Hands out what the card sends now, at most `room` characters, at the front of `bytes`. `n` gets
+ * their number. The rest of `bytes` is unchanged.
  *
- * GT_OK: behind them the card waits for a character of the terminal; `n` may be 0. GT_SENDS:
- * `bytes` is full, with `room` characters, and there may be more: ask again; so it is with room 0.
- * GT_STATE: the card is not finished yet; `bytes` and `n` are as they were. */
+ * - GT_OK: after them the card waits for a character of the terminal; `n` may be 0.
+ * - GT_SENDS: `bytes` is full, with `room` characters, and there may be more: call again. With room
+ *   0 it is always this.
+ * - GT_STATE: the card is not finished yet. `bytes` and `n` are unchanged. */
 GT_MUST_CHECK int32_t gt_card_send_bytes(gt_card *c, uint8_t *bytes, size_t room, size_t *n) {
     uint8_t none = 0;
     if (!c || (!bytes && room) || !n) return GT_NULL;
     return galliumtoad_card_send_bytes(c, bytes ? bytes : &none, room, n);
 }
 
-/* Takes `n` characters of the terminal, one after another, as many as the card waits for; `taken`
- * gets how many.
+/* Takes `n` characters of the terminal, one after another, as many as the card waits for. `taken`
+ * gets their number.
  *
- * GT_OK: all were taken; so it is with `n` 0. GT_NOT_LISTENING: behind those taken the card has
- * characters to send; `taken` is told, and the others were not looked at. GT_STATE: the card is not
- * finished yet; `taken` is as it was. */
+ * - GT_OK: all were taken, also if `n` is 0.
+ * - GT_NOT_LISTENING: after those taken the card has characters to send. `taken` is set, and the
+ *   others were not looked at.
+ * - GT_STATE: the card is not finished yet. `taken` is unchanged. */
 GT_MUST_CHECK int32_t gt_card_receive_bytes(gt_card *c, const uint8_t *bytes, size_t n,
                                             size_t *taken) {
     if (!c || (!bytes && n) || !taken) return GT_NULL;
     return galliumtoad_card_receive_bytes(c, gt_bytes_(bytes), n, taken);
 }
 
-/* Resets the card, at any time: a TPDU under way is dropped, nothing is selected or pending, and it
- * waits for a header, at T=0. Data objects and plans stay.
+/* Resets the card, at any time: a TPDU in progress is dropped, nothing is selected or pending, and
+ * it waits for a header, at T=0. Data objects and plans stay.
  *
- * GT_OK. GT_STATE: it is not finished yet. */
+ * - GT_OK.
+ * - GT_STATE: it is not finished yet. */
 GT_FUNCTION int32_t gt_card_reset(gt_card *c) {
     if (!c) return GT_NULL;
     return galliumtoad_card_reset(c);
@@ -1208,114 +1276,143 @@ GT_FUNCTION int32_t gt_card_reset(gt_card *c) {
 
 /* Carries out a whole TPDU (`gt_exchange_tpdu` says which bytes are one), as the firmware of a
  * reader does, under the next of the card's plans. `answer` gets the data from the card, and then
- * SW1 SW2; `len` how many bytes these are, 2 to GT_ANSWER_LIMIT. One buffer may serve for both
- * sides: the TPDU is copied, and the copy wiped. For the time of the call memory is taken for what
- * may come back, at most 256 bytes. PUT DATA takes as many bytes as its value has, and under a new
- * tag those of a longer table of objects.
+ * SW1 SW2; `len` gets its length, 2 to GT_ANSWER_LIMIT bytes. One buffer may serve for both sides:
+ * the TPDU is copied, and the copy wiped. For the time of the call it takes memory for what may
+ * come back, at most 256 bytes. PUT DATA takes as many bytes as its value has, and under a new tag
+ * those of a longer table of objects.
  *
- * GT_OK: it was carried out, whatever its status. After the next four nothing has changed:
- * GT_STATE: the card is not finished yet, or characters of a TPDU have gone. GT_NO_TPDU. GT_BUFFER:
- * `room` is less than the TPDU may bring: 2 where it has data or four bytes, else 2 and P3 (00:
- * 256). GT_MEMORY. GT_WANTS_DATA, GT_SENDS_DATA: neither end would go on, so the card was reset;
- * the plan is taken, and `answer` and `len` are as they were. */
+ * - GT_OK: it was carried out, with any status.
+ * - GT_STATE: the card is not finished yet, or characters of a TPDU have passed. Nothing has
+ *   changed.
+ * - GT_NO_TPDU: nothing has changed.
+ * - GT_BUFFER: `room` is less than the TPDU may bring: 2 if it has data or four bytes, else 2 and
+ *   P3 (00: 256). Nothing has changed.
+ * - GT_MEMORY: nothing has changed.
+ * - GT_WANTS_DATA, GT_SENDS_DATA: both ends would deadlock, so the card was reset. The plan is
+ *   taken, and `answer` and `len` are unchanged. */
 GT_MUST_CHECK int32_t gt_card_tpdu(gt_card *c, const uint8_t *tpdu, size_t n,
                                    uint8_t *answer, size_t room, size_t *len) {
     return gt_pass_(galliumtoad_card_tpdu, c, tpdu, n, answer, room, len);
 }
 
 /* Carries out a whole command (APDU), as a card at T=1 or without contacts does. `response` gets
- * data, and then SW1 SW2; `len` gets their length, 2 to GT_ANSWER_LIMIT bytes. One buffer may serve
+ * data, and then SW1 SW2; `len` gets its length, 2 to GT_ANSWER_LIMIT bytes. One buffer may serve
  * for both sides: the command is copied, and the copy wiped.
  *
  * The command goes as TPDUs of the card, to a terminal that wants Le bytes (00: 256). After 6CXX it
  * goes once more, with XX. In case 4 GET RESPONSE fetches. What is left waits, and 61XX announces
- * it. Plans are for `gt_card_tpdu` and characters alone.
+ * it. Plans are only for `gt_card_tpdu` and characters.
  *
- * The card answers 6700, and nothing changes, also no chain and no response that waits:
- * - to bytes whose lengths fit none of the four cases, as those of an extended command;
- * - to SELECT and PUT DATA in case 2;
- * - to GET DATA and GET RESPONSE in any other case.
+ * The card answers 6700 in these cases, and nothing changes, also no chain and no response that
+ * waits:
  *
- * GT_OK: the card has answered, with any status. After the others nothing has changed:
- * GT_STATE: the card is not finished yet, or characters of a TPDU have gone. GT_TOO_SHORT,
- * GT_INVALID_INS: the bytes are no command. GT_BUFFER: `room` is less than 2 and Le (00: 256;
- * without Le 2). GT_MEMORY. */
+ * - bytes whose lengths fit none of the four cases, as those of an extended command;
+ * - SELECT and PUT DATA in case 2;
+ * - GET DATA and GET RESPONSE in any other case.
+ *
+ * Results:
+ *
+ * - GT_OK: the card has answered, with any status.
+ * - GT_STATE: the card is not finished yet, or characters of a TPDU have passed. Nothing has
+ *   changed.
+ * - GT_TOO_SHORT, GT_INVALID_INS: the bytes are no command. Nothing has changed.
+ * - GT_BUFFER: `room` is less than 2 and Le (00: 256; without Le 2). Nothing has changed.
+ * - GT_MEMORY: nothing has changed. */
 GT_MUST_CHECK int32_t gt_card_apdu(gt_card *c, const uint8_t *apdu, size_t n,
                                    uint8_t *response, size_t room, size_t *len) {
     return gt_pass_(galliumtoad_card_apdu, c, apdu, n, response, room, len);
 }
 
-/* The next four are the card's end of a line at T=1 (ISO/IEC 7816-3, clause 11), which carries out
- * each command as `gt_card_apdu` does, and answers each block of the terminal with one block:
+/* The next four calls are the card's end of a line at T=1 (ISO/IEC 7816-3, clause 11). It carries
+ * out each command as `gt_card_apdu` does, and answers each block of the terminal with one block:
  *
+ * ```
  *   gt_card_t1_begin(&c);
  *   for (;;) {
- *       .. receive bytes, and hand them on as they come:
+ *       .. for the bytes received:
  *       gt_card_t1_receive_bytes(&c, bytes, count, &taken);  until that is GT_SENDS
  *       .. or, if the block stops, or a character has a wrong parity:
  *       gt_card_t1_missed(&c);
  *       gt_card_t1_send_bytes(&c, block, sizeof block, &n);  and send the n bytes
  *   }
+ * ```
  *
- * The caller keeps the times of the card's answer to reset: `gt_atr.t1`. The end keeps NAD 00 and
- * an LRC, and its fields have at most 32 bytes until S(IFS request). It answers each other request
- * of a terminal too, and sends none. What is no short command is answered 6700, an invalid INS 6D00
- * (profile).
+ * The caller keeps the times of the card's answer to reset: `gt_atr.t1`. Blocks have NAD 00 and an
+ * LRC, and fields of at most 32 bytes until S(IFS request). The end answers each other request of a
+ * terminal, and sends no request. The response to other bytes than a short command is 6700, and to
+ * an invalid INS 6D00 (profile).
  *
- * The card speaks T=1 up to gt_card_reset. Until then the other calls that send or receive answer
- * GT_STATE; those that tell what it holds stay.
+ * The card speaks T=1 up to gt_card_reset. Until then the other calls that send or receive return
+ * GT_STATE, and those that show its content work as before.
  *
- * Begins, as after a reset. GT_OK. GT_STATE: the card is not finished yet, characters of a TPDU
- * have gone, or it speaks T=1. */
+ * Begins T=1, as after a reset.
+ *
+ * - GT_OK.
+ * - GT_STATE: the card is not finished yet, a TPDU is in progress, or it speaks T=1. Nothing
+ *   changes. */
 GT_MUST_CHECK int32_t gt_card_t1_begin(gt_card *c) {
     if (!c) return GT_NULL;
     return galliumtoad_card_t1_begin(c);
 }
 
-/* The block to send now: `bytes` gets it, and `n` its length, 4 to GT_BLOCK_LIMIT. Asked again it
- * is the same block, until one of the next two calls answers GT_SENDS or GT_MEMORY.
+/* Copies the block to send now to `bytes`, and sets `n` to its length, 4 to GT_BLOCK_LIMIT. It
+ * stays the same block until one of the next two calls returns GT_SENDS or GT_MEMORY.
  *
- * GT_OK. GT_DONE: none; no block of the terminal has come, or memory ran out at the last one.
- * GT_STATE: the card does not speak T=1. GT_MEMORY. GT_BUFFER: `room` is less than the block; `n`
- * is its length, `bytes` is as it was. */
+ * - GT_OK.
+ * - GT_DONE: there is no block, because the terminal sent none or memory ran out at its last one.
+ * - GT_STATE: the card does not speak T=1.
+ * - GT_MEMORY.
+ * - GT_BUFFER: `room` is less than the block. `n` is its length.
+ *
+ * `bytes` changes only with GT_OK, `n` with GT_OK and GT_BUFFER. The card never changes. */
 GT_MUST_CHECK int32_t gt_card_t1_send_bytes(gt_card *c, uint8_t *bytes, size_t room, size_t *n) {
     uint8_t none = 0;
     if (!c || (!bytes && room) || !n) return GT_NULL;
     return galliumtoad_card_t1_send_bytes(c, bytes ? bytes : &none, room, n);
 }
 
-/* Takes bytes of the terminal, up to the end of its block. `taken` gets how many. Those that are
- * left are none of the block: drop them, and what else comes before the card's block is sent. A
- * command is carried out with the last byte of its last block.
+/* Takes bytes of the terminal up to the end of its block, and sets `taken` to their number. Drop
+ * the bytes that are left, and all that arrive before the card's block is sent. A command is
+ * carried out with the last byte of its last block.
  *
- * GT_OK: all are taken, and the block goes on. GT_SENDS: the block is whole, valid or not, and
- * `gt_card_t1_send_bytes` has the answer. GT_STATE: the card does not speak T=1. GT_MEMORY: the
- * block is dropped, no command is carried out, and there is no answer: the terminal asks again. */
+ * - GT_OK: all are taken, and the block is not whole yet.
+ * - GT_SENDS: the block is whole, valid or not, and `gt_card_t1_send_bytes` has the answer.
+ * - GT_STATE: the card does not speak T=1. Nothing changes.
+ * - GT_MEMORY: the block is dropped, no command is carried out, and there is no answer. The
+ *   terminal asks again. */
 GT_MUST_CHECK int32_t gt_card_t1_receive_bytes(gt_card *c, const uint8_t *bytes, size_t n,
                                                size_t *taken) {
     if (!c || (!bytes && n) || !taken) return GT_NULL;
     return galliumtoad_card_t1_receive_bytes(c, gt_bytes_(bytes), n, taken);
 }
 
-/* No valid block of the terminal came: one stopped for longer than CWT, or a character had a wrong
- * parity. What came of the block is dropped.
+/* Reports that a block of the terminal stopped for longer than CWT, or that a character had a wrong
+ * parity. The bytes of the block are dropped.
  *
- * GT_SENDS: `gt_card_t1_send_bytes` has the answer. GT_STATE: the card does not speak T=1. */
+ * - GT_SENDS: `gt_card_t1_send_bytes` has the answer.
+ * - GT_STATE: the card does not speak T=1. Nothing changes. */
 GT_MUST_CHECK int32_t gt_card_t1_missed(gt_card *c) {
     if (!c) return GT_NULL;
     return galliumtoad_card_t1_missed(c);
 }
 
-/* How the card answers a TPDU to come: each call is for one more of them, in turn. `steps` is a
- * string of letters, in any order and number, which is carried out from left to right: n (the card
- * sends a NULL, 60), o (INS xor FF, and one data byte moves) and a (INS, and all data bytes that
- * are left move); o and a are passed over where none are left, as in a TPDU without data, and n is
- * not; after the last letter all that are left move. `cut`, 1 to 256, is the most bytes that a
- * status 61XX announces (256 as 6100); it shows only where a response waits, and 256 is no limit. A
- * TPDU without a plan is answered as by "" and 256.
+/* Plans how the card answers one more of the TPDUs to come, in turn. `steps` is a string of
+ * letters, in any order and number, carried out from left to right:
  *
- * GT_OK. GT_STATE: the card is not finished yet. GT_ARGUMENT: another letter, or another cut.
- * GT_PLANS: GT_PLANS_LIMIT plans wait already. GT_MEMORY. */
+ * - n: the card sends a NULL (60);
+ * - o: it sends INS xor FF, and one data byte moves;
+ * - a: it sends INS, and all data bytes that are left move.
+ *
+ * o and a are passed over if no data bytes are left, as in a TPDU without data; n is not. After the
+ * last letter all that are left move. `cut`, 1 to 256, is the most bytes that a status 61XX
+ * announces (256 as 6100). It shows only if a response waits, and 256 is no limit. Without a plan
+ * the card answers as with "" and 256.
+ *
+ * - GT_OK.
+ * - GT_STATE: the card is not finished yet.
+ * - GT_ARGUMENT: another letter, or another cut.
+ * - GT_PLANS: GT_PLANS_LIMIT plans wait already.
+ * - GT_MEMORY. */
 GT_MUST_CHECK int32_t gt_card_plan(gt_card *c, const char *steps, uint16_t cut) {
     size_t n = 0;
     if (!c || !steps) return GT_NULL;
@@ -1323,31 +1420,37 @@ GT_MUST_CHECK int32_t gt_card_plan(gt_card *c, const char *steps, uint16_t cut) 
     return galliumtoad_card_plan(c, steps, n, cut);
 }
 
-/* The identifier of the application that is selected, at the front of `aid`; `n` gets how many
- * bytes it has, 5 to 16.
+/* Copies the identifier of the selected application to the front of `aid`; `n` gets its length, 5
+ * to 16 bytes.
  *
- * GT_OK. GT_STATE: the card is not finished yet. GT_NOT_FOUND: none is selected. */
+ * - GT_OK.
+ * - GT_STATE: the card is not finished yet.
+ * - GT_NOT_FOUND: none is selected. */
 GT_MUST_CHECK int32_t gt_card_selected(gt_card *c, uint8_t aid[GT_AID_LIMIT], size_t *n) {
     if (!c || !aid || !n) return GT_NULL;
     return galliumtoad_card_selected(c, aid, GT_AID_LIMIT, n);
 }
 
-/* The identifier of an application, counted from 0 in the order of building; `aid` and `n` as
- * above.
+/* Copies the identifier of an application, counted from 0 in the order of building; `aid` and `n`
+ * as above.
  *
- * GT_OK. GT_STATE: the card is not finished yet. GT_NOT_FOUND: `app` is past the last. */
+ * - GT_OK.
+ * - GT_STATE: the card is not finished yet.
+ * - GT_NOT_FOUND: `app` is past the last. */
 GT_MUST_CHECK int32_t gt_card_app_at(gt_card *c, size_t app, uint8_t aid[GT_AID_LIMIT],
                                      size_t *n) {
     if (!c || !aid || !n) return GT_NULL;
     return galliumtoad_card_app_at(c, app, aid, GT_AID_LIMIT, n);
 }
 
-/* A data object of an application, both counted from 0, the objects in the order of first storing:
- * `tag`, `locked` (1 or 0), `value`, and `len`, the number of the value's bytes.
+/* Copies a data object of an application. Both count from 0, the objects in the order of first
+ * storing. It gives `tag`, `locked` (1 or 0), `value`, and `len`, the number of the value's bytes.
  *
- * GT_OK: all of it. GT_STATE: the card is not finished yet. GT_NOT_FOUND: `app` or `entry` is past
- * the last. GT_BUFFER: `room` is less than the value, as where a size is asked for with room 0;
- * `tag`, `locked` and `len` are the object's, and `value` is as it was. */
+ * - GT_OK: all of it.
+ * - GT_STATE: the card is not finished yet.
+ * - GT_NOT_FOUND: `app` or `entry` is past the last.
+ * - GT_BUFFER: `room` is less than the value, as if you ask for its size with room 0. `tag`,
+ *   `locked` and `len` are the object's, `value` is unchanged. */
 GT_MUST_CHECK int32_t gt_card_entry_at(gt_card *c, size_t app, size_t entry, uint32_t *tag,
                                        int32_t *locked, uint8_t *value, size_t room, size_t *len) {
     uint8_t none = 0;
@@ -1355,81 +1458,84 @@ GT_MUST_CHECK int32_t gt_card_entry_at(gt_card *c, size_t app, size_t entry, uin
     return galliumtoad_card_entry_at(c, app, entry, tag, locked, value ? value : &none, room, len);
 }
 
-/* Gives the memory back, at any time; the handle holds nothing then, and may be used again. Of one
- * that holds nothing, or NULL, it is harmless. */
+/* Frees the card, at any time. The handle then holds nothing, and may be used again. Does nothing
+ * for a handle that holds nothing, or for NULL. */
 GT_FUNCTION void gt_card_free(gt_card *c) {
     if (c) galliumtoad_card_free(c);
 }
 
 /* ---- Commands of a card here, and what it answers --------------------------------------------
  *
- *   00 A4 04 00 Lc AID [00]     SELECT; the data that wait are 6F with 84 with the AID
- *   00 CA P1 P2 Le              GET DATA of the tag P1-P2 (00 50 for 50): tag, length and value
- *   00 DA P1 P2 [Lc value]      PUT DATA; CLA is 10 in all pieces of a chain but the last
- *   00 C0 00 00 Le              GET RESPONSE; an exchange sends it by itself
+ * - 00 A4 04 00 Lc AID [00]: SELECT. The data that wait are 6F with 84 with the AID.
+ * - 00 CA P1 P2 Le: GET DATA of the tag P1-P2 (00 50 for 50): tag, length and value.
+ * - 00 DA P1 P2 [Lc value]: PUT DATA. CLA is 10 in all pieces of a chain except the last.
+ * - 00 C0 00 00 Le: GET RESPONSE. An exchange sends it by itself.
  *
- * After all but 9000 and 61XX no value is stored, what was selected stays selected, and a chain is
- * dropped.
+ * After all except 9000 and 61XX no value is stored, what was selected stays selected, and a chain
+ * is dropped.
  *
- *   9000  it is done, and all data have come
- *   61XX  it is done, and XX more bytes can be had with GET RESPONSE (00: 256); so too a GET DATA
- *         with an Le below what there is, and an exchange with that Le is then over
- *   6581  PUT DATA: memory is wanting at the card
- *   6700  PUT DATA: a value above 8,192 bytes; SELECT: an identifier not of 5 to 16 bytes
- *   6883  a chain is pending, and this command is not its next one
- *   6884  CLA begins a chain, and INS is not PUT DATA
- *   6982  PUT DATA: the data object is locked
- *   6985  GET DATA, PUT DATA: nothing is selected; GET RESPONSE: nothing waits
- *   6A80  PUT DATA: the tag is that of a template, and the value is no list of objects
- *   6A82  SELECT: there is no such application
- *   6A84  PUT DATA: the tag is new, and the application has 64 data objects
- *   6A86  P1-P2 are not the command's, or name no tag
- *   6A88  GET DATA: the selected application has no such data object
- *   6CXX  fewer bytes are there than asked for (Le 00 asks for 256): XX. An exchange asks again for
- *         these, by itself
- *   6D00  INS is not A4, CA, DA or C0
- *   6E00  CLA is not 00 or 10, nor 80 of a GET DATA
+ * - 9000: it is done, and all data were received.
+ * - 61XX: it is done, and XX more bytes can be had with GET RESPONSE (00: 256). GET DATA with an Le
+ *   below what there is gets it too, and an exchange with that Le then ends.
+ * - 6581: PUT DATA: memory ran out at the card.
+ * - 6700: PUT DATA: a value above 8,192 bytes; SELECT: an identifier not of 5 to 16 bytes.
+ * - 6883: a chain is pending, and this command is not its next one.
+ * - 6884: CLA begins a chain, and INS is not PUT DATA.
+ * - 6982: PUT DATA: the data object is locked.
+ * - 6985: GET DATA, PUT DATA: nothing is selected; GET RESPONSE: nothing waits.
+ * - 6A80: PUT DATA: the tag is that of a template, and the value is no list of objects.
+ * - 6A82: SELECT: there is no such application.
+ * - 6A84: PUT DATA: the tag is new, and the application has 64 data objects.
+ * - 6A86: P1-P2 are not the command's, or name no tag.
+ * - 6A88: GET DATA: the selected application has no such data object.
+ * - 6CXX: there are fewer bytes than asked for (Le 00 asks for 256): XX. An exchange asks again for
+ *   these, by itself.
+ * - 6D00: INS is not A4, CA, DA or C0.
+ * - 6E00: CLA is not 00 or 10, nor 80 of a GET DATA.
  *
  * In a session `gt_session_select` answers 9000 or 6A82, `gt_session_get` 9000, 6985 or 6A88, and
  * `gt_session_put` 9000, 6581, 6700, 6982, 6985, 6A80 or 6A84. */
 
 /* ---- A session: a terminal and a card, joined by a line that delivers every character --------
  *
- * An operation (`gt_session_select`, `_get`, `_put`, `_send`) is carried out to its answer before
- * the call returns. Operations need memory at the terminal: where that is wanting they answer
- * GT_MEMORY, and not one character was sent. Where it is wanting at the card, as for a longer
- * value, the card's own answer says so: status 6581. */
+ * A call of `gt_session_select`, `_get`, `_put` or `_send` carries out an operation to its answer
+ * before it returns. Operations need memory at the terminal: if that runs out they return
+ * GT_MEMORY, and no character was sent. If it runs out at the card, as for a longer value, the
+ * card's own answer says so: status 6581. */
 
-/* Takes a finished card out of its handle, which holds nothing then, resets it, and begins a
+/* Takes a finished card out of its handle, which then holds nothing, resets it, and starts a
  * session with it, in a session's handle that holds nothing. Plans of the card are dropped. Nobody
  * listens yet: see `gt_session_listen`.
  *
- * GT_OK. GT_STATE: `s` holds a session, or the card is not finished yet. GT_EMPTY: `c` holds
- * nothing. */
+ * - GT_OK.
+ * - GT_STATE: `s` holds a session, or the card is not finished yet.
+ * - GT_EMPTY: `c` holds nothing. */
 GT_MUST_CHECK int32_t gt_session_start(gt_session *s, gt_card *c) {
     if (!s || !c) return GT_NULL;
     return galliumtoad_session_start(s, c);
 }
 
-/* Whether an operation can be begun: 1, or 0 while a chain is pending at the card, which
- * `gt_session_send` has begun. Compare with == 1: GT_EMPTY is not 0 either. */
+/* Returns whether an operation can start: 1, or 0 while a chain that `gt_session_send` started is
+ * pending at the card. Compare with == 1: GT_EMPTY is not 0 either. */
 GT_MUST_CHECK int32_t gt_session_idle(gt_session *s) {
     if (!s) return GT_NULL;
     return galliumtoad_session_idle(s);
 }
 
-/* A plan as `gt_card_plan` takes it, for one more TPDU of the next operation that is carried out.
- * What that leaves of its plans is dropped after it, and by `gt_session_end`.
+/* Adds a plan as `gt_card_plan` takes it, for one more TPDU of the next operation that is carried
+ * out. That operation drops the plans that it leaves, and so does `gt_session_end`.
  *
- * Where it ends with 9000, a select is two TPDUs, SELECT and GET RESPONSE, and a put one for each
- * 255 bytes, at least one. A get of up to 255 bytes (tag, length and value) is two: one that is
- * answered 6CXX and moves no data, and one that brings them all. One of more is a TPDU for each 256
- * bytes or less that are left, and more of them where a `cut` is smaller. So to have the bytes of a
- * short get come singly, plan "" first, and then an o for each byte of tag, length and value:
- * "oooooo" for a value of 3 bytes under 5F20.
+ * If it ends with 9000, a select is two TPDUs, SELECT and GET RESPONSE, and a put one for each 255
+ * bytes, at least one. A get of up to 255 bytes (tag, length and value) is two: the first gets 6CXX
+ * and moves no data, the second brings them all. A longer one is a TPDU for each 256 bytes or less
+ * that are left, and more of them if a `cut` is smaller. So to have the bytes of a short get come
+ * singly, plan "" first, and then an o for each byte of tag, length and value: "oooooo" for a value
+ * of 3 bytes under 5F20.
  *
- * GT_OK. GT_ARGUMENT: another letter, or another cut. GT_PLANS: GT_PLANS_LIMIT plans wait already.
- * GT_MEMORY. */
+ * - GT_OK.
+ * - GT_ARGUMENT: another letter, or another cut.
+ * - GT_PLANS: GT_PLANS_LIMIT plans wait already.
+ * - GT_MEMORY. */
 GT_MUST_CHECK int32_t gt_session_plan(gt_session *s, const char *steps, uint16_t cut) {
     size_t n = 0;
     if (!s || !steps) return GT_NULL;
@@ -1437,15 +1543,17 @@ GT_MUST_CHECK int32_t gt_session_plan(gt_session *s, const char *steps, uint16_t
     return galliumtoad_session_plan(s, steps, n, cut);
 }
 
-/* Selects an application by its identifier of 5 to 16 bytes (SELECT). The card's answer: `status`
- * gets the status word (0x9000), `len` the number of data bytes, and `data` those: the template
- * 6F with the identifier, at most 20 bytes. Any status is an answer, 0x6A82 (no such application)
- * too, after which the application before it stays selected.
+/* Selects an application by its identifier of 5 to 16 bytes (SELECT). `status` gets the card's
+ * status word (0x9000), `len` the number of data bytes, and `data` these: the template 6F with the
+ * identifier, at most 20 bytes. Any status is an answer, also 0x6A82 (no such application), after
+ * which the application before it stays selected.
  *
- * GT_OK: it was carried out. GT_BUFFER: it was carried out, and `room` is less than the data;
- * `status` and `len` are the answer's, `data` is as it was, and `gt_session_answer` gives the
- * data. After the other faults nothing was sent: GT_ARGUMENT: the identifier has another length.
- * GT_BUSY: a chain is pending. GT_MEMORY. */
+ * - GT_OK: it was carried out.
+ * - GT_BUFFER: it was carried out, and `room` is less than the data. `status` and `len` are the
+ *   answer's, `data` is unchanged, and `gt_session_answer` gives the data.
+ * - GT_ARGUMENT: the identifier has another length. Nothing was sent.
+ * - GT_BUSY: a chain is pending. Nothing was sent.
+ * - GT_MEMORY: nothing was sent. */
 GT_MUST_CHECK int32_t gt_session_select(gt_session *s, const uint8_t *aid, size_t n,
                                         uint16_t *status, uint8_t *data, size_t room, size_t *len) {
     uint8_t none = 0;
@@ -1457,9 +1565,8 @@ GT_MUST_CHECK int32_t gt_session_select(gt_session *s, const uint8_t *aid, size_
 }
 
 /* Reads a data object of the selected application (GET DATA): `data` gets its tag, its length in
- * the shortest spelling, and its value, at most GT_OBJECT_LIMIT bytes. Answers and faults are those
- * of `gt_session_select`, with GT_ARGUMENT where GET DATA can't name the tag (see
- * `gt_card_object`). */
+ * the shortest form, and its value, at most GT_OBJECT_LIMIT bytes. Results are those of
+ * `gt_session_select`, except GT_ARGUMENT: GET DATA can't name the tag (see `gt_card_object`). */
 GT_MUST_CHECK int32_t gt_session_get(gt_session *s, uint32_t tag, uint16_t *status,
                                      uint8_t *data, size_t room, size_t *len) {
     uint8_t none = 0;
@@ -1474,8 +1581,10 @@ GT_MUST_CHECK int32_t gt_session_get(gt_session *s, uint32_t tag, uint16_t *stat
  * to 255 bytes each. `status` gets the card's answer: 0x9000, or why the value is not stored, as
  * 0x6982 (locked) or 0x6700 (above 8,192 bytes). There are no data.
  *
- * GT_OK: it was carried out. After each fault nothing was sent: GT_ARGUMENT: PUT DATA can't name
- * the tag (see `gt_card_object`). GT_MEMORY. GT_BUSY: a chain is pending. */
+ * - GT_OK: it was carried out.
+ * - GT_ARGUMENT: PUT DATA can't name the tag (see `gt_card_object`). Nothing was sent.
+ * - GT_MEMORY: nothing was sent.
+ * - GT_BUSY: a chain is pending. Nothing was sent. */
 GT_MUST_CHECK int32_t gt_session_put(gt_session *s, uint32_t tag, const uint8_t *value, size_t n,
                                      uint16_t *status) {
     uint8_t none = 0;
@@ -1488,15 +1597,16 @@ GT_MUST_CHECK int32_t gt_session_put(gt_session *s, uint32_t tag, const uint8_t 
     return code == GT_BUFFER ? GT_OK : code;
 }
 
-/* Sends any one command (as `gt_exchange_start` takes it); it may begin a chain or go on with
- * one, so it is never GT_BUSY. The answer is as that of `gt_session_select`, and has as much of the
- * data as Le asks for (see `gt_exchange_start`).
+/* Sends any one command (as `gt_exchange_start` takes it). It may start or continue a chain, and it
+ * never returns GT_BUSY. The answer is as that of `gt_session_select`, with as much of the data as
+ * Le asks for (see `gt_exchange_start`).
  *
- * GT_OK, GT_BUFFER: it was carried out, as there. After the other faults nothing was sent:
- * GT_TOO_SHORT, GT_BAD_LENGTH, GT_INVALID_INS: the bytes are no command. GT_ARGUMENT: terminal and
- * card would not agree on which way data move, which no header says over T=0. That is a SELECT or a
- * PUT DATA (INS A4, DA) without data and with Le, and a GET DATA or a GET RESPONSE (CA, C0) of any
- * other form than that. GT_MEMORY. */
+ * - GT_OK, GT_BUFFER: it was carried out, as there.
+ * - GT_TOO_SHORT, GT_BAD_LENGTH, GT_INVALID_INS: the bytes are no command. Nothing was sent.
+ * - GT_ARGUMENT: terminal and card would not agree on which way data move, which no header says
+ *   over T=0. That is a SELECT or a PUT DATA (INS A4, DA) without data and with Le, and a GET DATA
+ *   or a GET RESPONSE (CA, C0) of any other form than that. Nothing was sent.
+ * - GT_MEMORY: nothing was sent. */
 GT_MUST_CHECK int32_t gt_session_send(gt_session *s, const uint8_t *command, size_t n,
                                       uint16_t *status, uint8_t *data, size_t room, size_t *len) {
     uint8_t none = 0;
@@ -1507,9 +1617,10 @@ GT_MUST_CHECK int32_t gt_session_send(gt_session *s, const uint8_t *command, siz
     return galliumtoad_session_answer(s, status, data ? data : &none, room, len);
 }
 
-/* The answer of the last operation that was carried out, again; a reset keeps it.
+/* Copies the answer of the last operation that was carried out, again. A reset keeps it.
  *
- * GT_OK, GT_BUFFER: as in `gt_session_select`. GT_NOT_FOUND: there was none. */
+ * - GT_OK, GT_BUFFER: as in `gt_session_select`.
+ * - GT_NOT_FOUND: there was none. */
 GT_MUST_CHECK int32_t gt_session_answer(gt_session *s, uint16_t *status,
                                         uint8_t *data, size_t room, size_t *len) {
     uint8_t none = 0;
@@ -1518,23 +1629,22 @@ GT_MUST_CHECK int32_t gt_session_answer(gt_session *s, uint16_t *status,
 }
 
 /* Notes the characters of each operation from now on, for `gt_session_heard`, until the session
- * ends. Characters noted before are dropped. Noting takes memory and time in each operation, so
- * call this right behind `gt_session_start` if you want them, and else not.
- *
- * GT_OK. */
+ * ends. It drops the characters noted before. Noting takes memory and time in each operation. So
+ * call this right after `gt_session_start`, and only if you want them. Returns GT_OK. */
 GT_MUST_CHECK int32_t gt_session_listen(gt_session *s) {
     if (!s) return GT_NULL;
     return galliumtoad_session_listen(s);
 }
 
-/* The characters of the last operation that was carried out, from its first to its last; none
- * before there was one after `gt_session_listen`. One that was not carried out (GT_MEMORY, GT_BUSY
- * ..) leaves them as they were. `count` gets how many; to ask for that alone, with room 0, is
- * GT_BUFFER, or GT_OK where it is 0.
+/* Copies the characters of the last operation that was carried out, from its first to its last;
+ * none before there was one after `gt_session_listen`. An operation that was not carried out
+ * (GT_MEMORY, GT_BUSY ..) leaves them unchanged. `count` gets their number. If you ask for that
+ * alone, with room 0, the result is GT_BUFFER, or GT_OK if it is 0.
  *
- * GT_OK: all of them stand in `line`. After each fault `line` is as it was. GT_STATE: nobody
- * listens (`gt_session_listen`). GT_MEMORY: memory ran out in the operation, so not all were noted.
- * GT_BUFFER: `room` is less than their number; `count` is that. */
+ * - GT_OK: all of them are in `line`. Nothing else changes `line`.
+ * - GT_STATE: nobody listens (`gt_session_listen`).
+ * - GT_MEMORY: memory ran out in the operation, so not all were noted.
+ * - GT_BUFFER: `room` is less than their number; `count` is that. */
 GT_MUST_CHECK int32_t gt_session_heard(gt_session *s, gt_character *line, size_t room,
                                        size_t *count) {
     gt_character none = { 0, 0 };
@@ -1543,14 +1653,14 @@ GT_MUST_CHECK int32_t gt_session_heard(gt_session *s, gt_character *line, size_t
 }
 
 /* Resets the card: nothing is selected, and a pending chain is dropped. Data objects, plans and the
- * last answer stay. GT_OK. */
+ * last answer stay. Returns GT_OK. */
 GT_FUNCTION int32_t gt_session_reset(gt_session *s) {
     if (!s) return GT_NULL;
     return galliumtoad_session_reset(s);
 }
 
-/* The three as `gt_card_selected`, `gt_card_app_at` and `gt_card_entry_at`, of the session's card;
- * never GT_STATE. */
+/* The next three are as `gt_card_selected`, `gt_card_app_at` and `gt_card_entry_at`, of the
+ * session's card, and never GT_STATE. */
 GT_MUST_CHECK int32_t gt_session_selected(gt_session *s, uint8_t aid[GT_AID_LIMIT],
                                           size_t *n) {
     if (!s || !aid || !n) return GT_NULL;
@@ -1572,18 +1682,20 @@ GT_MUST_CHECK int32_t gt_session_entry_at(gt_session *s, size_t app, size_t entr
                                         len);
 }
 
-/* Ends a session, and gives its card back, reset, into a card's handle that holds nothing; the
- * session's handle holds nothing then. Nothing is selected: a next session selects again. Plans
- * that are left are dropped.
+/* Ends a session, and moves its card, reset, into a card's handle that holds nothing. The session's
+ * handle then holds nothing. Nothing is selected: a next session selects again. Plans that are left
+ * are dropped.
  *
- * GT_OK. GT_STATE: `c` holds a card. GT_EMPTY: `s` holds nothing. */
+ * - GT_OK.
+ * - GT_STATE: `c` holds a card.
+ * - GT_EMPTY: `s` holds nothing. */
 GT_MUST_CHECK int32_t gt_session_end(gt_session *s, gt_card *c) {
     if (!s || !c) return GT_NULL;
     return galliumtoad_session_end(s, c);
 }
 
-/* Gives the memory back, the card's too, at any time; the handle holds nothing then, and may be
- * used again. Of one that holds nothing, or NULL, it is harmless. */
+/* Frees the session and its card, at any time. The handle then holds nothing, and may be used
+ * again. Does nothing for a handle that holds nothing, or for NULL. */
 GT_FUNCTION void gt_session_free(gt_session *s) {
     if (s) galliumtoad_session_free(s);
 }

@@ -1,25 +1,24 @@
-/* galliumtoad_heap.h: the three functions by which the library takes memory. libgalliumtoad.a has a
- * set of them over malloc and free; a program that defines all three is linked with its own.
+/* galliumtoad_heap.h: the three functions that the library takes memory with. libgalliumtoad.a
+ * contains a set of them over malloc and free. A program that defines all three is linked with its
+ * own.
  *
- * - gt_taken has `some` false and any `at` but NULL where memory is wanting.
+ * - gt_taken has `some` false, and any `at` except NULL, if memory ran out.
  * - A block is aligned to `align`, a power of two up to 16, and has `size` bytes, at least one.
  * - rattle_realloc makes a block one of `size` bytes, more or fewer than it has; it may move.
- *   `kept` is not how many it has, but how many at its front are in use, as many as it has and
- *   `size` at most: these go along, and no others need to. Where memory is wanting the block stays
- *   as it is.
- * - None of them is called from within another, and none may call the library, throw or longjmp:
- *   the library has no unwind tables, and what was begun would be lost.
+ *   `kept` is the number of bytes in use at its front: at most as many as it has, and at most
+ *   `size`. It copies these, and need copy no others. If memory runs out the block stays unchanged.
+ * - None of them is called from within another. None may call the library, throw or longjmp: the
+ *   library has no unwind tables, and the call in progress would be lost.
  * - They are hidden: a shared library that is linked with the archive keeps its three to itself,
  *   and calls no others.
- * - They are called by whatever threads call the library, and a block may be given back by another
- *   thread than the one that took it. Where several use handles at once, the three have to be safe
- *   in several threads at once, as malloc and free are.
- * - Blocks hold values of data objects, commands and answers. Those that the archive has wipe each
- *   block before they give it back to free, so that none of this stays in memory that is free. The
- *   library itself wipes no block: with three functions of your own that is theirs to do, for all
- *   bytes of a block, also of one that rattle_realloc moves or makes shorter. What has stood on the
- *   stack or in registers is not wiped, but for the copy that gt_card_tpdu makes.
- */
+ * - Whatever threads call the library call them, and another thread may give a block back than the
+ *   one that took it. If several threads use handles at once, the three must be safe in several
+ *   threads at once, as malloc and free are.
+ * - Blocks hold values of data objects, commands and answers. The archive's own functions wipe each
+ *   block before they free it, so that nothing of this stays in free memory. The library itself
+ *   wipes no block. Three functions of your own must do that, for all bytes of a block, also of one
+ *   that rattle_realloc moves or shortens. The stack and registers are not wiped, except the copy
+ *   that gt_card_tpdu makes. */
 #ifndef GALLIUMTOAD_HEAP_H
 #define GALLIUMTOAD_HEAP_H
 

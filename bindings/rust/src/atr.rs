@@ -33,11 +33,11 @@ codes! {
         TooLong = -72, "answer to reset too long";
         /// The T that this TD names is below the one before it, or is 15 in TD1.
         OutOfOrder = -73, "T out of order";
-        /// Characters stand behind the end.
+        /// Characters follow the end.
         Surplus = -74, "characters behind the answer to reset";
-        /// TCK is due, as a T other than 0 is named, and the bytes end.
+        /// TCK is missing, which a T other than 0 requires.
         CheckMissing = -75, "check byte missing";
-        /// One byte stands behind the end, and TCK is not due.
+        /// One byte follows the end, and TCK is not expected.
         CheckNotDue = -76, "check byte not due";
         /// TCK does not make the exclusive-or of all characters after TS `00`.
         CheckWrong = -77, "wrong check byte";
@@ -52,7 +52,7 @@ impl fmt::Display for AtrError {
 
 impl error::Error for AtrError {}
 
-/// How the bits of a character stand on the line (8.1).
+/// How the line shows the bits of a character (8.1).
 #[derive(Clone, Copy, Debug, PartialEq, Eq, Hash)]
 pub enum Convention {
     /// TS is `3B`: a high state is 1, and the lowest bit comes first.
@@ -61,12 +61,12 @@ pub enum Convention {
     Inverse,
 }
 
-/// In which mode a card is after its answer (6.3.1, and TA2 in 8.3).
+/// The mode of a card after its answer (6.3.1, and TA2 in 8.3).
 #[derive(Clone, Copy, Debug, PartialEq, Eq, Hash)]
 pub enum Mode {
     /// The terminal may ask for other values by PPS.
     Negotiable,
-    /// The card goes on at once.
+    /// The card continues at once.
     Specific {
         /// With this protocol.
         t: u8,
@@ -77,7 +77,7 @@ pub enum Mode {
     },
 }
 
-/// Whether the clock may stop, and at which level (8.3).
+/// Whether the clock may stop, and the level at which it does (8.3).
 #[derive(Clone, Copy, Debug, PartialEq, Eq, Hash)]
 pub enum ClockStop {
     /// It may not.
@@ -90,7 +90,7 @@ pub enum ClockStop {
     AtEither,
 }
 
-/// Which classes of voltage a card takes (8.3).
+/// The classes of voltage that a card takes (8.3).
 #[derive(Clone, Copy, Debug, PartialEq, Eq, Hash)]
 #[non_exhaustive]
 pub struct Classes {
@@ -105,13 +105,13 @@ pub struct Classes {
 /// The form of historical bytes, by the first of them (ISO/IEC 7816-4, 12.1.1).
 #[derive(Clone, Copy, Debug, PartialEq, Eq, Hash)]
 pub enum Category {
-    /// There are none.
+    /// There are no historical bytes.
     Absent,
-    /// `00`: objects in COMPACT-TLV, and behind them a status of three bytes.
+    /// `00`: objects in COMPACT-TLV, and then a status of three bytes.
     StatusBehind,
-    /// `10`: the byte behind it refers to a record of EF.DIR.
+    /// `10`: the next byte refers to a record of EF.DIR.
     DirReference,
-    /// `80`: objects in COMPACT-TLV, of which the last may be a status.
+    /// `80`: objects in COMPACT-TLV; the last may be a status.
     Objects,
     /// `81` to `8F`, which are reserved.
     Reserved,
@@ -123,9 +123,9 @@ pub enum Category {
 #[derive(Clone, Copy, Debug, PartialEq, Eq, Hash)]
 #[non_exhaustive]
 pub struct GuardTime {
-    /// So many elementary time units, as they are in use.
+    /// The elementary time units, as they are in use.
     pub etu: u16,
-    /// And so many times Fi/Di clock cycles, by Fi and Di of TA1.
+    /// And this many times Fi/Di clock cycles, by Fi and Di of TA1.
     pub indicated: u16,
 }
 
@@ -143,9 +143,9 @@ pub enum Edc {
 #[derive(Clone, Copy, Debug, PartialEq, Eq, Hash)]
 #[non_exhaustive]
 pub struct BlockWaitingTime {
-    /// So many elementary time units, as they are in use.
+    /// The elementary time units, as they are in use.
     pub etu: u16,
-    /// And so many clock cycles.
+    /// The clock cycles in addition.
     pub cycles: u64,
 }
 
@@ -167,7 +167,7 @@ pub struct BlockWaitingTime {
 #[derive(Clone, Copy, Debug, PartialEq, Eq, Hash)]
 #[non_exhaustive]
 pub struct Atr<'a> {
-    /// How the bits of a character stand on the line.
+    /// How the line shows the bits of a character.
     pub convention: Convention,
     /// Whether T=15 is named, which is no protocol: what follows it holds for all of them.
     pub names_15: bool,
@@ -201,11 +201,11 @@ pub struct Atr<'a> {
     /// BGT of T=1 in etu, 22: the least from the last character of a block to the first of one the
     /// other way.
     pub block_guard_time: u16,
-    /// The mode that TA2 says.
+    /// The mode, by TA2.
     pub mode: Mode,
-    /// Whether the clock may stop; not, where nothing is said behind T=15.
+    /// Whether the clock may stop: not, if nothing follows T=15.
     pub clock_stop: ClockStop,
-    /// The classes of voltage; A alone, where nothing is said behind T=15.
+    /// The classes of voltage: A alone, if nothing follows T=15.
     pub classes: Option<Classes>,
     /// The historical bytes, at most 15.
     pub historical: &'a [u8],
@@ -217,7 +217,7 @@ pub struct Atr<'a> {
 }
 
 impl<'a> Atr<'a> {
-    /// Reads the answer that these bytes are, all of them and no more.
+    /// Reads an answer to reset: `bytes` is all of it and no more.
     ///
     /// # Errors
     ///
@@ -240,7 +240,7 @@ impl<'a> Atr<'a> {
         }
     }
 
-    /// What the library has told of these bytes.
+    /// What the library has found in these bytes.
     fn of(told: &raw::Atr, bytes: &'a [u8]) -> Atr<'a> {
         Atr {
             convention: match told.convention {
@@ -273,7 +273,7 @@ impl<'a> Atr<'a> {
         }
     }
 
-    /// T of each protocol in the order offered, each once: T=0 alone where the answer names none.
+    /// T of each protocol in the order offered, each once: T=0 alone if the answer names none.
     #[must_use]
     pub fn protocols(&self) -> &[u8] {
         &self.protocols[..self.protocol_count]

@@ -1,4 +1,4 @@
-//! Characters that pass by buffers, of a terminal and of a card.
+//! Characters of a terminal and of a card, in buffers.
 
 use crate::card::Card;
 use crate::error::{done, told, Error};
@@ -12,7 +12,7 @@ use std::fmt;
 #[derive(Clone, Copy, Debug, PartialEq, Eq, Hash)]
 #[non_exhaustive]
 pub struct Sent {
-    /// So many characters stand at the front of the buffer; what is behind them is as it was.
+    /// The number of characters at the front of the buffer. The rest of it is as it was.
     pub count: usize,
     /// Why there are no more.
     pub stop: Stop,
@@ -29,14 +29,14 @@ pub enum Stop {
     Done,
 }
 
-/// Which character of a buffer is not taken. Those before it were, and those behind it were not
+/// The character of a buffer that was not taken. Those before it were. Those after it were not
 /// looked at.
 #[derive(Clone, Copy, Debug, PartialEq, Eq, Hash)]
 #[non_exhaustive]
 pub struct ReceiveError {
-    /// How many were taken: the place of the character that was not.
+    /// The number taken: the place of the character that was not.
     pub taken: usize,
-    /// What the call of that character alone would answer.
+    /// The result of a call with that character alone.
     pub error: Error,
 }
 
@@ -122,7 +122,7 @@ impl Terminal {
 
 impl Card {
     /// Hands out what the card sends now, as [`turn`](Card::turn) one at a time, as many characters
-    /// as `room` has place for. [`Stop::Done`] never comes.
+    /// as `room` has place for. It never stops with [`Stop::Done`].
     ///
     /// # Errors
     ///
@@ -136,7 +136,7 @@ impl Card {
     ///
     /// # Errors
     ///
-    /// - [`Error::NotListening`], in a [`ReceiveError`]: the card has characters to send, behind
+    /// - [`Error::NotListening`], in a [`ReceiveError`]: the card has characters to send after
     ///   those that it has taken.
     #[inline]
     pub fn receive_bytes(&mut self, bytes: &[u8]) -> Result<(), ReceiveError> {

@@ -1,4 +1,4 @@
-//! A card of data objects at the line, and how it is built.
+//! A card of data objects at the line, and its builder.
 
 use crate::error::{done, told, Error};
 use crate::exchange::{turn, Turn};
@@ -6,7 +6,7 @@ use crate::raw::{self, Handle};
 use crate::tables::{Tables, OF_CARD};
 use std::fmt;
 
-/// The most bytes that a value has on a card.
+/// The most bytes of a value on a card.
 pub const VALUE_LIMIT: usize = 8_192;
 
 /// The most bytes of such a value with its tag and length: the data of a get.
@@ -47,8 +47,7 @@ impl fmt::Debug for Entry {
     }
 }
 
-/// What a card is to hold, as it is built: each application gets its objects before the next one
-/// is added.
+/// Builds a card: each application gets its objects before the next one is added.
 #[derive(Debug)]
 pub struct CardBuilder(Owned);
 
@@ -135,7 +134,7 @@ impl CardBuilder {
         self.add(tag, value, false)
     }
 
-    /// As [`object`](CardBuilder::object), and no command changes it.
+    /// As [`object`](CardBuilder::object), for an object that no command changes.
     ///
     /// # Errors
     ///
@@ -151,7 +150,7 @@ impl CardBuilder {
         })
     }
 
-    /// The card: nothing is selected, and it listens.
+    /// Returns the card: nothing is selected, and it listens.
     ///
     /// # Errors
     ///
@@ -196,10 +195,10 @@ impl Card {
         done(unsafe { raw::galliumtoad_card_reset(self.0 .0.at()) })
     }
 
-    /// How the card answers one of the TPDUs to come, in turn. `steps` are letters, in any order
-    /// and number, which are carried out from left to right: `n` a NULL, `o` one data byte, `a` all
-    /// that are left; after the last letter all that are left move. `61XX` announces at most `cut`
-    /// bytes, 1 to 256 (as `6100`); it shows only where a response waits.
+    /// Plans how the card answers one more of the TPDUs to come, in turn. `steps` are letters, in
+    /// any order and number, carried out from left to right: `n` a NULL, `o` one data byte, `a` all
+    /// that are left. After the last letter all that are left move. `61XX` announces at most `cut`
+    /// bytes, 1 to 256 (as `6100`); it shows only if a response waits.
     ///
     /// # Errors
     ///
@@ -215,7 +214,7 @@ impl Card {
         })
     }
 
-    /// The identifier of the application that is selected.
+    /// The identifier of the selected application.
     #[must_use]
     pub fn selected(&self) -> Option<Vec<u8>> {
         Tables(&self.0 .0, &OF_CARD).selected()
@@ -226,7 +225,7 @@ impl Card {
         Tables(&self.0 .0, &OF_CARD).apps()
     }
 
-    /// The data objects of an application, which is counted from 0, in order of first storing.
+    /// The data objects of the application at this place, from 0, in order of first storing.
     pub fn entries(&self, app: usize) -> impl Iterator<Item = Entry> + '_ {
         Tables(&self.0 .0, &OF_CARD).entries(app)
     }

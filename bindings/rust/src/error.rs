@@ -1,4 +1,4 @@
-//! Why a call was refused, and the codes of `galliumtoad.h` that say so.
+//! Why a call was refused, and the codes of `galliumtoad.h`.
 
 use std::error;
 
@@ -51,7 +51,7 @@ codes! {
     /// Why a call was refused. Each fault has the number that `galliumtoad.h` gives it.
     Error {
         /// The value is in no state for this call: an operation is in progress, or none has begun,
-        /// or characters of a TPDU have gone.
+        /// or characters of a TPDU have passed.
         State = -3, "not in this state";
         /// Memory ran out.
         Memory = -4, "out of memory";
@@ -67,25 +67,25 @@ codes! {
         Failed = -9, "failed";
         /// As many plans wait as may, [`PLANS_LIMIT`](crate::PLANS_LIMIT).
         Plans = -10, "too many plans";
-        /// The identifier is that of an application before it.
+        /// An earlier application has this identifier.
         AppTwice = -20, "aid twice";
-        /// There are as many applications as a card may have.
+        /// The card has as many applications as it may.
         TooManyApps = -21, "too many apps";
         /// There is no application to hold the data object.
         NoApp = -22, "no app";
-        /// The value has more bytes than a value may have.
+        /// The value exceeds [`VALUE_LIMIT`](crate::VALUE_LIMIT).
         ValueTooLong = -23, "value too long";
         /// The tag is that of a template, and the value is no list of objects.
         NotObjects = -24, "not objects";
-        /// The application has as many data objects as it may have.
+        /// The application has as many data objects as it may.
         TableFull = -25, "table full";
         /// The end has characters to send.
         NotListening = -30, "not listening";
-        /// Neither a procedure byte nor a first status byte where one is due.
+        /// Unexpected byte: neither a procedure byte nor a first status byte.
         BadProcedure = -31, "bad procedure byte";
-        /// The response has more bytes than it may: 16,384, or a limit below.
+        /// The response exceeds its limit: 16,384 bytes, or fewer.
         TooLong = -32, "response too long";
-        /// A GET RESPONSE has brought nothing, and the card announces more.
+        /// A GET RESPONSE brought nothing, and the card announces more.
         Stalled = -33, "stalled";
         /// The exchange has ended, or has failed.
         AfterEnd = -34, "after the end";
@@ -105,7 +105,7 @@ codes! {
         TooMany = -63, "more data than asked for";
         /// The bytes are no whole TPDU.
         NoTpdu = -64, "no whole TPDU";
-        /// The card takes data, and the TPDU has none: both ends would wait.
+        /// The card takes data, and the TPDU has none: deadlock.
         WantsData = -65, "card takes data not given";
         /// The card sends data, and the TPDU asks for none.
         SendsData = -66, "card sends data not asked for";
@@ -114,7 +114,7 @@ codes! {
 
 impl error::Error for Error {}
 
-/// An answer of 0 or above, or the fault that a number below 0 is.
+/// The result if the code is 0 or above, else the fault.
 #[inline]
 pub(crate) fn told(code: i32) -> Result<i32, Error> {
     if code < 0 {
@@ -124,7 +124,7 @@ pub(crate) fn told(code: i32) -> Result<i32, Error> {
     }
 }
 
-/// As [`told`], of a call that has no answer.
+/// As [`told`], for a call without a result.
 #[inline]
 pub(crate) fn done(code: i32) -> Result<(), Error> {
     told(code).map(|_| ())

@@ -6,7 +6,7 @@ use crate::raw::{self, Handle, Held};
 use crate::status::Status;
 use std::fmt;
 
-/// The most data bytes that an answer has, where there is no limit below.
+/// The most data bytes of an answer, if the caller sets no lower limit.
 pub const RESPONSE_LIMIT: usize = 16_384;
 
 /// What an end does when it is asked. `Debug` leaves the character out.
@@ -33,15 +33,15 @@ impl fmt::Debug for Turn {
 
 /// A card's answer to a command: a status word, and data.
 ///
-/// The data are the caller's: this crate wipes no copy of them. `Debug` shows how many they are.
+/// The data are the caller's: this crate wipes no copy of them. `Debug` shows their number.
 ///
 /// An `Err` is about the call, a status about the card: a put that the card refuses is `Ok` with a
-/// status such as `6982`. After all but `9000` and `61XX` no value is stored, what was selected
+/// status such as `6982`. After all except `9000` and `61XX` no value is stored, what was selected
 /// stays selected, and a chain is dropped. A [`Card`](crate::Card) answers:
 ///
 /// | Status | Why |
 /// |---|---|
-/// | `9000` | it is done, and all data have come |
+/// | `9000` | it is done, and all data were received |
 /// | `61XX` | it is done, and XX more bytes can be had with GET RESPONSE (`00`: 256) |
 /// | `6581` | PUT DATA: the card runs out of memory |
 /// | `6700` | PUT DATA: a value above 8,192 bytes; SELECT: an identifier not of 5 to 16 bytes |
@@ -66,7 +66,7 @@ pub struct Answer {
 
 impl Answer {
     /// The data as one object with this tag, and nothing else: the answer to a get of that tag.
-    /// `None` if they are not that; then the card has answered something else, as the value alone.
+    /// `None` if they are not: then the card has sent something else, as the value alone.
     #[must_use]
     pub fn object(&self, tag: u32) -> Option<Object<'_>> {
         let object = find(&self.data, &[tag]).ok().flatten()?;
@@ -85,14 +85,14 @@ impl fmt::Debug for Answer {
 #[non_exhaustive]
 pub struct Copied {
     pub status: Status,
-    /// How many bytes of data are at the front of the buffer; the others are as they were.
+    /// The number of data bytes at the front of the buffer. The rest of it is as it was.
     pub count: usize,
 }
 
 /// A function of the archive that hands out a character.
 type Turns = unsafe extern "C" fn(*mut Held, *mut u8) -> i32;
 
-/// What an end does; the handle is of the function's kind.
+/// Returns what an end does. The handle is of the function's kind.
 #[inline]
 pub(crate) fn turn(handle: &Handle, turns: Turns) -> Result<Turn, Error> {
     let mut byte = 0;
@@ -107,7 +107,7 @@ pub(crate) fn turn(handle: &Handle, turns: Turns) -> Result<Turn, Error> {
 /// The function of the archive that copies the answer of a handle.
 type Copies = unsafe extern "C" fn(*mut Held, *mut u16, *mut u8, usize, *mut usize) -> i32;
 
-/// What `copies` answers for this handle, which is of its kind, and what it has told.
+/// The result of `copies` for this handle, which is of its kind, and what it wrote.
 fn copy(handle: &Handle, copies: Copies, room: &mut [u8]) -> (i32, Copied) {
     let (mut status, mut count) = (0, 0);
     let (data, n) = (room.as_mut_ptr(), room.len());
@@ -128,7 +128,7 @@ pub(crate) fn answer_into(
     told(code).map(|_| found)
 }
 
-/// An answer with data of their own, which take no more memory than they need.
+/// An answer that owns its data, in no more memory than they need.
 pub(crate) fn answer(handle: &Handle, copies: Copies) -> Result<Answer, Error> {
     let (code, asked) = copy(handle, copies, &mut []);
     let count = if code == raw::BUFFER { asked.count } else { 0 };
@@ -143,19 +143,19 @@ pub(crate) fn answer(handle: &Handle, copies: Copies) -> Result<Answer, Error> {
 /// Ask it for its [`next`](Exchange::next) character, send that or wait for one of the card, and
 /// hand that to [`take`](Exchange::take), until it is done.
 ///
-/// An exchange may be several TPDUs. Where the card answers `6CXX` to one that asks for data, that
-/// is sent again with XX, once, unless XX is more than is still wanted. Where it answers `61XX`,
-/// and more is wanted, GET RESPONSE is sent for it. Any other status ends the exchange, and so does
-/// `61XX` where no more is wanted. With Le `00` all there is is wanted, with another Le as many
-/// bytes at most, without Le none: a SELECT without Le ends at `61XX`, with no data. So end a
-/// command with `00` for a whole answer.
+/// An exchange may be several TPDUs. If the card answers `6CXX` to one that asks for data, it sends
+/// that again with XX, once, unless XX is more than it still wants. If the card answers `61XX`, and
+/// it wants more, it sends GET RESPONSE. Any other status ends the exchange, and so does `61XX` if
+/// it wants no more. With Le `00` it wants all there is, with another Le at most that many bytes,
+/// without Le none: a SELECT without Le ends at `61XX`, with no data. So end a command with `00`
+/// for a whole answer.
 ///
 /// It keeps a copy of the command, and room for the response. A drop frees both, and wipes them.
 ///
-/// Over T=0 no header says which way data move: both ends have to know it from INS. With a command
-/// that the card takes the other way ([`Session::send`](crate::Session::send) refuses such ones)
-/// the card may be handed characters while it sends ([`Error::NotListening`]), or both wait for
-/// ever, as with `00 A4 04 00 05`: this and the card's turn are [`Turn::Listens`]. Drop the
+/// Over T=0 no header says which way data move: both ends must know it from INS.
+/// [`Session::send`](crate::Session::send) refuses a command that the card takes the other way.
+/// Here the card may get characters while it sends ([`Error::NotListening`]), or both ends
+/// deadlock, as with `00 A4 04 00 05`: this and the card's turn are [`Turn::Listens`]. Drop the
 /// exchange then, and reset the card.
 #[derive(Debug)]
 pub struct Exchange(pub(crate) Handle);
@@ -173,7 +173,7 @@ impl Exchange {
     }
 
     /// Starts the exchange of a command whose response may have `limit` bytes, 0 to
-    /// [`RESPONSE_LIMIT`]: no more memory is taken for it, and one byte more is [`Error::TooLong`].
+    /// [`RESPONSE_LIMIT`]: it takes no more memory for it, and one byte more is [`Error::TooLong`].
     ///
     /// # Errors
     ///
@@ -193,12 +193,12 @@ impl Exchange {
         Ok(exchange)
     }
 
-    /// What the terminal does now. A character to send is handed out.
+    /// Returns what the terminal does now, with a character to send.
     ///
     /// # Errors
     ///
     /// - [`Error::Failed`]: the exchange has failed for good.
-    #[allow(clippy::should_implement_trait)] // it is no iterator: it may wait, and goes on then
+    #[allow(clippy::should_implement_trait)] // no iterator: it may wait, and then continue
     #[inline]
     pub fn next(&mut self) -> Result<Turn, Error> {
         turn(&self.0, raw::galliumtoad_exchange_next)
@@ -224,8 +224,8 @@ impl Exchange {
         answer(&self.0, raw::galliumtoad_exchange_answer).ok()
     }
 
-    /// The answer, with its data at the front of `room`: this takes no memory, and the data are in
-    /// the caller's buffer alone. [`RESPONSE_LIMIT`] bytes are always enough.
+    /// Copies the answer, with its data at the front of `room`. This takes no memory, and the data
+    /// are in the caller's buffer alone. [`RESPONSE_LIMIT`] bytes are always enough.
     ///
     /// # Errors
     ///

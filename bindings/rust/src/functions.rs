@@ -1,5 +1,5 @@
-// The archive's functions, as `galliumtoad.h` declares them: `raw.rs` makes declarations of this
-// list, and `tests/forwards.rs` stand-ins.
+// The archive's functions, as `galliumtoad.h` declares them. `raw.rs` turns this list into
+// declarations, `tests/forwards.rs` into stand-ins.
 declared! {
     fn galliumtoad_objects(
         bytes: *const u8, n: usize, objects: *mut Object, room: usize, count: *mut usize,

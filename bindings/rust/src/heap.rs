@@ -1,25 +1,25 @@
-//! The three functions by which the library takes memory, over the program's allocator: those that
-//! `heap.c` is for a program in C. Blocks have held values and commands, so each is wiped before it
-//! is given back, also one that is made longer or shorter.
+//! The three functions that the library takes memory with, over the program's allocator, as
+//! `heap.c` has them for a program in C. Blocks held values and commands, so each is wiped before
+//! it is freed, also one that is made longer or shorter.
 #![allow(clippy::cast_ptr_alignment)] // blocks and their heads are aligned to `HEAD`
 
 use crate::wiped::wipe_from;
 use std::alloc::{alloc, dealloc, Layout};
 use std::ptr::NonNull;
 
-// Each library of a process has functions of its own, since each may have another allocator: none
-// of them is exported, and no call of the archive goes to those of another one.
+// Each library of a process has its own functions, since each may have another allocator. They are
+// not exported, so no call of the archive goes to those of another library.
 std::arch::global_asm!(
     ".hidden rattle_alloc",
     ".hidden rattle_realloc",
     ".hidden rattle_dealloc"
 );
 
-/// Before each block stands its size, in as many bytes as keep the block aligned; and a block ends
-/// where a word of this size does.
+/// Before each block is its size, in as many bytes as keep the block aligned. A block ends where a
+/// word of this size does.
 const HEAD: usize = 16;
 
-/// What C knows as `gt_taken`: where `some` is false, `at` is any pointer but NULL.
+/// C's `gt_taken`: if `some` is false, `at` is any pointer except NULL.
 #[repr(C)]
 pub struct Taken {
     some: bool,
@@ -31,7 +31,7 @@ const NONE: Taken = Taken {
     at: NonNull::dangling(),
 };
 
-/// The layout of a block of `size` bytes with its head, where there is one.
+/// The layout of a block of `size` bytes with its head, if there is one.
 fn layout(size: usize) -> Option<Layout> {
     let whole = size.checked_add(2 * HEAD - 1)? / HEAD * HEAD;
     Layout::from_size_align(whole, HEAD).ok()
@@ -39,7 +39,7 @@ fn layout(size: usize) -> Option<Layout> {
 
 fn taken(size: usize) -> Option<NonNull<u8>> {
     let layout = layout(size)?;
-    // SAFETY: the layout has a size; where there is a block, its head is aligned and has room.
+    // SAFETY: the layout has a size. If there is a block, its head is aligned and has room.
     unsafe {
         let whole = NonNull::new(alloc(layout))?.as_ptr();
         whole.cast::<usize>().write(size);
@@ -54,8 +54,8 @@ extern "C" fn rattle_alloc(size: usize, _align: usize) -> Taken {
 
 /// # Safety
 ///
-/// The block is one of these functions, with `kept` bytes or more, and is not used again where
-/// there is a new one.
+/// The block comes from these functions, has `kept` bytes or more, and is not used again if there
+/// is a new one.
 #[no_mangle]
 unsafe extern "C" fn rattle_realloc(
     block: *mut u8,
@@ -74,7 +74,7 @@ unsafe extern "C" fn rattle_realloc(
 
 /// # Safety
 ///
-/// The block is one of these functions, and is not used again.
+/// The block comes from these functions, and is not used again.
 #[no_mangle]
 unsafe extern "C" fn rattle_dealloc(block: *mut u8) {
     let whole = block.sub(HEAD);

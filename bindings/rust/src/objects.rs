@@ -1,4 +1,4 @@
-//! Data objects in bytes: all of them, the one at a path, and how one begins.
+//! Data objects in bytes: all of them, the one at a path, and the start of one.
 
 use crate::error::codes;
 use crate::{raw, version};
@@ -26,7 +26,7 @@ codes! {
     }
 }
 
-/// Why [`Objects::over`] or [`find`] has no answer.
+/// Why [`Objects::over`] or [`find`] has no result.
 #[derive(Clone, Copy, Debug, PartialEq, Eq, Hash)]
 #[non_exhaustive]
 pub enum ObjectsError {
@@ -76,7 +76,7 @@ pub struct Object<'a> {
     pub is_constructed: bool,
     /// The place of the tag's first byte, counted in bytes from 0.
     pub place: usize,
-    /// The bytes of tag, length and value together, as they stand.
+    /// The bytes of tag, length and value together, unchanged.
     pub size: usize,
     /// The value.
     pub value: &'a [u8],
@@ -89,7 +89,7 @@ impl fmt::Debug for Object<'_> {
 }
 
 impl<'a> Object<'a> {
-    /// The object that the library has told of in these bytes.
+    /// The object that the library has found in these bytes.
     fn of(told: &raw::Object, bytes: &'a [u8]) -> Object<'a> {
         Object {
             tag: told.tag,
@@ -124,7 +124,7 @@ impl<'a> Objects<'a> {
     /// # Errors
     ///
     /// - [`ObjectsError::Fault`]: the bytes are no list of objects; this is their first fault.
-    /// - [`ObjectsError::Memory`]: there is none for the list.
+    /// - [`ObjectsError::Memory`]: it ran out.
     pub fn over(bytes: &'a [u8]) -> Result<Objects<'a>, ObjectsError> {
         let (count, mut listed) = (list(bytes, &mut [])?, Vec::new());
         let room = listed.try_reserve_exact(count);
@@ -146,7 +146,7 @@ impl fmt::Debug for Objects<'_> {
     }
 }
 
-/// Lists as many objects as there is room for, and answers how many there are.
+/// Lists as many objects as there is room for, and returns how many there are.
 fn list(bytes: &[u8], room: &mut [raw::Object]) -> Result<usize, ObjectsError> {
     version::look();
     let (mut count, mut place, at, n) = (0, 0, bytes.as_ptr(), bytes.len());
@@ -177,8 +177,9 @@ impl ExactSizeIterator for Objects<'_> {}
 
 impl std::iter::FusedIterator for Objects<'_> {}
 
-/// The object at a path: the first one, in the order of the bytes, whose tags from level 1 down to
-/// its own are those of the path. `None` if there is none, and for a path of no steps.
+/// Finds the object at a path: the first one, in the order of the bytes, whose tags from level 1
+/// down to its own are those of the path. `None` if there is no such object, or the path has no
+/// steps.
 ///
 /// ```
 /// use galliumtoad::find;
@@ -210,8 +211,8 @@ pub fn find<'a>(bytes: &'a [u8], path: &[u32]) -> Result<Option<Object<'a>>, Obj
     }
 }
 
-/// The tag, and the length in its shortest spelling, as an object begins: 2 to 6 bytes. `None` if
-/// no tag of one to three bytes has this number.
+/// The tag, and the length in its shortest form, as an object begins: 2 to 6 bytes. `None` if no
+/// tag of one to three bytes has this number.
 #[must_use]
 pub fn head(tag: u32, length: u16) -> Option<Vec<u8>> {
     version::look();

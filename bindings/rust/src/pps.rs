@@ -8,10 +8,10 @@ use std::error;
 /// The most bytes of a PPS request or response.
 pub const PPS_LIMIT: usize = 6;
 
-/// What stands for a character that is not there.
+/// The mark of an absent character.
 const ABSENT: u16 = 256;
 
-/// What a terminal asks for by PPS: a protocol, and PPS1 to PPS3, those that are there.
+/// What a terminal asks for by PPS: a protocol, and any of PPS1 to PPS3.
 ///
 /// ```
 /// use galliumtoad::Pps;
@@ -36,18 +36,18 @@ pub struct Pps {
 }
 
 codes! {
-    /// Why a response can't be judged. Of the response it is the first fault from the left; a wrong
+    /// Why a response can't be judged. For a response it is the first fault from the left; a wrong
     /// PCK comes last.
     PpsError {
-        /// What is asked for is no request: T is above 15.
+        /// The values are no request: T is above 15.
         Argument = -5, "bad argument";
         /// The first byte is not `FF`.
         NoPpss = -80, "no PPSS";
-        /// The bytes end before a character that is due.
+        /// The bytes end before an expected character.
         Cut = -81, "PPS cut";
         /// Bit 8 of PPS0 is 1, which is reserved.
         Reserved = -82, "PPS0 reserved";
-        /// Characters stand behind PCK.
+        /// Characters follow PCK.
         Surplus = -83, "characters behind PCK";
         /// PCK does not make the exclusive-or of all characters `00`.
         CheckWrong = -84, "wrong PCK";
@@ -79,8 +79,8 @@ impl Pps {
     }
 
     /// Whether a card's response accepts this request (9.3): it names the same protocol, and each
-    /// of PPS1 to PPS3 is as it was asked for or is not there, which accepts all but that one. If
-    /// it doesn't, reset the card or give it up.
+    /// of PPS1 to PPS3 is as requested or absent. The card accepts all except an absent one. If it
+    /// refuses, reset the card or give it up.
     ///
     /// # Errors
     ///

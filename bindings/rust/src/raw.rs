@@ -1,17 +1,17 @@
-//! The archive's functions, as `galliumtoad.h` declares them. A call is right where
+//! The archive's functions, as `galliumtoad.h` declares them. A call is right if
 //!
-//! - a pointer with a count is that of a slice with its length, and every other one is that of a
-//!   value, of the type that is written here: so none is NULL, and each is aligned;
+//! - a pointer with a count is that of a slice with its length. Every other one is that of a value
+//!   of the type written here. So none is NULL, and each is aligned;
 //! - what is written to does not overlap with anything else that is handed over;
 //! - a handle holds nothing, or what the function's name says, and no other call has it.
 //!
-//! The last of these holds wherever a handle's owner is called by `&` or `&mut`, see [`Handle`].
+//! The last of these holds when a handle's owner is called by `&` or `&mut`, see [`Handle`].
 
 use crate::version;
 use std::cell::UnsafeCell;
 use std::ffi::c_void;
 
-/// What C sees of a handle: 16 bytes that nothing but the library reads or writes.
+/// What C sees of a handle: 16 bytes that only the library reads or writes.
 #[repr(C)]
 #[derive(Debug)]
 pub struct Held {
@@ -20,15 +20,15 @@ pub struct Held {
 }
 
 /// A handle, in a cell, since each function writes to it: it takes out what the handle holds, and
-/// puts it back before it returns. A `&Handle` is enough for a call: a cell is not `Sync`, so no
-/// other thread has one, and no function of the archive calls back, so that no two calls have one
-/// handle at once.
+/// puts it back before it returns. A `&Handle` is enough for a call. A cell is not `Sync`, so no
+/// other thread has one, and no function of the archive calls back. So no two calls have one handle
+/// at once.
 #[derive(Debug)]
 pub struct Handle(UnsafeCell<Held>);
 
-// SAFETY: of each kind of handle it is proved that it may go to another thread; what hands a value
-// of Rust over orders what both threads do with it. The functions for memory are those of an
-// allocator of Rust, or of `malloc`, or the program's own, which owe the same.
+// SAFETY: it is proved for each kind of handle that it may move to another thread. Whatever moves a
+// Rust value there orders what both threads do with it. The functions for memory are those of a
+// Rust allocator, or of `malloc`, or the program's own, which must allow the same.
 unsafe impl Send for Handle {}
 
 impl Handle {
@@ -41,7 +41,7 @@ impl Handle {
         }))
     }
 
-    /// Where it stands, for a call that may write to it.
+    /// Its address, for a call that may write to it.
     #[inline]
     pub fn at(&self) -> *mut Held {
         self.0.get()

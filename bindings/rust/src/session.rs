@@ -46,7 +46,7 @@ impl Session {
     /// # Errors
     ///
     /// None today.
-    #[allow(clippy::needless_pass_by_value)] // the session has it from now on
+    #[allow(clippy::needless_pass_by_value)] // the session owns it from now on
     pub fn start(card: Card) -> Result<Session, Error> {
         let session = Session(Handle::empty());
         // SAFETY: a handle that holds nothing, and a card's, which are apart.
@@ -54,7 +54,7 @@ impl Session {
         Ok(session)
     }
 
-    /// Whether an operation can be begun: no chain is pending.
+    /// Whether an operation can start: no chain is pending.
     ///
     /// # Errors
     ///
@@ -64,15 +64,15 @@ impl Session {
         Ok(told(unsafe { raw::galliumtoad_session_idle(self.0.at()) })? == 1)
     }
 
-    /// How the card answers one of the next operation's TPDUs, in turn, as [`Card::plan`]. What the
-    /// operation leaves of its plans is dropped after it, and by [`Session::end`].
+    /// Plans how the card answers one more of the next operation's TPDUs, in turn, as
+    /// [`Card::plan`]. That operation drops the plans that it leaves, and so does [`Session::end`].
     ///
-    /// Where it ends with `9000`, a select is two TPDUs, SELECT and GET RESPONSE, and a put one for
-    /// each 255 bytes, at least one. A get of up to 255 bytes (tag, length and value) is two: one
-    /// that is answered `6CXX` and moves no data, and one that brings them all. One of more is a
-    /// TPDU for each 256 bytes or less that are left, and more of them where a `cut` is smaller. So
-    /// to have the bytes of a short get come singly, plan `""` first, and then an `o` for each byte
-    /// of tag, length and value: `"oooooo"` for a value of 3 bytes under `5F20`.
+    /// If it ends with `9000`, a select is two TPDUs, SELECT and GET RESPONSE, and a put one for
+    /// each 255 bytes, at least one. A get of up to 255 bytes (tag, length and value) is two: the
+    /// first gets `6CXX` and moves no data, the second brings them all. A longer one is a TPDU for
+    /// each 256 bytes or less that are left, and more of them if a `cut` is smaller. So to have the
+    /// bytes of a short get come singly, plan `""` first, and then an `o` for each byte of tag,
+    /// length and value: `"oooooo"` for a value of 3 bytes under `5F20`.
     ///
     /// # Errors
     ///
@@ -125,8 +125,8 @@ impl Session {
         Ok(self.answer_into(&mut [])?.status)
     }
 
-    /// Sends any one command; it may begin a chain or go on with one. The answer has as much of the
-    /// data as its Le asks for, see [`Exchange`](crate::Exchange).
+    /// Sends any one command. It may start or continue a chain. The answer has as much of the data
+    /// as its Le asks for, see [`Exchange`](crate::Exchange).
     ///
     /// # Errors
     ///
@@ -134,8 +134,8 @@ impl Session {
     ///
     /// - [`Error::TooShort`], [`Error::BadLength`], [`Error::InvalidIns`]: the bytes are not a
     ///   command.
-    /// - [`Error::Argument`]: over T=0 both ends have to know which way data move, and the card
-    ///   takes the command the other way.
+    /// - [`Error::Argument`]: over T=0 both ends must know which way data move, and the card takes
+    ///   the command the other way.
     /// - [`Error::Memory`]: it ran out.
     pub fn send(&mut self, command: &[u8]) -> Result<Answer, Error> {
         // SAFETY: a session's handle; a slice with its length.
@@ -149,7 +149,7 @@ impl Session {
     ///
     /// # Errors
     ///
-    /// - [`Error::NotFound`]: there is none yet.
+    /// - [`Error::NotFound`]: there is no answer yet.
     pub fn answer(&self) -> Result<Answer, Error> {
         exchange::answer(&self.0, raw::galliumtoad_session_answer)
     }
@@ -158,7 +158,7 @@ impl Session {
     ///
     /// # Errors
     ///
-    /// - [`Error::NotFound`]: there is none yet. `room` is as it was, as after the next.
+    /// - [`Error::NotFound`]: there is no answer yet. `room` is as it was, as after the next.
     /// - [`Error::Buffer`]: there are more data than `room` has place for.
     pub fn answer_into(&self, room: &mut [u8]) -> Result<Copied, Error> {
         exchange::answer_into(&self.0, raw::galliumtoad_session_answer, room)
@@ -197,7 +197,7 @@ impl Session {
         Ok(heard)
     }
 
-    /// Fills the room where it is enough, and answers how many characters there are.
+    /// Fills the room if it is enough, and returns how many characters there are.
     fn hear(&self, room: &mut [raw::Character]) -> Result<usize, Error> {
         let mut count = 0;
         // SAFETY: as in `answer`; `room` with its length, and `count`.
@@ -220,7 +220,7 @@ impl Session {
         done(unsafe { raw::galliumtoad_session_reset(self.0.at()) })
     }
 
-    /// The identifier of the application that is selected, as [`Card::selected`].
+    /// The identifier of the selected application, as [`Card::selected`].
     #[must_use]
     pub fn selected(&self) -> Option<Vec<u8>> {
         Tables(&self.0, &OF_SESSION).selected()

@@ -2,7 +2,7 @@
 
 use std::fmt;
 
-/// A status word, SW1 and SW2: `0x9000` if the card has done what it was asked for.
+/// A status word, SW1 and SW2: `0x9000` if the card has carried out the command.
 ///
 /// ```
 /// use galliumtoad::Status;
@@ -35,7 +35,7 @@ impl Status {
         self.0.to_be_bytes()[1]
     }
 
-    /// What it means if a [`Card`](crate::Card) answers it, in a few words. Of any other status it
+    /// What it means if a [`Card`](crate::Card) returns it, in a few words. For any other status it
     /// is `unknown status`.
     #[must_use]
     pub fn text(self) -> &'static str {
@@ -74,7 +74,7 @@ impl fmt::Debug for Status {
     }
 }
 
-/// So that a status compares with a number: `answer.status == 0x9000`.
+/// Compares a status with a number: `answer.status == 0x9000`.
 impl PartialEq<u16> for Status {
     fn eq(&self, word: &u16) -> bool {
         self.0 == *word

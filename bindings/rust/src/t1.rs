@@ -18,7 +18,7 @@ pub const T1_EXTENSIONS: u8 = 16;
 codes! {
     /// Why a terminal's end at T=1 gave up. Each has the number that `galliumtoad.h` gives it.
     Cause {
-        /// No block brought it a step forward, too often in a row.
+        /// Too many receptions in a row brought no step forward.
         TriesSpent = -90, "no valid block, too often";
         /// The card asked for more time or another IFSC too often.
         ExtensionsSpent = -91, "too many requests of the card";
@@ -36,7 +36,7 @@ pub enum Outcome {
     NotCarriedOut,
     /// The card may have carried it out.
     Unknown,
-    /// The card has carried it out, and a part of its response came.
+    /// The card has carried it out, and sent a part of its response.
     InPart,
 }
 
@@ -97,7 +97,7 @@ pub struct Block {
 #[derive(Clone, Copy, Debug, PartialEq, Eq, Hash)]
 #[non_exhaustive]
 pub struct Received {
-    /// How many. Those behind them are none of the block: drop them.
+    /// Their number. The bytes after them are not part of the block: drop them.
     pub taken: usize,
     /// Whether the block is whole, valid or not: then [`T1::block_into`] has the next one.
     pub is_whole: bool,
@@ -154,7 +154,7 @@ impl T1 {
         Ok(t1)
     }
 
-    /// Begins a command, which is copied.
+    /// Starts a command, which is copied.
     ///
     /// # Errors
     ///
@@ -168,7 +168,7 @@ impl T1 {
     }
 
     /// Copies the block to send now to the front of `room`, or returns `None` if no command is in
-    /// progress. Asked again it is the same block, until one of the next two calls.
+    /// progress. Each further call gives the same block, until one of the next two calls.
     ///
     /// # Errors
     ///
@@ -211,8 +211,8 @@ impl T1 {
         Ok(Received { taken, is_whole })
     }
 
-    /// No valid block of the card came: none began within BWT, one stopped for longer than CWT, or
-    /// a character had a wrong parity.
+    /// Reports that no valid block of the card came: none began within BWT, one stopped for longer
+    /// than CWT, or a character had a wrong parity.
     ///
     /// # Errors
     ///

@@ -1,4 +1,4 @@
-//! What a card holds, where it stands alone or in a session.
+//! What a card holds, alone or in a session.
 
 use crate::card::{Entry, AID_LIMIT};
 use crate::raw::{self, Handle, Held};
@@ -7,7 +7,7 @@ use crate::raw::{self, Handle, Held};
 #[derive(Clone, Copy)]
 pub(crate) struct Tables<'a>(pub(crate) &'a Handle, pub(crate) &'static Calls);
 
-/// The three functions that tell of them.
+/// The three functions that read them.
 pub(crate) struct Calls {
     selected: unsafe extern "C" fn(*mut Held, *mut u8, usize, *mut usize) -> i32,
     app_at: unsafe extern "C" fn(*mut Held, usize, *mut u8, usize, *mut usize) -> i32,
@@ -69,7 +69,7 @@ impl<'a> Tables<'a> {
         (code == raw::OK).then_some(found)
     }
 
-    /// What `entry_at` answers, the object, and how many bytes its value has. They are in `value`
+    /// The result of `entry_at`, the object, and how many bytes its value has. They are in `value`
     /// if that has room for them.
     fn copy(self, app: usize, entry: usize, mut value: Vec<u8>) -> (i32, Entry, usize) {
         let (mut tag, mut locked, mut n) = (0, 0, 0);

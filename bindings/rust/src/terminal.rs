@@ -1,4 +1,4 @@
-//! A terminal, which carries out operations with a card behind any line.
+//! A terminal, which carries out operations with a card over any line.
 
 use crate::error::{done, told, Error};
 use crate::exchange::{self, Answer, Copied, Turn, RESPONSE_LIMIT};
@@ -30,7 +30,7 @@ impl fmt::Debug for Operation<'_> {
     }
 }
 
-/// A terminal, which carries out one operation after another with a card behind any line.
+/// A terminal, which carries out one operation after another with a card over any line.
 ///
 /// An operation begins ([`begin`](Terminal::begin)). Then its characters, its whole TPDUs or its
 /// commands go to the card and what comes back to the terminal, until it has an
@@ -118,13 +118,13 @@ impl Terminal {
         done(code)
     }
 
-    /// What the terminal does now. A character to send is handed out.
+    /// Returns what the terminal does now, with a character to send.
     ///
     /// # Errors
     ///
     /// - [`Error::State`]: no operation has begun.
     /// - [`Error::Failed`]: it has failed for good.
-    #[allow(clippy::should_implement_trait)] // it is no iterator: it may wait, and goes on then
+    #[allow(clippy::should_implement_trait)] // no iterator: it may wait, and then continue
     #[inline]
     pub fn next(&mut self) -> Result<Turn, Error> {
         exchange::turn(&self.0, raw::galliumtoad_terminal_next)
@@ -143,7 +143,7 @@ impl Terminal {
         done(unsafe { raw::galliumtoad_terminal_take(self.0.at(), byte) })
     }
 
-    /// The whole TPDU that is due, if none of its characters has gone.
+    /// The next whole TPDU, if none of its characters was sent.
     #[must_use]
     pub fn tpdu(&self) -> Option<Tpdu> {
         whole::tpdu(&self.0, raw::galliumtoad_terminal_tpdu)
@@ -158,7 +158,7 @@ impl Terminal {
     ///
     /// # Errors
     ///
-    /// - [`Error::NotDue`]: no TPDU is due, or no operation has begun. Nothing has changed.
+    /// - [`Error::NotDue`]: no TPDU is next, or no operation has begun. Nothing has changed.
     /// - [`Error::NoStatus`], [`Error::NotAsked`], [`Error::TooMany`]: nothing has changed.
     /// - [`Error::TooLong`], [`Error::Stalled`]: the operation has failed for good.
     pub fn answered(&mut self, answer: &[u8]) -> Result<(), Error> {

@@ -90,8 +90,8 @@ impl<E, F: FnMut(&[u8], &mut [u8]) -> Result<usize, E> + ?Sized> Transport for F
     }
 }
 
-/// Why an operation was not carried out to its answer. Its text and its source are those of what it
-/// has in it.
+/// Why an operation was not carried out to its answer. Its text and its source are those of the
+/// error in it.
 #[derive(Clone, Copy, Debug, PartialEq, Eq, Hash)]
 #[non_exhaustive]
 pub enum RunError<E> {
@@ -160,7 +160,7 @@ impl Terminal {
         Ok(self.answer().ok_or(Error::Failed)?)
     }
 
-    /// Passes what the operation that has begun sends, until nothing is due.
+    /// Passes what the operation that has begun sends, until it has nothing more to send.
     fn pass<T: Transport + ?Sized>(&mut self, reader: &mut T) -> Result<(), RunError<T::Error>> {
         let level = reader.level();
         let copies = match level {

@@ -1,4 +1,4 @@
-//! The version of the library, and whether it is that of this crate.
+//! The version of the library, and whether it fits this crate.
 
 use crate::raw;
 use std::sync::Once;
@@ -11,7 +11,7 @@ pub fn version() -> (u32, u32, u32) {
     (number / 0x10000, number / 0x100 % 0x100, number % 0x100)
 }
 
-/// Whether the library is one for this crate: major and minor number are the same. A library that
+/// Whether the library fits this crate: major and minor number are the same. A library that
 /// `GALLIUMTOAD_LIB_DIR` names may be another.
 ///
 /// The first call of this crate that needs the library looks at this, and panics if it is `false`.
@@ -25,7 +25,7 @@ pub fn version_fits() -> bool {
     own.0.parse() == Ok(major) && own.1.parse() == Ok(minor)
 }
 
-/// Looks once whether the library is one for this crate; else every call panics.
+/// Checks once whether the library fits this crate; if not, every call panics.
 pub(crate) fn look() {
     static LOOKED: Once = Once::new();
     LOOKED.call_once(|| {

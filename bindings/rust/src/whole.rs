@@ -16,10 +16,10 @@ pub const APDU_LIMIT: usize = 261;
 /// The most bytes of the answer to a TPDU or a command: 256 bytes of data, and the status.
 pub const ANSWER_LIMIT: usize = 258;
 
-/// A whole TPDU that is due: the header alone, where no data move; the header and P3, where data
-/// come back; or the header, P3 and so many bytes of data.
+/// A whole TPDU to send: the header alone, if no data move; the header and P3, if data come back;
+/// or the header, P3 and P3 bytes of data.
 ///
-/// A drop wipes its bytes, as they are then. `Debug` shows how many they are.
+/// A drop wipes its bytes, as they are then. `Debug` shows their number.
 #[derive(Clone, PartialEq, Eq, Hash)]
 #[non_exhaustive]
 pub struct Tpdu {
@@ -41,7 +41,7 @@ impl Drop for Tpdu {
     }
 }
 
-/// A whole TPDU or command that is due, and was copied into a buffer.
+/// A whole TPDU or command to send, which was copied into a buffer.
 #[derive(Clone, Copy, Debug, PartialEq, Eq, Hash)]
 #[non_exhaustive]
 pub struct Due {
@@ -55,7 +55,8 @@ pub struct Due {
 /// A function of the archive that copies the TPDU or the command of a handle.
 type Copies = unsafe extern "C" fn(*mut Held, *mut u8, usize, *mut usize, *mut usize) -> i32;
 
-/// Copies what is due to the front of `room`, if anything is. The handle is of the function's kind.
+/// Copies what to send to the front of `room`, if there is anything. The handle is of the
+/// function's kind.
 pub(crate) fn due_into(
     handle: &Handle,
     copies: Copies,
@@ -71,7 +72,7 @@ pub(crate) fn due_into(
     }
 }
 
-/// The TPDU that is due, in memory of its own.
+/// The next TPDU, in memory of its own.
 pub(crate) fn tpdu(handle: &Handle, copies: Copies) -> Option<Tpdu> {
     let mut room = Wiped([0; TPDU_LIMIT]);
     let Due { count, most } = due_into(handle, copies, &mut room.0).ok()??;
@@ -80,8 +81,8 @@ pub(crate) fn tpdu(handle: &Handle, copies: Copies) -> Option<Tpdu> {
 }
 
 impl Exchange {
-    /// The whole TPDU that is due, if none of its characters has gone: for a reader that carries
-    /// whole TPDUs. It is `None` too if the exchange has ended or has failed.
+    /// The next whole TPDU, if none of its characters was sent: for a reader that carries whole
+    /// TPDUs. It is `None` too if the exchange has ended or has failed.
     #[must_use]
     pub fn tpdu(&self) -> Option<Tpdu> {
         tpdu(&self.0, raw::galliumtoad_exchange_tpdu)
@@ -92,7 +93,7 @@ impl Exchange {
         due_into(&self.0, raw::galliumtoad_exchange_tpdu, room).ok()?
     }
 
-    /// Takes the answer to that TPDU: data, and then SW1 SW2. The exchange goes on as after the
+    /// Takes the answer to that TPDU: data, and then SW1 SW2. The exchange continues as after the
     /// characters of any TPDU that brings these.
     ///
     /// # Errors
@@ -111,8 +112,8 @@ impl Exchange {
     /// commands, see [`Level::Apdu`](crate::Level::Apdu). It is `None` if the exchange has ended or
     /// has failed.
     ///
-    /// The first character that goes, or the first answer that is taken, sets the level. Calls of
-    /// the other level are [`Error::State`] from then on, or `None`, and nothing changes.
+    /// The first character sent, or the first answer taken, sets the level. From then on calls of
+    /// the other level are [`Error::State`], or `None`, and nothing changes.
     ///
     /// # Errors
     ///
@@ -146,7 +147,7 @@ impl Card {
     ///
     /// # Errors
     ///
-    /// - [`Error::State`]: characters of a TPDU have gone. Nothing has changed.
+    /// - [`Error::State`]: characters of a TPDU have passed. Nothing has changed.
     /// - [`Error::NoTpdu`]: the bytes are no whole TPDU. Nothing has changed.
     /// - [`Error::Memory`]: it ran out. Nothing has changed.
     /// - [`Error::WantsData`], [`Error::SendsData`]: neither end would continue, so the card was
@@ -174,15 +175,15 @@ impl Card {
     ///
     /// The command goes as TPDUs of the card, to a terminal that wants Le bytes (`00`: 256). What
     /// is left waits, and `61XX` announces it. The card answers `6700`, and nothing changes, to an
-    /// extended command and to other bytes with wrong lengths; to SELECT and PUT DATA in case 2;
-    /// and to GET DATA and GET RESPONSE in any other case. Plans are for TPDUs and characters
-    /// alone.
+    /// extended command and to other bytes with wrong lengths. So it does to SELECT and PUT DATA in
+    /// case 2, and to GET DATA and GET RESPONSE in any other case. Plans are for TPDUs and
+    /// characters alone.
     ///
     /// # Errors
     ///
     /// After each of these nothing has changed.
     ///
-    /// - [`Error::State`]: characters of a TPDU have gone.
+    /// - [`Error::State`]: characters of a TPDU have passed.
     /// - [`Error::TooShort`], [`Error::InvalidIns`]: the bytes are not a command.
     /// - [`Error::Memory`]: it ran out.
     pub fn apdu(&mut self, command: &[u8]) -> Result<Vec<u8>, Error> {

@@ -1,10 +1,10 @@
-//! Memory that has held a value, and is wiped.
+//! Memory that is wiped after it held a value.
 
 use crate::raw::Character;
 use std::mem::size_of_val;
 use std::ptr::addr_of;
 
-/// A type of which zeros are a value.
+/// A type whose zero bytes are a value.
 ///
 /// # Safety
 ///
@@ -15,13 +15,13 @@ pub(crate) unsafe trait Zero: Copy {}
 unsafe impl Zero for u8 {}
 unsafe impl Zero for Character {}
 
-/// What clears memory. A compiler leaves out what clears memory that nobody reads again; which
-/// function this is it has to read each time, and so to call it.
+/// The function that clears memory. A compiler drops a write to memory that nobody reads again. It
+/// must read this pointer each time, and so call the function.
 static CLEAR: unsafe fn(*mut u8, usize) = clear;
 
 /// # Safety
 ///
-/// So many bytes from `at` on may be written to.
+/// `count` bytes from `at` on may be written to.
 unsafe fn clear(at: *mut u8, count: usize) {
     at.write_bytes(0, count);
 }
@@ -30,7 +30,7 @@ unsafe fn clear(at: *mut u8, count: usize) {
 ///
 /// # Safety
 ///
-/// So many bytes from `at` on may be written to.
+/// `count` bytes from `at` on may be written to.
 pub(crate) unsafe fn wipe_from(at: *mut u8, count: usize) {
     let clear = addr_of!(CLEAR).read_volatile();
     clear(at, count);

@@ -1,5 +1,5 @@
-/* The library's memory from a static array: first fit over a list of blocks in order of place, with
- * free neighbours joined when a block is given back. What a block held is wiped then. */
+/* The library's memory from a static array: first fit over a list of blocks in order of place. A
+ * freed block is wiped, and joined with free neighbours. */
 #include "arena.h"
 #include "galliumtoad_heap.h"
 
@@ -27,7 +27,7 @@ static union {
     long double alignment;
 } arena;
 
-/* A compiler has to read which function this is, so it can't leave the call out. */
+/* A compiler must read which function this is, so it can't leave the call out. */
 static void *(*const volatile wipe)(void *, int, size_t) = memset;
 
 static struct block *first;
@@ -56,7 +56,7 @@ static void begin(void)
     first->used = false;
 }
 
-/* Cuts what a block has beyond `size` off, where that is enough for a block of its own. */
+/* Cuts off the part of a block beyond `size`, if that is enough for a block of its own. */
 static void cut(struct block *block, size_t size)
 {
     struct block *rest;

@@ -1,27 +1,27 @@
-/* The library's memory by malloc and free. Blocks have held values and commands, so each is wiped
- * before it is given back, also one that is made longer or shorter: its content goes to a new
- * block, since realloc would leave what it moves away from as it is. */
+/* The library's memory from malloc and free. Blocks held values and commands, so each is wiped
+ * before it is freed, also one that is made longer or shorter. Its content goes to a new block,
+ * since realloc would leave the old place unwiped. */
 #include "galliumtoad_heap.h"
 
 #include <stdint.h>
 #include <stdlib.h>
 #include <string.h>
 
-/* Before each block stands its size, in as many bytes as keep the block aligned. */
+/* Before each block is its size, in as many bytes as keep the block aligned. */
 #define HEAD ((size_t)16)
 
-/* What is written to memory that is freed next, a compiler may leave out. It has to read which
- * function this is each time, and so to call it. */
+/* A compiler may leave out writes to memory that is freed next. It must read which function this is
+ * each time, and so call it. */
 static void *(*const volatile wipe)(void *, int, size_t) = memset;
 
-/* what `at` is where there is no block */
+/* the value of `at` if there is no block */
 static char nothing;
 
 gt_taken rattle_alloc(size_t size, size_t align)
 {
     gt_taken taken = { false, &nothing };
     unsigned char *whole;
-    (void)align; /* malloc has the strictest alignment that is asked for */
+    (void)align; /* malloc has the strictest alignment that the library requests */
     if (size > SIZE_MAX - HEAD)
         return taken;
     whole = malloc(HEAD + size);

@@ -9,8 +9,8 @@
 /* the bytes of a command before its data */
 #define HEADER_SIZE 5
 
-/* What the reader does wrong, by the code of an answer that no terminal takes; of other codes the
- * library's text. */
+/* Returns what the reader does wrong, by the code of an answer that no terminal takes; for other
+ * codes the library's text. */
 static const char *fault_text(int32_t code, bool is_by_apdus)
 {
     if (code == GT_NO_STATUS)
@@ -22,7 +22,7 @@ static const char *fault_text(int32_t code, bool is_by_apdus)
                          "it fetches 61XX by itself, so use --apdu";
 }
 
-/* whether a line of progress stands on the terminal */
+/* whether a line of progress is on the terminal */
 static volatile sig_atomic_t is_line_open;
 
 /* Ends that line, and the program as the signal does. */
@@ -34,7 +34,8 @@ static void end_line(int number)
     raise(number);
 }
 
-/* How many bytes of a value have gone, on one line that is written over and at last cleared. */
+/* Prints how many bytes of a value were sent, on one line that is written over and finally
+ * cleared. */
 static void show_progress(FILE *progress, size_t gone, size_t all)
 {
     if (progress == NULL || all <= 255)
@@ -58,7 +59,7 @@ const char *carrier_show_level(const struct carrier *carrier)
     return fflush(carrier->shown) == 0 && !ferror(carrier->shown) ? NULL : "write fault";
 }
 
-/* Sends what is due, and hands what comes back to the terminal. */
+/* Sends the next bytes, and hands what comes back to the terminal. */
 static const char *pass_one(const struct carrier *carrier, gt_terminal *terminal,
                             const uint8_t *sent, size_t n)
 {
@@ -79,7 +80,7 @@ static const char *pass_one(const struct carrier *carrier, gt_terminal *terminal
     return code == GT_OK ? NULL : fault_text(code, carrier->is_by_apdus);
 }
 
-/* What is due: GT_OK and `n` bytes in `sent`, or GT_NOT_DUE after the last. */
+/* Copies the next bytes to `sent`: GT_OK and `n` bytes, or GT_NOT_DUE after the last. */
 static int32_t next_due(const struct carrier *carrier, gt_terminal *terminal,
                         uint8_t sent[GT_APDU_LIMIT], size_t *n)
 {

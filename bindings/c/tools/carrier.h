@@ -11,7 +11,7 @@ struct carrier {
     struct reader *reader;
     bool is_by_apdus;       /* whole commands, or TPDUs */
     FILE *shown;            /* where TPDUs and commands are shown, or NULL */
-    FILE *progress;         /* says how far a put of many pieces is, or NULL */
+    FILE *progress;         /* prints the progress of a put of many pieces, or NULL */
 };
 
 /* Shows the protocol and the level, if `shown` is not NULL. Returns NULL, or why that failed. */

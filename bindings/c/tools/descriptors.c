@@ -9,7 +9,7 @@ bool descriptors_fill(void)
 {
     int fd;
     for (fd = STDIN_FILENO; fd <= STDERR_FILENO; fd++) {
-        /* open takes the least number that is free, which is this one */
+        /* open takes the lowest free number, which is this one */
         if (fcntl(fd, F_GETFD) < 0
             && open("/dev/null", fd == STDIN_FILENO ? O_WRONLY : O_RDONLY) != fd)
             return false;

@@ -1,7 +1,6 @@
-/* gt_pcsc: reads and writes the data objects of a card in a PC/SC reader.
- *
- * The terminal is the library's, and proved; this program takes its TPDUs or whole commands to the
- * reader and the answers back. `gt_pcsc --help` says what it does. */
+/* gt_pcsc: reads and writes the data objects of a card in a PC/SC reader. The library's terminal is
+ * proved. This program takes its TPDUs or whole commands to the reader and the answers back.
+ * `gt_pcsc --help` says what it does. */
 #define _POSIX_C_SOURCE 200112L
 
 #include "carrier.h"
@@ -67,7 +66,7 @@ static int run_over(struct carrier *carrier, const struct script *script,
     return result;
 }
 
-/* Opens the reader, carries out the steps, and closes it, whatever came of them. */
+/* Opens the reader, carries out the steps, and closes it, whatever their result. */
 static int run(const struct script *script, const struct options *options)
 {
     struct reader reader;

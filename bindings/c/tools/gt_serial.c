@@ -1,8 +1,6 @@
-/* gt_serial: a terminal for the card in a Phoenix or Smartmouse reader at a tty.
- *
- * The terminal is the library's, and proved; this program resets the card, reads its answer, and
- * passes characters both ways, each within the line's times. `gt_serial --help` says what it
- * does. */
+/* gt_serial: a terminal for the card in a Phoenix or Smartmouse reader at a tty. The library's
+ * terminal is proved. This program resets the card, reads its answer, and passes characters both
+ * ways, each within the line's times. `gt_serial --help` says what it does. */
 #include "descriptors.h"
 #include "print.h"
 #include "serial_answer.h"
@@ -17,7 +15,7 @@ enum { ALL_WELL = 0, FAULT = 1, BAD_WORDS = 2 };
 #define NUMBER(number) #number
 #define DOTTED(major, minor, patch) NUMBER(major) "." NUMBER(minor) "." NUMBER(patch)
 
-/* a card's character for "go on waiting" (ISO/IEC 7816-3, 10.3.3) */
+/* a card's character for "wait longer" (ISO/IEC 7816-3, 10.3.3) */
 #define NULL_BYTE 0x60
 
 /* the lines of gt_serial.help */
@@ -39,8 +37,8 @@ struct session {
     struct line *line;
     int64_t waiting_time;
     int64_t patience;
-    int64_t nulls_since;        /* the time of the first of the NULLs that came last, or 0 */
-    struct t1_end t1;           /* its end at T=1, if that is talked */
+    int64_t nulls_since;        /* the time of the first NULL of the last run of them, or 0 */
+    struct t1_end t1;           /* its end at T=1, if the protocol is T=1 */
 };
 
 static int tell(const char *fault)
@@ -73,8 +71,8 @@ static bool is_put_off(struct session *session, uint8_t byte)
     return byte == NULL_BYTE && port_now() - session->nulls_since > session->patience;
 }
 
-/* Hands the terminal the characters of the card that have come, behind a header of `size` bytes or
- * data. It has to take all of them: the card sends no more than it is asked for. */
+/* Hands the terminal the received characters of the card, after a header of `size` bytes or data.
+ * The terminal must take all of them: the card sends no more than it is asked for. */
 static const char *take(struct session *session, gt_terminal *terminal, const uint8_t *header,
                         size_t size)
 {
@@ -99,7 +97,7 @@ static const char *take(struct session *session, gt_terminal *terminal, const ui
     return code == GT_OK ? NULL : gt_text(code);
 }
 
-/* Passes the characters of the operation in progress, until it is over. */
+/* Passes the characters of the operation in progress, until it ends. */
 static const char *pass_all(struct session *session, gt_terminal *terminal)
 {
     const char *fault = NULL;
@@ -118,7 +116,7 @@ static const char *pass_all(struct session *session, gt_terminal *terminal)
     return fault;
 }
 
-/* Passes the commands of the operation in progress at T=1, until it is over. */
+/* Passes the commands of the operation in progress at T=1, until it ends. */
 static const char *pass_commands(struct t1_end *t1, gt_terminal *terminal)
 {
     uint8_t apdu[GT_APDU_LIMIT], response[GT_ANSWER_LIMIT];
@@ -156,7 +154,7 @@ static void print_rate(const struct answer *answer)
                (unsigned)says->di);
 }
 
-/* The waiting time of T=0, if that is offered. */
+/* The waiting time of T=0, if the card offers T=0. */
 static void print_waiting_time(const struct answer *answer)
 {
     const gt_atr *says = &answer->says;
@@ -196,7 +194,7 @@ static const char *print_meaning(const struct answer *answer)
     return fflush(stdout) == 0 && !ferror(stdout) ? NULL : "write fault";
 }
 
-/* Prepares the end at T=1 for what the answer says of that. */
+/* Prepares the end at T=1 by the answer to reset. */
 static const char *begin_t1(struct session *session, const struct answer *answer)
 {
     const gt_atr_t1 *says = &answer->says.t1;
@@ -207,7 +205,7 @@ static const char *begin_t1(struct session *session, const struct answer *answer
     return code == GT_OK ? NULL : gt_text(code);
 }
 
-/* Goes on with the protocol that is asked for, or the one that the card offers first. */
+/* Continues with the protocol of --protocol, or the one that the card offers first. */
 static const char *go_on(struct session *session, struct answer *answer,
                          const struct serial_options *options)
 {

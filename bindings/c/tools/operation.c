@@ -8,7 +8,7 @@
 
 #define TOO_LONG "value too long"
 
-/* the longest number behind `HH*` */
+/* the longest number after `HH*` */
 #define REPEAT_LIMIT 65535
 
 #define TAG_RULE \
@@ -23,7 +23,7 @@ static const char *machine_fault(const char *fault)
     return fault;
 }
 
-/* How each kind begins, and how many words it has; its place is its kind. */
+/* The first word of each kind, and its number of words; its place is its kind. */
 static const struct {
     const char *word;
     size_t count;
@@ -46,7 +46,7 @@ size_t operation_word_count(const char *first)
     return kind < KIND_COUNT ? KINDS[kind].count : 0;
 }
 
-/* Each of these answers NULL, or why the operation is refused. */
+/* Each of these returns NULL, or why the operation is refused. */
 
 /* Room for the bytes of an operation, at least one. */
 static const char *take_room(struct operation *operation, size_t n)
@@ -74,8 +74,8 @@ static const char *read_aid(struct operation *operation, const char *word)
     return fault;
 }
 
-/* Whether a terminal begins the operation, so that a bad one is refused before there is a card. Of
- * a tag, which `word` is, it says whether a command can name it. */
+/* Whether a terminal accepts the operation, so that a bad one is refused before there is a card.
+ * For a tag, which `word` is, it says whether a command can name it. */
 static const char *try_to_begin(const struct operation *operation, const char *word)
 {
     gt_terminal terminal = GT_INIT;
@@ -134,7 +134,7 @@ static const char *read_repeated(struct operation *operation, const char *word)
     return fault;
 }
 
-/* The bytes of a file, which may be a pipe: it is read once, to its end. */
+/* Reads the bytes of a file, which may be a pipe: it reads once, to the end. */
 static const char *read_file(struct operation *operation, const char *name)
 {
     FILE *file = fopen(name, "rb");
@@ -210,7 +210,7 @@ int32_t operation_begin(const struct operation *operation, gt_terminal *terminal
     }
 }
 
-/* the data of the answer that was last looked at */
+/* the data of the last answer checked */
 static uint8_t data[GT_RESPONSE_LIMIT];
 
 /* Whether the terminal's answer is 9000, with `n` bytes of data. */

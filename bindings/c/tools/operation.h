@@ -1,4 +1,4 @@
-/* An operation with a card, as its words say it. */
+/* An operation with a card, from its words. */
 #ifndef OPERATION_H
 #define OPERATION_H
 
@@ -13,42 +13,43 @@ enum operation_kind { OPERATION_SELECT, OPERATION_GET, OPERATION_PUT, OPERATION_
 
 struct operation {
     enum operation_kind kind;
-    uint32_t tag;       /* of a get and a put */
-    uint8_t *bytes;     /* the identifier, the value or the command; NULL where there are none */
+    uint32_t tag;       /* for a get and a put */
+    uint8_t *bytes;     /* the identifier, the value or the command; NULL if it has no bytes */
     size_t n;
 };
 
-/* the most words of an operation, the first one with them */
+/* the most words of an operation, the first one included */
 #define OPERATION_WORDS 3
 
-/* How many words an operation has that begins with this one, the first one with them. 0: none
- * begins so. */
+/* Returns how many words an operation with this first word has, the first one included. 0: no
+ * operation begins so. */
 size_t operation_word_count(const char *first);
 
-/* what is said of a word that begins no operation */
+/* the text for a word that begins no operation */
 #define OPERATION_UNKNOWN_WORD "unknown word"
 
 /* Reads an operation from its words: `select AID`, `get TAG`, `put TAG VALUE`, `send HEX`. The
- * words are those of a script of card_trace, and VALUE may be `@` with the name of a file, whose
- * bytes are the value. NULL, or a few words that say why it is refused, as card_trace has them:
- * behind `bad hex`, `bad tag` and `read fault` come the word or the file, and why. They stand until
- * the next call. Nothing is held then, and `is_of_words` says that no file or machine is to
+ * words are those of a script of card_trace. VALUE may be `@` with the name of a file, whose bytes
+ * are the value. Returns NULL, or a few words that say why it is refused, as card_trace has them.
+ * After `bad hex`, `bad tag` and `read fault` come the word or the file, and why. The text stays
+ * until the next call. Nothing is held then, and `is_of_words` says that no file or machine is to
  * blame. */
 const char *operation_read(struct operation *operation, char *const *words, size_t count,
                            bool *is_of_words);
 
-/* Begins the operation at a terminal. A code of galliumtoad.h. */
+/* Begins the operation at a terminal. Returns a code of galliumtoad.h. */
 int32_t operation_begin(const struct operation *operation, gt_terminal *terminal);
 
-/* Why the answer is none to the operation, or NULL: 9000 answers a get with one object of its tag.
- * The words stand until the next call. */
+/* Returns why the answer does not fit the operation, or NULL: 9000 answers a get with one object of
+ * its tag. The words stay until the next call. */
 const char *operation_answer_fault(const struct operation *operation, gt_terminal *terminal);
 
-/* Why the terminal's answer to a get shows that this put, of the same tag, was not stored as sent;
- * NULL if the answer is the object, or its value alone. The words stand until the next call. */
+/* Returns why the terminal's answer to a get shows that this put, of the same tag, was not stored
+ * as sent; NULL if the answer is the object, or its value alone. The words stay until the next
+ * call. */
 const char *operation_store_fault(const struct operation *put, gt_terminal *terminal);
 
-/* Gives the memory back. */
+/* Frees the memory. */
 void operation_free(struct operation *operation);
 
 #endif

@@ -5,7 +5,7 @@
 #include <stdlib.h>
 #include <string.h>
 
-/* What is said of an argument, with as much of it as fits. */
+/* Returns the text on an argument, with as much of it as fits. */
 static const char *say(const char *before, const char *word, const char *behind)
 {
     static char told[160];
@@ -13,7 +13,7 @@ static const char *say(const char *before, const char *word, const char *behind)
     return told;
 }
 
-/* The word that belongs to an option: the next one, which is taken. */
+/* Takes the word that belongs to an option: the next one. */
 static const char *take_value(const char **value, const char *option, int argc,
                               char *const *argv, int *at)
 {
@@ -79,7 +79,7 @@ static const char *read_option(struct options *options, int argc, char *const *a
     return NULL;
 }
 
-/* Whether the options go with each other and with the operations. */
+/* Whether the options fit each other and the operations. */
 static const char *compare(struct options *options)
 {
     const char *fault;

@@ -1,4 +1,4 @@
-/* What the words of the command line ask for. */
+/* The requests of the command line. */
 #ifndef OPTIONS_H
 #define OPTIONS_H
 
@@ -21,10 +21,10 @@ struct options {
     size_t count;
 };
 
-/* Reads the words behind the program's name. Options stand anywhere: but `--` ends them, and the
- * word after `put TAG` is a value, whatever it begins with. Moves the words of the operations to
- * the front of `argv`. NULL, or a few words that say why they are refused; these stand until the
- * next call. */
+/* Reads the words after the program's name. Options may be anywhere, except that `--` ends them,
+ * and the word after `put TAG` is a value, whatever it begins with. Moves the words of the
+ * operations to the front of `argv`. Returns NULL, or a few words that say why they are refused;
+ * these stay until the next call. */
 const char *options_read(struct options *options, int argc, char **argv);
 
 #endif

@@ -4,7 +4,7 @@
 
 #include <string.h>
 
-/* how often a transaction is begun, if other programs reset the card before each */
+/* how many times it begins a transaction, if other programs reset the card before each */
 #define BEGIN_LIMIT 100
 
 #define EITHER (SCARD_PROTOCOL_T0 | SCARD_PROTOCOL_T1)
@@ -29,7 +29,7 @@ static const struct {
     { SCARD_E_INSUFFICIENT_BUFFER, "the reader hands back more than any answer has" },
 };
 
-/* NULL of success, and a text of each other code that a call without a context answers. */
+/* NULL for success, and a text for each other code of a call without a context. */
 static const char *text_of(LONG code)
 {
     static char other[64];
@@ -44,7 +44,7 @@ static const char *text_of(LONG code)
     return other;
 }
 
-/* The names of all readers, one behind another, each with a NUL behind it: `size` bytes. */
+/* The names of all readers, one after another, each with a NUL: `size` bytes. */
 struct names {
     char *first;
     DWORD size;
@@ -64,8 +64,8 @@ static void free_names(SCARDCONTEXT context, struct names *names)
     names->first = NULL;
 }
 
-/* The name behind `before`, or the first where that is NULL; NULL behind the last. An empty one
- * ends them. */
+/* The name after `before`, or the first if that is NULL; NULL after the last. An empty one ends
+ * them. */
 static const char *next_name(const struct names *names, const char *before)
 {
     const char *end = names->first + names->size;
@@ -75,7 +75,7 @@ static const char *next_name(const struct names *names, const char *before)
     return name;
 }
 
-/* The reader that is meant, or NULL and why there is none. */
+/* Returns the reader that the name means, or NULL and why there is no such reader. */
 static const char *find_name(const struct names *names, const char *wanted, const char **why)
 {
     const char *name = NULL, *found = NULL;
@@ -126,7 +126,7 @@ static bool is_answered(const struct reader *reader)
     return code == SCARD_S_SUCCESS || code == SCARD_E_NO_READERS_AVAILABLE;
 }
 
-/* The fault of a card that does not talk what is wanted. */
+/* The fault of a card that does not use the requested protocol. */
 static const char *mismatch_text(const struct reader *reader)
 {
     if (reader->wanted == EITHER)
@@ -135,8 +135,8 @@ static const char *mismatch_text(const struct reader *reader)
                                                : "the card does not talk T=1";
 }
 
-/* NULL of success, and a text of each other code of a call in this context. pcsc-lite answers three
- * of them if pcscd has ended, two of which may mean something else. */
+/* NULL for success, and a text for each other code of a call in this context. pcsc-lite returns
+ * three of them if pcscd has ended. Two of these may mean something else. */
 static const char *fault_of(const struct reader *reader, LONG code)
 {
     const bool may_be_gone = code == SCARD_F_COMM_ERROR || code == SCARD_W_SECURITY_VIOLATION;
@@ -169,8 +169,8 @@ static LONG reconnect(struct reader *reader, DWORD how)
     return agreed(reader, code, reader->wanted);
 }
 
-/* Resets a card that talks another protocol, so that it talks the wanted one. Only a program that
- * has the card for itself may do that: another one would lose what it has selected. */
+/* Resets a card that uses another protocol, so that it uses the requested one. Only a program that
+ * has the card for itself may do that: another one would lose its selection. */
 static const char *change_protocol(struct reader *reader, const char *name)
 {
     LONG code = connect_at(reader, name, SCARD_SHARE_EXCLUSIVE, EITHER);
@@ -202,8 +202,8 @@ static LONG ask_status(struct reader *reader)
 }
 
 /* Begins a transaction. Another program, which ends its own with a reset of the card, may have done
- * so since this one has connected, or while it did; then pcscd does not say so, and has forgotten
- * the protocol. Nothing has been sent yet, so that is no loss. */
+ * so since this one connected, or while it did. Then pcscd does not say so, and has forgotten the
+ * protocol. Nothing was sent yet, so that is no loss. */
 static const char *begin_transaction(struct reader *reader)
 {
     LONG code = SCardBeginTransaction(reader->card);
@@ -221,7 +221,8 @@ static const char *begin_transaction(struct reader *reader)
     return fault_of(reader, code);
 }
 
-/* Connects and begins a transaction, for each of which another program may have to end its own. */
+/* Connects and begins a transaction. For each of them another program may first have to end its
+ * own. */
 static const char *take_card(struct reader *reader, const char *name, long wait)
 {
     struct waiting waiting;

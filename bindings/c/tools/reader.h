@@ -19,18 +19,18 @@ struct reader {
 };
 
 /* Room for whatever a reader hands back: the answer to an extended command and one byte more. So
- * one that is too long is seen to be so. */
+ * one that is too long is noticed. */
 #define READER_ROOM 65539
 
-/* Each of these answers NULL where it went well, or a few words that say why it did not. They stand
- * until the next call. */
+/* Each of these returns NULL for success, or a few words that say why it failed. They stay until
+ * the next call. */
 
 /* Prints the names of all readers, a line each. */
 const char *reader_list(FILE *out);
 
 /* Connects to the card of a reader, and keeps all other programs from it. `name` is the reader's
  * whole name, or a part that no other name has; NULL is the only reader. `protocol` is 0, 1, or -1
- * for what PC/SC gives. A card that talks the other protocol is reset unless another program is
+ * for the choice of PC/SC. A card that uses the other protocol is reset unless another program is
  * connected. While another program has a transaction this waits, and says so; after `wait` seconds
  * it ends the process (waiting.h). Close the reader, whatever this returns. */
 const char *reader_open(struct reader *reader, const char *name, int protocol, long wait);
@@ -47,8 +47,8 @@ bool reader_takes_apdus(const struct reader *reader);
 const char *reader_transmit(struct reader *reader, const uint8_t *sent, size_t n,
                             uint8_t answer[READER_ROOM], size_t *length);
 
-/* Resets the card, so that nothing stays selected or pending, and lets other programs to it. All
- * is given back, also where some of it does not go well; the first fault is told. */
+/* Resets the card, so that nothing stays selected or pending, lets other programs use it, and frees
+ * everything, even if some of that fails. Returns the first fault. */
 const char *reader_close(struct reader *reader);
 
 #endif

@@ -13,7 +13,7 @@ static bool refuse(struct script_refusal *refusal, const char *text)
     return false;
 }
 
-/* Refuses a step of the script, whose unit and number come before the text. */
+/* Refuses a step of the script; its unit and number precede the text. */
 static bool refuse_step(struct script_refusal *refusal, const struct script *script, size_t number,
                         const char *text)
 {
@@ -22,7 +22,7 @@ static bool refuse_step(struct script_refusal *refusal, const struct script *scr
     return refuse(refusal, told);
 }
 
-/* Room for one more step: twice as much as before where there is none. */
+/* Makes room for one more step: doubles it if it is full. */
 static bool has_room(struct script *script)
 {
     const size_t room = script->room > 0 ? 2 * script->room : 16;
@@ -78,7 +78,7 @@ static bool script_of_words(struct script *script, char *const *words, size_t co
     return true;
 }
 
-/* The whole file, with a NUL behind it; NULL where it can't be read or is too long. */
+/* The whole file, with a NUL after it; NULL if it can't be read or is too long. */
 static char *read_all(FILE *file, const char *name, size_t *n, struct script_refusal *refusal)
 {
     char *text = malloc(SCRIPT_SIZE_LIMIT + 1);
@@ -101,7 +101,7 @@ static char *read_all(FILE *file, const char *name, size_t *n, struct script_ref
     return text;
 }
 
-/* One line, which ends at a NUL; one inside it is a character of no word. */
+/* Reads one line, which ends at a NUL; a NUL inside it is a character of no word. */
 static bool add_line(struct script *script, size_t number, char *line, size_t n,
                      struct script_refusal *refusal)
 {
@@ -116,7 +116,7 @@ static bool add_line(struct script *script, size_t number, char *line, size_t n,
     return count == 0 || add(script, number, words, count, refusal);
 }
 
-/* The lines of a text, each with an LF, or a CR and an LF, behind it; the last may lack its LF. */
+/* Reads the lines of a text, each ended by an LF, or a CR and an LF; the last may lack its LF. */
 static bool add_lines(struct script *script, char *text, size_t n, struct script_refusal *refusal)
 {
     size_t at = 0, number = 1;

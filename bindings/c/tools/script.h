@@ -1,5 +1,5 @@
-/* The operations that are to be carried out, in order: of the command line, or of the lines of a
- * file. All of them are read, and refused where one is bad, before there is a card. */
+/* The operations to carry out, in order: those of the command line, or of the lines of a file. All
+ * of them are read, and refused if one is bad, before there is a card. */
 #ifndef SCRIPT_H
 #define SCRIPT_H
 
@@ -17,7 +17,7 @@ struct script {
     const char *unit;   /* what the numbers count: "line" or "operation" */
 };
 
-/* Why there is no script. The text names the line or the operation, and stands until the next
+/* Why there is no script. The text names the line or the operation, and stays until the next
  * call. */
 struct script_refusal {
     const char *text;
@@ -25,13 +25,13 @@ struct script_refusal {
 };
 
 /* Reads a script: from the file with this name (`-`: standard input), or from the words if `name`
- * is NULL. An operation of the command line has as many words as its first one asks for. A file has
- * an operation in each line, and at least one; empty lines, lines of spaces, and lines that begin
- * with # are passed over. False if there is no script; then `refusal` says why. */
+ * is NULL. An operation of the command line has as many words as its first one requires. A file has
+ * an operation in each line, and at least one. Empty lines, lines of spaces, and lines that begin
+ * with # are skipped. Returns false if there is no script; then `refusal` says why. */
 bool script_read(struct script *script, const char *name, char *const *words, size_t count,
                  struct script_refusal *refusal);
 
-/* Gives the memory back. */
+/* Frees the memory. */
 void script_free(struct script *script);
 
 #endif

@@ -5,7 +5,7 @@
 #include <string.h>
 
 /* the latest that an answer begins, in clock cycles (ISO/IEC 7816-3, 6.2.2), and how long the line
- * is held for a reset: 400 cycles are asked for, and slow readers take longer to pass them on */
+ * is held for a reset: 400 cycles are required, and slow readers take longer to pass them on */
 enum { BEGINS_BEFORE = 40000, IS_HELD_FOR = 50000 };
 
 /* the code of the rate that holds from a reset on (ISO/IEC 7816-3, 8.3) */
@@ -41,7 +41,7 @@ static bool is_driven(const struct line *line, const struct answer_wishes *wishe
     return !line->port->is_pseudo && wishes->reset != PORT_NONE;
 }
 
-/* Resets the card, and forgets what it has answered before. */
+/* Resets the card, and forgets its earlier answers. */
 static const char *reset(struct answer *answer, const struct answer_wishes *wishes)
 {
     struct line *line = answer->line;
@@ -67,8 +67,8 @@ static const char *tell_none(int32_t code, size_t place)
     return told;
 }
 
-/* TS shows the convention: 3B, or 3F of the inverse one, which the direct one reads as 03. Its
- * parity is that of the other convention where it is inverse. Other characters are noise. */
+/* TS shows the convention: 3B, or 3F for the inverse one, which the direct one reads as 03. If it
+ * is inverse, its parity is that of the other convention. Other characters are noise. */
 static const char *take_first(struct answer *answer, int64_t wait)
 {
     struct line *line = answer->line;
@@ -93,7 +93,7 @@ static const char *take_first(struct answer *answer, int64_t wait)
     return NULL;
 }
 
-/* Takes characters until they are an answer, or none that more could make one. */
+/* Takes characters until they are an answer, or can't become one. */
 static const char *take_others(struct answer *answer)
 {
     const int64_t wait = line_etu(answer->line, LINE_ANSWER_ETU) + answer->line->slack;
@@ -154,7 +154,7 @@ static bool has_rate(const gt_atr *says)
     return says->fi > 0 && says->di > 0;
 }
 
-/* Goes on at another rate: of Fi and Di, or of those that hold from the reset on. */
+/* Continues at another rate: of Fi and Di, or of those that hold from the reset on. */
 static const char *set_rate(struct answer *answer, bool is_of_card)
 {
     struct line *line = answer->line;
@@ -187,8 +187,8 @@ static const char *take_response(struct line *line, uint8_t response[GT_PPS_LIMI
     return fault == LINE_IS_SILENT ? "the card does not answer to PPS" : fault;
 }
 
-/* Asks for a protocol at the rate of this PPS1, or GT_ABSENT; `is_taken` says whether the card goes
- * on by that rate. */
+/* Asks for a protocol at the rate of this PPS1, or GT_ABSENT. `is_taken` says whether the card
+ * continues at that rate. */
 static const char *ask(struct line *line, int protocol, uint16_t pps1, bool *is_taken)
 {
     uint8_t request[GT_PPS_LIMIT], response[GT_PPS_LIMIT];
@@ -219,7 +219,7 @@ int answer_protocol(const gt_atr *says, int wanted)
         : says->specific ? says->specific_t : says->protocols[0];
 }
 
-/* Why it refuses T=1 by what the answer says of that. */
+/* Why it refuses T=1, by the answer to reset. */
 static const char *refusal_of_t1(const gt_atr_t1 *says)
 {
     if (says->edc != GT_LRC)
@@ -245,8 +245,8 @@ const char *answer_refusal(const gt_atr *says, int protocol)
     return says->waiting_integer == 0 ? "the card's waiting time is reserved" : NULL;
 }
 
-/* Asks by PPS for a protocol, and for the card's own rate if that is wanted, once the tty has shown
- * that it runs so. */
+/* Asks by PPS for a protocol, and for the card's own rate if the user wants it, once the tty has
+ * shown that it runs at that rate. */
 static const char *ask_for(struct answer *answer, int protocol, bool wants_rate)
 {
     bool is_taken = false;
@@ -259,7 +259,8 @@ static const char *ask_for(struct answer *answer, int protocol, bool wants_rate)
     return fault == NULL && is_taken ? set_rate(answer, true) : fault;
 }
 
-/* In specific mode the card goes on at once by what it says, else as before or as PPS has it. */
+/* In specific mode the card continues at once as the answer says, else as before or as PPS has
+ * it. */
 const char *answer_go_on(struct answer *answer, int protocol, bool asks_pps,
                          int64_t *waiting_time)
 {

@@ -29,32 +29,32 @@ struct answer {
     gt_atr says;
 };
 
-/* Each of these answers NULL, or a few words that say why no TPDU can follow. They stand until the
+/* Each of these returns NULL, or a few words that say why no TPDU can follow. They stay until the
  * next call. */
 
-/* Resets the card, unless opening a pseudo terminal was its reset or somebody resets it by hand,
- * and reads its answer. If that fails, a line of the tty resets it a second time. Skips noise
- * before TS. Of a second silence the first fault is the answer. */
+/* Resets the card and reads its answer. Opening a pseudo terminal is already its reset, and so is a
+ * reset by hand. If that fails, a line of the tty resets it a second time. Skips noise before TS.
+ * After a second silence it returns the first fault. */
 const char *answer_take(struct answer *answer, struct line *line,
                         const struct answer_wishes *wishes);
 
-/* The protocol that a talk begins with: this one, or the one that the card offers first. */
+/* The first protocol of a talk: this one, or the one that the card offers first. */
 int answer_protocol(const gt_atr *says, int wanted);
 
 /* Why a terminal refuses a card whose answer says this, for T=0 or T=1. */
 const char *answer_refusal(const gt_atr *says, int protocol);
 
-/* Continues with this protocol, at the rate of the answer, or after PPS: if that is asked for, or
- * if the card offers another protocol first. The line has then its
- * convention, its parity, its rate and its guard time. `waiting_time` gets how long a terminal
- * waits for a character of the card at T=0, with the line's slack. */
+/* Continues with this protocol, at the rate of the answer, or after PPS: if PPS is requested, or if
+ * the card offers another protocol first. The line then has its convention, its parity, its rate
+ * and its guard time. `waiting_time` gets how long a terminal waits for a character of the card at
+ * T=0, with the line's slack. */
 const char *answer_go_on(struct answer *answer, int protocol, bool asks_pps,
                          int64_t *waiting_time);
 
 /* The rate of the card's Fi and Di in baud. Neither may be 0. */
 unsigned long answer_rate(const struct answer *answer);
 
-/* The waiting time of T=0, or 0 if WI is reserved. Of a reserved Fi it is that of the rate of a
+/* The waiting time of T=0, or 0 if WI is reserved. For a reserved Fi it is that of the rate of a
  * reset. */
 int64_t answer_waiting_time(const struct answer *answer);
 

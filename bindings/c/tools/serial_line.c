@@ -21,7 +21,7 @@ uint8_t line_turned(uint8_t byte)
     return (uint8_t)(turned ^ 0xFF);
 }
 
-/* A byte as the line's convention has it, from what stands on the line, and back. */
+/* Turns a character of the line into a byte by the line's convention, and back. */
 static uint8_t by_convention(const struct line *line, uint8_t byte)
 {
     return line->is_inverse ? line_turned(byte) : byte;
@@ -79,7 +79,7 @@ static const char *text_of(enum port_result result)
     }
 }
 
-/* Reads a character of the port, and looks whether it came too early. */
+/* Reads a character of the port, and checks whether it came too early. */
 static enum port_result read_port(struct line *line, uint8_t *raw, bool *has_other_parity,
                                   int64_t then)
 {
@@ -88,7 +88,7 @@ static enum port_result read_port(struct line *line, uint8_t *raw, bool *has_oth
     return result;
 }
 
-/* Has those characters come in that are there, and waits until then for the first `wanted` ones. */
+/* Reads the characters that are there, and waits until then for the first `wanted` ones. */
 static enum port_result come_in(struct line *line, size_t wanted, int64_t then)
 {
     enum port_result result = PORT_IS_WELL;
@@ -107,7 +107,7 @@ static enum line_end other_of(const struct line *line)
     return line->own == LINE_CARD ? LINE_TERMINAL : LINE_CARD;
 }
 
-/* Notes the first of the characters that were looked at, which is at fault. */
+/* Notes the first faulty one of the characters looked at. */
 static void note_first(struct line *line)
 {
     line_note(line, other_of(line), by_convention(line, line->come[0].raw));
@@ -138,8 +138,8 @@ const char *line_drop(struct line *line, int64_t first, int64_t quiet)
     return "the other end does not stop sending";
 }
 
-/* Hands bytes out as they stand on the line, once the first of them may go. Without an echo the
- * card has to be silent for as long as they take on a tty, less a 32nd for a rate that is off. */
+/* Hands bytes out in the line's form, once the first of them may be sent. Without an echo the card
+ * must be silent for as long as they take on a tty, less a 32nd for a rate that is off. */
 static const char *hand_out(struct line *line, const uint8_t *raw, size_t n)
 {
     const int64_t length = line_etu(line, LINE_CHARACTER_ETU * n);
@@ -159,7 +159,7 @@ static const char *hand_out(struct line *line, const uint8_t *raw, size_t n)
     return result == PORT_IS_SILENT ? "the tty takes no more characters" : text_of(result);
 }
 
-/* Takes the echo of a byte back, which has gone by then. */
+/* Takes the echo of a byte, which was sent by then. */
 static const char *take_echo(struct line *line, uint8_t raw, int64_t then)
 {
     uint8_t found;
@@ -208,13 +208,13 @@ const char *line_send_all(struct line *line, const uint8_t *bytes, size_t n)
     return fault;
 }
 
-/* How long a character of the other end is waited for. */
+/* How long the line waits for a character of the other end. */
 static int64_t waits_until(const struct line *line, int64_t wait)
 {
     return later(port_now(), line->sent_until) + wait;
 }
 
-/* A character of the other end has come: the next one of the own goes no earlier than this. */
+/* The other end has sent a character: the next one of this end is sent no earlier than this. */
 static void note_turn(struct line *line)
 {
     line->free_from = later(line->free_from, port_now() + line_etu(line, LINE_TURN_ETU));
@@ -229,13 +229,13 @@ const char *line_receive_first(struct line *line, uint8_t *byte, bool *has_other
     return line->is_early ? UNEXPECTED : text_of(result);
 }
 
-/* An echo is no character of its own: it goes at once. */
+/* An echo is no character of this end: it is sent at once. */
 static const char *give_echo(const struct line *line, uint8_t raw)
 {
     return text_of(port_write(line->port, &raw, 1, port_now() + line->slack));
 }
 
-/* Whether a character has come as the convention has it. */
+/* Whether a character fits the convention. */
 static bool is_well(const struct line *line, bool has_other_parity)
 {
     return line->port->is_pseudo || has_other_parity == line->has_parity_of_direct;

@@ -4,10 +4,10 @@
 #include <stdlib.h>
 #include <string.h>
 
-/* what is told of an argument that is refused, with as much of it as fits */
+/* the text on a refused argument, with as much of it as fits */
 static char told[160];
 
-/* The words that are being read. */
+/* The words to read. */
 struct words {
     int argc, at;
     char *const *argv;
@@ -19,7 +19,7 @@ static const char *refuse(const char *word, const char *why)
     return told;
 }
 
-/* The word behind an option, which is taken; NULL where there is none. */
+/* Takes the word after an option; NULL if there is no word. */
 static const char *next_word(struct words *words)
 {
     return words->at + 1 < words->argc ? words->argv[++words->at] : NULL;
@@ -78,7 +78,7 @@ static const char *read_plan(struct serial_options *options, const char *word)
     return NULL;
 }
 
-/* An option with a word behind it. */
+/* An option with a word after it. */
 static const char *read_with_word(struct serial_options *options, const enum port_signal *signals,
                                   const char *option, const char *word)
 {
@@ -107,7 +107,7 @@ static bool is_one_of(const char *word, const char *one, const char *other)
     return strcmp(word, one) == 0 || strcmp(word, other) == 0;
 }
 
-/* An option without one. Whether it is one. */
+/* An option without one. Returns whether it is one. */
 static bool read_alone(struct serial_options *options, const char *option)
 {
     if (is_one_of(option, "-h", "--help"))

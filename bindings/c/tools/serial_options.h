@@ -1,4 +1,4 @@
-/* What the words of the command lines of gt_serial and serial_card ask for. */
+/* The requests of the command lines of gt_serial and serial_card. */
 #ifndef SERIAL_OPTIONS_H
 #define SERIAL_OPTIONS_H
 
@@ -28,23 +28,23 @@ struct serial_options {
     const char *file;           /* -f, or NULL */
     const char *plans[SERIAL_PLANS_LIMIT];  /* --plan, in order */
     size_t plan_count;
-    char *const *words;         /* what is no option */
+    char *const *words;         /* the first word that is no option */
     size_t count;
 };
 
-/* What a program has of all that. */
+/* The part of these that a program has. */
 struct serial_names {
-    const char *const *options;         /* its options, with a NULL behind them */
+    const char *const *options;         /* its options, with a NULL after them */
     const enum port_signal *signals;    /* what --reset may name, PORT_NONE as the last */
-    enum port_signal reset;             /* what it is where nothing is said */
+    enum port_signal reset;             /* its value if the command line has no --reset */
 };
 
-/* Reads the words behind the program's name; the first that is no option ends the options. NULL, or
- * a few words that say why the words are refused; these stand until the next call. */
+/* Reads the words after the program's name; the first that is no option ends the options. Returns
+ * NULL, or a few words that say why it refuses the words; these stay until the next call. */
 const char *serial_options_read(struct serial_options *options, const struct serial_names *names,
                                 int argc, char *const *argv);
 
-/* The line of one end that they ask for, over this port. */
+/* The line of one end, as the options have it, over this port. */
 struct line serial_options_line(const struct serial_options *options, struct port *port,
                                 enum line_end own);
 

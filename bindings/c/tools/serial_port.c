@@ -21,24 +21,24 @@
 #define MILLISECOND 1000
 #define SECOND 1000000
 
-/* how long the bytes behind the first of a mark may take, which come with it */
+/* how long the bytes after the first of a mark may take, which come with it */
 #define MARK_LASTS (20 * MILLISECOND)
 
-/* how often a far end looks whether the near one is open */
+/* how often a far end checks whether the near one is open */
 #define LOOKS_EVERY (10 * MILLISECOND)
 
 /* the numbers of Linux for the near ends of pseudo terminals */
 enum { FIRST_PSEUDO = 136, LAST_PSEUDO = 143 };
 
-/* what is set of how characters stand on the line, and what a pseudo terminal drops of it */
+/* the settings for characters on the line, and those that a pseudo terminal drops */
 static const tcflag_t FORM = CSIZE | CSTOPB | PARENB | PARODD;
 static const tcflag_t DROPPED = PARENB | PARODD;
 
-/* Of a tty that is open, what it was set to before; it has no fd where none is. */
+/* The earlier setting of an open tty; it has no fd if no tty is open. */
 static struct termios2 before;
 static volatile sig_atomic_t before_fd = -1;
 
-/* what is told of a rate or of an error of the system */
+/* the text on a rate or on an error of the system */
 static char told[128];
 
 int64_t port_now(void)
@@ -59,7 +59,7 @@ void port_sleep_until(int64_t then)
     }
 }
 
-/* An ioctl is a system call alone, so a handler of signals may have one. */
+/* An ioctl is only a system call, so a signal handler may use one. */
 static void put_back(void)
 {
     if (before_fd >= 0) {
@@ -75,8 +75,8 @@ static void put_back_and_end(int number)
     raise(number);
 }
 
-/* Each of these signals ends the program, after the tty is what it was, but for those that whoever
- * started it has it pass over. */
+/* Each of these signals ends the program, after the tty has its earlier setting, except those that
+ * the parent process made it ignore. */
 static void catch_signals(void)
 {
     static const int NUMBERS[] = { SIGHUP, SIGINT, SIGQUIT, SIGTERM, SIGPIPE };
@@ -107,8 +107,8 @@ static bool is_pseudo(int fd)
     return number >= FIRST_PSEUDO && number <= LAST_PSEUDO;
 }
 
-/* Characters as they are, one by one. A tty with parity marks those that have another (FF 00
- * before them), and then FF itself is FF FF. */
+/* Characters unchanged, one by one. A tty with parity marks those with a wrong parity (FF 00 before
+ * them), and then FF itself is FF FF. */
 static void make_settings(struct termios2 *settings, bool has_parity, unsigned long baud,
                           bool is_odd)
 {
@@ -154,7 +154,7 @@ static const char *tell_holder(long process)
 }
 
 /* The process that has locked a tty, or 0. The system's list of locks shows it without opening the
- * tty: that may reset a card, and the process may keep others from it. */
+ * tty: opening may reset a card, and the process may prevent it. */
 static long holder_of(const char *name)
 {
     FILE *locks = fopen("/proc/locks", "r");
@@ -175,7 +175,7 @@ static long holder_of(const char *name)
     return holder;
 }
 
-/* Locks the tty against another of these programs, which the lock tells who has it. */
+/* Locks the tty against another of these programs. The lock names the process. */
 static const char *lock(const struct port *port)
 {
     struct flock whole;
@@ -189,7 +189,7 @@ static const char *lock(const struct port *port)
     return tell_error("the tty can not be locked");
 }
 
-/* Keeps all other programs out as well. A pseudo terminal would stay so when this one is killed. */
+/* Keeps all other programs out too. A pseudo terminal would stay so if this one is killed. */
 static const char *keep_for_itself(const struct port *port)
 {
     return port->is_pseudo || ioctl(port->fd, TIOCEXCL) == 0
@@ -223,7 +223,7 @@ const char *port_open(struct port *port, const char *name, unsigned long baud)
     return fault;
 }
 
-/* Sets the near end to pass all characters on as they are, and drops those on the way. */
+/* Sets the near end to pass all characters on unchanged, and drops those on the way. */
 static const char *clear_near_end(struct port *port)
 {
     struct termios2 settings;
@@ -295,7 +295,7 @@ const char *port_await_opening(struct port *port)
     return fault;
 }
 
-/* The names of the lines, and the bits by which the system knows them. */
+/* The names of the lines, and the system's bits for them. */
 static const struct {
     const char *name;
     int bit;
@@ -344,7 +344,7 @@ void port_drop(struct port *port)
 }
 
 /* Waits for one of these events until then; at most a second at a time, so that the number of
- * milliseconds fits. Of a line that is gone the call that follows tells. */
+ * milliseconds fits. For a line that has closed the call that follows reports it. */
 static enum port_result await(const struct port *port, short events, int64_t then)
 {
     for (;;) {
@@ -364,7 +364,7 @@ static enum port_result await(const struct port *port, short events, int64_t the
     }
 }
 
-/* What a read or a write came to, where it moved so many. */
+/* The result of a read or a write that moved this many. */
 static enum port_result result_of(ssize_t n)
 {
     if (n < 0 && (errno == EINTR || errno == EAGAIN))
@@ -398,7 +398,7 @@ enum port_result port_read(struct port *port, uint8_t *byte, bool *has_other_par
     return port->is_cut ? PORT_IS_CUT : result;
 }
 
-/* Hands out as many as there is place for. */
+/* Hands out as many as there is room for. */
 static enum port_result write_some(const struct port *port, const uint8_t *bytes, size_t n,
                                    size_t *gone, int64_t then)
 {
@@ -422,7 +422,7 @@ enum port_result port_write(const struct port *port, const uint8_t *bytes, size_
     return result;
 }
 
-/* What a tty has not sent is dropped, since closing it would wait for that. */
+/* What a tty has not sent is dropped: closing it would wait for that. */
 void port_close(struct port *port)
 {
     if (port->fd < 0)

@@ -19,8 +19,8 @@ struct t1_times t1_times_of(const struct line *line, const gt_atr_t1 *says, unsi
     return times;
 }
 
-/* Whether LEN, the third byte, says that the last one has come; none is longer than GT_BLOCK_LIMIT
- * by more than one. */
+/* Whether LEN, the third byte, says that the last one was received. No block is longer than
+ * GT_BLOCK_LIMIT by more than one. */
 static bool is_whole(const struct t1_block *block)
 {
     return block->n == sizeof block->bytes

@@ -16,24 +16,24 @@ struct t1_end {
     gt_t1 end;
 };
 
-/* What an answer to reset says of them, at the line's rate and this clock in cycles a second. */
+/* The times from an answer to reset, at the line's rate and this clock in cycles a second. */
 struct t1_times t1_times_of(const struct line *line, const gt_atr_t1 *says, unsigned long clock);
 
-/* A block, as far as it has come. */
+/* The received part of a block. */
 struct t1_block {
     uint8_t bytes[GT_BLOCK_LIMIT + 1];
     size_t n;
 };
 
-/* Receives what is left of the other end's block, whose first byte is waited for so long. NULL: it
- * has as many bytes as its LEN says, and for BGT none has followed. LINE_IS_SILENT: no byte has
- * come. LINE_IS_BROKEN: the block stopped, a character had a wrong parity, or bytes have followed:
- * then all are dropped until none has come for CWT. */
+/* Receives the rest of the other end's block, and waits this long for its first byte. NULL: it has
+ * as many bytes as its LEN says, and no byte has followed for BGT. LINE_IS_SILENT: no byte was
+ * received. LINE_IS_BROKEN: the block stopped, a character had a wrong parity, or bytes have
+ * followed: then it drops all until no byte comes for CWT. */
 const char *t1_receive(struct line *line, const struct t1_times *times, int64_t wait,
                        struct t1_block *block);
 
-/* Carries a command to the card, and its response back. Answers NULL or why the end gave up, and
- * what is known of the command then; that stands until the next call. */
+/* Carries a command to the card, and its response back. Returns NULL, or why the end gave up and
+ * what is known of the command then; the text stays until the next call. */
 const char *t1_carry(struct t1_end *t1, const uint8_t *apdu, size_t n,
                      uint8_t response[GT_ANSWER_LIMIT], size_t *len);
 

@@ -12,7 +12,7 @@ static const char *carry_out(struct steps *steps, const struct operation *operat
     return code == GT_OK ? steps->pass(steps->line, &steps->terminal, operation) : gt_text(code);
 }
 
-/* Carries out one step. `fault` gets what there is to say of it, or NULL. */
+/* Carries out one step. `fault` gets the text on it, or NULL. */
 static enum outcome carry_out_step(struct steps *steps, const struct operation *operation,
                                    const char **fault)
 {

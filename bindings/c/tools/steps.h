@@ -12,7 +12,7 @@ struct steps {
      * NULL, or words that say what went wrong: then nothing is known of the card. */
     const char *(*pass)(void *line, gt_terminal *terminal, const struct operation *operation);
     void *line;         /* the first argument of `pass` */
-    bool goes_on;       /* -k: continues after an answer that is not as wanted */
+    bool goes_on;       /* -k: continues after an answer that is not as requested */
     bool verifies;      /* --verify: reads each put back before the next step */
 };
 

@@ -6,23 +6,23 @@
 #include <stddef.h>
 #include <stdint.h>
 
-/* The next word of a line, or NULL where none is left. Words stand between spaces. The word gets a
- * NUL behind it, and `line` goes on behind that. */
+/* Takes the next word of a line, or returns NULL if no word is left. Spaces separate words. The
+ * word gets a NUL after it, and `line` continues after that. */
 char *text_word(char **line);
 
-/* How many bytes the hexadecimal digits spell, in either case: at least one. 0: the text is none of
+/* How many bytes the hexadecimal digits spell, in either case: at least one. 0: the text is not of
  * that kind. */
 size_t text_hex_size(const char *digits);
 
 /* The bytes of such digits, as many as `text_hex_size` says. `out` has room for them, and may be
- * where the digits stand. */
+ * the place of the digits. */
 void text_hex_bytes(const char *digits, uint8_t *out);
 
 /* Why a text is no such digits; NULL if it is. */
 const char *text_hex_fault(const char *digits);
 
 /* `WHAT: 'WORD': WHY`, with the first 60 bytes of the word, and `?` for each character in it that
- * would control a terminal. The text stands until the next call. */
+ * would control a terminal. The text stays until the next call. */
 const char *text_fault(const char *what, const char *word, const char *why);
 
 #endif

@@ -12,8 +12,8 @@
 /* how often the watch looks, in milliseconds */
 #define TICK 500
 
-/* Whether a program is connected to the reader: another one, or this one, which then waits for
- * nothing but the end of a transaction. A card that is slow to power up is in use by none. */
+/* Whether a program is connected to the reader: another one, or this one, which then only waits for
+ * the end of a transaction. Nobody uses a card that is slow to power up. */
 static bool is_in_use(const char *reader)
 {
     SCARD_READERSTATE state;
@@ -22,7 +22,7 @@ static bool is_in_use(const char *reader)
     memset(&state, 0, sizeof state);
     state.szReader = reader;
     state.dwCurrentState = SCARD_STATE_UNAWARE;
-    /* pcsc-lite lets no two calls of one context go on at once */
+    /* pcsc-lite runs no two calls of one context at once */
     if (SCardEstablishContext(SCARD_SCOPE_SYSTEM, NULL, NULL, &context) != SCARD_S_SUCCESS)
         return false;
     code = SCardGetStatusChange(context, 0, &state, 1);

@@ -263,7 +263,7 @@ static const struct way {
     { "by_hand", hand_start, hand_carry_out },
 };
 
-/* Of this program alone, so that it matters less what else a machine does. */
+/* The time of this program alone, so that the machine's other work matters less. */
 static double processor_time(void)
 {
     struct timespec time;
@@ -271,7 +271,7 @@ static double processor_time(void)
     return (double)time.tv_sec + (double)time.tv_nsec / 1e9;
 }
 
-/* One operation, answered as it has to be. */
+/* Carries out one operation, and checks its answer. */
 static void carry_out(const struct way *way, const struct load *load)
 {
     const size_t head = load->size > 255 ? 4 : 3;
@@ -281,7 +281,7 @@ static void carry_out(const struct way *way, const struct load *load)
         need(len == head + load->size && data[len - 1] == CONTENT, "other data");
 }
 
-/* One operation has as many characters as all ways have, where they are counted. */
+/* The characters of one operation are the same in all ways that count them. */
 static void check_characters(const struct way *way, const struct load *load)
 {
     size_t count = 0;
@@ -293,8 +293,8 @@ static void check_characters(const struct way *way, const struct load *load)
     need(count == 0 || count == load->characters, "another number of characters");
 }
 
-/* So many operations. It is called by its pointer, so that it is a function of its own, which a
- * profiler finds by its name. */
+/* Carries out this many operations. It is called by its pointer, so that it is a function of its
+ * own, which a profiler finds by its name. */
 void repeat(const struct way *way, const struct load *load, long times)
 {
     for (; times > 0; times--)
@@ -315,8 +315,8 @@ static void measure(const struct way *way, const struct load *load)
            seconds * 1e9 / ((double)load->times * (double)load->characters));
 }
 
-/* Operations for a profiler to count: so many, after as many that are not counted, so that blocks
- * stand as they do from then on. */
+/* Carries out operations for a profiler to count: this many, after as many uncounted ones, so that
+ * blocks are placed as from then on. */
 static void count(const struct way *way, const struct load *load, long times)
 {
     long i;

@@ -21,7 +21,7 @@ static size_t less(size_t one, size_t other)
 
 /* ---- The terminal ---------------------------------------------------------------------------- */
 
-/* Begins the piece of the data that comes next. */
+/* Starts the next piece of the data. */
 static void begin_piece(struct terminal *terminal)
 {
     const size_t left = terminal->size - terminal->from;
@@ -136,7 +136,7 @@ static void ask(struct terminal *terminal, uint8_t p3)
     terminal->sent = 0;
 }
 
-/* What comes after a status: the TPDU once more, a GET RESPONSE, the next piece, or nothing. */
+/* Decides what follows a status: the TPDU once more, a GET RESPONSE, the next piece, or nothing. */
 static enum fault follow(struct terminal *terminal)
 {
     const size_t gathered = terminal->gathered, announced = count_of(terminal->sw2);
@@ -278,7 +278,7 @@ static void announce(struct card *card, size_t left)
     card->sw2 = (uint8_t)less(left, 256);
 }
 
-/* Sets the status, which `outcome` comes to stand with. */
+/* Sets the status, and the `outcome` that takes effect with it. */
 static void refuse(struct card *card, uint16_t status)
 {
     card->sw1 = (uint8_t)(status >> 8);
@@ -298,7 +298,7 @@ static uint16_t named_tag(const uint8_t *header)
     return 0;
 }
 
-/* Whether there are as many bytes as are asked for; `sends` is then this response. */
+/* Whether there are as many bytes as the command asks for; `sends` is then this response. */
 static bool has_enough(struct card *card, const struct response *response)
 {
     const size_t left = left_of(response);
@@ -375,7 +375,7 @@ static bool judge_get_response(struct card *card)
     return false;
 }
 
-/* Whether a header is taken; else its status is set. */
+/* Whether the card takes a header; else it sets its status. */
 static bool judge(struct card *card)
 {
     const uint8_t cla = card->opening[0], ins = card->opening[1];
@@ -434,7 +434,7 @@ static void answer_put(struct card *card)
     announce(card, 0);
 }
 
-/* The answer once all data have come. */
+/* The answer after all data were received. */
 static void answer_data(struct card *card)
 {
     if (card->opening[1] == SELECT) {
@@ -454,7 +454,7 @@ static void answer_data(struct card *card)
     announce(card, 0);
 }
 
-/* The answer once all data are sent. */
+/* The answer after all data were sent. */
 static void answer_sent(struct card *card)
 {
     const size_t left = left_of(&card->sends) - count_of(card->opening[4]);
@@ -464,7 +464,7 @@ static void answer_sent(struct card *card)
     announce(card, left);
 }
 
-/* What was decided comes to stand. */
+/* Makes the decided outcome take effect. */
 static void settle(struct card *card)
 {
     const bool is_pending = card->outcome == SELECTS

@@ -28,10 +28,10 @@ enum fault {
     OUT_OF_MEMORY
 };
 
-/* How far a TPDU has come at the terminal. */
+/* The progress of a TPDU at the terminal. */
 enum host_stage { HOST_OPENING, HOST_AWAITING, HOST_MOVING, HOST_SECOND_STATUS, HOST_ENDED };
 
-/* A terminal with an operation, all of whose memory is taken as that begins. */
+/* A terminal with an operation, which takes all its memory at its start. */
 struct terminal {
     enum host_stage stage;
     uint8_t header[5];          /* CLA INS P1 P2 P3 */
@@ -39,11 +39,11 @@ struct terminal {
     size_t moved, until;        /* data characters, and where they stop moving */
     uint8_t sw1, sw2;
     bool asks;                  /* data come from the card */
-    size_t wanted;              /* how many the command asks for: 256 is all, 0 none */
+    size_t wanted;              /* the number that the command asks for: 256 is all, 0 none */
     bool fetches, repeats;
-    size_t before;              /* what was gathered before the GET RESPONSE under way */
+    size_t before;              /* what was gathered before the GET RESPONSE in progress */
     uint8_t *content;           /* the data that go to the card, over all pieces */
-    size_t size, from, piece;   /* of these all, those that have gone, and those of this command */
+    size_t size, from, piece;   /* of all these, those sent, and those of this command */
     uint8_t *response;
     size_t gathered;
 };
@@ -55,29 +55,29 @@ enum fault terminal_put(struct terminal *terminal, uint16_t tag, const uint8_t *
 enum turn terminal_next(struct terminal *terminal, uint8_t *byte);
 enum fault terminal_take(struct terminal *terminal, uint8_t byte);
 
-/* The status of an operation that is over, and its data, where there is room for them. */
+/* The status of an operation that has ended, and its data, if there is room for them. */
 uint16_t terminal_answer(const struct terminal *terminal, uint8_t *data, size_t room, size_t *len);
 
 void terminal_free(struct terminal *terminal);
 
 struct entry {
-    uint16_t tag;               /* 0 where the place is free */
+    uint16_t tag;               /* 0 if the place is free */
     bool locked;
     size_t size;
     uint8_t *value;
 };
 
-/* Bytes of its own and then a value, of which so many are sent. */
+/* Bytes of its own and then a value, with the number sent. */
 struct response {
     uint8_t front[20];
     size_t len, sent;
     const struct entry *entry;  /* or NULL */
 };
 
-/* How far a TPDU has come at the card. */
+/* The progress of a TPDU at the card. */
 enum card_stage { CARD_OPENING, CARD_RECEIVING, CARD_SENDING, CARD_SECOND_STATUS };
 
-/* What the second status character makes of the card. */
+/* The effect of the second status character on the card. */
 enum outcome { LEAVES, SELECTS, JOINS, STORES };
 
 /* A card with one application, whose objects are found by a hash of their tags. */

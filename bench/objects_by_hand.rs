@@ -12,13 +12,13 @@ mod shapes;
 
 use shapes::{SHAPES, SIZE};
 
-/// The deepest level at which objects stand.
+/// The deepest level of objects.
 const DEEPEST: usize = 16;
 
-/// How often a list is read between two looks at the clock.
+/// Readings of a list between two looks at the clock.
 const ROUNDS: u32 = 20;
 
-/// How many times so; the fastest counts.
+/// Repetitions of that; the fastest counts.
 const TRIES: u32 = 200;
 
 #[derive(Clone, Copy, Debug, PartialEq, Eq)]
@@ -76,7 +76,7 @@ fn check(bytes: &[u8]) -> Result<(), Fault> {
     }
 }
 
-/// Where the tag ends that starts at this place, which is before the end.
+/// The end of the tag that starts at this place, which is before the end.
 #[inline(always)]
 fn past_tag(bytes: &[u8], place: usize, end: usize) -> Result<usize, Reason> {
     if bytes[place] & 0x1F != 0x1F {
@@ -100,7 +100,7 @@ fn past_tag(bytes: &[u8], place: usize, end: usize) -> Result<usize, Reason> {
     Ok(place + 3)
 }
 
-/// Where the value starts whose length starts at this place, and how many bytes it has.
+/// The place of the value whose length starts at this place, and the number of its bytes.
 #[inline(always)]
 fn past_length(bytes: &[u8], place: usize, end: usize) -> Result<(usize, usize), Reason> {
     if place == end {
@@ -119,7 +119,7 @@ fn past_length(bytes: &[u8], place: usize, end: usize) -> Result<(usize, usize),
     }
 }
 
-/// The objects of checked bytes and of so many levels below them, and the bytes of their tags and
+/// The objects of checked bytes and of this many levels below them, and the bytes of their tags and
 /// of the values of primitives.
 #[inline(never)]
 fn walk(bytes: &[u8], levels: u8) -> (usize, usize) {
@@ -146,7 +146,7 @@ fn walk(bytes: &[u8], levels: u8) -> (usize, usize) {
     (count, sum)
 }
 
-/// How many bytes the tag, the head and the value have of the object that checked bytes start with.
+/// The sizes of the tag, the head and the value of the object that checked bytes start with.
 fn trusted_head(bytes: &[u8]) -> (usize, usize, usize) {
     let tag = match bytes {
         [first, ..] if first & 0x1F != 0x1F => 1,
@@ -163,8 +163,8 @@ fn trusted_head(bytes: &[u8]) -> (usize, usize, usize) {
     }
 }
 
-/// How many nanoseconds one reading takes. Each second one leaves out the first `part` bytes, so
-/// that no two in a row are the same.
+/// The nanoseconds of one reading. Each second one leaves out the first `part` bytes, so that no
+/// two in a row are the same.
 fn nanoseconds(read: impl Fn(&[u8]) -> usize, bytes: &[u8], part: usize) -> f64 {
     let shorter = &bytes[part..];
     let mut fastest = f64::MAX;

@@ -1,17 +1,19 @@
 //! A terminal and a card of data objects written by hand in Rust, which pass one character at a
-//! time over a line in memory. They are asked the same as the proved ones, and timed in the same
-//! way as `crates/session_speed` times those.
+//! time over a line in memory. They carry out the same operations as the proved ones, timed in the
+//! same way as `crates/session_speed` times those.
 //!
-//!     mkdir -p out && rustc --edition 2021 -O -C target-cpu=x86-64-v2 -C codegen-units=1 \
-//!         -C lto=fat -C panic=abort bench/session_by_hand.rs -o out/session_by_hand
-//!     out/session_by_hand measure
+//! ```sh
+//! mkdir -p out && rustc --edition 2021 -O -C target-cpu=x86-64-v2 -C codegen-units=1 \
+//!     -C lto=fat -C panic=abort bench/session_by_hand.rs -o out/session_by_hand
+//! out/session_by_hand measure
+//! ```
 //!
 //! The card refuses headers by the same rules in the same order, finds objects by hash, and changes
-//! nothing before the second status character; the terminal follows `6CXX` and `61XX`. Want of
-//! memory is told where the proved ones tell it: an operation's room and the place of its answer
-//! are taken before its first character, an answer keeps its data alone, and a put that finds no
-//! memory is answered `6581`. There are no plans and no watch, the data of a TPDU are not cleared
-//! after it, and the value of a constructed tag, which no load puts, is not checked.
+//! nothing before the second status character. The terminal follows `6CXX` and `61XX`. If memory
+//! runs out, the result is the same as of the proved ones. An operation's room and the place of its
+//! answer are taken before its first character, an answer keeps only its data, and a put that finds
+//! no memory gets `6581`. There are no plans and no watch. The data of a TPDU are not cleared after
+//! it. The value of a constructed tag, which no load puts, is not checked.
 
 use std::collections::{HashMap, TryReserveError};
 use std::env;
@@ -105,20 +107,20 @@ enum HostTurn {
 }
 
 enum HostStage {
-    /// So many characters of the header are sent.
+    /// The number of header characters sent.
     Opening {
         sent: usize,
     },
-    /// A procedure byte or SW1 is due.
+    /// A procedure byte or SW1 is next.
     Awaiting {
         moved: usize,
     },
-    /// Data move until so many have.
+    /// Data move up to this number.
     Moving {
         moved: usize,
         until: usize,
     },
-    /// SW2 is due.
+    /// SW2 is next.
     SecondStatus {
         sw1: u8,
     },
@@ -127,7 +129,7 @@ enum HostStage {
     },
 }
 
-/// A command under way, over all its TPDUs.
+/// A command in progress, over all its TPDUs.
 struct Exchange<'a> {
     header: Header,
     p3: u8,
@@ -142,7 +144,7 @@ struct Exchange<'a> {
 }
 
 impl<'a> Exchange<'a> {
-    /// `le` counts the bytes that are wanted, 256 all that there are.
+    /// `le` counts the bytes asked for; 256 is all there are.
     fn start(header: Header, content: &'a [u8], le: Option<u16>, room: Vec<u8>) -> Exchange<'a> {
         let asks = content.is_empty() && le.is_some();
         Exchange {
@@ -243,7 +245,7 @@ impl<'a> Exchange<'a> {
         })
     }
 
-    /// What comes after a status: the TPDU once more, a GET RESPONSE, or nothing.
+    /// Decides what follows a status: the TPDU once more, a GET RESPONSE, or nothing.
     fn follow(&mut self, status: Status) -> Result<(), Fault> {
         let gathered = self.response.len();
         let left = match self.wanted {
@@ -304,7 +306,7 @@ struct Entry {
     locked: bool,
 }
 
-/// An application: its identifier, and its data objects in the order in which they came.
+/// An application: its identifier, and its data objects in the order of storing.
 struct Application {
     aid: Vec<u8>,
     places: HashMap<u16, usize, BuildHasherDefault<TagHasher>>,
@@ -335,7 +337,7 @@ impl Application {
     }
 }
 
-/// Bytes of its own and then a value, of which so many are sent.
+/// Bytes of its own and then a value, with the number sent.
 #[derive(Clone, Copy)]
 struct Response {
     front: [u8; 20],
@@ -362,7 +364,7 @@ impl Response {
 }
 
 enum Stage {
-    /// So many characters of the header have come.
+    /// The number of header characters received.
     Opening { taken: usize },
     /// Data come from the terminal.
     Receiving { moved: usize },
@@ -372,7 +374,7 @@ enum Stage {
     SecondStatus { status: Status },
 }
 
-/// What the second status character makes of the card.
+/// The effect of the second status character on the card.
 enum Outcome {
     /// This response is pending.
     Leaves {
@@ -501,7 +503,7 @@ impl Card {
         status.sw1
     }
 
-    /// What the card sends, if it sends; or why it refuses the header.
+    /// What the card sends, if it sends, or why it refuses the header.
     fn judged(&self, header: Header, p3: u8) -> Result<Option<Response>, Status> {
         if self.chain.is_some_and(|first| header.as_last() != first) {
             return Err(status(0x68, 0x83));
@@ -606,7 +608,7 @@ impl Card {
         }
     }
 
-    /// The answer once all data are sent.
+    /// The answer after all data were sent.
     fn end_of_sending(&mut self, p3: u8) -> Status {
         let rest = self.sends.take().map(|response| Response {
             sent: response.sent + count(p3),
@@ -618,7 +620,7 @@ impl Card {
         announcing(left)
     }
 
-    /// The answer once all data have come.
+    /// The answer after all data were received.
     fn data(&mut self) -> Status {
         let header = self.header();
         let content = &self.came[..self.opening[4] as usize];
@@ -664,7 +666,7 @@ impl Card {
         }
     }
 
-    /// What was decided comes to stand.
+    /// Makes the decided outcome take effect.
     fn settle(&mut self) {
         let outcome = std::mem::replace(&mut self.outcome, Outcome::Leaves { response: None });
         if !matches!(outcome, Outcome::Joins) {
@@ -702,7 +704,7 @@ fn named_tag(header: Header) -> Option<u16> {
     }
 }
 
-/// The status where so many bytes are left of a response.
+/// The status if this many bytes are left of a response.
 fn announcing(left: usize) -> Status {
     if left == 0 {
         OK
@@ -724,7 +726,7 @@ enum Op {
     Put(Header, Vec<u8>),
 }
 
-/// Passes characters until the command is over.
+/// Passes characters until the command ends.
 fn converse(
     exchange: &mut Exchange,
     card: &mut Card,
@@ -803,7 +805,7 @@ fn run(
     Ok(())
 }
 
-/// Carries out operations, all of which the card answers with `9000`.
+/// Carries out operations that the card all answers with `9000`.
 fn run_all(ops: &[Op], card: &mut Card, seen: impl FnMut(u8)) {
     let mut answers = Vec::new();
     run(ops, card, seen, &mut answers).expect("no fault");
@@ -846,8 +848,8 @@ fn selected() -> Card {
     card
 }
 
-/// Carries out lists of operations so often: a function of its own, which a profiler finds by its
-/// name.
+/// Carries out lists of operations this many times: a function of its own, which a profiler finds
+/// by its name.
 #[no_mangle]
 #[inline(never)]
 extern "Rust" fn repeat(ops: &[Op], card: &mut Card, times: usize) {
@@ -856,8 +858,8 @@ extern "Rust" fn repeat(ops: &[Op], card: &mut Card, times: usize) {
     }
 }
 
-/// Says how fast lists are carried out; or, of `by_hand 8`, carries out each operation so often,
-/// once for a profiler to leave out and once for it to count.
+/// Prints the speed of lists. With `by_hand 8` it carries out each operation 8 times, once for a
+/// profiler to leave out and once for it to count.
 fn main() {
     let measures = env::args().count() > 1;
     let times = env::args().nth(2).map(|word| word.parse().expect("a number"));

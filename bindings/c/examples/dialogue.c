@@ -1,5 +1,5 @@
 /* Both ends of a dialogue, character by character: a terminal selects an application of a card and
- * reads an object. It prints what goes over the line, as `card_trace play` does. */
+ * reads an object. It prints the characters of the line, as `card_trace play` does. */
 #include <galliumtoad.h>
 
 #include <stdio.h>
@@ -27,7 +27,7 @@ static void print_hex(const uint8_t *bytes, size_t n)
         printf("%02X", bytes[i]);
 }
 
-/* Prints a character behind those of the same end. */
+/* Prints a character after those of the same end. */
 static void print_character(char *last, char end, uint8_t byte)
 {
     if (*last != end)
@@ -49,7 +49,7 @@ static void make_card(gt_card *card)
         stop("the card", code);
 }
 
-/* Hands each end's characters to the other until the exchange is over. */
+/* Hands each end's characters to the other until the exchange ends. */
 static void talk(gt_exchange *exchange, gt_card *card)
 {
     char last = '\0';
@@ -63,7 +63,7 @@ static void talk(gt_exchange *exchange, gt_card *card)
             print_character(&last, '<', byte);
             code = gt_exchange_take(exchange, byte);
         } else if (code == GT_OK) {
-            code = GT_FAILED; /* both ends wait */
+            code = GT_FAILED; /* deadlock */
         }
         if (code != GT_OK)
             stop("the line", code);

@@ -1,7 +1,6 @@
-/* A terminal and a card as two processes, with a pseudo terminal as the line between them.
- *
- * The card's process holds an application and answers whatever comes. The terminal's selects it,
- * stores a name and a long value, reads both back, and prints what goes over the line. */
+/* A terminal and a card as two processes, with a pseudo terminal as the line between them. The
+ * card's process holds an application and answers every command. The terminal's process selects it,
+ * stores a name and a long value, reads both back, and prints the characters of the line. */
 #define _XOPEN_SOURCE 600
 #define _DEFAULT_SOURCE
 
@@ -19,7 +18,7 @@
 
 static const uint8_t AID[] = { 0xA0, 0x00, 0x00, 0x00, 0x03, 0x10, 0x10 };
 
-/* a value that takes two chained commands, as none carries more than 255 bytes */
+/* a value of two chained commands, since none carries more than 255 bytes */
 #define LONG_VALUE 300
 
 static void stop(const char *what)
@@ -34,7 +33,7 @@ static void stop_at(const char *what, int32_t code)
     exit(1);
 }
 
-/* One character to the line, and one from it; 0 where the other end is gone. */
+/* Sends one character to the line, and receives one from it; 0 if the other end is closed. */
 static int put_byte(int line, uint8_t byte)
 {
     ssize_t n;
@@ -75,7 +74,7 @@ static void be_card(int line)
     gt_card_free(&card);
 }
 
-/* Prints a character behind those of the same end. */
+/* Prints a character after those of the same end. */
 static void trace(char *last, char end, uint8_t byte)
 {
     if (*last != end)
@@ -129,7 +128,7 @@ static void select_app(int line)
         exit(1);
 }
 
-/* PUT DATA, in as many chained commands of at most 255 bytes as it takes. */
+/* PUT DATA, in chained commands of at most 255 bytes. */
 static void put(int line, uint8_t p1, uint8_t p2, const uint8_t *value, size_t n)
 {
     uint8_t command[5 + 255];
@@ -149,7 +148,7 @@ static void put(int line, uint8_t p1, uint8_t p2, const uint8_t *value, size_t n
     } while (n > 0);
 }
 
-/* GET DATA; what comes is an object with this tag and value. */
+/* GET DATA; the response must be an object with this tag and value. */
 static void check(int line, uint32_t tag, const uint8_t *value, size_t n)
 {
     const uint8_t command[] = { 0x00, 0xCA, (uint8_t)(tag >> 8), (uint8_t)tag, 0x00 };
@@ -178,7 +177,7 @@ static void be_terminal(int line)
     check(line, 0x50, value, sizeof value);
 }
 
-/* Opens both ends of a pseudo terminal, which hands on all bytes as they are. */
+/* Opens both ends of a pseudo terminal, which passes all bytes unchanged. */
 static int open_line(int *card)
 {
     struct termios settings;

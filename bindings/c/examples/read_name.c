@@ -6,7 +6,8 @@
 
 static const uint8_t AID[] = { 0xA0, 0x00, 0x00, 0x00, 0x03, 0x10, 0x10 };
 
-/* Passes the TPDUs of the operation that has begun; the answer's status, or 0 after a fault. */
+/* Passes the TPDUs of the operation in progress; returns the answer's status, or 0 after a
+ * fault. */
 static uint16_t pass(gt_terminal *terminal, SCARDHANDLE card, uint8_t *data, size_t room, size_t *n)
 {
     uint8_t tpdu[GT_TPDU_LIMIT], answer[GT_ANSWER_LIMIT];
@@ -21,7 +22,7 @@ static uint16_t pass(gt_terminal *terminal, SCARDHANDLE card, uint8_t *data, siz
     return gt_terminal_answer(terminal, &status, data, room, n) == GT_OK ? status : 0;
 }
 
-/* Selects the application, and reads the name; 1 where both were answered 9000. */
+/* Selects the application, and reads the name; 1 if both got 9000. */
 static int read_name(gt_terminal *terminal, SCARDHANDLE card, uint8_t *data, size_t room, size_t *n)
 {
     return gt_terminal_new(terminal) == GT_OK

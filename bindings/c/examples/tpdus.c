@@ -1,5 +1,5 @@
-/* A terminal and a card that pass whole TPDUs, as a program and a reader with its card do: a name
- * is written and read. Each TPDU and its answer are printed. */
+/* A terminal and a card that pass whole TPDUs, as a program and a reader with its card do. It
+ * writes and reads a name, and prints each TPDU and its answer. */
 #include <galliumtoad.h>
 
 #include <stdio.h>
@@ -24,7 +24,7 @@ static void print(const char *sign, const uint8_t *bytes, size_t n)
     printf("\n");
 }
 
-/* Passes the TPDUs of the operation that has begun, and prints its answer. */
+/* Passes the TPDUs of the operation in progress, and prints its answer. */
 static void pass(const char *what, gt_terminal *terminal, gt_card *card)
 {
     uint8_t buffer[GT_TPDU_LIMIT], data[GT_OBJECT_LIMIT];

@@ -3,12 +3,12 @@
  * It is an IFD handler: pcscd loads it, as bindings/c/README.md says, and then shows a reader with
  * a card in it to every PC/SC client. A card's tables and its answer to reset come from the file
  * that the reader's DEVICENAME names, of `app`, `object`, `locked` and `atr` lines. What clients
- * store lasts until pcscd lets the reader go, or the file is taken away: that takes the card out,
- * and a file of the same name puts a new card in.
+ * store lasts until pcscd releases the reader, or the file is moved: that takes the card out, and a
+ * file of the same name puts a new card in.
  *
- * The card talks what its answer to reset offers. At T=0 a TPDU is carried out as a reader's
+ * The card uses what its answer to reset offers. At T=0 it carries out a TPDU as a reader's
  * firmware does: `61XX` and `6CXX` reach the client, which sends GET RESPONSE or asks again by
- * itself. An Le behind data is dropped. At T=1, and for a card without contacts, the card answers
+ * itself. An Le after data is dropped. At T=1, and for a card without contacts, the card answers
  * whole commands. */
 #include "contactless.h"
 #include "table.h"
@@ -18,18 +18,18 @@
 #include <errno.h>
 #include <string.h>
 
-/* the most bytes of a file's name, with the NUL behind it */
+/* the most bytes of a file's name, with the NUL after it */
 #define NAME_ROOM 1024
 
 /* as many readers as a pcscd has */
 #define READERS_LIMIT PCSCLITE_MAX_READERS_CONTEXTS
 
-/* A reader, which pcscd calls by its number. It lets no two calls go on at once, of all readers of
- * this handler, since TAG_IFD_THREAD_SAFE is not answered. */
+/* A reader, which pcscd calls by its number. It makes no two calls of this handler at once, for all
+ * its readers, since TAG_IFD_THREAD_SAFE is not supported. */
 struct virtual_reader {
     int is_used, is_powered;
     int has_card;
-    int is_refused;         /* the file is no table: it has to go before another is read */
+    int is_refused;         /* the file is no table: it must be moved before another is read */
     DWORD lun;
     char name[NAME_ROOM];   /* of the table's file */
     struct table table;
@@ -59,7 +59,7 @@ static struct virtual_reader *free_reader(void)
     return NULL;
 }
 
-/* Reads the table anew if the file has come, and drops it if the file has gone. */
+/* Reads the table again if there is a file, and drops it if the file was moved. */
 static void look_at_file(struct virtual_reader *reader)
 {
     FILE *file = fopen(reader->name, "r");
@@ -75,7 +75,7 @@ static void look_at_file(struct virtual_reader *reader)
     fclose(file);
 }
 
-/* The file has to be there now, so that a name that is misspelt shows. */
+/* The file must be there now, so that a misspelt name shows. */
 RESPONSECODE IFDHCreateChannelByName(DWORD Lun, LPSTR DeviceName)
 {
     struct virtual_reader *reader = reader_of(Lun) == NULL ? free_reader() : NULL;
@@ -114,7 +114,7 @@ RESPONSECODE IFDHCloseChannel(DWORD Lun)
     return IFD_SUCCESS;
 }
 
-/* The answer to reset, or no bytes where the card has no power. */
+/* The answer to reset, or no bytes if the card has no power. */
 static RESPONSECODE copy_atr(const struct virtual_reader *reader, DWORD room, PUCHAR value,
                              PDWORD length)
 {
@@ -205,7 +205,7 @@ static RESPONSECODE carry_out_tpdu(struct virtual_reader *reader, const UCHAR *s
                                    UCHAR *answer, PDWORD length)
 {
     size_t size;
-    /* the Le that clients send behind data is in no TPDU of T=0 */
+    /* no TPDU of T=0 has the Le that clients send after data */
     if (n > 5 && sent[4] > 0 && n == (size_t)6 + sent[4])
         n--;
     if (gt_card_tpdu(&reader->table.card, sent, n, answer, *length, &size) != GT_OK)

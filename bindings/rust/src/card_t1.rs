@@ -5,8 +5,8 @@ use crate::error::{done, told, Error};
 use crate::raw;
 use crate::t1::{Received, BLOCK_LIMIT};
 
-/// A card's end of a line at T=1, which answers each block of a terminal with one block. The times
-/// of the line are the caller's to keep; [`Atr`](crate::Atr) has them.
+/// A card's end of a line at T=1. It answers each block of a terminal with one block. The caller
+/// keeps the times of the line, which are in [`Atr`](crate::Atr).
 ///
 /// ```
 /// use galliumtoad::{CardBuilder, CardT1, Edc, Error, T1Limits, BLOCK_LIMIT, T1};
@@ -34,7 +34,7 @@ use crate::t1::{Received, BLOCK_LIMIT};
 pub struct CardT1(Card);
 
 impl CardT1 {
-    /// Resets the card, which speaks T=1 then.
+    /// Resets the card, and begins T=1.
     ///
     /// # Errors
     ///
@@ -45,12 +45,12 @@ impl CardT1 {
         Ok(end)
     }
 
-    /// Takes bytes of the terminal, up to the end of its block. A command is carried out with the
+    /// Takes bytes of the terminal up to the end of its block. A command is carried out with the
     /// last byte of its last block.
     ///
     /// # Errors
     ///
-    /// - [`Error::Memory`]: it ran out. The block is dropped, and no command is carried out.
+    /// - [`Error::Memory`]: memory ran out. The block is dropped, and no command is carried out.
     pub fn receive(&mut self, bytes: &[u8]) -> Result<Received, Error> {
         let (at, n) = (self.0 .0 .0.at(), bytes.len());
         let mut taken = 0;
@@ -62,8 +62,8 @@ impl CardT1 {
         Ok(Received { taken, is_whole })
     }
 
-    /// No valid block of the terminal came: one stopped for longer than CWT, or a character had a
-    /// wrong parity.
+    /// Reports that a block of the terminal stopped for longer than CWT, or that a character had a
+    /// wrong parity. The bytes of the block are dropped.
     ///
     /// # Errors
     ///
@@ -73,12 +73,12 @@ impl CardT1 {
         done(unsafe { raw::galliumtoad_card_t1_missed(self.0 .0 .0.at()) })
     }
 
-    /// Copies the block to send now to the front of `room`, and returns how many bytes it has; or
-    /// `None` if no block of the terminal has come, or memory ran out at the last one.
+    /// Copies the block to send now to the front of `room`, and returns its length. Returns `None`
+    /// if the terminal sent no block, or if memory ran out at its last one.
     ///
     /// # Errors
     ///
-    /// - [`Error::Memory`]: it ran out. Nothing has changed.
+    /// - [`Error::Memory`]: memory ran out. Nothing changes.
     pub fn block_into(&self, room: &mut [u8; BLOCK_LIMIT]) -> Result<Option<usize>, Error> {
         let (at, n) = (self.0 .0 .0.at(), room.len());
         let mut count = 0;
@@ -100,13 +100,13 @@ impl CardT1 {
         done(unsafe { raw::galliumtoad_card_t1_begin(self.0 .0 .0.at()) })
     }
 
-    /// The card, for what it holds.
+    /// Returns the card, to look at its objects.
     #[must_use]
     pub fn card(&self) -> &Card {
         &self.0
     }
 
-    /// Resets the card, which speaks T=0 then, and hands it back.
+    /// Resets the card, ends T=1, and returns the card.
     ///
     /// # Errors
     ///

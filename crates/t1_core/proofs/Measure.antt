@@ -36,7 +36,7 @@ weigh x y t le =
     subst (λ n. n ≤ y * t) e (mul-le-mul_right t (omega (arith, le)))
 
 -- the blocks that so many more bytes need
-abbrev more_blocks : ℕ → ℕ → ℕ
+abbrev pub more_blocks : ℕ → ℕ → ℕ
 more_blocks size zero = 0
 more_blocks size (suc n) = blocks size (suc n)
 
@@ -66,24 +66,24 @@ drop_less size bytes some =
 
 module _ (m : Meaning) (before commands : List (List ℕ)) where
   -- blocks of a command in progress, and of all that follows
-  abbrev ahead : Kept → List ℕ → ℕ → ℕ
+  abbrev pub ahead : Kept → List ℕ → ℕ → ℕ
   ahead k command rest =
       rest + blocks longest (length (m.does (before ++ (k.done ++ command ∷ []))))
       + all_blocks m (size_after (m.asks (before ++ (k.done ++ command ∷ []))).size k.size)
       (before ++ (k.done ++ command ∷ [])) k.todo
 
   -- and of a response
-  abbrev behind : Kept → ℕ → ℕ → ℕ
+  abbrev pub behind : Kept → ℕ → ℕ → ℕ
   behind k size rest = rest + all_blocks m size (before ++ k.done) k.todo
 
-  abbrev weight : Kept → (blocks tries extensions : ℕ) → ℕ
+  abbrev pub weight : Kept → (blocks tries extensions : ℕ) → ℕ
   weight k blocks tries extensions =
       blocks * (k.settings.tries + 1) + tries + extensions + length k.todo * k.settings.extensions
 
-  abbrev response : Kept → List ℕ → ℕ
+  abbrev pub response : Kept → List ℕ → ℕ
   response k rest = more_blocks k.ifsd (length rest) + 1
 
-  abbrev measure : Place → ℕ
+  abbrev pub measure : Place → ℕ
   measure (Opens k rest tries extensions asks) =
       weight k (ahead k (k.field ++ rest) (more_blocks k.size (length rest))) tries extensions + 1
   measure (Behind k collected rest answering tries extensions asks) =
@@ -361,7 +361,7 @@ module _ (m : Meaning) (before commands : List (List ℕ)) where
   heard_active (Given_up w cause) a = absurd a
   heard_active (Finished w) a = absurd a
 
-  step_less : (down up : Fate) (p : Place) → IsActive m before p → Holds m before commands p
+  pub step_less : (down up : Fate) (p : Place) → IsActive m before p → Holds m before commands p
       → measure (step m before down up p) + 1 ≤ measure p
   step_less Delivers up p a h =
       let le = heard_le p h in
@@ -371,7 +371,7 @@ module _ (m : Meaning) (before commands : List (List ℕ)) where
   step_less Damages up p a h = garbled_less up p a h
   step_less Loses up p a h = misses_less (out_at p) p a
 
-  active_or : (p : Place) → IsActive m before p ⊎
+  pub active_or : (p : Place) → IsActive m before p ⊎
       (has_stopped (world_of m before p).terminal.phase ≡ true)
   active_or (Opens k rest tries extensions asks) = inl tt
   active_or (Behind k collected rest answering tries extensions asks) = inl tt
@@ -384,7 +384,7 @@ module _ (m : Meaning) (before commands : List (List ℕ)) where
   active_or (Given_up w cause) = inr refl
   active_or (Finished w) = inr refl
 
-  some_left : (p : Place) → IsActive m before p → measure p ≡ 0 → ⊥
+  pub some_left : (p : Place) → IsActive m before p → measure p ≡ 0 → ⊥
   some_left p a none = let less = misses_less Asks p a in absurd (omega (arith, less, none))
 
   -- every world

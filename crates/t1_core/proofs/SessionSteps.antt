@@ -70,7 +70,7 @@ not_ready Aborting e = refl
 not_ready Over e = absurd (cc)
 not_ready (GivenUp cause) e = absurd (cc)
 
-is_over : (p : Phase) → is_ready p ≡ true → p ≡ Over
+pub is_over : (p : Phase) → is_ready p ≡ true → p ≡ Over
 is_over Over e = refl
 is_over Opening e = absurd (cc)
 is_over Sending e = absurd (cc)
@@ -184,17 +184,17 @@ log_with log None = log
 log_with log (Some d) = log ++ d ∷ []
 
 -- a meaning agrees with what came before, and with what came now
-before_it : (m : Meaning) (log : List Did) (did : Option Did) → Agrees m [] (log_with log did)
+pub before_it : (m : Meaning) (log : List Did) (did : Option Did) → Agrees m [] (log_with log did)
     → Agrees m [] log × IsOfSome m (commands_of log) did
 before_it m log None h = (h, tt)
 before_it m log (Some d) h = parted m [] log d h
 
-commands_with : (log : List Did) (did : Option Did)
+pub commands_with : (log : List Did) (did : Option Did)
     → commands_of (log_with log did) ≡ ran_with (commands_of log) did
 commands_with log None = refl
 commands_with log (Some d) = map-append (λ (x : Did). x.command) log (d ∷ [])
 
-does_one : {State : Type 0} (Does : State → Did → State → Type 0) (first mid last : State)
+pub does_one : {State : Type 0} (Does : State → Did → State → Type 0) (first mid last : State)
     (log : List Did) (d : Did) → DoesAll Does first log mid → Does mid d last
     → DoesAll Does first (log ++ d ∷ []) last
 does_one Does first mid last [] d is goes =
@@ -202,22 +202,22 @@ does_one Does first mid last [] d is goes =
 does_one Does first mid last (e ∷ log) d (next, does, rest) goes =
     (next, does, does_one Does next mid last log d rest goes)
 
-does_with : {State : Type 0} (Does : State → Did → State → Type 0) (first mid last : State)
+pub does_with : {State : Type 0} (Does : State → Did → State → Type 0) (first mid last : State)
     (log : List Did) (did : Option Did) → DoesAll Does first log mid → DoesSome Does mid did last
     → DoesAll Does first (log_with log did) last
 does_with Does first mid last log None all is = subst (λ s. DoesAll Does first log s) (sym is) all
 does_with Does first mid last log (Some d) all goes =
     does_one Does first mid last log d all goes.0
 
-abbrev IsShort : Did → Type 0
+abbrev pub IsShort : Did → Type 0
 IsShort d = length d.response < most_bytes
 
-short_one : (log : List Did) (d : Did) → AllByRecursion IsShort log → IsShort d
+pub short_one : (log : List Did) (d : Did) → AllByRecursion IsShort log → IsShort d
     → AllByRecursion IsShort (log ++ d ∷ [])
 short_one [] d all is = (is, tt)
 short_one (e ∷ log) d (one, all) is = (one, short_one log d all is)
 
-short_with : {State : Type 0} (Does : State → Did → State → Type 0) (old new : State)
+pub short_with : {State : Type 0} (Does : State → Did → State → Type 0) (old new : State)
     (log : List Did) (did : Option Did) → AllByRecursion IsShort log → DoesSome Does old did new
     → AllByRecursion IsShort (log_with log did)
 short_with Does old new log None all goes = all
@@ -252,14 +252,14 @@ responses_are m ran (d ∷ log) ((does, asks), h) =
 
 -- how many exchanges may come, whatever the responses
 
-entry_short : (log : List Did) → AllByRecursion IsShort log → (ran : List (List ℕ))
+pub entry_short : (log : List Did) → AllByRecursion IsShort log → (ran : List (List ℕ))
     → length (entry log ran).response ≤ most_bytes
 entry_short [] all ran = omega arith
 entry_short (d ∷ log) all [] = omega arith
 entry_short (d ∷ log) (is, all) (c ∷ []) = omega (arith, is)
 entry_short (d ∷ log) (is, all) (c ∷ e ∷ ran) = entry_short log all (e ∷ ran)
 
-few_blocks : (size n : ℕ) → blocks size n ≤ n + 1
+pub few_blocks : (size n : ℕ) → blocks size n ≤ n + 1
 few_blocks size zero = omega arith
 few_blocks size (suc n) = let le = div-le_self n size in omega (arith, le)
 
@@ -292,8 +292,8 @@ abbrev or_else : Fault → Option Fault → Fault
 or_else f None = f
 or_else f (Some g) = g
 
-run_more : (m : Meaning) (fates : List Fates) (x : Fates) (w : World) → run m (fates ++ x ∷ []) w
-    ≡ exchange m x (run m fates w)
+pub run_more : (m : Meaning) (fates : List Fates) (x : Fates) (w : World)
+    → run m (fates ++ x ∷ []) w ≡ exchange m x (run m fates w)
 run_more m [] x w = refl
 run_more m (y ∷ ys) x w = run_more m ys x (exchange m y w)
 
@@ -317,7 +317,7 @@ module _ {C : Type 0} (a : Ghosts C) (settings : Settings) (first : a.State)
     few = λ m h. omega arith;
   }
 
-  going : (m : Meaning) (fates : List Fates) (w : World)
+  pub going : (m : Meaning) (fates : List Fates) (w : World)
       → w ≡ run m fates (start settings [] commands)
       → has_stopped w.terminal.phase ≡ false
       → length fates < most_exchanges settings m [] commands
@@ -334,7 +334,7 @@ module _ {C : Type 0} (a : Ghosts C) (settings : Settings) (first : a.State)
       (h : Led a settings first commands old now s)
       (moving : has_stopped s.at.terminal.phase ≡ false)
       (more : next ≡ now ++ x ∷ []) where
-    pub led_next : Exchanges a x s t → Led a settings first commands old next t
+    unfoldable pub led_next : Exchanges a x s t → Led a settings first commands old next t
     led_next (did, goes, step) = record {
       did = log_with h.did did;
       does = does_with a.Does first (a.standing s.card) (a.standing t.card) h.did did h.does goes;

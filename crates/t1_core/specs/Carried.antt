@@ -1,0 +1,73 @@
+-- Commands one after another over a line, each begun once the one before it has its answer, so that
+-- it may depend on that.
+use Rattle.std.specs.Prelude.{◌≡◌, List, ℕ, [], ◌∷◌, ◌++◌}
+use Rattle.t1_core.specs.declared.applet.Applet.{Ghosts}
+use Rattle.t1_core.specs.declared.line.Fates.{Fates}
+use Rattle.t1_core.specs.declared.settings.Settings.{Settings}
+use Rattle.t1_core.specs.declared.terminal.Phase.{Phase}
+use Rattle.t1_core.specs.declared.terminal.Phase.TheVariants.{Over}
+use Rattle.t1_core.specs.CardSide.{Meaning}
+use Rattle.t1_core.specs.Conversing.{BothOf, Led}
+use Rattle.t1_core.specs.Doing.{Agrees, EndOf}
+use Rattle.t1_core.specs.TerminalSide.{Terminal}
+use Rattle.t1_core.specs.World.{World, next_command, run, start}
+
+-- both ends of a line
+pub record EndsOf (C : Type 0) : Type 0 where
+  pub terminal : Terminal
+  pub card : EndOf C
+
+-- the same without commands to come, if these are the answers
+abbrev pub both_of : {C : Type 0} → EndsOf C → (answers : List (List ℕ)) → BothOf C
+both_of e answers = record {
+  card = e.card.card;
+  at = record { terminal = e.terminal; card = e.card.at; todo = []; answers = answers };
+}
+
+-- more commands behind those that are to be sent
+abbrev pub adds : Phase → List (List ℕ) → World → World
+adds Over commands w = next_command commands w
+adds _ commands w = record w { todo = w.todo ++ commands }
+
+abbrev pub more : List (List ℕ) → World → World
+more commands w = adds w.terminal.phase commands w
+
+-- what both ends come from: the commands since the reset, the answers, and what the line had done
+-- before the reset
+pub record Past (State : Type 0) : Type 0 where
+  pub settings : Settings
+  pub first : State
+  pub commands : List (List ℕ)
+  pub answers : List (List ℕ)
+  pub passed : List Fates
+
+-- after a reset
+abbrev pub nothing_yet : {State : Type 0} → Settings → State → List Fates → Past State
+nothing_yet settings first passed = record {
+  settings = settings;
+  first = first;
+  commands = [];
+  answers = [];
+  passed = passed;
+}
+
+-- a command that is over has its answer
+abbrev pub answers_in : Phase → List ℕ → List (List ℕ) → List (List ℕ)
+answers_in Over got answers = answers ++ got ∷ []
+answers_in _ got answers = answers
+
+-- one more command, with the terminal's end as it is now
+abbrev pub with_command : {State : Type 0} → Past State → List ℕ → Terminal → Past State
+with_command past command t = record past {
+  commands = past.commands ++ command ∷ [];
+  answers = answers_in t.phase t.got past.answers;
+}
+
+-- Both ends are where these commands lead, had they been given all at once, and more of them would
+-- lead further.
+pub record HasCarried {C : Type 0} (a : Ghosts C) (past : Past a.State) (now : List Fates)
+    (e : EndsOf C) : Type 0 where
+  pub led : Led a past.settings past.first past.commands past.passed now (both_of e past.answers)
+  pub more_is : (m : Meaning) → Agrees m [] led.did → (commands : List (List ℕ))
+      → run m led.fates (start past.settings [] (past.commands ++ commands))
+      ≡ more commands (run m led.fates (start past.settings [] past.commands))

@@ -1,0 +1,135 @@
+//! Both ends of a line, and commands one after another: each may depend on the answers before it.
+
+ghost use Rattle.std.specs.Prelude.{◌≡◌, List, true, false, OnOk};
+ghost use Rattle.t1_core.specs.declared.line.Fates.{Fates};
+ghost use Rattle.t1_core.specs.Carried.{EndsOf, HasCarried, Past, nothing_yet, with_command};
+ghost use Rattle.t1_core.specs.Conversing.{Conversed};
+ghost use Rattle.t1_core.specs.Passing.{Passes};
+ghost use Rattle.t1_core.specs.TerminalSide.{begins, fault_of, has_stopped, is_ready};
+
+use crate::applet::Applet;
+use crate::card::CardEnd;
+use crate::line::{Fates, Line};
+use crate::pass::pass;
+use crate::settings::Settings;
+use crate::terminal::{Fault, TerminalEnd};
+use std::alloc::{AllocError, Global};
+use std::marker::Model;
+
+/// Both ends of a line. `carry` takes a command to the card and its response back; the next command
+/// may depend on that. After a fault nothing more goes.
+#[derive(Drop)]
+pub struct Ends<C: Applet> {
+    terminal: TerminalEnd,
+    card: CardEnd<C>,
+}
+
+impl<C: Applet> Model for Ends<C> {
+    ghost use Rattle.t1_core.specs.Carried.{EndsOf};
+
+    ghost Value = { EndsOf C };
+
+    ghost view = { λ e. record { terminal = e.terminal; card = e.card } };
+}
+
+impl<C: Applet> Ends<C> {
+    /// Both ends after a reset.
+    pub fn new(alloc: Global, applet: C, settings: Settings) -> Ends<C>
+        ensures led { (passed : List Fates) → HasCarried C.Applet
+            (nothing_yet settings (C.standing applet) passed) passed result }
+        ensures ready { is_ready result.terminal.phase ≡ true }
+    {
+        Ends {
+            terminal: TerminalEnd::new(alloc, settings),
+            card: CardEnd::new(alloc, applet),
+        }
+    }
+
+    /// Carries a command to the card over the line, until its response has arrived or the terminal
+    /// gives up.
+    ///
+    /// # Errors
+    /// - `AllocError`: memory ran out; each end is somewhere in this command.
+    pub fn carry<L: Line>(&mut self, line: &mut L, command: &[u8]) -> Result<(), AllocError>
+        requires ready { is_ready self.old.terminal.phase ≡ true }
+        requires led { (past : Past C.State)
+            × HasCarried C.Applet past (L.passed line.old) self.old }
+        // What led to both ends leads with this command to where they are now.
+        ensures led { OnOk result ((past : Past C.State)
+            → HasCarried C.Applet past (L.passed line.old) self.old
+            → HasCarried C.Applet (with_command past command.now self.new.terminal)
+            (L.passed line.new) self.new) }
+        ensures stopped { OnOk result (has_stopped self.new.terminal.phase ≡ true) }
+    {
+        self.begin(command)?;
+        'exchanges: while !self.has_stopped() {
+            let fates = line.next();
+            self.exchange(fates)?;
+        }
+        Ok(())
+    }
+
+    fn begin(&mut self, command: &[u8]) -> Result<(), AllocError>
+        requires { is_ready self.old.terminal.phase ≡ true }
+        ensures { OnOk result (self.new ≡ record {
+          terminal = begins command.now self.old.terminal;
+          card = self.old.card;
+        }) }
+    {
+        match self.terminal.begin(command) {
+            Ok(()) => Ok(()),
+            Err(_) => Err(AllocError),
+        }
+    }
+
+    /// Passes a block of the terminal and the card's answer.
+    fn exchange(&mut self, fates: Fates) -> Result<(), AllocError>
+        ensures { OnOk result (Passes C.Applet fates self.old.terminal self.new.terminal
+            self.old.card self.new.card) }
+    {
+        pass(&mut self.terminal, &mut self.card, fates)
+    }
+
+    fn has_stopped(&self) -> bool
+        ensures { result ≡ has_stopped self.now.terminal.phase }
+    {
+        self.terminal.has_stopped()
+    }
+
+    /// Whether a command may be carried: there was no fault.
+    pub fn is_ready(&self) -> bool
+        ensures { result ≡ is_ready self.now.terminal.phase }
+    {
+        self.terminal.is_ready()
+    }
+
+    /// The newest response.
+    pub fn response(&self) -> &[u8]
+        ensures { result.now ≡ self.now.terminal.got }
+    {
+        self.terminal.response()
+    }
+
+    /// Why the terminal gave up, if it did.
+    pub fn fault(&self) -> Option<Fault>
+        ensures { result ≡ fault_of self.now.terminal }
+    {
+        self.terminal.fault()
+    }
+
+    /// Hands the card back.
+    pub fn into_applet(self) -> C
+        ensures { result ≡ self.card.card }
+    {
+        self.card.into_applet()
+    }
+}
+
+/// What both ends have carried is a dialogue: the commands before, in order and each once, with the
+/// card's responses, a true fault, an end, and no fault on a mild line.
+pub fn carried_commands_are_a_dialogue<C: Applet>()
+    ensures { (past : Past C.State) (passed : List Fates) (e : EndsOf C)
+        → HasCarried C.Applet past passed e → has_stopped e.terminal.phase ≡ true
+        → Conversed C.Applet past.settings past.first (C.standing e.card.card) past.commands
+        past.answers (fault_of e.terminal) past.passed passed }
+{}

@@ -281,7 +281,7 @@ get_again old mid tag value p1 p2 n p t before idle names due all few held_befor
     ]
 
 -- a whole GET DATA, as the card responds
-get_responds : (old mid : CardState) (tag : List ℕ) (p1 p2 : ℕ) (p : Pair)
+pub get_responds : (old mid : CardState) (tag : List ℕ) (p1 p2 : ℕ) (p : Pair)
     → is_idle old.pending ≡ true → NamesTag tag p1 p2 → p.command ≡ get_command p1 p2
     → Responds Does old p mid → FirstOf old (Get tag) p.content p.status mid
 get_responds old mid tag p1 p2 p idle names due (inner, brings, goes) =

@@ -9,3 +9,4 @@ pub mod StallLemmas
 pub mod OperationLemmas
 pub mod OperationCourse
 pub mod DrivenLemmas
+pub mod StopLemmas

@@ -117,7 +117,7 @@ taken_more [] (first ∷ gone) c left pairs brought taken gathers = absurd taken
 taken_more (d ∷ commands) (first ∷ gone) c left pairs brought taken gathers =
     (taken.0, taken.1, taken_more commands gone c left pairs brought taken.2 gathers)
 
-taken_to_end : (commands : List Command) (gone : List (List Pair)) (c : Command)
+pub taken_to_end : (commands : List Command) (gone : List (List Pair)) (c : Command)
     (left : List Command) (pairs : List Pair) (answer : Reply)
     → AreApdusUpTo commands gone (c ∷ left) → GathersApdus c pairs answer.content answer.status
     → (left ≡ []) ⊎ (answer.status ≢ ok) → AreApdusOf commands (gone ++ pairs ∷ []) answer
@@ -132,7 +132,7 @@ taken_to_end (d ∷ commands) (first ∷ second ∷ gone) c left pairs answer ta
   taken_to_end commands (second ∷ gone) c left pairs answer taken.2 gathers ends,
 )
 
-one_more_exchange : (gone : List (List Pair)) (pairs : List Pair)
+pub one_more_exchange : (gone : List (List Pair)) (pairs : List Pair)
     → talk_pairs (gone ++ pairs ∷ []) ≡ talk_pairs gone ++ pairs
 one_more_exchange gone pairs = flat_map_last (λ ps. ps) gone pairs
 

@@ -42,7 +42,7 @@ never_again h [] left (Some n) = refl
 never_again h (b ∷ bs) left None = refl
 never_again h (b ∷ bs) left (Some n) = refl
 
-ends_alone : (h : Header) (content : List ℕ) (came : ℕ) (status : StatusWord)
+pub ends_alone : (h : Header) (content : List ℕ) (came : ℕ) (status : StatusWord)
     → follow (first_place (link h content) (Bytes 0)) came status ≡ Ends
 ends_alone h content came status =
     ap (λ x. follow_by (first_place (link h content) (Bytes 0)) came x
@@ -103,7 +103,7 @@ without_le h [] = refl
 without_le h (b ∷ bs) = refl
 
 -- so it is answered as a TPDU
-answered_by : (h : Header) (piece : List ℕ) (pairs : List Pair) (content : List ℕ)
+pub answered_by : (h : Header) (piece : List ℕ) (pairs : List Pair) (content : List ℕ)
     (status : StatusWord) (old new : CardState)
     → GathersApdus (link h piece) pairs content status → RespondsToAll Does old pairs new
     → IsAnswered old (link h piece) status new × (content ≡ [])

@@ -3,3 +3,4 @@ pub mod ApduSide
 pub mod CardApdu
 pub mod ApduTalk
 pub mod ApduOperations
+pub mod ApduStops

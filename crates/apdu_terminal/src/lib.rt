@@ -18,6 +18,7 @@ mod exchange;
 pub mod laws;
 mod operations;
 mod stage;
+pub mod stop_laws;
 mod terminal;
 pub mod terminal_laws;
 

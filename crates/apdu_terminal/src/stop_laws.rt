@@ -1,0 +1,63 @@
+//! Laws of operations by whole commands that stop on the way: the contract of each function is one.
+ghost use Rattle.std.specs.Prelude.{◌≡◌, ◌++◌, ◌∷◌, [], List, ℕ, Option, Result, Some, true, IsOk};
+ghost use Rattle.apdu_core.specs.CommandBytes.{Command};
+ghost use Rattle.apdu_core.specs.StatusWord.{StatusWord};
+ghost use Rattle.t0_core.specs.declared.answer_fault.AnswerFault.{AnswerFault};
+ghost use Rattle.object_card.specs.Agreed.{IsAgreed};
+ghost use Rattle.object_card.specs.CardMeaning.{Does};
+ghost use Rattle.object_card.specs.DataCard.{StandsFor};
+ghost use Rattle.object_card.specs.Instructions.{MayReceive, MaySend};
+ghost use Rattle.object_card.specs.OneStep.{Operation};
+ghost use Rattle.object_card.specs.State.{CardState, IsCardState, is_idle};
+ghost use Rattle.card_terminal.specs.ExchangeSide.{response_limit};
+ghost use Rattle.apdu_terminal.specs.Apdus.{Pair};
+ghost use Rattle.apdu_terminal.specs.ApduOperations.{ApduOperationOf, HasRoomFor, IsTakingResponse, LeadsTo};
+ghost use Rattle.apdu_terminal.specs.ApduSide.{answered_by, due_of};
+ghost use Rattle.apdu_terminal.specs.ApduStops.{IsLeftAfter, IsLeftBefore, IsUnderWay};
+ghost use Rattle.apdu_terminal.specs.CardApdu.{Responds, RespondsToAll};
+ghost use Rattle.apdu_terminal.specs.declared.stage.Stage.TheVariants.{Failed};
+
+use object_card::DataCard;
+
+/// An operation that stops before a command of it or after it: a value is stored by the last piece
+/// alone, and only GET RESPONSE follows what an operation does.
+pub fn an_operation_that_stops()
+    ensures before { (old new : CardState) (operation : Operation) (pairs : List Pair)
+        (due : Command) → is_idle old.pending ≡ true → IsUnderWay operation pairs due →
+        RespondsToAll Does old pairs new → IsLeftBefore old operation due.header new }
+    ensures after { (old new : CardState) (operation : Operation) (pairs : List Pair) (p : Pair) →
+        is_idle old.pending ≡ true → IsUnderWay operation pairs p.command →
+        RespondsToAll Does old (pairs ++ p ∷ []) new →
+        IsLeftAfter old operation p.command.header new }
+{}
+
+/// Each command of an operation is agreed with each card of data objects.
+pub fn a_due_command_is_agreed()
+    ensures { (operation : Operation) (pairs : List Pair) (due : Command) →
+        IsUnderWay operation pairs due → IsAgreed MayReceive MaySend due }
+{}
+
+/// No operation with a card of data objects fails: its terminal takes each response of the card.
+pub fn a_card_of_data_objects_is_taken()
+    ensures taken { (old mid new : CardState) (commands : List Command) (pairs : List Pair)
+        (o : ApduOperationOf) (due : Command) (content : List ℕ) (status : StatusWord)
+        (result : Result (Unit {0}) AnswerFault) (then_at : Option ApduOperationOf) →
+        IsCardState old → LeadsTo commands pairs (Some o) → due_of o.exchange ≡ Some due →
+        RespondsToAll Does old pairs mid →
+        Responds Does mid (answered_by o.exchange content status) new →
+        IsTakingResponse (Some o) content status result then_at →
+        HasRoomFor response_limit then_at → IsOk result }
+    ensures fine { (old new : CardState) (commands : List Command) (pairs : List Pair)
+        (o : ApduOperationOf) → IsCardState old → LeadsTo commands pairs (Some o) →
+        o.exchange.gather.limit ≡ response_limit → RespondsToAll Does old pairs new →
+        o.exchange.stage ≡ Failed → ⊥ }
+    ensures sound { (old new : CardState) (pairs : List Pair) → IsCardState old →
+        RespondsToAll Does old pairs new → IsCardState new }
+{}
+
+/// So it is with any card of data objects, by what its own states stand for.
+pub fn any_card_responds_so<C: DataCard>()
+    ensures { (state_of : C.State → CardState) → StandsFor C.Does C.after_reset state_of →
+        (old new : C.State) (pairs : List Pair) → RespondsToAll C.Does old pairs new →
+        RespondsToAll Does (state_of old) pairs (state_of new) }
+{}

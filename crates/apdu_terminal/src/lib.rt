@@ -27,6 +27,6 @@ pub use card_apdu::apdu;
 pub use card_response::respond;
 pub use command_bytes::{COMMAND_LIMIT, write_command};
 pub use exchange::ApduExchange;
-pub use operations::run;
+pub use operations::{begin, run};
 pub use stage::Stage;
 pub use terminal::ApduTerminal;

@@ -91,8 +91,11 @@ fn carry_out<C: DataCard, A: Allocator + Copy, V: Allocator>(
     Ok(())
 }
 
-/// Begins an operation at a terminal that has begun none. Returns `AllocError` if memory ran out.
-fn begin<A: Allocator + Copy, V: Allocator>(
+/// Begins an operation at a terminal that has begun none.
+///
+/// # Errors
+/// - `AllocError`: memory ran out; no operation has begun.
+pub fn begin<A: Allocator + Copy, V: Allocator>(
     terminal: &mut ApduTerminal<A>,
     op: &Op<V>,
 ) -> Result<(), AllocError>
@@ -100,6 +103,7 @@ fn begin<A: Allocator + Copy, V: Allocator>(
     ensures begun { OnOk result ((commands : List spec.Command)
         × AreCommandsOf (operation_of op.now) commands
         × LeadsTo commands [] terminal.new.operation) }
+    ensures memory { OnErr result (terminal.new.operation ≡ None) }
     ensures limit { KeepsLimit terminal.old terminal.new }
 {
     match op {

@@ -210,7 +210,7 @@ impl<A: Allocator + Copy> ApduTerminal<A> {
     }
 
     /// Returns the answer as `answer` does, in memory of its size.
-    pub(crate) fn into_answer(self) -> Option<Answer<A>>
+    pub fn into_answer(self) -> Option<Answer<A>>
         ensures { IsOperationAnswer self.operation
             (option_map (λ a. (a.status, a.content)) result) }
     {

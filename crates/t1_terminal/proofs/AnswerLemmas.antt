@@ -1,6 +1,6 @@
 -- The answer to a command, from what the call that responds says.
 use Rattle.std.proofs.Common.{◌≡◌, ℕ, ◌≤◌, List, [], ◌++◌, length, refl, sym, ap, ◌∙◌, subst}
-use Rattle.apdu_core.specs.StatusWord.{StatusWord}
+use Rattle.apdu_core.specs.StatusWord.{StatusWord, IsStatusWord}
 use Rattle.apdu_core.specs.CommandBytes.{Command}
 use Rattle.t0_core.specs.CardSide.{EndOf}
 use Rattle.t0_core.specs.Meaning.{Tpdu}
@@ -41,22 +41,25 @@ pub answers : {C State : Type 0} (stand : EndOf C → State)
     (bytes response : List ℕ) (stage : Stage) (status : StatusWord)
     → Refused c end end' bytes stage → Carried Does (stand end) c (stand end') bytes stage
     → stage ≡ Done status → length bytes ≤ may_bring c.le
-    → response ≡ bytes ++ status_bytes status → Answers Does (stand end) c response (stand end')
-answers stand Does c end end' bytes response stage status refused carried done within is = record {
-  refuses = λ not_agreed.
-      let (stays, rest) = refused not_agreed in let (over, none) = rest in (
-        is ∙ ap (λ (b : List ℕ). b ++ status_bytes status) none
-            ∙ ap status_bytes (same_status status (0x67, 0x00) (sym done ∙ over)),
-        ap stand stays,
-      );
-  responds = λ agreed.
-      let (s, over, does) = carried agreed in (
-        record { command = c; content = bytes; status = status },
-        refl,
-        within,
-        subst (λ (x : StatusWord). Responds Does (stand end)
-            (record { command = c; content = bytes; status = x }) (stand end'))
-            (same_status s status (sym over ∙ done)) does,
-        is,
-      );
-}
+    → response ≡ bytes ++ status_bytes status → IsStatusWord status
+    → Answers Does (stand end) c response (stand end')
+answers stand Does c end end' bytes response stage status refused carried done within is word =
+    record {
+      refuses = λ not_agreed.
+          let (stays, rest) = refused not_agreed in let (over, none) = rest in (
+            is ∙ ap (λ (b : List ℕ). b ++ status_bytes status) none
+                ∙ ap status_bytes (same_status status (0x67, 0x00) (sym done ∙ over)),
+            ap stand stays,
+          );
+      responds = λ agreed.
+          let (s, over, does) = carried agreed in (
+            record { command = c; content = bytes; status = status },
+            refl,
+            within,
+            subst (λ (x : StatusWord). Responds Does (stand end)
+                (record { command = c; content = bytes; status = x }) (stand end'))
+                (same_status s status (sym over ∙ done)) does,
+            is,
+            word,
+          );
+    }

@@ -1,1 +1,4 @@
 pub mod AnswerLemmas
+pub mod LineLemmas
+pub mod OperateLemmas
+pub mod RunLemmas

@@ -2,7 +2,7 @@
 -- project's profile).
 use Rattle.std.specs.Prelude.{◌≡◌, ℕ, ◌≤◌, List, [], ◌∷◌, ◌++◌, length}
 use Rattle.apdu_core.specs.CommandBytes.{Command, IsCommand, HasForm, HasInvalidIns, command_bytes}
-use Rattle.apdu_core.specs.StatusWord.{StatusWord}
+use Rattle.apdu_core.specs.StatusWord.{StatusWord, IsStatusWord}
 use Rattle.t0_core.specs.Meaning.{Tpdu}
 use Rattle.t1_core.specs.CardSide.{Did, no_requests}
 use Rattle.object_card.specs.Agreed.{IsAgreed}
@@ -24,7 +24,7 @@ pub record Answers {State : Type 0} (Does : State → ℕ → Tpdu → State →
   pub refuses : (IsAgreed MayReceive MaySend c → ⊥) → Refuses (0x67, 0x00) old response new
   pub responds : IsAgreed MayReceive MaySend c → (p : Pair) × (p.command ≡ c)
       × (length p.content ≤ may_bring c.le) × Responds Does old p new
-      × (response ≡ p.content ++ status_bytes p.status)
+      × (response ≡ p.content ++ status_bytes p.status) × IsStatusWord p.status
 
 -- What the card does: 6700 to bytes in none of the four forms, 6D00 to an invalid INS. It asks for
 -- nothing before a response.

@@ -1,1 +1,2 @@
 pub mod CardCommand
+pub mod Operated

@@ -1,6 +1,6 @@
 //! A card of data objects above its end of a line at T=1.
 ghost use Rattle.std.specs.Prelude.{◌≡◌, ◌+◌, ◌≤◌, [], ◌++◌, length, true, IfOk, MatchResult, vec_capacity};
-ghost use Rattle.apdu_core.specs.StatusWord.{StatusWord};
+ghost use Rattle.apdu_core.specs.StatusWord.{StatusWord, IsStatusWord};
 ghost use Rattle.t0_core.specs.CardTpdu.{rests};
 ghost use Rattle.t1_core.specs.CardSide.{no_requests};
 ghost use Rattle.t1_terminal.specs.CardCommand.{Answers, DoesAt, status_bytes};
@@ -85,7 +85,8 @@ impl<C: DataCard> DataApplet<C> {
 fn write(content: &[u8], status: Status, response: &mut Vec<u8>)
     requires empty { response.old.items ≡ [] }
     requires room { length content.now + 2 ≤ vec_capacity response.old }
-    ensures { response.new.items ≡ content.now ++ status_bytes status }
+    ensures bytes { response.new.items ≡ content.now ++ status_bytes status }
+    ensures status { IsStatusWord status }
 {
     if response.extend_from_slice(content).is_err() {
         unreachable!()

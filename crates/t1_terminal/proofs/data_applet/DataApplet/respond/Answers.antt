@@ -17,8 +17,9 @@ returns g c =
     subst (λ (e : EndOf g.row.C.Denot). Answers g.C.TpduCard.Does (g.C.TpduCard.standing e.card)
     c.args.command c.write.new.response.items (g.C.TpduCard.standing c.respond.new.end.card))
     c.self.view_is
-    (answers (λ e. g.C.TpduCard.standing e.card) g.C.TpduCard.Does c.args.command
-    c.self.inside.end c.respond.new.end ex.gather.bytes c.write.new.response.items ex.stage status
+    (answers (λ e. g.C.TpduCard.standing e.card) g.C.TpduCard.Does c.args.command c.self.inside.end
+    c.respond.new.end ex.gather.bytes c.write.new.response.items ex.stage status
     c.in-Ok.ensures.refuses c.in-Ok.ensures.responds ((c.status.ensures status).0 c.in-Some.is)
     c.in-Ok.ensures.within
-    (c.write.ensures ∙ ap (λ (b : List ℕ). b ++ status_bytes status) c.data.ensures))
+    (c.write.ensures.bytes ∙ ap (λ (b : List ℕ). b ++ status_bytes status) c.data.ensures)
+    c.write.ensures.status)

@@ -1,0 +1,137 @@
+//! One operation over T=1: the commands of a terminal, carried by both ends.
+
+ghost use Rattle.std.specs.Prelude.{◌≡◌, ◌++◌, ◌∷◌, [], ℕ, List, true, None, IfOk, OnOk, MatchResult, MatchOption, is_some};
+ghost use Rattle.apdu_core.specs.CommandBytes as spec;
+ghost use Rattle.apdu_core.specs.CommandBytes.{command_bytes};
+ghost use Rattle.apdu_core.specs.StatusWord.{StatusWord, IsStatusWord};
+ghost use Rattle.card_terminal.specs.ExchangeSide.{response_limit};
+ghost use Rattle.card_terminal.specs.Operations.{operation_of};
+ghost use Rattle.card_terminal.specs.Talk.{AreCommandsOf};
+ghost use Rattle.object_card.specs.OneStep.{Operation};
+ghost use Rattle.object_card.specs.State.{IsCardState};
+ghost use Rattle.apdu_terminal.specs.Apdus.{Pair};
+ghost use Rattle.apdu_terminal.specs.ApduOperations.{ApduTerminalOf, KeepsLimit, LeadsTo, operation_answer};
+ghost use Rattle.apdu_terminal.specs.ApduTalk.{IsApduTalkOf, talk_pairs};
+ghost use Rattle.t1_core.specs.TerminalSide.{is_ready};
+ghost use Rattle.t1_terminal.specs.CardCommand.{status_bytes};
+ghost use Rattle.t1_terminal.specs.Operated.{GivesUp, HasTaken, Start, Takes, told_of};
+
+use crate::data_applet::DataApplet;
+use apdu_core::{Command, Header, Status};
+use apdu_terminal::stop_laws::{
+    a_card_of_data_objects_is_taken, a_due_command_is_agreed, any_card_responds_so,
+};
+use apdu_terminal::{ApduTerminal, begin};
+use card_terminal::{Answer, Op};
+use object_card::DataCard;
+use std::alloc::{AllocError, Allocator, Global};
+use t1_core::{Applet, Ends, Fault, Line, Outcome, carried_commands_are_a_dialogue};
+
+/// Carries out one operation. Returns its answer, or the fault after which nothing more goes.
+///
+/// # Errors
+/// - `AllocError`: memory ran out; each end is somewhere in a command.
+pub fn operate<C: DataCard, L: Line, V: Allocator>(
+    alloc: Global,
+    ends: &mut Ends<DataApplet<C>>,
+    line: &mut L,
+    op: &Op<V>,
+) -> Result<Result<Answer, Fault>, AllocError>
+    requires ready { is_ready ends.old.terminal.phase ≡ true }
+    requires started { (s : Start C.State) × (pairs : List Pair) × (card : C)
+        × (C.standing card ≡ s.first) × IsCardState (C.state card)
+        × HasTaken ⟦<DataApplet<C> as Applet>⟧ s pairs (L.passed line.old) ends.old }
+    ensures { IfOk result (λ r. MatchResult r
+        (λ answer. (is_ready ends.new.terminal.phase ≡ true) × ((exchanges : List (List Pair))
+        × IsApduTalkOf (operation_of op.now) exchanges answer
+        × Takes ⟦<DataApplet<C> as Applet>⟧ (L.passed line.old) ends.old (talk_pairs exchanges)
+        (L.passed line.new) ends.new))
+        (λ fault. GivesUp ⟦<DataApplet<C> as Applet>⟧ (L.passed line.old) ends.old
+        (operation_of op.now) fault (L.passed line.new) ends.new)) }
+{
+    let mut terminal = ApduTerminal::new(alloc);
+    begin(&mut terminal, op)?;
+    if let Some(fault) = go_through(alloc, ends, line, &mut terminal)? {
+        return Ok(Err(fault));
+    }
+    let Some(answer) = terminal.into_answer() else {
+        unreachable!()
+    };
+    Ok(Ok(answer))
+}
+
+/// Carries the commands of an operation that has begun, until it is over or the terminal's end
+/// gives up. Returns the fault then.
+fn go_through<C: DataCard, L: Line>(
+    alloc: Global,
+    ends: &mut Ends<DataApplet<C>>,
+    line: &mut L,
+    terminal: &mut ApduTerminal,
+) -> Result<Option<Fault>, AllocError>
+    requires ready { is_ready ends.old.terminal.phase ≡ true }
+    requires started { (s : Start C.State) × (pairs : List Pair) × (card : C)
+        × (C.standing card ≡ s.first) × IsCardState (C.state card)
+        × HasTaken ⟦<DataApplet<C> as Applet>⟧ s pairs (L.passed line.old) ends.old }
+    requires begun { (operation : Operation) × (commands : List spec.Command)
+        × AreCommandsOf operation commands × LeadsTo commands [] terminal.old.operation }
+    requires limit { (terminal.old.limit ≡ response_limit) × KeepsLimit terminal.old terminal.old }
+    ensures { IfOk result (λ r. MatchOption r
+        ((is_ready ends.new.terminal.phase ≡ true)
+        × (is_some (operation_answer terminal.new.operation) ≡ true)
+        × ((commands : List spec.Command) → LeadsTo commands [] terminal.old.operation
+        → (here : List Pair) × LeadsTo commands here terminal.new.operation
+        × Takes ⟦<DataApplet<C> as Applet>⟧ (L.passed line.old) ends.old here
+        (L.passed line.new) ends.new))
+        (λ fault. (operation : Operation) (commands : List spec.Command)
+        → AreCommandsOf operation commands → LeadsTo commands [] terminal.old.operation
+        → GivesUp ⟦<DataApplet<C> as Applet>⟧ (L.passed line.old) ends.old operation fault
+        (L.passed line.new) ends.new)) }
+{
+    a_due_command_is_agreed();
+    a_card_of_data_objects_is_taken();
+    any_card_responds_so::<C>();
+    carried_commands_are_a_dialogue::<DataApplet<C>>();
+    'talk: while let Some(due) = terminal.apdu() {
+        let header = due.header();
+        let mut command = Vec::new(alloc);
+        due.write(&mut command)?;
+        ends.carry(line, &command)?;
+        if let Some(fault) = ends.fault() {
+            return Ok(Some(told(header, fault)));
+        }
+        let (content, status) = parts(ends.response());
+        terminal.responded(content, status).unwrap();
+    }
+    Ok(None)
+}
+
+/// What is known of an operation, by the header of the command in progress.
+fn told(header: Header, fault: Fault) -> Fault
+    ensures { result ≡ record {
+      cause = fault.cause;
+      outcome = told_of header fault.outcome;
+    } }
+{
+    let outcome = match (header.ins, header.cla) {
+        (0xC0, _) => Outcome::InPart,
+        (_, 0x10) => Outcome::NotCarriedOut,
+        _ => fault.outcome,
+    };
+    Fault {
+        cause: fault.cause,
+        outcome,
+    }
+}
+
+/// The data and the status of a response.
+fn parts(response: &[u8]) -> (&[u8], Status)
+    requires { (content : List ℕ) × (status : StatusWord) × IsStatusWord status
+        × (response.now ≡ content ++ status_bytes status) }
+    ensures { response.now ≡ result.0.now ++ status_bytes result.1 }
+{
+    let at = response.len() - 2;
+    let Some(status) = Status::new(response[at], response[at + 1]) else {
+        unreachable!()
+    };
+    (&response[..at], status)
+}

@@ -1,0 +1,71 @@
+//! Operations over T=1, and what is known if they stop.
+
+ghost use Rattle.std.specs.Prelude.{◌≡◌, map, true, IfOk};
+ghost use Rattle.card_terminal.specs.Operations.{operation_of};
+ghost use Rattle.object_card.specs.State.{is_idle};
+ghost use Rattle.t1_terminal.specs.Operated.{HasRun};
+
+use crate::data_applet::DataApplet;
+use crate::operation::operate;
+use apdu_terminal::laws::operations_by_whole_commands_are_single_steps;
+use apdu_terminal::stop_laws::{an_operation_that_stops, any_card_responds_so};
+use card_terminal::{Answers, Op};
+use object_card::DataCard;
+use std::alloc::{AllocError, Allocator, Global};
+use t1_core::{Applet, Ends, Fault, Line, Settings, carried_commands_are_a_dialogue};
+
+/// What operations over T=1 lead to.
+#[derive(Drop)]
+pub struct Operated<C: DataCard> {
+    /// The card.
+    pub card: DataApplet<C>,
+    /// The answers, one for each of the first operations.
+    pub answers: Answers,
+    /// Why the terminal gave up, if it did, and what is known of the operation in progress.
+    pub fault: Option<Fault>,
+}
+
+/// Carries out operations with a card of data objects over a line, from a reset on, until all are
+/// answered or the terminal gives up.
+///
+/// # Errors
+/// - `AllocError`: memory ran out; both ends are gone.
+pub fn run<C: DataCard + Drop, L: Line, V: Allocator>(
+    alloc: Global,
+    card: DataApplet<C>,
+    line: &mut L,
+    settings: Settings,
+    ops: &[Op<V>],
+) -> Result<Operated<C>, AllocError>
+    requires idle { is_idle (C.state card.card).pending ≡ true }
+    ensures { IfOk result (λ r. HasRun ⟦<DataApplet<C> as Applet>⟧ settings
+        (C.standing card.card) (C.standing r.card.card) (C.state card.card)
+        (C.state r.card.card) (map operation_of ops.now) r.answers.given r.fault
+        (L.passed line.old) (L.passed line.new)) }
+{
+    operations_by_whole_commands_are_single_steps();
+    an_operation_that_stops();
+    any_card_responds_so::<C>();
+    carried_commands_are_a_dialogue::<DataApplet<C>>();
+    let _sound = card.card().is_idle();
+    let mut answers = Answers::new(alloc);
+    let mut ends = Ends::new(alloc, card, settings);
+    for op in ops {
+        answers.make_room()?;
+        match operate(alloc, &mut ends, line, op)? {
+            Ok(answer) => answers.append(answer),
+            Err(fault) => {
+                return Ok(Operated {
+                    card: ends.into_applet(),
+                    answers,
+                    fault: Some(fault),
+                });
+            }
+        }
+    }
+    Ok(Operated {
+        card: ends.into_applet(),
+        answers,
+        fault: None,
+    })
+}

@@ -17,6 +17,8 @@ mod kept_memory_tests;
 #[cfg(test)]
 mod limit_tests;
 #[cfg(test)]
+mod line_tests;
+#[cfg(test)]
 mod long_run_tests;
 #[cfg(test)]
 mod memory_tests;

@@ -398,11 +398,11 @@ typedef struct {
  *                 with the longest data so far; the old copy stays until the new one is made
  * - by commands   an exchange and a terminal take room for the response and the data once more. A
  *                 terminal frees the other room with the first response
- * - a card        9,971 with one application and one object of 3 bytes, and 26,618 together with a
- *                 gt_exchange of SELECT or GET DATA; 4,240,600 with all that a card can hold
+ * - a card        10,291 with one application and one object of 3 bytes, and 26,938 together with a
+ *                 gt_exchange of SELECT or GET DATA; 4,240,920 with all that a card can hold
  * - gt_t1         368, and the bytes of its command, and up to three times those of the response
- * - a session     26,500 with that small card, for a select, a put of 3 bytes and a get; 42,878 for
- *                 a put and a get of 8,192 bytes. If somebody listens, 26,756 and 116,592
+ * - a session     26,681 with that small card, for a select, a put of 3 bytes and a get; 43,059 for
+ *                 a put and a get of 8,192 bytes. If somebody listens, 26,937 and 116,784
  * - plans         at most 192 for each of the most plans that waited at once since none did; and
  *                 one for each letter, until the next plan is taken
  *

@@ -67,8 +67,7 @@ static void operate(gt_session *s) {
     CHECK_BYTES(data, stored ? "\x5F\x20\x02" "AL" : "\x5F\x20\x03" "JOE", len);
 }
 
-/* The first operation takes room for a response, and for what is heard of it; the next ones have
- * that. */
+/* The first operation takes room for a response, and the next ones use it. */
 static void takes_room_once(void) {
     gt_card c = GT_INIT;
     gt_session s = GT_INIT;
@@ -78,7 +77,6 @@ static void takes_room_once(void) {
     refused = 0;
     build(&c);
     CHECK(gt_session_start(&s, &c), GT_OK);
-    CHECK(gt_session_listen(&s), GT_OK);
     CHECK(gt_session_select(&s, AID, sizeof AID, &status, data, 32, &len), GT_OK);
     before = requests;
     CHECK(before > 0, 1);

@@ -1,4 +1,4 @@
-//! Operations and single commands over the card of data objects, by whole commands.
+//! Operations and single commands by whole commands, with the card of data objects.
 
 use super::data_objects::{NAME, are_answered, card_of, holds, operations};
 use super::trace::{bytes, word};
@@ -13,7 +13,7 @@ use t0_core::{AnswerFault, CardEnd};
 
 const SELECT: &str = "00A4040007 A0000000031010 00";
 
-/// A card's end over these objects.
+/// A card's end with these objects.
 fn end_over<A: Allocator + Copy>(
     rt: &(impl Abort + AllocGlobal),
     memory: A,
@@ -22,8 +22,8 @@ fn end_over<A: Allocator + Copy>(
     CardEnd::new(card_of(rt, memory, objects))
 }
 
-/// Carries out operations with a card that is idle. Without a clause, so that no proof has it at
-/// hand.
+/// Carries out operations with a card that is idle. For the proof: it has no clause, since each
+/// proof that knows what the call promises is dearer, and the tests don't need it.
 fn ran<A: Allocator + Copy, C: DataCard>(
     rt: &(impl Abort + AllocGlobal),
     end: &mut CardEnd<C>,
@@ -35,7 +35,7 @@ fn ran<A: Allocator + Copy, C: DataCard>(
     run(memory, end, ops, out)
 }
 
-/// The card answers the operations so, and holds these objects then.
+/// The card gives these answers to the operations, and then holds these objects.
 fn runs(rt: &(impl Abort + AllocGlobal), objects: &str, ops: &str, answers: &str, after: &str) {
     let mut end = end_over(rt, rt.alloc(), objects);
     let mut out = Answers::new(rt.alloc());
@@ -56,7 +56,8 @@ fn operations_by_whole_commands(rt: HostRuntime) {
     );
 }
 
-/// What the card answers to a command: the data, and the status behind them. Without a clause.
+/// The card's response to a command: the data, then the status. For the proof, also without a
+/// clause.
 fn response<C: DataCard>(
     rt: &(impl Abort + AllocGlobal),
     end: &mut CardEnd<C>,
@@ -72,7 +73,7 @@ fn response<C: DataCard>(
     all
 }
 
-/// The card answers these commands so, in turn: `00B0000000 = 6D00; ..`.
+/// The card gives these responses to these commands, in turn: `00B0000000 = 6D00; ..`.
 fn responds<C: DataCard>(rt: &(impl Abort + AllocGlobal), end: &mut CardEnd<C>, rows: &str) {
     for row in rows.split(';') {
         let (command, wanted) = row.split_once('=').expect(rt, "a response");
@@ -94,7 +95,7 @@ fn a_long_object_in_three_responses(rt: HostRuntime) {
     );
 }
 
-/// What is not agreed is answered `6700`, and a chain stays pending.
+/// A command that is not agreed gets `6700`, and a chain stays pending.
 #[test]
 fn commands_that_are_not_agreed(rt: HostRuntime) {
     let mut end = end_over(&rt, rt.alloc(), NAME);
@@ -108,7 +109,7 @@ fn commands_that_are_not_agreed(rt: HostRuntime) {
     holds(&rt, end.card(), "5F20 AABB");
 }
 
-/// A put of 8,192 bytes has 33 commands, of which each but the last says that more come.
+/// A put of 8,192 bytes takes 33 commands. Each but the last says that more follow.
 #[test]
 fn a_put_in_33_commands(rt: HostRuntime) {
     let mut end = end_over(&rt, rt.alloc(), NAME);
@@ -120,7 +121,7 @@ fn a_put_in_33_commands(rt: HostRuntime) {
     holds(&rt, end.card(), "5F20 42*8192");
 }
 
-/// What the terminal sends next in the exchange of a GET DATA of ten bytes, after this response.
+/// The Le that the terminal sends after `6CXX` to a GET DATA of ten bytes, if it sends one more.
 fn after_response(rt: &(impl Abort + AllocGlobal), sw2: u8) -> Option<u16> {
     let get = bytes(rt, "00CA5F200A");
     let command = Command::read(&get).expect(rt, "a command");
@@ -133,14 +134,15 @@ fn after_response(rt: &(impl Abort + AllocGlobal), sw2: u8) -> Option<u16> {
     }
 }
 
-/// After `6CXX` a command goes once more with that count, if no more than it is wanted.
+/// After `6CXX` the terminal repeats the command with that count, unless it is more than was asked
+/// for.
 #[test]
 fn corrected_counts(rt: HostRuntime) {
     assert!(rt; after_response(&rt, 5) == Some(5) && after_response(&rt, 10) == Some(10));
     assert!(rt; after_response(&rt, 11).is_none());
 }
 
-/// The fault of a first response with so many bytes to a command that asks for 256.
+/// The fault of a first response of `count` bytes to a command that asks for 256.
 fn fault_of(rt: &(impl Abort + AllocGlobal), count: usize) -> Option<AnswerFault> {
     let get = bytes(rt, "00CA5F2000");
     let command = Command::read(&get).expect(rt, "a command");
@@ -155,7 +157,7 @@ fn more_than_256_bytes(rt: HostRuntime) {
     assert!(rt; fault_of(&rt, 256).is_none() && fault_of(&rt, 257) == Some(AnswerFault::TooMany));
 }
 
-/// Selects and puts with so many bytes of memory for the answers. Returns how many there are.
+/// Selects and puts with `size` bytes of memory for the answers. Returns the number of answers.
 fn answers_in(rt: &(impl Abort + AllocGlobal), size: usize) -> usize {
     let heap = LocalHeap::new(rt.alloc(), size).expect(rt, "memory");
     let mut end = end_over(rt, rt.alloc(), NAME);
@@ -172,8 +174,8 @@ fn answers_in(rt: &(impl Abort + AllocGlobal), size: usize) -> usize {
     count
 }
 
-/// Each growth is refused in turn, before an operation, which then has no answer and changes
-/// nothing.
+/// Heaps of more and more bytes refuse each growth in turn. The operation that needs it has no
+/// answer then, and changes nothing.
 #[test]
 fn no_memory_for_an_operation(rt: HostRuntime) {
     let (mut none, mut both) = (false, false);
@@ -187,7 +189,7 @@ fn no_memory_for_an_operation(rt: HostRuntime) {
     assert!(rt; none && both);
 }
 
-/// What comes of a command in this memory. Without a clause.
+/// The fault of a SELECT in this memory. For the proof, also without a clause.
 fn refused<A: Allocator + Copy, C: DataCard>(
     rt: &(impl Abort + AllocGlobal),
     end: &mut CardEnd<C>,
@@ -198,7 +200,7 @@ fn refused<A: Allocator + Copy, C: DataCard>(
     respond(memory, end, command).err()
 }
 
-/// Where memory for a response is missing, the card is asked nothing.
+/// If there is no memory for a response, the card gets no command.
 #[test]
 fn no_memory_for_a_response(rt: HostRuntime) {
     let heap = LocalHeap::new(rt.alloc(), 256).expect(&rt, "memory");

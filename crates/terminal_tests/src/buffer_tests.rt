@@ -1,4 +1,4 @@
-//! Characters that pass by buffers, at an exchange and at a terminal that is driven.
+//! Characters in buffers, at an exchange and at a terminal.
 
 use super::side::Side;
 use super::trace::bytes;
@@ -9,18 +9,18 @@ use std::process::Abort;
 use t0_core::{HostTurn, LineFault};
 use tlv_core::{ObjectTag, Tag};
 
-/// A GET DATA of `5F20` that wants everything.
+/// A GET DATA of `5F20` that asks for everything.
 const GET: &[u8] = &[0x00, 0xCA, 0x5F, 0x20, 0x00];
 
-/// What stands in each place of a buffer before a call.
+/// The byte in each place of a buffer before a call.
 const BEFORE: u8 = 0xEE;
 
-/// The exchange of a command, given by its bytes.
+/// Begins the exchange of a command, given by its bytes.
 fn begun<S: Side>(rt: &(impl Abort + AllocGlobal), of: &'static [u8]) -> S {
     S::begin(rt, of, RESPONSE_LIMIT).expect(rt, "memory")
 }
 
-/// What came of handing out into a buffer with so much room.
+/// A buffer after the terminal's end has written into it.
 #[derive(Drop)]
 struct Handed {
     buffer: Vec<u8>,
@@ -38,7 +38,7 @@ fn after_handing<S: Side>(rt: &(impl Abort + AllocGlobal), side: &mut S, room: u
     }
 }
 
-/// These bytes, and behind them those that stood in so much room before.
+/// These bytes, then `BEFORE` up to `room` bytes.
 fn in_room(rt: &(impl Abort + AllocGlobal), sent: &str, room: usize) -> Vec<u8> {
     let mut wanted = bytes(rt, sent);
     for _ in wanted.len()..room {
@@ -47,7 +47,7 @@ fn in_room(rt: &(impl Abort + AllocGlobal), sent: &str, room: usize) -> Vec<u8> 
     wanted
 }
 
-/// So much room is filled with these characters, and what is behind them stays.
+/// The end writes these characters into a buffer of `room` bytes, and keeps the bytes after them.
 fn hands_out<S: Side>(
     rt: &(impl Abort + AllocGlobal),
     side: &mut S,
@@ -62,7 +62,7 @@ fn hands_out<S: Side>(
     assert!(rt; is_wanted, "{room}: {sent}");
 }
 
-/// So many of these characters are taken, and the next is this fault, if any.
+/// The end takes `count` of these characters; the next one has this fault, if any.
 fn takes<S: Side>(
     rt: &(impl Abort + AllocGlobal),
     side: &mut S,
@@ -77,7 +77,7 @@ fn takes<S: Side>(
     );
 }
 
-/// The five characters of a header, in rooms that are too small, just right and larger.
+/// The five characters of a header, in buffers that are too small, just right and larger.
 fn hands_out_a_header<S: Side>(rt: &(impl Abort + AllocGlobal)) {
     for (room, sent, stop) in &[
         (0, "", None),
@@ -99,7 +99,7 @@ fn room_of_each_size_for_a_header(rt: HostRuntime) {
     hands_out_a_header::<Terminal>(&rt);
 }
 
-/// The sizes of the buffers in which a run of characters of one end passes.
+/// The sizes of the buffers for one run of characters from one end.
 #[derive(Clone, Copy)]
 struct Sizes {
     first: usize,
@@ -112,7 +112,7 @@ const WHOLE: Sizes = Sizes {
     others: 300,
 };
 
-/// These are the characters that are sent now, in buffers of these sizes.
+/// The terminal now sends these characters, into buffers of these sizes.
 fn is_sent<S: Side>(rt: &(impl Abort + AllocGlobal), side: &mut S, wanted: &[u8], sizes: Sizes) {
     let mut sent = Vec::new(rt.alloc());
     let mut room = sizes.first;
@@ -127,14 +127,14 @@ fn is_sent<S: Side>(rt: &(impl Abort + AllocGlobal), side: &mut S, wanted: &[u8]
     assert!(rt; sent.as_slice() == wanted);
 }
 
-/// Appends what was handed out.
+/// Appends the characters that the end wrote.
 fn push_front(rt: &impl Abort, sent: &mut Vec<u8>, handed: &Handed) {
     let characters = handed.buffer.get(..handed.count);
     let characters = characters.expect(rt, "no more than there is room for");
     sent.extend_from_slice(characters).expect(rt, "memory");
 }
 
-/// All of these are taken, in buffers of these sizes.
+/// The end takes all of these, in buffers of these sizes.
 fn is_taken<S: Side>(rt: &impl Abort, side: &mut S, bytes: &[u8], sizes: Sizes) {
     let first = sizes.first.min(bytes.len());
     takes_all(rt, side, &bytes[..first]);
@@ -148,7 +148,7 @@ fn takes_all<S: Side>(rt: &impl Abort, side: &mut S, from_card: &[u8]) {
     assert!(rt; taken.count == from_card.len() && taken.outcome.is_ok());
 }
 
-/// The characters of a trace pass in buffers of these sizes: `> 00CA5F2000 < 6C06 > 00CA5F2006`.
+/// Both ends' characters pass, in buffers of these sizes: `> 00CA5F2000 < 6C06 > 00CA5F2006`.
 fn passes<S: Side>(rt: &(impl Abort + AllocGlobal), side: &mut S, trace: &str, sizes: Sizes) {
     for runs in trace.split('>').skip(1) {
         let (sent, from_card) = runs.split_once('<').unwrap_or((runs, ""));
@@ -157,7 +157,7 @@ fn passes<S: Side>(rt: &(impl Abort + AllocGlobal), side: &mut S, trace: &str, s
     }
 }
 
-/// What stops it is what comes next; nothing more is told of a buffer that is full.
+/// `stop` is the end's next turn. It is `None` if the buffer is full.
 fn stops_at_the_next_turn<S: Side>(rt: &(impl Abort + AllocGlobal)) {
     let ok = Status::new(0x90, 0x00).expect(rt, "a status");
     let mut side: S = begun(rt, GET);
@@ -180,18 +180,18 @@ fn stop_is_the_next_turn(rt: HostRuntime) {
     stops_at_the_next_turn::<Terminal>(&rt);
 }
 
-/// Characters that have a fault among them.
+/// Characters with a fault among them.
 #[derive(Clone, Copy)]
 struct Fault<'a> {
-    /// What has passed before, of a GET DATA that wants everything.
+    /// The characters before, of a GET DATA that asks for everything.
     before: &'a str,
-    /// Characters of the card, and how many of them are taken before the fault.
+    /// Characters of the card, and the number that the end takes before the fault.
     from_card: &'a str,
     count: usize,
     fault: LineFault,
 }
 
-/// After the fault this is sent, and this stops it.
+/// After the fault the end sends these characters, and stops with this turn.
 fn stops_at<S: Side>(rt: &(impl Abort + AllocGlobal), row: Fault<'_>, sent: &str, stop: HostTurn) {
     let mut side: S = begun(rt, GET);
     passes(rt, &mut side, row.before, WHOLE);
@@ -199,8 +199,9 @@ fn stops_at<S: Side>(rt: &(impl Abort + AllocGlobal), row: Fault<'_>, sent: &str
     hands_out(rt, &mut side, 9, sent, Some(stop));
 }
 
-/// Those before it are taken. A procedure byte that is none, and a fetch that brings nothing, end
-/// the exchange; a character where the terminal sends, or after the end, changes nothing.
+/// The end takes the characters before a fault. A byte that is no procedure byte ends the exchange,
+/// and so does a fetch without data. A character when the terminal sends, or after the end, changes
+/// nothing.
 fn stops_at_each_fault<S: Side>(rt: &(impl Abort + AllocGlobal)) {
     let ok = Status::new(0x90, 0x00).expect(rt, "a status");
     let no_procedure_byte = Fault {
@@ -240,7 +241,7 @@ fn fault_among_characters(rt: HostRuntime) {
     stops_at_each_fault::<Terminal>(&rt);
 }
 
-/// Nothing goes on after a fault that has ended it, and an empty buffer is still no fault.
+/// After a fault that ended the exchange nothing passes, and an empty buffer is still no fault.
 fn stays_failed<S: Side>(rt: &(impl Abort + AllocGlobal)) {
     let mut side: S = begun(rt, GET);
     takes(rt, &mut side, "90", 0, Some(LineFault::NotListening));
@@ -259,7 +260,7 @@ fn nothing_passes_after_a_failure(rt: HostRuntime) {
     stays_failed::<Terminal>(&rt);
 }
 
-/// A command with what passes, and its answer.
+/// A command, its characters, and its answer.
 #[derive(Clone, Copy)]
 struct Talk {
     of: &'static [u8],
@@ -297,8 +298,8 @@ fn talks<S: Side>(rt: &(impl Abort + AllocGlobal), row: Talk, sizes: Sizes) {
     assert!(rt; is_wanted, "{}", row.trace);
 }
 
-/// Each run of characters passes in a first buffer of each size, from none to all of it and more,
-/// and then in buffers of some size. What passes is the same.
+/// Each run of characters passes in a first buffer of 0 to 16 bytes, more than any run has, and
+/// then in buffers of one size. The result is the same.
 fn talks_in_each_cut<S: Side>(rt: &(impl Abort + AllocGlobal)) {
     for row in &TALKS {
         for first in 0..=16 {
@@ -320,7 +321,7 @@ fn each_cut_into_buffers_gives_the_same(rt: HostRuntime) {
     talks_in_each_cut::<Terminal>(&rt);
 }
 
-/// A terminal that puts 300 bytes of 42 under the tag `5F20`.
+/// A terminal that puts 300 bytes `42` under the tag `5F20`.
 fn putting(rt: &(impl Abort + AllocGlobal)) -> Terminal {
     let mut terminal = Terminal::new(rt.alloc());
     let (tag, _) = Tag::read(&[0x5F, 0x20]).expect(rt, "a tag");
@@ -329,8 +330,8 @@ fn putting(rt: &(impl Abort + AllocGlobal)) -> Terminal {
     terminal
 }
 
-/// With the status of a piece the next one begins, and a character behind it is out of turn. After
-/// the last it is after the end.
+/// The status of a piece begins the next piece, so a character after it is out of turn. After the
+/// last piece it is after the end.
 #[test]
 fn pieces_of_a_put(rt: HostRuntime) {
     let ok = Status::new(0x90, 0x00).expect(&rt, "a status");
@@ -351,7 +352,7 @@ fn pieces_of_a_put(rt: HostRuntime) {
     hands_out(&rt, &mut terminal, 1, "", Some(HostTurn::Done(ok)));
 }
 
-/// A piece that is refused is the last.
+/// A refused piece is the last.
 #[test]
 fn refused_piece_of_a_put(rt: HostRuntime) {
     let mut terminal = putting(&rt);
@@ -361,7 +362,8 @@ fn refused_piece_of_a_put(rt: HostRuntime) {
     assert!(rt; status == 0x6A84 && data.is_empty());
 }
 
-/// What a terminal hands out into a buffer, and what it takes, without a clause.
+/// The terminal's calls. For the proof: they have no clause, since each proof that knows what a
+/// call promises is dearer, and the tests don't need it.
 fn handed_by(terminal: &mut Terminal, buffer: &mut [u8]) -> Option<HandedOut> {
     terminal.next_bytes(buffer)
 }
@@ -370,7 +372,7 @@ fn taken_by(terminal: &mut Terminal, bytes: &[u8]) -> Taken {
     terminal.take_bytes(bytes)
 }
 
-/// Where no operation has begun nothing is handed out, and a buffer stays.
+/// Without an operation the terminal writes nothing, and leaves the buffer unchanged.
 fn hands_out_nothing(rt: &(impl Abort + AllocGlobal), terminal: &mut Terminal, size: usize) {
     let mut buffer = in_room(rt, "", size);
     assert!(rt; handed_by(terminal, &mut buffer).is_none());

@@ -1,4 +1,4 @@
-//! Single commands over the card of data objects, each by `transmit` and by `send`.
+//! Single commands with the card of data objects, each by `transmit` and by `send`.
 
 use super::data_objects::{NAME, selected};
 use super::trace::{bytes, plans, repeated, word};
@@ -9,16 +9,16 @@ use std::alloc::AllocGlobal;
 use std::process::Abort;
 use t0_core::{Plans, Recorder};
 
-/// What a session has before it, and the command that it is given.
+/// A session's card and plans, one command, and its result.
 #[derive(Clone, Copy)]
 struct Row<'a> {
-    /// The objects of the application, which is selected: `5F20 4A4F45; 50 41*253`.
+    /// The objects of the selected application: `5F20 4A4F45; 50 41*253`.
     objects: &'a str,
     /// The plans of the session's next TPDUs.
     plans: &'a str,
     /// The command's bytes.
     command: &'a str,
-    /// What it makes on the line.
+    /// The characters on the line.
     heard: &'a str,
     /// The status of the answer, and its data.
     status: u16,
@@ -32,8 +32,8 @@ pub enum Call {
     Send,
 }
 
-/// The answer to a command that is agreed with the card. Without a clause: what is proved of it is
-/// nothing that a test has to know, and costs each proof that has it at hand.
+/// The answer to a command that is agreed with the card. For the proof: it has no clause, since
+/// each proof that knows what the calls promise is dearer, and the tests don't need it.
 pub fn answer_by(
     rt: &(impl Abort + AllocGlobal),
     session: &mut Session<ObjectCard>,
@@ -59,12 +59,12 @@ pub fn answer_by(
     }
 }
 
-/// Whether the answer is that of the row.
+/// Whether the answer is the row's.
 fn is_answered(rt: &(impl Abort + AllocGlobal), answer: &Answer, row: &Row<'_>) -> bool {
     word(answer.status()) == row.status && answer.data() == bytes(rt, row.data).as_slice()
 }
 
-/// The command of a row is carried out so, with its characters and its answer.
+/// The call sends the row's command, and gets its characters and its answer.
 fn carries_out(
     rt: &(impl Abort + AllocGlobal),
     session: &mut Session<ObjectCard>,
@@ -83,7 +83,7 @@ fn carries_out(
     assert!(rt; is_heard, "{heard}");
 }
 
-/// Either call carries it out so.
+/// Each call does so.
 fn is_carried_out(rt: &(impl Abort + AllocGlobal), row: &Row<'_>) {
     for call in &[Call::Transmit, Call::Send] {
         let mut session = selected(rt, rt.alloc(), row.objects);
@@ -157,8 +157,8 @@ fn commands_of_each_case(rt: HostRuntime) {
     }
 }
 
-/// A plan of many steps, some of which find nothing left to move, and as many plans as there are
-/// TPDUs, but for the last three.
+/// Plans of many steps, some without a byte left to move; and a plan for each TPDU but the last
+/// three.
 #[test]
 fn long_plans(rt: HostRuntime) {
     for row in &[

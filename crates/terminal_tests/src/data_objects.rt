@@ -1,6 +1,5 @@
-//! Cards of data objects, and operations with them, as text for tests: `5F20 4A4F45; 50 41*253` for
-//! the objects of a card, `get 5F20; put 5F20 41` for operations, `9000 5F204A4F45; 6A88` for
-//! answers.
+//! Cards of data objects, operations and answers, as text for tests. `5F20 4A4F45; 50 41*253` is
+//! the objects of a card, `get 5F20; put 5F20 41` operations, `9000 5F204A4F45; 6A88` answers.
 
 use super::trace::{bytes, word};
 use card_terminal::{Answers, Bytes, Op, Session, SessionFault};
@@ -27,15 +26,15 @@ pub fn tag(rt: &(impl Abort + AllocGlobal), text: &str) -> ObjectTag {
     ObjectTag::new(tag).expect(rt, "an address")
 }
 
-/// A tag and a value, of which `-` is the empty one.
+/// A tag and a value; `-` is the empty value.
 fn object(rt: &(impl Abort + AllocGlobal), text: &str) -> (ObjectTag, Vec<u8>) {
     let (name, value) = text.split_once(' ').expect(rt, "a value");
     let value = if value == "-" { "" } else { value };
     (tag(rt, name), bytes(rt, value))
 }
 
-/// Adds a data object of this text. Without a clause: what is proved of it is nothing that a test
-/// has to know, and costs each proof that has it at hand.
+/// Adds a data object of this text. For the proof: it has no clause, since each proof that knows
+/// what the call promises is dearer, and the tests don't need it.
 fn add<A: Allocator + Copy>(
     rt: &(impl Abort + AllocGlobal),
     builder: &mut CardBuilder<A>,
@@ -45,14 +44,14 @@ fn add<A: Allocator + Copy>(
     builder.object(tag, &value).expect(rt, "an object");
 }
 
-/// A builder with the one application, likewise.
+/// A builder with the one application; for the proof, also without a clause.
 fn begun<A: Allocator + Copy>(rt: &(impl Abort + AllocGlobal), memory: A) -> CardBuilder<A> {
     let mut builder = CardBuilder::new(memory);
     builder.app(aid(rt, AID)).expect(rt, "an application");
     builder
 }
 
-/// A card that holds these data objects in this memory.
+/// A card with these data objects, in this memory.
 pub fn card_of<A: Allocator + Copy>(
     rt: &(impl Abort + AllocGlobal),
     memory: A,
@@ -65,7 +64,7 @@ pub fn card_of<A: Allocator + Copy>(
     builder.finish().expect(rt, "memory")
 }
 
-/// The data objects of a card, likewise without a clause.
+/// The data objects of a card; for the proof, also without a clause.
 fn entries<'a, A: Allocator + Copy>(
     rt: &(impl Abort + AllocGlobal),
     card: &'a ObjectCard<A>,
@@ -83,7 +82,7 @@ pub fn holds<A: Allocator + Copy>(
     assert!(rt; entries(rt, held).eq(entries(rt, &wanted)), "{objects}");
 }
 
-/// Operations, in turn.
+/// The operations of a text, in order.
 pub fn operations(rt: &(impl Abort + AllocGlobal), text: &str) -> Vec<Op> {
     let mut ops = Vec::new(rt.alloc());
     for line in text.split(';') {
@@ -104,7 +103,8 @@ fn operation(rt: &(impl Abort + AllocGlobal), line: &str) -> Op {
     }
 }
 
-/// The status and the data of the answer in this place, in one row. Without a clause, as `add`.
+/// The status and the data of the answer at this index, in one row. For the proof, also without a
+/// clause.
 fn answer<A: Allocator>(rt: &(impl Abort + AllocGlobal), out: &Answers<A>, at: usize) -> Vec<u8> {
     let answer = out.get(at).expect(rt, "an answer");
     let mut said = Vec::new(rt.alloc());
@@ -114,7 +114,7 @@ fn answer<A: Allocator>(rt: &(impl Abort + AllocGlobal), out: &Answers<A>, at: u
     said
 }
 
-/// The answers are these, status and data.
+/// The answers are these, each with its status and data.
 pub fn are_answered<A: Allocator>(rt: &(impl Abort + AllocGlobal), out: &Answers<A>, text: &str) {
     let mut at: usize = 0;
     for line in text.split(';') {
@@ -125,7 +125,7 @@ pub fn are_answered<A: Allocator>(rt: &(impl Abort + AllocGlobal), out: &Answers
     assert!(rt; out.len() == at, "{text}");
 }
 
-/// Carries out operations over a card that is idle. Without a clause, as `add`.
+/// Carries out operations with a card that is idle. For the proof, also without a clause.
 pub fn ran<A: Allocator + Copy, B: Allocator, C: DataCard, W: Watch>(
     rt: &(impl Abort + AllocGlobal),
     session: &mut Session<C>,
@@ -139,7 +139,7 @@ pub fn ran<A: Allocator + Copy, B: Allocator, C: DataCard, W: Watch>(
     session.run(memory, ops, plans, watch, out)
 }
 
-/// A session with the card of these objects.
+/// A session with a card of these objects.
 pub fn session_over<A: Allocator + Copy>(
     rt: &(impl Abort + AllocGlobal),
     memory: A,
@@ -165,7 +165,7 @@ fn select<C: DataCard>(rt: &(impl Abort + AllocGlobal), session: &mut Session<C>
     assert!(rt; ended.is_ok());
 }
 
-/// A session with the card of these objects, in which the application is selected.
+/// A session with a card of these objects; the application is selected.
 pub fn selected<A: Allocator + Copy>(
     rt: &(impl Abort + AllocGlobal),
     memory: A,

@@ -1,4 +1,4 @@
-//! Exchanges driven by hand over characters.
+//! Exchanges that a test drives character by character, or by whole TPDUs.
 
 use super::trace::{bytes, characters, pass, word};
 use apdu_core::{Command, Status};
@@ -7,20 +7,21 @@ use std::alloc::AllocGlobal;
 use std::process::Abort;
 use t0_core::{AnswerFault, End, HostTurn, LineFault};
 
-/// A GET DATA of `5F20` that wants everything.
+/// A GET DATA of `5F20` that asks for everything.
 const GET: &[u8] = &[0x00, 0xCA, 0x5F, 0x20, 0x00];
 
 fn command<'a>(rt: &(impl Abort + AllocGlobal), bytes: &'a [u8]) -> Command<'a> {
     Command::read(bytes).expect(rt, "a command")
 }
 
-/// An exchange of a command, given by its bytes. Without a clause: what is proved of it is nothing
-/// that a test has to know, and costs each proof that has it at hand.
+/// Begins the exchange of a command, given by its bytes. For the proof: it has no clause, since
+/// each proof that knows what the call promises is dearer, and the tests don't need it.
 fn begun<'a>(rt: &(impl Abort + AllocGlobal), of: &'a [u8]) -> Exchange<'a> {
     Exchange::start(rt.alloc(), command(rt, of)).expect(rt, "memory")
 }
 
-/// What an exchange does, what it says to a character, and its answer, likewise without a clause.
+/// The next turn of an exchange, its fault for a character, and its answer; for the proof, also
+/// without a clause.
 fn turn(exchange: &mut Exchange<'_>) -> HostTurn {
     exchange.next()
 }
@@ -33,19 +34,20 @@ fn answer_of(rt: &(impl Abort + AllocGlobal), exchange: Exchange<'_>) -> Answer 
     exchange.into_answer().expect(rt, "an answer")
 }
 
-/// These characters pass, as a trace has them.
+/// The characters of this trace pass.
 fn pass_all(rt: &(impl Abort + AllocGlobal), exchange: &mut Exchange<'_>, trace: &str) {
     pass(rt, exchange, &characters(rt, trace));
 }
 
-/// An exchange that these characters have passed.
+/// An exchange after the characters of this trace.
 fn passed<'a>(rt: &(impl Abort + AllocGlobal), of: &'a [u8], trace: &str) -> Exchange<'a> {
     let mut exchange = begun(rt, of);
     pass_all(rt, &mut exchange, trace);
     exchange
 }
 
-/// The answer to a command, given by its bytes, over these characters. Nothing is taken after it.
+/// The answer to a command, given by its bytes, after these characters. The exchange takes nothing
+/// after it.
 fn answer_to(rt: &(impl Abort + AllocGlobal), of: &[u8], trace: &str) -> Answer {
     let mut exchange = passed(rt, of, trace);
     assert!(rt; matches!(turn(&mut exchange), HostTurn::Done(_)), "{trace}");
@@ -60,8 +62,8 @@ fn answers(rt: &(impl Abort + AllocGlobal), of: &str, trace: &str, status: u16, 
     assert!(rt; is_wanted, "{trace}");
 }
 
-/// How to drive an exchange over a reader's characters: ask what it does, and hand in what the card
-/// sends. The answer is what the terminal sent.
+/// How to drive an exchange with a reader's characters: ask for its turn, and pass in what the card
+/// sends. Returns what the terminal sent.
 fn driven(
     rt: &(impl Abort + AllocGlobal),
     exchange: &mut Exchange<'_>,
@@ -88,7 +90,7 @@ fn is_name(rt: &(impl Abort + AllocGlobal), answer: &Answer) {
     assert!(rt; is_wanted && answer.status().is_ok());
 }
 
-/// Begin it, drive it, and read the answer.
+/// Begin an exchange, drive it, and read the answer.
 #[test]
 fn driven_by_hand(rt: HostRuntime) {
     let mut exchange = begun(&rt, GET);
@@ -218,7 +220,7 @@ fn fetches_what_is_announced_of_what_is_wanted(rt: HostRuntime) {
     }
 }
 
-/// A fault has ended it: whatever comes is after the end, and there is no answer.
+/// A fault has ended the exchange: each character is after the end, and there is no answer.
 fn has_failed(rt: &(impl Abort + AllocGlobal), mut exchange: Exchange<'_>) {
     for byte in &[0x41, 0x90, 0x00, 0xCA] {
         assert!(rt; turn(&mut exchange) == HostTurn::Failed);
@@ -227,7 +229,7 @@ fn has_failed(rt: &(impl Abort + AllocGlobal), mut exchange: Exchange<'_>) {
     assert!(rt; exchange.into_answer().is_none());
 }
 
-/// After these characters another one is this fault, which ends the exchange.
+/// After these characters the next one has this fault, which ends the exchange.
 fn fails(rt: &(impl Abort + AllocGlobal), of: &[u8], trace: &str, byte: u8, fault: LineFault) {
     let mut exchange = passed(rt, of, trace);
     assert!(rt; turn(&mut exchange) == HostTurn::Listens);
@@ -241,7 +243,7 @@ fn no_procedure_byte_ends_it(rt: HostRuntime) {
     fails(&rt, GET, "> 00CA5F2000", 0x41, fault);
 }
 
-/// One character passes. While it is the terminal's, the exchange takes none.
+/// One character passes. When the terminal sends it, the exchange takes none.
 fn passes(rt: &(impl Abort + AllocGlobal), exchange: &mut Exchange<'_>, character: (End, u8)) {
     if character.0 == End::Terminal {
         assert!(rt; said(exchange, 0x90) == Some(LineFault::NotListening));
@@ -272,8 +274,8 @@ fn no_answer_before_the_end(rt: HostRuntime) {
     }
 }
 
-/// A first `61XX` without data is no stall. A fetch that brings nothing is, at the last character
-/// of its status.
+/// A first `61XX` without data does not stall the exchange. A fetch without data does, at the last
+/// character of its status.
 #[test]
 fn fetch_that_brings_nothing_stalls(rt: HostRuntime) {
     for (of, trace) in &[
@@ -288,7 +290,7 @@ fn fetch_that_brings_nothing_stalls(rt: HostRuntime) {
     }
 }
 
-/// All the room is filled but the last 256 bytes, which are announced.
+/// Fills the room except the last 256 bytes, which the card announces.
 fn nearly_fill(rt: &(impl Abort + AllocGlobal), exchange: &mut Exchange<'_>) {
     pass_all(rt, exchange, "> 00CA5F2000 < CA 42*256 6100");
     for _ in 0..62 {
@@ -296,7 +298,7 @@ fn nearly_fill(rt: &(impl Abort + AllocGlobal), exchange: &mut Exchange<'_>) {
     }
 }
 
-/// One byte more than all the room is too long.
+/// One byte more than the room is too long.
 fn overfill(rt: &(impl Abort + AllocGlobal), exchange: &mut Exchange<'_>) {
     nearly_fill(rt, exchange);
     let last = "> 00C0000000 < C0 42*256 6101 > 00C0000001 < C0";
@@ -305,12 +307,12 @@ fn overfill(rt: &(impl Abort + AllocGlobal), exchange: &mut Exchange<'_>) {
     assert!(rt; said(exchange, 0x90) == Some(LineFault::AfterEnd));
 }
 
-/// The exchange of another command in the same room.
+/// An exchange of another command in the same room.
 fn again<'a>(rt: &(impl Abort + AllocGlobal), exchange: Exchange<'_>) -> Exchange<'a> {
     exchange.again(command(rt, GET))
 }
 
-/// The same room serves another command, emptied.
+/// Another command uses the same room, emptied.
 #[test]
 fn room_is_filled_and_emptied(rt: HostRuntime) {
     let mut exchange = begun(&rt, GET);
@@ -324,7 +326,7 @@ fn room_is_filled_and_emptied(rt: HostRuntime) {
     assert!(rt; answer.data() == bytes(&rt, "43*256").as_slice());
 }
 
-/// All the room may be filled: the data of an answer are so many bytes at most.
+/// An answer may fill the whole room, `RESPONSE_LIMIT` bytes.
 #[test]
 fn whole_room_is_an_answer(rt: HostRuntime) {
     let mut exchange = begun(&rt, GET);
@@ -334,7 +336,7 @@ fn whole_room_is_an_answer(rt: HostRuntime) {
     assert!(rt; answer.data().len() == RESPONSE_LIMIT);
 }
 
-/// Whether the answer is an object: then it is `50 01 41`.
+/// Whether the answer is one object; then it is `50 01 41`.
 fn is_object(rt: &(impl Abort + AllocGlobal), answer: &Answer) -> bool {
     let Some(object) = answer.object() else {
         return false;
@@ -356,7 +358,7 @@ fn object_is_all_the_data(rt: HostRuntime) {
     }
 }
 
-/// The TPDU that is due, as P3, how many bytes go to the card, and how many may come back.
+/// The next TPDU: its P3, the number of bytes to the card, and the most bytes from it.
 fn due(exchange: &Exchange<'_>) -> Option<(u8, usize, u16)> {
     match exchange.tpdu() {
         Some(tpdu) => Some((tpdu.p3, tpdu.content.len(), tpdu.may_come)),
@@ -364,7 +366,7 @@ fn due(exchange: &Exchange<'_>) -> Option<(u8, usize, u16)> {
     }
 }
 
-/// What an exchange says to the answer to a whole TPDU, given as its data and its status.
+/// The fault for an answer to a whole TPDU, given as its data and its status.
 fn told(
     rt: &(impl Abort + AllocGlobal),
     exchange: &mut Exchange<'_>,
@@ -375,7 +377,7 @@ fn told(
     exchange.answered(&bytes(rt, data), status).err()
 }
 
-/// A TPDU that is due, if any, the answer to it, as data and status, and what is said to that.
+/// A TPDU, if one is next; the answer to it, as data and status; and the fault.
 type Answered<'a> = (
     Option<(u8, usize, u16)>,
     &'a str,
@@ -383,7 +385,7 @@ type Answered<'a> = (
     Option<AnswerFault>,
 );
 
-/// The exchange goes through these, one after the other.
+/// The exchange goes through these rows in order.
 fn is_told(rt: &(impl Abort + AllocGlobal), exchange: &mut Exchange<'_>, rows: &[Answered<'_>]) {
     for (tpdu, data, status, fault) in rows {
         assert!(rt; due(exchange) == *tpdu, "{data}");

@@ -1,5 +1,5 @@
-//! The memory of a terminal's operation is kept for the next: the room for the response, and the
-//! copy of the data. Heaps of few bytes show what is taken.
+//! A terminal keeps the memory of one operation for the next: the room for the response, and the
+//! copy of the data. Small heaps show how much it takes.
 
 use super::data_objects::{aid, tag};
 use super::side::command;
@@ -13,10 +13,10 @@ use std::process::Abort;
 /// The most bytes of a response.
 const LIMIT: usize = 256;
 
-/// What an operation with up to 32 bytes of data takes, and what a heap has of it.
+/// The bytes that an operation with up to 32 bytes of data takes from a heap.
 const SHORT: usize = 32 + LIMIT;
 
-/// What comes of beginning a put of this value, `-` for the empty one.
+/// The fault of beginning a put of this value; `-` is the empty value.
 fn put(
     rt: &(impl Abort + AllocGlobal),
     terminal: &mut Terminal<&LocalHeap>,
@@ -26,12 +26,12 @@ fn put(
     terminal.put(tag(rt, "5F20"), &bytes(rt, value)).err()
 }
 
-/// What comes of beginning a reading.
+/// The fault of beginning a get.
 fn get(rt: &(impl Abort + AllocGlobal), terminal: &mut Terminal<&LocalHeap>) -> Option<BeginFault> {
     terminal.get(tag(rt, "5F20")).err()
 }
 
-/// What comes of beginning a selection.
+/// The fault of beginning a select.
 fn select(
     rt: &(impl Abort + AllocGlobal),
     terminal: &mut Terminal<&LocalHeap>,
@@ -39,7 +39,7 @@ fn select(
     terminal.select(&aid(rt, "A0000000031010")).err()
 }
 
-/// What comes of beginning the exchange of a command, given by its bytes.
+/// The fault of beginning the exchange of a command, given by its bytes.
 fn send(
     rt: &(impl Abort + AllocGlobal),
     terminal: &mut Terminal<&LocalHeap>,
@@ -48,13 +48,13 @@ fn send(
     terminal.send(command(rt, &bytes(rt, of))).err()
 }
 
-/// These data and `9000` are taken as the answer to the TPDU that is due.
+/// The terminal takes these data and `9000` as the answer to the current TPDU.
 fn is_told(rt: &(impl Abort + AllocGlobal), terminal: &mut Terminal<&LocalHeap>, data: &str) {
     let status = Status::new(0x90, 0x00).expect(rt, "a status");
     assert!(rt; terminal.answered(&bytes(rt, data), status).is_ok());
 }
 
-/// The data of the answer.
+/// The data of the answer, whose status is `9000`.
 fn answered(rt: &(impl Abort + AllocGlobal), terminal: &Terminal<&LocalHeap>) -> Vec<u8> {
     let Some((status, data)) = terminal.answer() else {
         panic!(rt; "no answer")
@@ -63,13 +63,13 @@ fn answered(rt: &(impl Abort + AllocGlobal), terminal: &Terminal<&LocalHeap>) ->
     Vec::from_slice(rt.alloc(), data).expect(rt, "memory")
 }
 
-/// The data that the TPDU that is due takes to the card.
+/// The data that the current TPDU takes to the card.
 fn due(rt: &(impl Abort + AllocGlobal), terminal: &Terminal<&LocalHeap>) -> Vec<u8> {
     let tpdu = terminal.tpdu().expect(rt, "a TPDU");
     Vec::from_slice(rt.alloc(), tpdu.content).expect(rt, "memory")
 }
 
-/// Each TPDU of what has begun takes these data to the card, and is answered `9000`.
+/// The operation's TPDUs take these data to the card, in turn. Each gets `9000`.
 fn goes(rt: &(impl Abort + AllocGlobal), terminal: &mut Terminal<&LocalHeap>, pieces: &str) {
     for piece in pieces.split(';') {
         assert!(rt; due(rt, terminal) == bytes(rt, piece), "{pieces}");
@@ -78,7 +78,7 @@ fn goes(rt: &(impl Abort + AllocGlobal), terminal: &mut Terminal<&LocalHeap>, pi
     assert!(rt; !terminal.is_going());
 }
 
-/// A put over a heap that has no more than it needs, carried out.
+/// A terminal after a put, with a response of up to `LIMIT` bytes.
 fn has_put<'a>(
     rt: &(impl Abort + AllocGlobal),
     heap: &'a LocalHeap,
@@ -94,7 +94,7 @@ fn heap_of(rt: &(impl Abort + AllocGlobal), size: usize) -> LocalHeap {
     LocalHeap::new(rt.alloc(), size).expect(rt, "memory")
 }
 
-/// Each operation begins over a heap that is full by then, also after one that has failed.
+/// Each operation begins though the heap is full by then, also after an operation that failed.
 #[test]
 fn the_next_operation_takes_no_memory(rt: HostRuntime) {
     let heap = heap_of(&rt, SHORT);
@@ -125,7 +125,7 @@ fn nor_does_one_after_a_failure(rt: HostRuntime) {
     assert!(rt; heap.used() == SHORT);
 }
 
-/// Of longer and shorter values, one after another, nothing of an earlier one goes to the card.
+/// Longer and shorter values in turn: no byte of an earlier one goes to the card.
 #[test]
 fn values_of_many_lengths(rt: HostRuntime) {
     let heap = heap_of(&rt, 4_096);
@@ -144,7 +144,7 @@ fn values_of_many_lengths(rt: HostRuntime) {
     }
 }
 
-/// Nor is anything of an earlier response part of a later one.
+/// No byte of an earlier response is in a later one.
 #[test]
 fn responses_of_many_lengths(rt: HostRuntime) {
     let heap = heap_of(&rt, LIMIT);
@@ -156,8 +156,8 @@ fn responses_of_many_lengths(rt: HostRuntime) {
     }
 }
 
-/// A longer value finds no room in a full heap: the old answer stays, and so does the room for a
-/// shorter one. A reset gives all back.
+/// A full heap has no room for a longer value. The old answer stays, and the room for a shorter
+/// value. A reset returns all memory.
 #[test]
 fn no_memory_for_a_longer_value(rt: HostRuntime) {
     let heap = heap_of(&rt, SHORT);
@@ -182,8 +182,8 @@ fn no_memory_for_a_longer_value(rt: HostRuntime) {
     assert!(rt; heap.used() == SHORT);
 }
 
-/// What comes of a put of 300 bytes after one of 20, over a heap of so many bytes. Where it has
-/// begun, the shorter copy was given back.
+/// The fault of a put of 300 bytes after one of 20, with a heap of `size` bytes. If the put begins,
+/// the terminal has freed the shorter copy.
 fn longer_over(rt: &(impl Abort + AllocGlobal), size: usize) -> Option<BeginFault> {
     let heap = heap_of(rt, size);
     let mut terminal = has_put(rt, &heap, "41*20");
@@ -195,7 +195,7 @@ fn longer_over(rt: &(impl Abort + AllocGlobal), size: usize) -> Option<BeginFaul
     fault
 }
 
-/// One growth is for the longer copy, beside the shorter one.
+/// One growth is for the longer copy, which the heap holds beside the shorter one.
 #[test]
 fn memory_of_a_longer_value(rt: HostRuntime) {
     let wanting = Some(BeginFault::OutOfMemory);

@@ -1,5 +1,5 @@
-//! Tests of `card_terminal` and `apdu_terminal`, by their public calls alone: so no proof of them
-//! is made once more for the tests.
+//! Tests of `card_terminal`, `apdu_terminal` and `t1_terminal` through their public calls. A crate
+//! of their own, so that those crates are not proved again for their tests.
 #![tactic(auto)]
 
 #[cfg(test)]

@@ -1,4 +1,4 @@
-//! Exchanges and terminals whose responses may have so many bytes, and no more.
+//! Exchanges and terminals with a limit for the response.
 
 use super::side::{Side, command};
 use super::trace::bytes;
@@ -9,7 +9,7 @@ use std::alloc::AllocGlobal;
 use std::process::Abort;
 use t0_core::{AnswerFault, HostTurn, LineFault};
 
-/// A GET DATA of `5F20` that wants everything.
+/// A GET DATA of `5F20` that asks for everything.
 const GET: &[u8] = &[0x00, 0xCA, 0x5F, 0x20, 0x00];
 
 /// A PUT DATA of `5F20` with 20 bytes.
@@ -18,7 +18,7 @@ const PUT: &[u8] = &[
     19,
 ];
 
-/// A GET DATA whose response may have so many bytes.
+/// A GET DATA whose response may have `limit` bytes.
 fn getting<S: Side>(rt: &(impl Abort + AllocGlobal), limit: usize) -> S {
     S::begin(rt, GET, limit).expect(rt, "memory")
 }
@@ -30,7 +30,7 @@ fn sends_header<S: Side>(rt: &impl Abort, side: &mut S) {
     assert!(rt; side.hand_out(rt, &mut header).stop == Some(HostTurn::Listens));
 }
 
-/// All of these characters of the card are taken.
+/// The terminal's end takes all of these characters of the card.
 fn takes<S: Side>(rt: &(impl Abort + AllocGlobal), side: &mut S, from_card: &str) {
     assert!(rt;
         side.take_in(&bytes(rt, from_card)).outcome.is_ok(),
@@ -38,7 +38,7 @@ fn takes<S: Side>(rt: &(impl Abort + AllocGlobal), side: &mut S, from_card: &str
     );
 }
 
-/// The first 16,384 bytes, 256 in each TPDU, of which the last has this status.
+/// The first 16,384 bytes, 256 in each TPDU. `last` is the status of the last one.
 fn takes_most<S: Side>(rt: &(impl Abort + AllocGlobal), side: &mut S, last: &str) {
     sends_header(rt, side);
     takes(rt, side, "CA 42*256 6100");
@@ -51,7 +51,7 @@ fn takes_most<S: Side>(rt: &(impl Abort + AllocGlobal), side: &mut S, last: &str
     takes(rt, side, last);
 }
 
-/// So much room is filled by these characters of the card, and the answer has so many bytes.
+/// These characters of the card fill `limit` bytes of room, and the answer has `limit` bytes.
 fn fits<S: Side>(rt: &(impl Abort + AllocGlobal), limit: usize, from_card: &str) {
     let mut side: S = getting(rt, limit);
     sends_header(rt, &mut side);
@@ -59,14 +59,14 @@ fn fits<S: Side>(rt: &(impl Abort + AllocGlobal), limit: usize, from_card: &str)
     is_answered(rt, side, limit);
 }
 
-/// It is answered `9000`, with so many bytes.
+/// The answer is `9000`, with `size` bytes.
 fn is_answered<S: Side>(rt: &(impl Abort + AllocGlobal), side: S, size: usize) {
     let (status, data) = side.answer_of(rt);
     assert!(rt; status == 0x9000 && data.len() == size, "{size}");
     assert!(rt; data.iter().all(|byte| *byte == 0x42));
 }
 
-/// The next character of the card is too long, and ends it.
+/// The next character of the card is too long, and ends the exchange.
 fn is_full<S: Side>(rt: &(impl Abort + AllocGlobal), mut side: S) {
     let taken = side.take_in(&[0x42, 0x42]);
     assert!(rt; taken.count == 0 && taken.outcome == Err(LineFault::TooLong));
@@ -74,7 +74,7 @@ fn is_full<S: Side>(rt: &(impl Abort + AllocGlobal), mut side: S) {
     assert!(rt; side.hand_out(rt, &mut [0]).stop == Some(HostTurn::Failed));
 }
 
-/// So much room is filled by these characters of the card, and one byte more is too long.
+/// These characters of the card fill `limit` bytes of room, and one byte more is too long.
 fn overflows<S: Side>(rt: &(impl Abort + AllocGlobal), limit: usize, from_card: &str) {
     let mut side: S = getting(rt, limit);
     sends_header(rt, &mut side);
@@ -82,8 +82,8 @@ fn overflows<S: Side>(rt: &(impl Abort + AllocGlobal), limit: usize, from_card: 
     is_full(rt, side);
 }
 
-/// Room for 0, 1 and 255 bytes is filled one byte after another, and that for 256 by one procedure
-/// byte.
+/// Room for 0, 1 and 255 bytes, filled one byte at a time; and room for 256, filled after one
+/// procedure byte.
 fn each_room_is_filled<S: Side>(rt: &(impl Abort + AllocGlobal)) {
     fits::<S>(rt, 0, "9000");
     fits::<S>(rt, 1, "3542 9000");
@@ -94,7 +94,7 @@ fn each_room_is_filled<S: Side>(rt: &(impl Abort + AllocGlobal)) {
     is_answered(rt, side, RESPONSE_LIMIT);
 }
 
-/// And one byte more is too long.
+/// One byte more is too long.
 fn no_room_is_overfilled<S: Side>(rt: &(impl Abort + AllocGlobal)) {
     overflows::<S>(rt, 0, "35");
     overflows::<S>(rt, 1, "3542 35");
@@ -127,7 +127,7 @@ fn one_byte_more_is_too_long(rt: HostRuntime) {
     no_room_is_overfilled::<Terminal>(&rt);
 }
 
-/// What is said to a whole answer of so many bytes and this status.
+/// The fault for a whole answer of `size` bytes with this status.
 fn told<S: Side>(
     rt: &(impl Abort + AllocGlobal),
     side: &mut S,
@@ -139,7 +139,7 @@ fn told<S: Side>(
     side.answer_whole(&data, status).err()
 }
 
-/// One whole TPDU brings just as many bytes as there is room for, and one too many.
+/// One whole TPDU brings just as many bytes as there is room for, or one more.
 fn whole_answers<S: Side>(rt: &(impl Abort + AllocGlobal), limit: u8) {
     let limit = usize::from(limit);
     let mut side: S = getting(rt, limit);
@@ -150,7 +150,7 @@ fn whole_answers<S: Side>(rt: &(impl Abort + AllocGlobal), limit: u8) {
     assert!(rt; told(rt, &mut side, 0, (0x90, 0x00)) == Some(AnswerFault::NotDue));
 }
 
-/// Many of them do.
+/// Many TPDUs fill the room, and the last brings one byte more.
 fn many_whole_answers<S: Side>(rt: &(impl Abort + AllocGlobal), limit: usize) {
     let mut side: S = getting(rt, limit);
     for _ in 0..limit / 256 {
@@ -176,7 +176,7 @@ fn whole_tpdus_keep_to_the_room(rt: HostRuntime) {
     each_whole_answer::<Terminal>(&rt);
 }
 
-/// Whether a limit is refused as one that is over the most.
+/// Whether the call refuses a limit above the maximum.
 fn is_over<S: Side>(rt: &(impl Abort + AllocGlobal), limit: usize) -> bool {
     match S::begin(rt, GET, limit) {
         Ok(_) => false,
@@ -206,14 +206,14 @@ fn limits_over_the_most_are_refused(rt: HostRuntime) {
     }
 }
 
-/// What comes of beginning over a heap of so many bytes.
+/// The fault of beginning with a heap of `size` bytes.
 fn begun_over(rt: &(impl Abort + AllocGlobal), size: usize, limit: usize) -> Option<StartFault> {
     let heap = LocalHeap::new(rt.alloc(), size).expect(rt, "memory");
     let begun = Exchange::start_within(&heap, command(rt, GET), limit);
     begun.err()
 }
 
-/// The one growth is as much as the limit says; a limit that is refused asks for none.
+/// The one growth takes as many bytes as the limit, rounded up to 16. A refused limit takes none.
 #[test]
 fn memory_of_a_limited_exchange(rt: HostRuntime) {
     for (limit, size, fault) in &[
@@ -234,8 +234,8 @@ fn memory_of_a_limited_exchange(rt: HostRuntime) {
     }
 }
 
-/// What comes of a put at a terminal over a heap of so many bytes. Where it has not begun, none is
-/// under way.
+/// The fault of a put at a terminal with a heap of `size` bytes. After a fault no operation is in
+/// progress.
 fn put_over(rt: &(impl Abort + AllocGlobal), size: usize, limit: usize) -> Option<BeginFault> {
     let heap = LocalHeap::new(rt.alloc(), size).expect(rt, "memory");
     let mut terminal = Terminal::new_within(&heap, limit).expect(rt, "a limit");
@@ -244,7 +244,7 @@ fn put_over(rt: &(impl Abort + AllocGlobal), size: usize, limit: usize) -> Optio
     fault
 }
 
-/// One growth is for the copy of the data, and one for as much as the limit says.
+/// One growth is for the copy of the data, and one for the response.
 #[test]
 fn memory_of_a_limited_terminal(rt: HostRuntime) {
     for (limit, size, begins) in &[
@@ -264,7 +264,7 @@ fn memory_of_a_limited_terminal(rt: HostRuntime) {
     }
 }
 
-/// The limit is of each operation that is begun: after one that is over, one that has failed, and a
+/// The limit holds for each operation: after one that ended, after one that failed, and after a
 /// reset.
 #[test]
 fn limit_of_a_terminal_stays(rt: HostRuntime) {

@@ -9,8 +9,8 @@ use t0_core::CardEnd;
 use t1_core::{Cause, EXTENSIONS, Edc, Fate, Fates, Fault, Line, Outcome, Settings, TRIES};
 use t1_terminal::{DataApplet, Operated, run};
 
-/// What happens to the blocks, each by its letter, the terminal's and the card's in turn: `.` it
-/// arrives, `~` it is damaged, `-` it is lost. After the last letter `then` follows for ever.
+/// What happens to the blocks, one letter each, the terminal's and the card's in turn: `.` arrives,
+/// `~` is damaged, `-` is lost. After the last letter each exchange has the fates `then`.
 #[derive(Drop)]
 struct Written<'r, R: Abort> {
     rt: &'r R,
@@ -28,7 +28,7 @@ fn fate(letter: u8) -> Fate {
 }
 
 impl<'r, R: Abort> Written<'r, R> {
-    /// The letters of the next exchange.
+    /// The fates of the next exchange.
     fn letters(&self) -> Fates {
         let mut rest = self.letters.iter().skip(2 * self.passed.len());
         match (rest.next(), rest.next()) {
@@ -51,7 +51,8 @@ impl<'r, R: Abort> Line for Written<'r, R> {
     }
 }
 
-/// Carries out operations over a line. Without a clause, so that no proof has it at hand.
+/// Carries out operations over a line. For the proof: it has no clause, since each proof that knows
+/// what the call promises is dearer, and the tests don't need it.
 fn ran<L: Line>(
     rt: &(impl Abort + AllocGlobal),
     objects: &str,
@@ -66,8 +67,8 @@ fn ran<L: Line>(
     run(rt.alloc(), card, line, settings, ops).expect(rt, "memory")
 }
 
-/// The operations are answered so over this line, with this fault, and the card holds these objects
-/// then.
+/// The operations get these answers and this fault over this line, and then the card holds these
+/// objects.
 fn runs(
     rt: &(impl Abort + AllocGlobal),
     letters: &'static [u8],
@@ -114,8 +115,7 @@ fn operations_over_a_line(rt: HostRuntime) {
     );
 }
 
-/// The line is dead before the first command, after the first piece of a put, and after its last
-/// piece has gone.
+/// The line goes dead before the first command, after the first piece of a put, and after its last.
 #[test]
 fn operations_that_stop(rt: HostRuntime) {
     let spent = |outcome| Some((Cause::TriesSpent, outcome));

@@ -1,4 +1,4 @@
-//! Lists of many operations, also where memory is wanting before one in their middle.
+//! Lists of many operations, also with memory that runs out before one in the middle.
 
 use super::data_objects::{operations, ran, selected};
 use super::trace::{bytes, characters, word};
@@ -8,7 +8,7 @@ use std::alloc::{AllocGlobal, Allocator, Global};
 use std::process::Abort;
 use t0_core::{End, Plans, Recorder};
 
-/// Two objects, got in turn.
+/// Two objects, read in turn.
 const OBJECTS: &str = "50 41*253; 5F20 4A4F45";
 
 const GETS: &str = "get 50; get 5F20";
@@ -18,15 +18,15 @@ const ANSWERS: [&str; 2] = ["5081FD 41*253", "5F20034A4F45"];
 const HEARD: &str = "> 00CA005000 < CA5081FD 41*253 9000 \
     > 00CA5F2000 < 6C06 > 00CA5F2006 < CA5F20034A4F459000";
 
-/// The characters of the first get, and of both.
+/// The number of characters of the first get, and of both.
 const ONE: usize = 5 + 1 + 256 + 2;
 
 const BOTH: usize = ONE + 5 + 2 + 5 + 1 + 6 + 2;
 
-/// Bytes that are enough for anything here.
+/// Enough bytes for anything here.
 const AMPLE: usize = 32_768;
 
-/// The two gets, so many times.
+/// The two gets, `times` times.
 fn gets(rt: &(impl Abort + AllocGlobal), times: usize) -> Vec<Op> {
     let mut ops = Vec::new(rt.alloc());
     for _ in 0..times {
@@ -42,7 +42,7 @@ fn push_both(rt: &(impl Abort + AllocGlobal), ops: &mut Vec<Op>) {
     }
 }
 
-/// Whether the answer in this place is `9000` and these data.
+/// Whether the answer at this index is `9000` and these data.
 fn is_answer<A: Allocator>(
     rt: &(impl Abort + AllocGlobal),
     out: &Answers<A>,
@@ -61,7 +61,7 @@ fn are_answered<A: Allocator>(rt: &(impl Abort + AllocGlobal), out: &Answers<A>)
     }
 }
 
-/// What was heard are so many gets, whole, and nothing more.
+/// The characters are those of this number of gets, whole, and no more.
 fn are_heard(rt: &(impl Abort + AllocGlobal), heard: &[(End, u8)], operations: usize) {
     let both = characters(rt, HEARD);
     assert!(rt; both.len() == BOTH);
@@ -74,8 +74,8 @@ fn are_heard(rt: &(impl Abort + AllocGlobal), heard: &[(End, u8)], operations: u
     assert!(rt; rest.len() == last && both.starts_with(rest));
 }
 
-/// Carries out the list over a card of the two objects, up to an operation for which memory is
-/// wanting. The answer is whether none was wanting.
+/// Carries out the list with a card of the two objects. It stops before an operation for which
+/// memory runs out. Returns whether memory never ran out.
 fn is_run<A: Allocator + Copy>(
     rt: &(impl Abort + AllocGlobal),
     memory: A,
@@ -91,8 +91,8 @@ fn is_run<A: Allocator + Copy>(
     ended.is_ok()
 }
 
-/// Carries out so many pairs of gets. What was heard is what was answered, and none of it is lost.
-/// The answer is how many operations were carried out.
+/// Carries out `times` pairs of gets. The recorder has the characters of each answered get, and has
+/// lost none. Returns the number of answers.
 fn carried_out<A: Allocator + Copy>(
     rt: &(impl Abort + AllocGlobal),
     times: usize,
@@ -108,21 +108,22 @@ fn carried_out<A: Allocator + Copy>(
     out.len()
 }
 
-/// The same for six pairs, with so many bytes for what is received and for the list of answers.
+/// The same for six pairs. The heap for responses has `received` bytes, the heap for the list
+/// `answers`.
 fn carried_out_over(rt: &(impl Abort + AllocGlobal), received: usize, answers: usize) -> usize {
     let memory = LocalHeap::new(rt.alloc(), received).expect(rt, "memory");
     let list = LocalHeap::new(rt.alloc(), answers).expect(rt, "memory");
     carried_out(rt, 6, &memory, &mut Answers::new(&list))
 }
 
-/// Thousands of operations, and of characters that are heard, where no memory is wanting.
+/// Thousands of operations, and their characters, with enough memory.
 #[test]
 fn a_list_of_thousands(rt: HostRuntime) {
     let mut out = Answers::new(rt.alloc());
     assert!(rt; carried_out(&rt, 5_000, rt.alloc(), &mut out) == 10_000);
 }
 
-/// Memory for a response is wanting before each of the operations in turn, and before none.
+/// Memory for a response runs out before each of the operations in turn, and before none.
 #[test]
 fn memory_is_wanting_before_each(rt: HostRuntime) {
     let mut place: usize = 0;
@@ -136,7 +137,7 @@ fn memory_is_wanting_before_each(rt: HostRuntime) {
     assert!(rt; place == 12);
 }
 
-/// Memory for one more answer is wanting where the list of them grows.
+/// Memory for one more answer runs out when the list grows.
 #[test]
 fn memory_is_wanting_for_an_answer(rt: HostRuntime) {
     let mut places: usize = 0;

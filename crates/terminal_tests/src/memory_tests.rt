@@ -1,4 +1,4 @@
-//! Each growth is refused in turn, by heaps of ever more bytes.
+//! Heaps of more and more bytes refuse each growth of a command in turn.
 
 use super::data_objects::{NAME, selected};
 use super::trace::{bytes, characters};
@@ -17,13 +17,14 @@ const GET: Header = Header {
     p2: 0x20,
 };
 
-/// Whether an exchange has room, without a clause.
+/// Whether an exchange has room. For the proof: it has no clause, since each proof that knows what
+/// the call promises is dearer, and the tests don't need it.
 fn has_room(heap: &LocalHeap) -> bool {
     let command = Command::new(GET, &[], Some(256)).unwrap();
     Exchange::start(heap, command).is_ok()
 }
 
-/// The one growth of `start` is refused, and then granted.
+/// `start` has one growth. A small heap refuses it, a large one grants it.
 #[test]
 fn no_room_for_an_exchange(rt: HostRuntime) {
     for (size, granted) in &[(0, false), (16_368, false), (16_384, true)] {
@@ -32,18 +33,18 @@ fn no_room_for_an_exchange(rt: HostRuntime) {
     }
 }
 
-/// What came of a command over a heap.
+/// The result of a command with a small heap.
 #[derive(Clone, Copy, PartialEq, Eq)]
 enum Outcome {
-    /// There was no room for the response, and nothing was heard.
+    /// There was no room for the response, and no character passed.
     Refused,
-    /// The answer is as ever, and the recorder has lost some of what was said.
+    /// The answer is right, and the recorder has lost some characters.
     Lost,
-    /// The answer is as ever, and all was heard.
+    /// The answer is right, and the recorder has all characters.
     Heard,
 }
 
-/// Brings an object in this memory.
+/// Reads an object in this memory.
 fn transmitted<A: Allocator, B: Allocator>(
     rt: &(impl Abort + AllocGlobal),
     memory: A,
@@ -55,7 +56,7 @@ fn transmitted<A: Allocator, B: Allocator>(
     session.transmit(memory, command, &mut plans, recorder)
 }
 
-/// Whether the object was brought: the one fault is want of memory.
+/// Whether the object was read. The one fault is that memory ran out.
 fn is_brought<A: Allocator>(
     rt: &(impl Abort + AllocGlobal),
     ended: Result<Answer<A>, SessionFault>,
@@ -72,7 +73,7 @@ fn is_brought<A: Allocator>(
     }
 }
 
-/// How much was heard of the whole: all, or a front of it where some is lost.
+/// Whether the recorder has all characters, or a front of them because it lost some.
 fn heard_of(rt: &(impl Abort + AllocGlobal), heard: &[(End, u8)], lost: bool) -> Outcome {
     let all = characters(rt, "> 00CA5F2000 < 6C06 > 00CA5F2006 < CA5F20034A4F459000");
     assert!(rt; all.starts_with(heard));
@@ -80,7 +81,7 @@ fn heard_of(rt: &(impl Abort + AllocGlobal), heard: &[(End, u8)], lost: bool) ->
     if lost { Outcome::Lost } else { Outcome::Heard }
 }
 
-/// Brings an object by a command over a heap of so many bytes, which the recorder shares.
+/// Reads an object by a command. The recorder shares its heap of `size` bytes.
 fn brought(rt: &(impl Abort + AllocGlobal), size: usize) -> Outcome {
     let heap = LocalHeap::new(rt.alloc(), size).expect(rt, "memory");
     let mut recorder = Recorder::new(&heap);
@@ -92,8 +93,8 @@ fn brought(rt: &(impl Abort + AllocGlobal), size: usize) -> Outcome {
     Outcome::Refused
 }
 
-/// Without room for the response nothing is heard. With it the answer is as ever, and the recorder
-/// has heard all, or a front of it where it has lost the rest.
+/// Without room for the response no character passes. With it the answer is right, and the recorder
+/// has all characters or a front of them.
 #[test]
 fn no_memory_for_a_command_or_its_recorder(rt: HostRuntime) {
     let mut refused: usize = 0;

@@ -1,4 +1,4 @@
-//! A put of which each growth is refused in turn, by heaps of ever more bytes: at the terminal, and
+//! A put with heaps of more and more bytes, which refuse each growth in turn: at the terminal, and
 //! at the card.
 
 use super::data_objects::{NAME, holds, operations, ran, selected};
@@ -10,18 +10,18 @@ use std::alloc::{AllocGlobal, Allocator, Global};
 use std::process::Abort;
 use t0_core::{End, Plans, Recorder};
 
-/// Bytes that are enough at either end.
+/// Enough bytes at either end.
 const AMPLE: usize = 32_768;
 
-/// The put, in two pieces, over the card of `NAME`.
+/// The put, in two pieces, with the card of `NAME`.
 const PUT: &str = "put 5F20 42*256";
 
-/// What is heard of it up to its status, and the objects after it.
+/// The characters of the put up to its status, and the objects after it.
 const HEARD: &str = "> 10DA5F20FF < DA > 42*255 < 9000 > 00DA5F2001 < DA > 42";
 
 const AFTER: &str = "5F20 42*256";
 
-/// Takes all that is left of a heap but so many bytes at its end.
+/// Takes all of a heap except the last `left` bytes.
 fn all_but<'a>(
     rt: &(impl Abort + AllocGlobal),
     heap: &'a LocalHeap,
@@ -38,14 +38,14 @@ fn all_but<'a>(
     taken
 }
 
-/// What came of the put.
+/// The result of the put.
 #[derive(Clone, Copy, PartialEq, Eq)]
 enum Outcome {
-    /// The terminal wanted memory, and nothing was heard.
+    /// Memory ran out at the terminal, and no character passed.
     NotBegun,
-    /// The card wanted memory, and answered `6581`.
+    /// Memory ran out at the card, which sent `6581`.
     Failed,
-    /// All is as where no memory is wanting.
+    /// The same as with enough memory.
     AsEver,
 }
 
@@ -57,7 +57,7 @@ fn status_of<A: Allocator>(rt: &(impl Abort + AllocGlobal), out: &Answers<A>) ->
     word(answer.status())
 }
 
-/// What the one answer says. It was heard after all the rest.
+/// What the status of the one answer means. Its characters are the last ones.
 fn answered(rt: &(impl Abort + AllocGlobal), status: u16, heard: &[(End, u8)]) -> Outcome {
     let mut all = characters(rt, HEARD);
     for byte in status.to_be_bytes() {
@@ -71,7 +71,8 @@ fn answered(rt: &(impl Abort + AllocGlobal), status: u16, heard: &[(End, u8)]) -
     }
 }
 
-/// Puts in memory of the terminal. Where that wants some, nothing is answered and nothing is heard.
+/// Puts with this memory at the terminal. If it runs out, there is no answer and no character
+/// passes.
 fn puts_over<A: Allocator + Copy, C: DataCard>(
     rt: &(impl Abort + AllocGlobal),
     session: &mut Session<C>,
@@ -113,7 +114,7 @@ fn is_left<A: Allocator + Copy>(
     holds(rt, session.card(), after);
 }
 
-/// A session in this memory puts, while so many bytes of it are left.
+/// Puts while the card's memory has `at_card` bytes left, and the terminal has `at_terminal`.
 fn puts_at(
     rt: &(impl Abort + AllocGlobal),
     memory: &LocalHeap,
@@ -126,7 +127,7 @@ fn puts_at(
     puts_over(rt, session, &operations(rt, PUT), &terminal)
 }
 
-/// Puts with so many bytes at the terminal, and so many that are left at the card.
+/// Puts with this many bytes at the terminal, and this many left at the card.
 fn puts(rt: &(impl Abort + AllocGlobal), at_terminal: usize, at_card: usize) -> Outcome {
     let memory = LocalHeap::new(rt.alloc(), AMPLE).expect(rt, "memory");
     let mut session = selected(rt, &memory, NAME);
@@ -135,7 +136,7 @@ fn puts(rt: &(impl Abort + AllocGlobal), at_terminal: usize, at_card: usize) -> 
     outcome
 }
 
-/// Where the terminal wants memory for an answer or a response the put is not begun.
+/// If memory for an answer or a response runs out at the terminal, the put does not begin.
 #[test]
 fn a_put_that_the_terminal_has_no_memory_for(rt: HostRuntime) {
     let mut not_begun = false;
@@ -150,7 +151,7 @@ fn a_put_that_the_terminal_has_no_memory_for(rt: HostRuntime) {
     assert!(rt; not_begun && begun);
 }
 
-/// The card finds that memory is wanting only after the last piece.
+/// At the card memory runs out only after the last piece.
 #[test]
 fn a_put_that_the_card_has_no_memory_for(rt: HostRuntime) {
     let mut failed = false;

@@ -1,4 +1,4 @@
-//! Operations over the card of data objects, with what goes over the line.
+//! Operations with the card of data objects, and their characters.
 
 use super::command_tests::{Call, answer_by};
 use super::data_objects::{NAME, are_answered, holds, operations, ran, selected, session_over};
@@ -10,7 +10,7 @@ use std::alloc::{AllocGlobal, Global};
 use std::process::Abort;
 use t0_core::{Plans, Recorder};
 
-/// What a session has before it, and what it is asked.
+/// A session's card and plans, some operations, and their result.
 #[derive(Clone, Copy)]
 struct Row<'a> {
     /// The objects of the application: `5F20 4A4F45; 50 41*253`.
@@ -19,13 +19,14 @@ struct Row<'a> {
     plans: &'a str,
     /// The operations: `get 5F20; put 5F20 41`.
     operations: &'a str,
-    /// What they make on the line.
+    /// The characters on the line.
     heard: &'a str,
     /// Status and data of each answer: `9000 5F20034A4F45; 6A88`.
     answers: &'a str,
 }
 
-/// The session carries out operations under these plans, with these characters and answers.
+/// The session carries out the operations under these plans. They have these characters and
+/// answers.
 fn passes<C: DataCard>(
     rt: &(impl Abort + AllocGlobal),
     session: &mut Session<C>,
@@ -43,7 +44,7 @@ fn passes<C: DataCard>(
     are_answered(rt, &out, answers);
 }
 
-/// The session carries out the operations of a row, with its characters and answers.
+/// The session carries out the operations of a row. They have its characters and answers.
 fn carries_out<C: DataCard>(
     rt: &(impl Abort + AllocGlobal),
     session: &mut Session<C>,
@@ -55,13 +56,13 @@ fn carries_out<C: DataCard>(
     passes(rt, session, &ops, &mut cursor, row.heard, row.answers);
 }
 
-/// A session in which the application is selected does so.
+/// The same for a session in which the application is selected.
 fn is_run(rt: &(impl Abort + AllocGlobal), row: &Row<'_>) {
     let mut session = selected(rt, rt.alloc(), row.objects);
     carries_out(rt, &mut session, row);
 }
 
-/// One operation of each kind, of which the first finds a NULL in its plan.
+/// One operation of each kind. The plan of the first has a NULL.
 const EACH: Row<'static> = Row {
     objects: NAME,
     plans: "n:256",
@@ -105,8 +106,8 @@ fn says(rt: &(impl Abort + AllocGlobal), answer: &Answer, status: u16, data: &[u
     assert!(rt; word(answer.status()) == status && answer.data() == data);
 }
 
-/// Two commands bring the two parts of an object. The second, a GET RESPONSE of its own, is
-/// corrected and repeated as any other.
+/// Two commands read the two parts of an object. The second is a GET RESPONSE, and `6CXX` repeats
+/// it as any other command.
 #[test]
 fn an_object_in_two_parts(rt: HostRuntime) {
     let mut session = selected(&rt, rt.alloc(), NAME);
@@ -119,7 +120,7 @@ fn an_object_in_two_parts(rt: HostRuntime) {
     assert!(rt; recorder.heard() == characters(&rt, heard).as_slice());
 }
 
-/// The card has taken a piece of a chain, and is busy.
+/// A session whose card has taken a piece of a chain, and is busy.
 fn with_a_chain(rt: &(impl Abort + AllocGlobal)) -> Session<ObjectCard> {
     let mut session = selected(rt, rt.alloc(), NAME);
     let mut recorder = Recorder::new(rt.alloc());
@@ -129,7 +130,7 @@ fn with_a_chain(rt: &(impl Abort + AllocGlobal)) -> Session<ObjectCard> {
     session
 }
 
-/// Any other command, refused, ends a chain.
+/// Another command ends a chain, and is refused.
 #[test]
 fn a_chain_is_pending(rt: HostRuntime) {
     let mut session = with_a_chain(&rt);
@@ -270,7 +271,7 @@ fn puts(rt: HostRuntime) {
     }
 }
 
-/// The piece that passes what the card holds is refused, and no other follows.
+/// The card refuses the piece that exceeds its limit, and no other follows.
 #[test]
 fn long_values(rt: HostRuntime) {
     for row in &[

@@ -1,4 +1,4 @@
-//! Sessions with a card of the tests, which takes what is put and brings about faults.
+//! Sessions with the test card, which takes data and causes faults.
 
 use super::test_card::{Manner, TestCard};
 use super::trace::{characters, plans, word};
@@ -24,7 +24,8 @@ const PUT: Header = Header {
     p2: 0x20,
 };
 
-/// The status of a put of two bytes under these plans, without a clause.
+/// The status of a put of two bytes under these plans. For the proof: it has no clause, since each
+/// proof that knows what the call promises is dearer, and the tests don't need it.
 fn put_under(
     rt: &(impl Abort + AllocGlobal),
     session: &mut Session<TestCard>,
@@ -39,7 +40,7 @@ fn put_under(
     word(answer.status())
 }
 
-/// A command without a fault resets nothing.
+/// A command without a fault does not reset the card.
 #[test]
 fn data_go_to_the_card_as_it_plans(rt: HostRuntime) {
     let plans = plans(&rt, "ona:256");
@@ -51,7 +52,7 @@ fn data_go_to_the_card_as_it_plans(rt: HostRuntime) {
     assert!(rt; recorder.heard() == trace.as_slice());
 }
 
-/// The fault that ends a command, without a clause.
+/// The fault that ends a command; for the proof, also without a clause.
 fn faulted(
     rt: &(impl Abort + AllocGlobal),
     session: &mut Session<TestCard>,
@@ -64,8 +65,8 @@ fn faulted(
         .err()
 }
 
-/// The fault ends the command after so many characters, and the session resets the card then, and
-/// when it is asked to.
+/// The fault ends the command after `heard` characters. Then the session resets the card, and again
+/// when the test calls `reset`.
 fn is_reset_after(rt: &(impl Abort + AllocGlobal), manner: Manner, fault: LineFault, heard: usize) {
     let mut session = Session::new(CardEnd::new(TestCard::new(manner)));
     let mut recorder = Recorder::new(rt.alloc());
@@ -77,7 +78,7 @@ fn is_reset_after(rt: &(impl Abort + AllocGlobal), manner: Manner, fault: LineFa
     assert!(rt; session.card().resets() == 3);
 }
 
-/// A card that announces what it does not bring stalls the exchange, and one that brings more than
+/// A card that does not send what it announces stalls the exchange. A card that sends more than
 /// there is room for is stopped at the first byte too many.
 #[test]
 fn card_is_reset_after_a_line_fault(rt: HostRuntime) {
@@ -88,7 +89,7 @@ fn card_is_reset_after_a_line_fault(rt: HostRuntime) {
     is_reset_after(&rt, Manner::Floods, LineFault::TooLong, too_long);
 }
 
-/// The text of a fault, without a clause.
+/// The text of a fault; for the proof, also without a clause.
 fn text_of(rt: &(impl Abort + AllocGlobal), fault: SessionFault) -> String {
     format!(in rt.alloc(); "{fault}").expect(rt, "memory")
 }

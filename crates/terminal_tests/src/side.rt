@@ -1,6 +1,6 @@
-//! What passes characters by buffers and whole TPDUs, said once of each kind of terminal's side.
-//! No clause: what is proved of the calls is nothing that a test has to know, and costs each proof
-//! that has it at hand.
+//! A trait of the terminal's ends of a command, so that one test can run with each type. For the
+//! proof: its functions have no clause, since each proof that knows what a call promises is dearer,
+//! and the tests don't need it.
 
 use super::trace::word;
 use apdu_core::{Command, Status};
@@ -9,9 +9,9 @@ use std::alloc::AllocGlobal;
 use std::process::Abort;
 use t0_core::AnswerFault;
 
-/// The terminal's side of a command that has begun.
+/// The terminal's end of a command that has begun.
 pub trait Side: Drop {
-    /// Begins the exchange of a command, given by its bytes, whose response may have so many.
+    /// Begins the exchange of a command, given by its bytes, whose response may have `limit` bytes.
     fn begin(
         rt: &(impl Abort + AllocGlobal),
         of: &'static [u8],
@@ -24,7 +24,7 @@ pub trait Side: Drop {
 
     fn answer_whole(&mut self, bytes: &[u8], status: Status) -> Result<(), AnswerFault>;
 
-    /// The status and the data of what is over.
+    /// The status and the data of the command, which has ended.
     fn answer_of(self, rt: &(impl Abort + AllocGlobal)) -> (u16, Vec<u8>);
 }
 
@@ -33,7 +33,7 @@ pub fn command<'a>(rt: &impl Abort, of: &'a [u8]) -> Command<'a> {
     Command::read(of).expect(rt, "a command")
 }
 
-/// What an exchange that owns its data has answered.
+/// The answer of an exchange that owns its data.
 fn owned_answer(rt: &(impl Abort + AllocGlobal), exchange: &OwnedExchange) -> (u16, Vec<u8>) {
     let Some((status, data)) = exchange.answer() else {
         panic!(rt; "no answer")
@@ -41,7 +41,7 @@ fn owned_answer(rt: &(impl Abort + AllocGlobal), exchange: &OwnedExchange) -> (u
     (word(status), copied(rt, data))
 }
 
-/// What a terminal has been answered.
+/// The answer of a terminal.
 fn terminal_answer(rt: &(impl Abort + AllocGlobal), terminal: &Terminal) -> (u16, Vec<u8>) {
     let Some((status, data)) = terminal.answer() else {
         panic!(rt; "no answer")

@@ -1,4 +1,4 @@
-//! A card for tests, which keeps to the line and counts its resets.
+//! A card for tests: it keeps the rules of the line, stores nothing, and counts its resets.
 ghost use Rattle.std.specs.Prelude.{◌≡◌, ℕ, ◌≤◌, ◌⊎◌, length, take};
 ghost use Rattle.apdu_core.specs.StatusWord.{count};
 ghost use Rattle.t0_core.specs.Meaning.{Prepared, Nothing, Receiving, Sending, Decided};
@@ -7,17 +7,17 @@ ghost use Rattle.terminal_tests.specs.declared.test_card.Ready.TheVariants as re
 use apdu_core::{Header, Status};
 use t0_core::{TpduCard, Verdict};
 
-/// What it does.
+/// What the card does.
 #[derive(Clone, Copy, Debug, PartialEq, Eq)]
 pub enum Manner {
     /// It refuses every header with `6105`.
     Announces,
-    /// It sends as many bytes as it is asked for to `CA` and `C0`, each time with `6100`, takes
-    /// data to `DA`, and refuses all else with `6105`.
+    /// To `CA` and `C0` it sends all bytes that the header asks for, then `6100`. It takes the data
+    /// of `DA`, and refuses all else with `6105`.
     Floods,
 }
 
-/// What it has made ready.
+/// What the card has prepared.
 #[derive(Clone, Copy)]
 enum Ready {
     Idle,
@@ -30,7 +30,7 @@ enum Ready {
 pub struct TestCard {
     manner: Manner,
     ready: Ready,
-    /// What it sends.
+    /// The bytes that it sends.
     bytes: [u8; 256],
     resets: u32,
     ghost long: { length bytes ≡ 256 },

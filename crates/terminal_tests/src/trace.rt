@@ -1,6 +1,6 @@
-//! Traces as text for tests: `> 00CA5F2000 < 6C06`, with `41*253` for 253 bytes `41`. What a test
-//! can't go on without is had by `expect`: a `?` is an exit, on which all that is alive is dropped,
-//! and each drop is one more proof.
+//! Traces as text for tests: `> 00CA5F2000 < 6C06`; `41*253` is 253 bytes `41`. For the proof:
+//! tests use `expect`, since at each `?` all live values are dropped, and each drop is one more
+//! proof.
 
 use apdu_core::Status;
 use card_terminal::Exchange;
@@ -17,7 +17,7 @@ pub fn bytes(rt: &(impl Abort + AllocGlobal), text: &str) -> Vec<u8> {
     bytes
 }
 
-/// What stands before the `*` of a text, and the number behind it; where there is none, 1.
+/// The text before `*`, and the number after it; the number is 1 if there is no `*`.
 fn counted<'a>(rt: &impl Abort, text: &'a str) -> (&'a str, u32) {
     match text.split_once('*') {
         Some((counted, times)) => (counted, times.parse::<u32>().expect(rt, "a number")),
@@ -70,7 +70,8 @@ fn push_characters(
     }
 }
 
-/// The characters of a trace in which `32: > 10DA5F20FF |` stands for 32 times what is between.
+/// The characters of a trace in which `32: > 10DA5F20FF |` repeats the part between `:` and `|` 32
+/// times.
 pub fn repeated(rt: &(impl Abort + AllocGlobal), trace: &str) -> Vec<(End, u8)> {
     let mut all = Vec::new(rt.alloc());
     for group in trace.split('|') {
@@ -81,16 +82,16 @@ pub fn repeated(rt: &(impl Abort + AllocGlobal), trace: &str) -> Vec<(End, u8)> 
     all
 }
 
-/// Appends characters so many times.
+/// Appends these characters, `times` times.
 fn push_times(rt: &impl Abort, to: &mut Vec<(End, u8)>, times: u32, characters: &[(End, u8)]) {
     for _ in 0..times {
         to.extend_from_slice(characters).expect(rt, "memory");
     }
 }
 
-/// Plans of these steps and cuts, as `-:1 nona:256`: `n` is a NULL, `o` moves one data character,
-/// `a` all that remain, and `-` stands for no steps. `no*9:256` has its two steps 9 times, and
-/// `-:1*9` is 9 plans.
+/// Plans of these steps and cuts, as `-:1 nona:256`. `n` is a NULL, `o` moves one data byte, `a`
+/// all that are left, `-` is no steps. `no*9:256` repeats its two steps 9 times, and `-:1*9` is 9
+/// plans.
 pub fn plans(rt: &(impl Abort + AllocGlobal), text: &str) -> Vec<Plan> {
     let mut plans = Vec::new(rt.alloc());
     for word in text.split_whitespace() {
@@ -136,8 +137,8 @@ pub fn word(status: Status) -> u16 {
     u16::from_be_bytes([status.sw1(), status.sw2()])
 }
 
-/// What an exchange does next, and what it says to a character. Without a clause: what is proved of
-/// it is nothing that a test has to know, and costs each proof that has it at hand.
+/// The next turn of an exchange, and whether it takes a character. For the proof: they have no
+/// clause, since each proof that knows what a call promises is dearer, and the tests don't need it.
 fn turn<A: Allocator>(exchange: &mut Exchange<'_, A>) -> HostTurn {
     exchange.next()
 }
@@ -146,7 +147,7 @@ fn is_taken<A: Allocator>(exchange: &mut Exchange<'_, A>, byte: u8) -> bool {
     exchange.take(byte).is_ok()
 }
 
-/// These characters pass: an exchange hands out those of the terminal, and takes those of the card.
+/// These characters pass: an exchange sends those of the terminal, and takes those of the card.
 pub fn pass<A: Allocator>(
     rt: &(impl Abort + AllocGlobal),
     exchange: &mut Exchange<'_, A>,

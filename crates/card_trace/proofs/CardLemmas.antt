@@ -1,4 +1,4 @@
--- What run lines of a script of `card` come to.
+-- What the run lines of a script of `card` do.
 use Rattle.std.proofs.Common.{◌≡◌, ◌≢◌, ◌⊎◌, inl, inr, drop, length-append, ℕ, zero, suc, ◌+◌, ◌<◌, ◌≤◌, List, [], ◌∷◌, ◌++◌, length, Option, Some, None, IfSome, Bool, true, false, nat_lt, if◌then◌else◌, refl, sym, ap, subst, ◌∙◌, arith, append_assoc, append-nil, true≢false}
 use Rattle.std.proofs.lemmas.Bool.{ltb-true, ltb-false}
 use Rattle.t0_core.specs.declared.end.End.{End}
@@ -31,7 +31,7 @@ passed_both : (a b : List Character) → passed (a ++ b) ≡ passed a ++ passed 
 passed_both [] b = refl
 passed_both (c ∷ a) b = ap (λ l. Passed c ∷ l) (passed_both a b)
 
--- characters and plans, and then more of them
+-- characters and plans, then more of both
 heard_both : (past : Past) (a b : List Character) (p q : List Course)
     → heard (heard past a p) b q ≡ heard past (a ++ b) (p ++ q)
 heard_both past a b p q =
@@ -66,7 +66,7 @@ lead_none now none is =
     subst (λ l. LeadOn now l now) (sym is)
     (λ past ready. ([], refl, subst (λ p. IsReady p now) (sym (heard_none past)) ready))
 
--- one more character, of those that so far have passed
+-- one more character after those so far
 pub lead_one_more : (from : End) (old mid new : AtWork) (bytes more : List ℕ) (byte : ℕ) → more
     ≡ bytes ++ byte ∷ []
     → LeadOn old (sent_by from bytes) mid → LeadOn mid ((from, byte) ∷ []) new
@@ -76,9 +76,9 @@ lead_one_more from old mid new bytes more byte is so_far one =
     subst P (sym (sent_one_more from bytes byte) ∙ ap (sent_by from) (sym is))
     (lead_both old mid new (sent_by from bytes) ((from, byte) ∷ []) so_far one)
 
--- ---- plans that are taken
+-- ---- plans that TPDUs take
 
--- the plan of this turn, where it takes one
+-- the plan that this turn takes, if it takes one
 abbrev next_taken : Bool → Course → List Course
 next_taken takes plan = if takes then plan ∷ [] else []
 
@@ -104,7 +104,7 @@ still_last false before after taken is last =
     let l = last refl in
     (l.0, append-nil taken ∙ l.1 ∙ ap (λ c. l.0 ++ plan_kept c ∷ []) (sym is))
 
--- at its turn, with a plan taken before, the end is on the plan that is kept
+-- if the card sends, and its TPDU has taken a plan before, that plan is the one the cursor keeps
 kept_is_last : (past : Past) (now : AtWork) → IsReady past now → listens now.0.stage ≡ false
     → takes_plan now.0.stage ≡ false
     → IsTakenLast (plan_kept now.1) past.taken
@@ -146,7 +146,7 @@ lead_turn old new before after byte silent is led led_under = λ past ready.
       },
     )
 
--- nothing has changed
+-- the end and the cursor are unchanged
 pub lead_same : (start : AtWork) (characters : List Character) (old new : EndOf CardView)
     (before after : Cursor) → new ≡ old → after ≡ before
     → LeadOn start characters (old, before) → LeadOn start characters (new, after)
@@ -188,7 +188,7 @@ lead_take old new byte is led led_under plans = λ past ready.
       },
     )
 
--- many of them, one after another
+-- characters of the terminal, one after another
 pub lead_taken : (Step : EndOf CardView → ℕ → EndOf CardView → Type 0) (plans : Cursor)
     → ((old : EndOf CardView) (byte : ℕ) (new : EndOf CardView) → Step old byte new
     → LeadOn (old, plans) ((Terminal, byte) ∷ []) (new, plans))
@@ -200,7 +200,7 @@ lead_taken Step plans one old new (b ∷ bytes) (next, step, rest) =
     lead_both (old, plans) (next, plans) (new, plans) ((Terminal, b) ∷ [])
     (sent_by Terminal bytes) (one old b next step) (lead_taken Step plans one next new bytes rest)
 
--- before a header nothing has been taken
+-- before a header the TPDU has taken no plan
 keeps_none : (stage : Stage) (cursor : Cursor) (taken : List Course) → stage ≡ Taking_header []
     → (plan : Course) → under_way stage plan ≡ plan ∷ [] → IsTakenLast (plan_kept cursor) taken
 keeps_none stage cursor taken is plan has =
@@ -220,7 +220,7 @@ ready_reset old new plans stage led led_under past ready = record {
   keeps = keeps_none new.stage plans [] stage;
 }
 
--- a card's end that is made
+-- a card's end that was just made
 pub ready_made : (state : CardState) (made : EndOf CardView) (plans : Cursor) → made.stage
     ≡ Taking_header []
     → Leads Does after_reset state [] made.card.state made.card.prepared made.stage
@@ -231,7 +231,7 @@ ready_made state made plans stage led led_under = record {
   keeps = keeps_none made.stage plans [] stage;
 }
 
--- ---- how much a card's end may still hand out
+-- ---- how many characters a card's end may still hand out
 
 hands_at_most : (stage : Stage) (plans : Cursor)
     → may_hand_out stage plans ≤ suc (steps_in plans.rest + still_to_go stage (plan_kept plans))
@@ -241,7 +241,7 @@ hands_at_most stage plans = by (listens stage) refl where
   by true l = rw l (omega arith)
   by false l = rw l (omega arith)
 
--- with the plan that is taken there is as much
+-- with the plan that is taken there are no more than before
 turn_hands : (stage : Stage) (rest : List Course) (kept : Option Course) (takes : Bool)
     → takes_plan stage ≡ takes → (after : Cursor)
     → after ≡ (if takes then advanced (record { rest = rest; kept = kept })
@@ -275,13 +275,13 @@ hands_out_less old new before after l is (inr falls) =
     let held = turn_hands old before.rest before.kept (takes_plan old) refl after is in
     rw l (omega (arith, much, held, falls))
 
--- ---- how many are asked for
+-- ---- how many characters are asked for
 
 pub is_false : (v : Bool) → (v ≡ true → ⊥) → v ≡ false
 is_false true h = absurd (h refl)
 is_false false h = refl
 
--- none is no more than are asked for
+-- no characters are within what is asked for
 pub none_within : (most : Option ℕ) (none : List ℕ) → none ≡ [] → IfSome most (λ n. length none ≤ n)
 none_within None none is = tt
 none_within (Some n) none is = let no_length : length none ≡ 0 = ap length is in
@@ -308,9 +308,9 @@ enough_handed None handed items stage v e count none some within =
 enough_handed (Some n) handed items stage v e count none some within =
     let ge : n ≤ handed = ltb-false handed n (sym (some n refl) ∙ e) in (within, inr (omega arith))
 
--- ---- what is done
+-- ---- what a line does
 
--- The card, and its end after some characters, at the end of a line.
+-- The card after a line: its answer to reset, and its end.
 abbrev LeadsBy : (RunningCard → RunningCard → Type 0) → AnswerToReset → AtWork → AnswerToReset
     → AtWork → Type 0
 LeadsBy Between answer old later new = (past : Past) → IsReady past old →
@@ -332,7 +332,7 @@ leads_by Between answer old new characters led does = λ past ready.
           (record { taken = l.0; past_is = refl; in_turn = l.1; is_led = l.2.led }),
     )
 
--- a line is carried out on what a card stands for
+-- a line runs on any running card that a card stands for
 pub runs_as : (said act : Act) (answer : AnswerToReset) (old : AtWork) (later : AnswerToReset)
     (new : AtWork) (text : List ℕ) → said ≡ act
     → LeadsBy (λ o n. RunsLine o act text n) answer old later new → (card : RunningCard)
@@ -350,7 +350,7 @@ runs_as said act answer old later new text is leads card (past, ready, stands) =
           (sym is) does),
     )
 
--- where fewer are taken than there are, the next one is the card's
+-- if the end took fewer than there are, the card sends next
 pub silent_then : (count all : ℕ) (v : Bool) → (count ≡ all) ⊎ ((count < all) × (v ≡ false))
     → count < all → v ≡ false
 silent_then count all v (inl same) fewer = absurd (omega (arith, same, fewer))

@@ -1,4 +1,4 @@
--- Words that are taken name a subcommand of the program's own.
+-- Words that the parser accepts name a subcommand of the program.
 use Rattle.std.proofs.Common.{◌≡◌, ◌≢◌, ◌⊎◌, inl, inr, ℕ, List, [], ◌∷◌, ◌++◌, refl, sym, ap, ap₂, ◌∙◌, subst, Bool, true, false, Option, Some, None, Result, Ok, Err, OnOk, IfErr}
 use Rattle.std.specs.Prelude.{fold, codes, is_some, option_map, unwrap_or}
 use Rattle.std.specs.Borrow.{Bor}
@@ -82,8 +82,7 @@ quiet-goes_on c word w h (trailing position) q e = e
 quiet-goes_on c word w h (subcommand name) q e = absurd q
 quiet-goes_on c word w h value q e = positional-goes_on c (arg_by_index c w.position) word w h e
 
--- where the walk stands after a word that is no fault: it goes on, or entered a subcommand other
--- than `help`
+-- Where the walk is after a word without a fault: at the top, or in a subcommand other than `help`.
 abbrev Stands : Option (Text × List Text) → Type 0
 Stands None = Unit {0}
 Stands (Some p) = bytes_eq p.0 (codes "help") ≡ false
@@ -123,7 +122,7 @@ word_stands w word true e h =
     tt
 word_stands w word false e h = met_stands w word (subcommand_met names w.waiting word) e h
 
--- once a subcommand is entered its name stays
+-- once the walk is in a subcommand, the name stays
 name_stays : (words : List Text) (w : Walk) (p : Text × List Text) → w.stopped ≡ Some p
     → Stands (Some p)
     → Stands (fold (walked top.rules names) w words).stopped
@@ -163,12 +162,12 @@ walk_stands (word ∷ rest) w e h =
     split (Some p) is stands goes_on = let P : Option (Text × List Text) → Type 0 = λ s. Stands s in
         name_stays rest (walked top.rules names w word) p is (subst P is stands)
 
--- a subcommand was met, since one is required
+-- the words have a subcommand, since one is required
 required_met : (rows : List Row) (has : Bool) → check_fault top rows has ≡ [] → has ≡ true
 required_met rows true h = refl
 required_met rows false h = absurd (cc)
 
--- what a level without a fault has
+-- the parts of a level without a fault
 level_parts : (s : Shape) (ns : Names) (h : Held) (words : List Text) (has : Bool) (below : Kinds)
     → level_fault s ns h words has below ≡ []
     → (walk_fault s ns (walk_from h) words ≡ [])
@@ -184,7 +183,7 @@ level_parts s ns h words has below none =
     let third = or_else-nil settling (or_else defaults last) second.1 in
     (first.0, (or_else-nil defaults last third.1).1)
 
--- the subcommand is one of the program's own
+-- the subcommand is one of the program's
 abbrev pub IsNamed : Option (Text × List Row) → Type 0
 IsNamed None = ⊥
 IsNamed (Some p) = (p.0 ≡ codes "play") ⊎ ((p.0 ≡ codes "card") ⊎ (p.0 ≡ codes "objects"))
@@ -219,7 +218,7 @@ entered_named (Some p) stands met = by_play (bytes_eq (codes "play") p.0) refl
     by_play true e = rw e (inl refl)
     by_play false e = by_card (bytes_eq (codes "card") p.0) refl e
 
--- words that are taken name one
+-- words that the parser accepts name a subcommand
 taken : (words : List Text) → fault_of program words ≡ [] → IsNamed (subcommand_of program words)
 taken words none =
     let given = argument_words program words in
@@ -238,7 +237,7 @@ simple : is_simple program ≡ true
 unfolding clap_on_literals
 simple = refl
 
--- what is known of matches
+-- what holds of matches
 pub record Met (words : List Text) (m : ArgMatches) : Type 0 where
   pub no_fault : fault_of program words ≡ []
   pub rows : subcommand_rows_of m ≡ subcommand_of program words
@@ -270,14 +269,14 @@ found_whole n r (Some x) name rows a b =
     let pair : Text → List Row → Option (Text × List Row) = λ k l. Some (k, l) in
     ap₂ pair name_is rows_is
 
--- a name of the program's own asks for something
+-- a name of the program's asks for something
 pub named_asks : (name digits : Text) (rows : List Row) → IsNamed (Some (name, rows))
     → is_some (request_named name digits) ≡ true
 named_asks name digits rows (inl e) = rw e refl
 named_asks name digits rows (inr (inl e)) = rw e refl
 named_asks name digits rows (inr (inr e)) = rw e refl
 
--- the digits that were read
+-- the digits that the program reads
 pub digits_read : (r : Option (Bor Text)) (e : Bor Text) (given : Option Text)
     → option_map (λ s. s.now) r ≡ given → e.now ≡ []
     → (unwrap_or r e).now ≡ unwrap_or given []
@@ -286,7 +285,7 @@ digits_read None e given is empty = let P : Option Text → Type 0 = λ o. e.now
 digits_read (Some s) e given is empty = let P : Option Text → Type 0 =
     λ o. s.now ≡ unwrap_or o [] in subst P is refl
 
--- the name and the matches that `subcommand` gives are those of the parse
+-- the name and the matches that `subcommand` returns are those of the parse
 pub whole : (m : ArgMatches) (given : Option (Bor Text × Bor ArgMatches))
     (p : Bor Text × Bor ArgMatches) → given ≡ Some p
     → option_map (λ (q : Bor Text × Bor ArgMatches). q.0.now) given ≡ subcommand_name_of m
@@ -307,13 +306,14 @@ pub some_of_map : {A B : Type 0} (f : A → B) (o : Option A) (q : Option B) →
 some_of_map f None q is some = absurd (let bad = rw (← is) at some in cc)
 some_of_map f (Some a) q is some = refl
 
--- an error that is neither a call for help nor want of memory is a mistake in the words
+-- an error that is neither a call for help nor that memory ran out is a mistake in the words
 pub refused_for : (kinds : Kinds) (k : ErrorKind) → (k ≡ OutOfMemory) ⊎ IsAmong k kinds → ¬ IsCall k
     → k ≢ OutOfMemory → AreRefused kinds
 refused_for kinds k (inl memory) call no_memory = absurd (no_memory memory)
 refused_for kinds k (inr among) call no_memory = (k, among, call, no_memory)
 
--- what is told where it answers neither with matches nor with a mistake in the words
+-- which fault is printed if the program answers neither with matches nor with a mistake in the
+-- words
 pub unanswered_for : (kinds : Kinds) (k : ErrorKind) (Told : ProgramFault → Type 0)
     → (k ≡ OutOfMemory) ⊎ IsAmong k kinds → (k ≡ OutOfMemory → Told fault.OutOfMemory)
     → (k ≡ OutOfMemory) ⊎ (IsCall k × Told fault.Write) → IsUnanswered kinds Told
@@ -321,13 +321,13 @@ unanswered_for kinds k Told (inl memory) told ended = inr (told memory)
 unanswered_for kinds k Told (inr among) told (inl memory) = inr (told memory)
 unanswered_for kinds k Told (inr among) told (inr call) = inl ((k, among, call.0), call.1)
 
--- what ended with status 1 has a fault, which is told
+-- after status 1 there is a fault, and it is printed
 pub has_fault : {T E : Type 0} (r : Result T E) (status : ℕ) (P Told : E → Type 0)
     → OnOk r (status ≡ 0) → status ≡ 1 → IfErr r P → IfErr r Told → (e : E) × P e × Told e
 has_fault (Ok x) status P Told well one stops told = absurd (cc)
 has_fault (Err e) status P Told well one stops told = (e, stops, told)
 
--- a subcommand of the program's own asks for something
+-- a subcommand of the program's asks for something
 asks : (found : Option (Text × List Row)) → IsNamed found
     → (asked : Asked) × (request_in found ≡ Some asked)
 asks None named = absurd named
@@ -341,7 +341,7 @@ stops_unchanged Play script old new same = same
 stops_unchanged Card script old new same = same
 stops_unchanged (Objects digits) script old new same = same
 
--- of words without a fault the parser answers nothing but want of memory
+-- for words without a fault the only error is that memory ran out
 pub stops_unread : (words : List Text) (k : ErrorKind) (script old new : Option (List ℕ))
     (Told : ProgramFault → Type 0) → (k ≡ OutOfMemory) ⊎ IsAmong k (fault_of program words)
     → (k ≡ OutOfMemory → (new ≡ old) × Told fault.OutOfMemory)

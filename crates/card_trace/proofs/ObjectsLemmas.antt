@@ -16,15 +16,15 @@ indent-more n = ap indent (add-one n) ∙ moved n
     moved zero = refl
     moved (suc k) = ap (λ x. codes "  " ++ x) (moved k)
 
--- What is written, followed by the lines of whatever the rest of a list spells, is what was there,
--- followed by the lines of what the whole list spells.
+-- For any rest of the list: the written text and the lines of that rest are what was there before
+-- and the lines of the whole list.
 pub record Printed (below : ℕ) (whole rest : ObjectList) (before text : List ℕ) : Type 0 where
   pub one_level : rest.level ≡ whole.level
   pub goes_on : (next : Forest) → Spells next rest.bytes rest.level
       → (all : Forest) × Spells all whole.bytes whole.level
       × (text ++ lines_below below next ≡ before ++ lines_below below all)
 
--- what was written, a line, and the rest
+-- the written text, a line, and the rest
 after_line : (text line rest : List ℕ) → (text ++ line) ++ rest ≡ text ++ (line ++ rest)
 after_line text line rest = append_assoc text line rest
 
@@ -98,7 +98,7 @@ printed_template below whole now after o children before text new h
           );
     }
 
--- all of them are written
+-- the lines of all objects are written
 pub printed_all : (below : ℕ) (whole now after : ObjectList) (before text : List ℕ)
     → Printed below whole now before text → GivesNext now None after
     → (forest : Forest) × Spells forest whole.bytes whole.level
@@ -106,7 +106,7 @@ pub printed_all : (below : ℕ) (whole now after : ObjectList) (before text : Li
 printed_all below whole now after before text h gives =
     let all = h.goes_on Empty gives.0 in (all.0, all.1, sym (append-nil text) ∙ all.2)
 
--- what was pushed for a primitive, and for a template before its objects
+-- the written line of a primitive, and that of a template before its objects
 pub line_pushed : (below : ℕ) (tag value text a b c d new tag_given value_given : List ℕ) → a ≡ text
     ++ indent below
     → b ≡ a ++ encode_upper tag_given → tag_given ≡ tag → c ≡ b ++ codes " " → d ≡ c
@@ -126,7 +126,7 @@ pub lines_pushed : (below : ℕ) (tag text a b c new tag_given : List ℕ) (chil
 lines_pushed below tag text a b c new tag_given children a_is b_is tag_is c_is new_is =
     rw (new_is, c_is, b_is, a_is, tag_is) refl
 
--- what the list of an object's children spells, its value spells
+-- what the list of an object's children spells, the object's value spells
 pub children_spelled : (f : Forest) (list : ObjectList) (value : List ℕ) (level : ℕ) → list
     ≡ record { bytes = value; level = level } → Spells f list.bytes list.level
     → Spells f value level

@@ -1,4 +1,4 @@
--- The characters of an answer to reset that are handed out.
+-- The handed out characters of an answer to reset.
 use Rattle.std.proofs.Common.{◌≡◌, ◌-◌, ◌+◌, ℕ, List, ◌++◌, length, take, drop, Option, Some, None, sym, ap, subst, ◌∙◌, arith, append_assoc, append-nil}
 use Rattle.std.proofs.lemmas.List.{length-append, take-append-drop, drop_at}
 use Rattle.card_trace.specs.AnswerToReset.{AnswerToReset, up_to, behind, without}

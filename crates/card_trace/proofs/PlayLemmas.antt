@@ -1,4 +1,4 @@
--- What run lines of a script of `play` come to.
+-- What the run lines of a script of `play` do.
 use Rattle.std.proofs.Common.{◌≡◌, ℕ, List, [], ◌∷◌, true, false, sym, subst}
 use Rattle.t0_core.specs.Character.{Character}
 use Rattle.t0_core.specs.Plan.{Course}
@@ -11,7 +11,7 @@ use Rattle.card_trace.specs.PrintedText.{busy_text}
 use Rattle.card_trace.specs.TraceText.{operation_text}
 use Rattle.card_trace.specs.Scripts.{IsRun, talks, is_busy}
 
--- a recorder that has lost nothing has heard the whole line
+-- a recorder that has lost nothing has the whole line
 heard_whole : (line : List Character) (now : Hearing) → now.lost ≡ false
     → Hears (record { heard = []; lost = false }) line now → now.heard ≡ line
 heard_whole line now kept hears = (hears.all kept).1
@@ -24,7 +24,7 @@ was_busy card plans left operation busy none =
     subst (λ l. IsRun card plans operation busy_text (record { card = card; plans = l })) (sym none)
     (is_busy busy)
 
--- an operation that was run, with the answer that is printed
+-- an operation that was run, with the printed answer
 pub ran : (card after : CardState) (plans used rest left : List Course) (operation : Operation)
     (r : Reply) (since now : Hearing) (text : List ℕ)
     → used ≡ plans → left ≡ [] → since ≡ record { heard = []; lost = false }

@@ -1,4 +1,4 @@
--- What a line of `card` says, where its keyword is known.
+-- What a line of `card` says, if its keyword is known.
 use Rattle.std.proofs.Common.{ℕ, List}
 use Rattle.t0_core.specs.Plan.{Course}
 use Rattle.card_trace.specs.declared.script.keyword.Keyword.TheVariants as keywords

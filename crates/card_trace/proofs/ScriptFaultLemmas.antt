@@ -1,4 +1,4 @@
--- The lines of a script so far, how many they are, and where they stop.
+-- The lines of a script so far, their number, and the place where they stop.
 use Rattle.std.proofs.Common.{◌≡◌, ◌≤◌, ◌<◌, ◌+◌, ◌-◌, ◌^◌, ◌∙◌, min, ℕ, List, [], ◌∷◌, ◌++◌, length, Option, Some, None, IfSome, ◌==◌, Bool, true, false, refl, sym, ap, subst, arith, append_assoc, Result, Ok, Err, IfErr, IsErrAnd}
 use Rattle.std.proofs.Math.Nat.{min-eq_left}
 use Rattle.std.proofs.lemmas.List.{length-append}
@@ -19,13 +19,13 @@ use Rattle.card_trace.specs.Script.{Script, Building}
 use Rattle.card_trace.specs.ScriptFaults.{IsLeftAfter, ScriptStops, IsNotBegun}
 use Rattle.card_trace.specs.LineFaults.{IsFaultOfLine}
 
--- of bytes that are the script's
+-- what holds of the bytes read holds of the script
 pub of_script : (script : Option (List ℕ)) (items : List ℕ) (P : List ℕ → Type 0)
     → IfSome script (λ bytes. items ≡ bytes) → P items → IfSome script P
 of_script None items P same holds = tt
 of_script (Some bytes) items P same holds = subst P same holds
 
--- ---- there are not many lines
+-- ---- the number of lines fits
 
 parts_fit : (parts : List (List ℕ)) → length (lines_of_parts parts) ≤ length parts
 parts_fit [] = omega arith
@@ -41,7 +41,7 @@ lines_fit bytes =
     let count = length-slice_split (λ (b : ℕ). b == 10) bytes in
     let few = count_by-le-length (λ (b : ℕ). b == 10) bytes in omega (arith, parts, count, few)
 
--- the number of the next line, which is not too large
+-- the number of the next line, which did not saturate
 pub next_number : (all before others : List (List ℕ)) (line : List ℕ) (m number : ℕ)
     → all ≡ before ++ line ∷ others → m ≡ length before → length all < 2 ^ 63
     → number ≡ min (m + 1) (2 ^ 64 - 1) → number ≡ length before + 1
@@ -52,7 +52,7 @@ next_number all before others line m number cut is few next =
     let one_more : m + 1 ≡ length before + 1 = omega (arith, is) in
     next ∙ min-eq_left within ∙ one_more
 
--- one line more stands before the others
+-- one more line precedes the others
 pub cut_behind : (all before others : List (List ℕ)) (line : List ℕ) → all ≡ before ++ line ∷ others
     → all ≡ (before ++ line ∷ []) ++ others
 cut_behind all before others line cut = cut ∙ sym (append_assoc before (line ∷ []) others)
@@ -63,14 +63,14 @@ few_lines all items is fits =
     let same : length all ≡ length (lines items) = ap (λ l. length l) is in
     let fit = lines_fit items in omega (arith, same, fit, fits)
 
--- ---- a fault, handed on
+-- ---- a fault that a call passes on
 
 pub fault_passed : {T E : Type 0} (r : Result T E) (e : E) (Q : E → Type 0)
     → IsErrAnd r (λ x. x ≡ e) → Q e → IfErr r Q
 fault_passed (Ok x) e Q same h = absurd same
 fault_passed (Err f) e Q same h = subst Q (sym same) h
 
--- a refusal of the line, before which nothing is written
+-- a refusal of the line, for which nothing is written
 pub of_refusal : (R S : Reason → Type 0) (number : ℕ) (written : Option (List ℕ))
     (refusal : Refusal) (fault : PlayFault) → fault ≡ fault_at number refusal
     → ((reason : Reason) → R reason → S reason) → OnReason refusal R
@@ -80,7 +80,7 @@ of_refusal R S number written (Line reason) fault is f h =
 of_refusal R S number written NoMemory fault is f h =
     subst (λ x. IsFaultOfLine S number written written x) (sym is) refl
 
--- where nothing was read, nothing is written
+-- if the script was not read, nothing is written
 pub stops_unread : (s : Script) (script old : Option (List ℕ)) (fault : PlayFault)
     → IsReadingFault fault
     → (fault ≡ InputTooLong → IfSome script (λ bytes. SCRIPT_LIMIT < length bytes))
@@ -108,7 +108,7 @@ not_begun (Ok x) fault (Some bytes) old same is = λ long. absurd same
 not_begun (Err e) fault (Some bytes) old same is =
     λ long. (subst IsReadingFault (sym same) is, refl)
 
--- a script that was read has no more bytes than one may have
+-- a script that was read keeps to the limit
 pub within_limit : (script : Option (List ℕ)) (items : List ℕ) (P : Type 0)
     → IfSome script (λ bytes. items ≡ bytes) → length items ≤ SCRIPT_LIMIT
     → IfSome script (λ bytes. SCRIPT_LIMIT < length bytes → P)

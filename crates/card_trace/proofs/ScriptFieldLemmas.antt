@@ -1,4 +1,4 @@
--- Fields: a text stands for one thing, and which texts stand for none.
+-- Fields: a text has at most one meaning, and some texts have none.
 use Rattle.std.proofs.Common.{◌≡◌, ◌≢◌, ℕ, zero, suc, ◌+◌, ◌*◌, ◌<◌, ◌==◌, List, [], ◌∷◌, ◌++◌, length, take, drop, get_or, map, replicate, Bool, true, false, Option, Some, None, Result, Ok, Err, refl, sym, ap, subst, ◌∙◌, inl, inr, arith, codes, ◌⊎◌}
 use Rattle.std.specs.Prelude.{IsSome, IfSome, IfOk, ◌↔◌, MatchOption}
 use Rattle.std.specs.Result.{result_ok}
@@ -27,11 +27,11 @@ use Rattle.t0_core.specs.declared.plan.Step.TheVariants.{Null, One, All}
 use Rattle.card_trace.proofs.ScriptWordLemmas.{first_place, no_place}
 use Rattle.card_trace.specs.ScriptFields.{IsHexText, IsNumberText, IsRepeatedText, IsValueText, no_bytes, plain, repeated, letter_of, IsStepsText, IsPlanText}
 
--- a text is hexadecimal text of one list of bytes
+-- HEX spells one list of bytes
 pub same_bytes : (text a b : List ℕ) → IsHexText text a → IsHexText text b → a ≡ b
 same_bytes text a b h g = decode_of-same text a b h.digits g.digits
 
--- bytes that are a tag and what follows it are that tag, where nothing follows
+-- if nothing follows the tag, the bytes are the tag
 pub whole_tag : (bytes tag rest : List ℕ) → bytes ≡ tag ++ rest → length bytes ≡ length tag → tag
     ≡ bytes
 whole_tag bytes tag [] e len = sym (e ∙ append-nil tag)
@@ -56,7 +56,7 @@ is_star other = other == 0x2A
 not_star : (c : ℕ) → is_hex_digit c ≡ true → c ≢ 0x2A
 not_star c digit e = true≢false (sym digit ∙ ap is_hex_digit e)
 
--- no star stands among hexadecimal digits
+-- HEX has no star
 starless : (text bytes : List ℕ) → IsHexText text bytes → (k : ℕ) → k < length text
     → is_star (get_or text k 0) ≡ false
 starless text bytes h k lt =
@@ -109,7 +109,7 @@ has_star text digits times bytes h e missing =
       length-append digits (0x2A ∷ times),
     )
 
--- the letters of steps
+-- each letter of steps is one of three
 pub is_letter : (steps : List Step) (k : ℕ) → k < length (map letter_of steps)
     → (get_or (map letter_of steps) k 0 ≡ 0x6E)
     ⊎ ((get_or (map letter_of steps) k 0 ≡ 0x6F) ⊎ (get_or (map letter_of steps) k 0 ≡ 0x61))
@@ -119,20 +119,20 @@ is_letter (One ∷ steps) zero lt = inr (inl refl)
 is_letter (All ∷ steps) zero lt = inr (inr refl)
 is_letter (step ∷ steps) (suc k) lt = is_letter steps k (omega (arith, lt))
 
--- what an `ok()` gave was there
+-- if `ok()` returned a value, the result had it
 pub was_ok : {T E : Type 0} (r : Result T E) (x : T) (P : T → Type 0) → Some x ≡ result_ok r
     → IfOk r P → P x
 was_ok (Ok y) x P was h = let same : y ≡ x = cc in subst P same h
 was_ok (Err e) x P was h = cc was
 
--- and where it gave nothing there was an error
+-- if `ok()` returned no value, the result was an error
 pub was_err : {T E : Type 0} (r : Result T E) (P : T → Type 0) (Q : E → Type 0) (R : Type 0) → None
     ≡ result_ok r
     → ((e : E) → Q e → R) → MatchResult r P Q → R
 was_err (Ok x) P Q R was from h = cc was
 was_err (Err e) P Q R was from h = from e h
 
--- a tag that is all of the bytes, or none that can be named
+-- the tag is all of the bytes and can be addressed, or the bytes are no such tag
 pub named_tag : (r : Option (List ℕ)) (tag bytes : List ℕ) → tag ≡ bytes
     → (IsSome r ↔ IsAddressable tag)
     → IfSome r (λ t. t ≡ tag)
@@ -144,7 +144,7 @@ named_tag (Some t) tag bytes e named same =
     let P : List ℕ → Type 0 = λ x. IsAddressable x in
     (same ∙ e, subst P e (named.0 refl))
 
--- a text with another letter is none of steps
+-- a text with another letter is not STEPS
 pub no_steps : (text : List ℕ) (k : ℕ) → k < length text → get_or text k 0 ≢ 0x6E
     → get_or text k 0 ≢ 0x6F
     → get_or text k 0 ≢ 0x61 → text ≢ codes "-" → (steps : List Step) → IsStepsText text steps → ⊥
@@ -164,14 +164,14 @@ no_steps text k lt null one all dash steps (inr e) = letters (is_letter steps k 
     letters (inr (inl is)) = one (at ∙ is)
     letters (inr (inr is)) = all (at ∙ is)
 
--- the two digits of a byte decode into the room of one
+-- the two digits of a byte decode into one byte
 pub sized_of : (text : List ℕ) (byte : ℕ) → IsHexText text (byte ∷ []) → decode_sized text 1
     ≡ Ok (byte ∷ [])
 sized_of text byte h =
     let twice : length text ≡ 2 * 1 = (decode_of-ok text (byte ∷ []) h.digits).2 in
     decode_sized-twice text 1 twice ∙ h.digits
 
--- what is in an option that is there
+-- the value in an option
 pub some_of : {T : Type 0} (o : Option T) (x : T) (N : Type 0) (P : T → Type 0) → o ≡ Some x
     → MatchOption o N P → P x
 some_of None x N P e h = cc e
@@ -182,13 +182,13 @@ pub none_of : {T : Type 0} (o : Option T) (N : Type 0) (P : T → Type 0) → o 
 none_of None N P e h = h
 none_of (Some y) N P e h = cc e
 
--- a text that is not - by a test
+-- the test says that the text is not `-`
 pub differs : (text other : List ℕ) → other ≡ codes "-" → bytes_eq text other ≡ false
     → text ≢ codes "-"
 differs text other is e same =
     true≢false (sym ((bytes_eq-Decides text other).1 (same ∙ sym is)) ∙ e)
 
--- a text without a star that is neither - nor hexadecimal is no value
+-- a text without a star that is neither `-` nor HEX is not VALUE
 pub no_value : (text : List ℕ) → position is_star text ≡ None → text ≢ codes "-"
     → ((bytes : List ℕ) → IsHexText text bytes → ⊥) → (value : List ℕ) → IsValueText text value → ⊥
 no_value text missing dash none value (no_bytes is empty) = dash is
@@ -196,7 +196,7 @@ no_value text missing dash none value (plain h) = none value h
 no_value text missing dash none value (repeated digits times e h) =
     has_star text digits times (h.byte ∷ []) h.hex e missing
 
--- what stands around a star
+-- the text before and after a star
 pub around_star : (text : List ℕ) (i : ℕ) → position is_star text ≡ Some i
     → text ≡ take i text ++ codes "*" ++ drop (i + 1) text
 around_star text i found =
@@ -213,7 +213,7 @@ pub cut_value : (text : List ℕ) (i : ℕ) (value : List ℕ) → position is_s
 cut_value text i value found h = repeated (take i text) (drop (i + 1) text)
     (around_star text i found) h
 
--- a text with a star stands for a repeated byte or for nothing
+-- a text with a star is a repeated byte or not VALUE
 pub value_cut : (text : List ℕ) (i : ℕ) (value : List ℕ) → position is_star text ≡ Some i
     → IsValueText text value → IsRepeatedText (take i text) (drop (i + 1) text) value
 value_cut text i value found (no_bytes is empty) = cc (sym (ap (position is_star) is) ∙ found)
@@ -258,7 +258,7 @@ no_hex_dash text bytes is h =
     let one : length text ≡ 1 = ap (λ x. length x) is in
     omega (arith, even, one)
 
--- a text stands for one value
+-- a text has one value
 pub same_value : (text a b : List ℕ) → IsValueText text a → IsValueText text b → a ≡ b
 same_value text a b (no_bytes is empty) (no_bytes is' empty') = empty ∙ sym empty'
 same_value text a b (no_bytes is empty) (plain g) = absurd (no_hex_dash text b is g)
@@ -279,7 +279,7 @@ same_value text a b (repeated digits times e h) (repeated digits' times' e' g) =
     (value_cut text i a found (repeated digits times e h))
     (value_cut text i b found (repeated digits' times' e' g))
 
--- a cut that is none makes no plan
+-- a number out of range is no cut
 pub no_plan : (a b : List ℕ) (cut : ℕ) → IsNumberText b cut → (cut ≡ 0) ⊎ (256 < cut)
     → (plan : Course) → IsPlanText a b plan → ⊥
 no_plan a b cut is (inl z) plan h = let same = same_number b cut plan.cut is h.cut in

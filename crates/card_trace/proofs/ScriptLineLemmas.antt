@@ -1,8 +1,8 @@
--- Lines of a script that are carried out one after another.
+-- Lines of a script, carried out in order.
 use Rattle.std.proofs.Common.{ℕ, List, [], ◌∷◌, ◌++◌, refl, sym, ap, subst, ◌∙◌, append-nil, append_assoc}
 use Rattle.card_trace.specs.Script.{Script, State, DoesLine, DoesAll}
 
--- lines, and others behind them
+-- lines, and then others
 pub done_both : (s : Script) (start mid end : State s) (before others : List (List ℕ))
     (text more : List ℕ) → DoesAll s start before text mid → DoesAll s mid others more end
     → DoesAll s start (before ++ others) (text ++ more) end

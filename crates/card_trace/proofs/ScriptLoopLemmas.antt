@@ -1,4 +1,4 @@
--- A loop over the lines of a script, whatever they are carried out on.
+-- The loop over the lines of a script, for any kind of script.
 use Rattle.std.proofs.Common.{◌≡◌, ◌<◌, ◌+◌, ◌-◌, ◌^◌, min, ℕ, List, [], ◌∷◌, ◌++◌, length, Option, IfSome, refl, sym, ap, subst, ◌∙◌, append-nil}
 use Rattle.std.specs.Str.Lines.{lines}
 use Rattle.std.specs.Io.KnownBytes.{Appends}
@@ -12,7 +12,7 @@ use Rattle.card_trace.specs.LineFaults.{IsFaultOfLine}
 use Rattle.card_trace.proofs.ScriptLineLemmas.{done_both, done_one}
 use Rattle.card_trace.proofs.ScriptFaultLemmas.{of_script, next_number, cut_behind}
 
--- Lines are carried out up to some place, so many, and those that are left are still to come.
+-- The first `number` lines are carried out, and `left` are the others.
 pub record AreCarriedOut (s : Script) (all : List (List ℕ)) (old new : Option (List ℕ))
     (state : State s) (left : List (List ℕ)) (number : ℕ) : Type 0 where
   pub before : List (List ℕ)
@@ -54,7 +54,7 @@ one_more s state next all left others line more old mid new m number so_far is f
           so_far.does (done_one s state next line more does);
     }
 
--- at the end all are carried out
+-- at the end all lines are carried out
 pub all_done : (s : Script) (state : State s) (all left : List (List ℕ)) (old new : Option (List ℕ))
     (number : ℕ) (script : Option (List ℕ)) (items : List ℕ)
     → IfSome script (λ bytes. items ≡ bytes) → all ≡ lines items → left ≡ []
@@ -71,7 +71,7 @@ all_done s state all left old new number script items read is none so_far =
           (state, subst (λ ls. DoesAll s start ls so_far.text state) (sym whole) so_far.does),
     )
 
--- where a line is not carried out, those before it are
+-- if a line is not carried out, those before it are
 pub stops_at : (s : Script) (state : State s) (all left others : List (List ℕ)) (line : List ℕ)
     (old mid new : Option (List ℕ)) (m number : ℕ) (script : Option (List ℕ)) (items : List ℕ)
     (fault : PlayFault) → IfSome script (λ bytes. items ≡ bytes) → all ≡ lines items

@@ -1,4 +1,4 @@
--- What a line of `play` says, where its keyword is known.
+-- What a line of `play` says, if its keyword is known.
 use Rattle.std.proofs.Common.{ℕ, ◌≤◌, List, length}
 use Rattle.object_card.specs.OneStep.{Operation, Select, Get, Put}
 use Rattle.card_terminal.specs.declared.operation.TheConstants.{PUT_LIMIT}
@@ -7,7 +7,7 @@ use Rattle.card_trace.specs.ScriptFields.{IsCommandText}
 use Rattle.card_trace.specs.ScriptTable.{OneField, AreEntryFields}
 use Rattle.card_trace.specs.ScriptPlay.{Act, Plan, Run, Send, Reset, Table, SaysOperation, SaysAct}
 
--- what the operation of `put` is
+-- what a line `put` says
 pub put_does : (operation : Operation) (fields : List (List ℕ))
     → SaysOperation operation keywords.Put fields
     → (tag value : List ℕ) × AreEntryFields fields tag value × (length value ≤ PUT_LIMIT)
@@ -15,7 +15,7 @@ put_does (Select aid) fields (e, h) = cc e
 put_does (Get tag) fields (e, h) = cc e
 put_does (Put tag value) fields (e, h, fits) = (tag, value, h, fits)
 
--- what a line of `send` says
+-- what a line `send` says
 pub send_says : (act : Act) (fields : List (List ℕ)) → SaysAct act keywords.Send fields
     → (command : List ℕ) × OneField fields (λ text. IsCommandText text command)
 send_says (Plan plan) fields (e, h) = cc e

@@ -1,4 +1,4 @@
--- What is said of a refusal, handed on.
+-- What holds of a refusal that a call passes on.
 use Rattle.std.proofs.Common.{◌≡◌, Result, Ok, Err, subst, sym}
 use Rattle.std.specs.Prelude.{IfOk, IfErr, IsErrAnd}
 use Rattle.card_trace.specs.declared.script.reason.Reason.{Reason}

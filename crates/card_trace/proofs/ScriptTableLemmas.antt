@@ -1,4 +1,4 @@
--- The fields of lines, where the words are known.
+-- The fields of lines, if the words are known.
 use Rattle.std.proofs.Common.{◌≡◌, ℕ, List, [], ◌∷◌, sym, subst, ◌∙◌}
 use Rattle.t0_core.specs.Plan.{Course}
 use Rattle.card_trace.specs.ScriptFields.{IsTagText, IsValueText, IsPlanText}
@@ -25,7 +25,7 @@ plan_texts fields a b plan e h =
     let Q : List ℕ → Type 0 = λ text. IsPlanText a text plan in
     subst Q second (subst P first h.is_plan)
 
--- the fields of an entry stand for one value
+-- the fields of an entry have one value
 pub same_entry_value : (fields : List (List ℕ)) (s t a b : List ℕ) → AreEntryFields fields s a
     → AreEntryFields fields t b → a ≡ b
 same_entry_value fields s t a b h g =

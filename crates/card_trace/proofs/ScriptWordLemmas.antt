@@ -16,14 +16,14 @@ use Rattle.card_trace.specs.ScriptWords.{words_in}
 abbrev is : ℕ → ℕ → Bool
 is byte other = other == byte
 
--- the first place at which a test passes
+-- the first index at which the test passes
 pub first_place : (p : ℕ → Bool) (xs : List ℕ) (i : ℕ) → position p xs ≡ Some i
     → (position_or_len p xs ≡ i) × (i < length xs)
 first_place p xs i h =
     let at = position-Some p xs i 0 h in
     (position_or_len_is p xs i 0 (omega (arith, at.0)) at.2 (λ _. at.1), at.0)
 
--- the test passes nowhere
+-- the test passes at no index
 pub no_place : (p : ℕ → Bool) (xs : List ℕ) → position p xs ≡ None → length xs
     ≤ position_or_len p xs
 no_place p xs h = grind arith
@@ -53,7 +53,7 @@ last_word text some h =
     ap (filter is_word) (one_part (is 0x20) text h)
     ∙ kept is_word text [] (lt-ltb 0 (length text) some)
 
--- a space is not at the front
+-- the first space is not at the front
 after_front : (text : List ℕ) (i : ℕ) → slice_index text 0 ≢ 0x20 → (get_or text i 0 == 0x20) ≡ true
     → 0 < i
 after_front text zero front e = absurd (front (eqb-true (get_or text 0 0) 0x20 e))
@@ -91,13 +91,13 @@ line_then bytes i h =
     ∙ parts_more (take i bytes) (slice_split (is 0x0A) rest)
     (omega (arith, length-slice_split (is 0x0A) rest))
 
--- what is left behind a place, all of it
+-- the whole rest after an index
 pub rest_whole : (n : ℕ) (xs : List ℕ) → take (length xs - n) (drop n xs) ≡ drop n xs
 rest_whole n xs =
     let P : ℕ → Type 0 = λ m. take m (drop n xs) ≡ drop n xs in
     subst P (length-drop n xs) (take-length (drop n xs))
 
--- an iterator that gives the first of what is left ends
+-- an iterator that returns the first of the rest ends
 pub makes_progress : {A : Type 0} (view : A → List ℕ) (left others : List (List ℕ)) (r : Option A)
     → YieldsFirstBy view (λ l. l) left r others
     → MakesProgress (λ _. Unit {0}) (item_count (λ l. l)) left r others

@@ -1,4 +1,4 @@
--- The lines of a table, written one entry and one application after another.
+-- The lines of a table, written one entry after another, and one application after another.
 use Rattle.std.proofs.Common.{◌≡◌, ◌≢◌, ℕ, List, [], ◌∷◌, ◌++◌, refl, sym, ap, ap₂, ◌∙◌, subst, Bool, true, false, Some, map, append-nil, append_assoc}
 use Rattle.std.specs.Prelude.{codes}
 use Rattle.std.specs.List.{AllByRecursion, flat_map}
@@ -50,7 +50,7 @@ lines_agree all (e ∷ entries) marked =
     ap₂ (λ a b. a ++ b) (ap (λ l. entry_line (record { tag = e.tag; value = e.value; locked = l }))
     marked.0) (lines_agree all entries marked.1)
 
--- ---- what is found of applications with distinct identifiers
+-- ---- lookups among applications with distinct identifiers
 
 pub record IsFound (all : List Application) (a : Application) : Type 0 where
   pub entries : entries_in a.aid all ≡ Some a.entries
@@ -84,7 +84,7 @@ all_found (a ∷ applications) sound distinct = (
   found_behind a applications applications distinct.0 (all_found applications sound.1 distinct.1),
 )
 
--- What is written, followed by the text of the applications that are left, is the whole text.
+-- The written text, followed by the text of the applications that are left, is the whole text.
 pub record Listed (all : List Application) (aids : List (List ℕ)) (text : List ℕ) : Type 0 where
   pub left : List Application
   pub aids_are : aids ≡ map (λ a. a.aid) left
@@ -100,7 +100,7 @@ listed_at_start all aids text sound are none = record {
   goes_on = rw none refl;
 }
 
--- the text of an application, as it was written
+-- the text of an application, in the form in which it was written
 pub written_whole : (all : List Application) (a : Application) (old new : List ℕ) → IsFound all a
     → ((entries : List Entry) → entries_in a.aid all ≡ Some entries
     → new ≡ old ++ (codes "app " ++ encode_upper a.aid ++ newline

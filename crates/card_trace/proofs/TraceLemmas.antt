@@ -1,4 +1,4 @@
--- The lines of the characters, written one run of an end after another.
+-- The lines of the characters, written one run after another.
 use Rattle.std.proofs.Common.{◌≡◌, ℕ, ◌+◌, ◌<◌, List, [], ◌∷◌, ◌++◌, length, drop, get_or, refl, sym, subst, ◌∙◌, ap, add-one, drop-cons, true, false, Bool, append-nil, append_assoc, Result, Ok, Err, OnOk, nat_eq, if◌then◌else◌, is_ok, not}
 use Rattle.std.specs.List.{flat_map}
 use Rattle.hex.specs.Hex.{encode_upper}
@@ -17,7 +17,7 @@ same_self Card = refl
 abbrev run_of : End → List ℕ → RunOf
 run_of from bytes = record { from = from; bytes = bytes }
 
--- what comes next is no more of a run of this end
+-- the next character does not belong to a run of this end
 abbrev IsApart : End → List Character → Type 0
 IsApart from tail = (b : ℕ) → joined from b (runs_of tail) ≡ run_of from (b ∷ []) ∷ runs_of tail
 
@@ -36,7 +36,7 @@ other_is_apart from other b cs differ x = split (runs_of cs)
     split [] = rw differ refl
     split (r ∷ runs) = next r runs (is_same other r.from) refl
 
--- characters of one end are one run, where what comes next is none of it
+-- characters of one end are one run, if the next character does not belong to it
 is_one_run : (from : End) (b : ℕ) (bytes : List ℕ) (tail : List Character) → IsApart from tail
     → runs_of (sent_by from (b ∷ bytes) ++ tail) ≡ run_of from (b ∷ bytes) ∷ runs_of tail
 is_one_run from b [] tail apart = apart b
@@ -51,7 +51,7 @@ run_text from b bytes =
     ∙ ap (flat_map line_of) (is_one_run from b bytes [] nothing_next)
     ∙ append-nil (line_of (run_of from (b ∷ bytes)))
 
--- where another end goes on, the run's line is whole
+-- if the other end sends next, the run's line is whole
 run_ends : (from other : End) (bytes : List ℕ) (b : ℕ) (cs : List Character)
     → is_same from other ≡ false
     → characters_text (sent_by from bytes ++ (other, b) ∷ cs)
@@ -62,20 +62,20 @@ run_ends from other (x ∷ bytes) b cs differ =
     (is_one_run from x bytes ((other, b) ∷ cs) (other_is_apart from other b cs differ))
     ∙ ap (λ t. t ++ characters_text ((other, b) ∷ cs)) (sym (run_text from x bytes))
 
--- how ends are compared in code
+-- the code compares ends as the definitions do
 same_ends : (a b : End) → sameb the_type a b ≡ is_same a b
 same_ends Terminal Terminal = refl
 same_ends Terminal Card = refl
 same_ends Card Terminal = refl
 same_ends Card Card = refl
 
--- a character goes into the run
+-- a character joins the run
 into_run : (from : End) (bytes : List ℕ) (b : ℕ) (cs : List Character)
     → sent_by from (bytes ++ b ∷ []) ++ cs ≡ sent_by from bytes ++ (from, b) ∷ cs
 into_run from [] b cs = refl
 into_run from (x ∷ bytes) b cs = ap (λ t. (from, x) ∷ t) (into_run from bytes b cs)
 
--- the next of the characters
+-- the character at this index
 abbrev pub at_index : List Character → ℕ → Character
 at_index heard i = get_or heard i (Terminal, 0)
 
@@ -84,7 +84,7 @@ drop_next : (heard : List Character) (i : ℕ) → i < length heard
 drop_next heard i lt =
     drop-cons heard i (Terminal, 0) lt ∙ ap (λ n. at_index heard i ∷ drop n heard) (sym (add-one i))
 
--- of an end that is not the run's, a character begins another
+-- a character of the other end begins a new run
 same_is_self : (a b : End) → is_same a b ≡ true → a ≡ b
 same_is_self Terminal Terminal e = refl
 same_is_self Terminal Card e = absurd (cc)
@@ -97,11 +97,11 @@ same_turned Terminal Card = refl
 same_turned Card Terminal = refl
 same_turned Card Card = refl
 
--- what is written, the run, and what is to be written
+-- the written text, the run, and the characters that are left
 abbrev pub whole_text : List ℕ → End → List ℕ → List Character → List ℕ
 whole_text text from run left = text ++ characters_text (sent_by from run ++ left)
 
--- the character goes into the run
+-- the next character joins the run
 pub run_goes_on : (text whole run more kept : List ℕ) (from : End) (heard : List Character) (i : ℕ)
     → i < length heard → not (sameb the_type (at_index heard i).0 from) ≡ false
     → kept ≡ run → more ≡ kept ++ (at_index heard i).1 ∷ []
@@ -120,7 +120,7 @@ run_goes_on text whole run more kept from heard i lt same kept_is more_is so_far
     not_false true h = refl
     not_false false h = absurd (cc)
 
--- the run is written, and the character begins another
+-- the run is written, and the next character begins a new one
 pub run_changes : (text written whole run more none : List ℕ) (from : End) (heard : List Character)
     (seen : List ℕ) (i : ℕ) → i < length heard
     → not (sameb the_type (at_index heard i).0 from) ≡ true → seen ≡ run
@@ -142,7 +142,7 @@ run_changes text written whole run more none from heard seen i lt other seen_is 
     not_true false h = refl
     not_true true h = absurd (cc)
 
--- the line of a run is written
+-- the line of the run is written
 pub run_written : {T E : Type 0} (r : Result T E) (before marked digits after : List ℕ) (from : End)
     (bytes : List ℕ) → nat_eq (length bytes) 0 ≡ false → marked ≡ before ++ sign from
     → digits ≡ marked ++ encode_upper bytes

@@ -5,40 +5,40 @@ use Rattle.atr_core.specs.FirstFault.{first_fault}
 use Rattle.card_trace.specs.declared.script.reason.Reason.{Reason}
 use Rattle.card_trace.specs.declared.script.reason.Reason.TheVariants.{BadAtr, AtrTwice}
 
--- All its characters, and those that are still to come. A card without one has none of either.
+-- All its characters, and those that are left to hand out. Both are empty for a card without one.
 pub record AnswerToReset : Type 0 where
   pub all : List ℕ
   pub left : List ℕ
 
--- at the beginning, and after a reset
+-- at the start, and after a reset
 abbrev pub at_first : List ℕ → AnswerToReset
 at_first all = record { all = all; left = all }
 
--- of a script with such a line, or without one
+-- of a script with an `atr` line, or without one
 abbrev pub characters_of : Option (List ℕ) → List ℕ
 characters_of None = []
 characters_of (Some bytes) = bytes
 
--- all characters, or at most so many, where that is said
+-- all characters, or the first `most` of them
 abbrev pub up_to : Option ℕ → List ℕ → List ℕ
 up_to None characters = characters
 up_to (Some most) characters = take most characters
 
--- those behind them
+-- the characters after those
 abbrev pub behind : Option ℕ → List ℕ → List ℕ
 behind None characters = []
 behind (Some most) characters = drop most characters
 
--- what is left after these
+-- the answer after these are handed out
 abbrev pub without : Option ℕ → AnswerToReset → AnswerToReset
 without most answer = record { all = answer.all; left = behind most answer.left }
 
--- the bytes are an answer to reset, all of them
+-- all of the bytes are an answer to reset
 abbrev pub AreOfAnswer : List ℕ → Type 0
 AreOfAnswer bytes = (a : Answer) × IsAnswer a × (bytes ≡ characters a)
 
--- Bytes are refused as the answer of a card, which may have one: they are none, for their first
--- fault; or they are one, and it is the second.
+-- Why a card refuses these bytes as its answer: they are no answer, with their first fault; or they
+-- are one, but the card already has one.
 abbrev pub RefusesAnswer : Option (List ℕ) → List ℕ → Reason → Type 0
 RefusesAnswer kept bytes (BadAtr fault) = first_fault bytes ≡ Some fault
 RefusesAnswer kept bytes AtrTwice = AreOfAnswer bytes × (is_some kept ≡ true)

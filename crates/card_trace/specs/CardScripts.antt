@@ -1,5 +1,5 @@
--- What the lines of a script of `card` do: they build a card, and run it alone, its answer to reset
--- and its end.
+-- What the lines of a script of `card` do: they build a card, and run its answer to reset and its
+-- end.
 use Rattle.std.specs.Prelude.{◌≡◌, ◌≢◌, ◌≤◌, ◌⊎◌, ℕ, List, [], ◌∷◌, ◌++◌, length, Option, Some, None, true, false}
 use Rattle.t0_core.specs.declared.end.End.TheVariants.{Terminal, Card}
 use Rattle.t0_core.specs.Character.{Character, sent_by}
@@ -23,9 +23,9 @@ use Rattle.card_trace.specs.Script.{Script}
 use Rattle.card_trace.specs.ScriptCard.{Part, Adds, Atr, Plan, Act, Take, HandOut, Reset, Table, SaysPart, SaysAct}
 use Rattle.card_trace.specs.Scripts.{IsAdded, IsNotAdded}
 
--- What led to a card's end: all events since the card was built, whose state was the first; and
--- since the end was made, or reset last, the state that stood then, the characters, and the plans
--- that TPDUs have taken.
+-- What led to a card's end. `events` are all events since the card was built, in the state `first`.
+-- The rest is since the end was made or last reset: `stood` is the state then, `came` the
+-- characters, and `taken` the plans that TPDUs took.
 pub record Past : Type 0 where
   pub first : CardState
   pub events : List Event
@@ -34,7 +34,7 @@ pub record Past : Type 0 where
   pub taken : List Course
 
 -- A card's end that runs: what led to it, the plans of the script that no TPDU has taken yet, the
--- state that stands, and how far it is with the TPDU under way.
+-- card's state, what it has prepared, and how far the current TPDU is.
 pub record RunningEnd : Type 0 where
   pub past : Past
   pub left : List Course
@@ -42,27 +42,27 @@ pub record RunningEnd : Type 0 where
   pub prepared : Prepared CardState
   pub stage : Stage
 
--- All events, under some plans, led to the end; and the characters since the last reset did, under
+-- All events led to the end, under some plans. The characters since the last reset led to it under
 -- the plans taken: each TPDU took one with the card's first character after its header.
 pub record IsLed (e : RunningEnd) : Type 0 where
   pub by_all : Leads Does after_reset e.past.first e.past.events e.standing e.prepared e.stage
   pub under_plans :
       LeadsUnder Does e.past.stood e.past.came e.past.taken e.standing e.prepared e.stage
 
--- TPDUs take these plans of those that are left: the next ones in order, and when they are used up
--- the plan without steps and with the cut 256.
+-- TPDUs take these plans from those that are left: the next ones in order, and after the last the
+-- plan without steps and with the cut 256.
 abbrev pub TakeInTurn : List Course → List Course → List Course → Type 0
 TakeInTurn left [] still_left = still_left ≡ left
 TakeInTurn [] (plan ∷ taken) still_left = (plan ≡ plain) × TakeInTurn [] taken still_left
 TakeInTurn (next ∷ left) (plan ∷ taken) still_left =
     (plan ≡ next) × TakeInTurn left taken still_left
 
--- A card that runs: what of its answer to reset is to come, and its end.
+-- A card that runs: its answer to reset, and its end.
 pub record RunningCard : Type 0 where
   pub answer : AnswerToReset
   pub end : RunningEnd
 
--- with these characters, for which these plans were taken
+-- the past, then these characters, which took these plans
 abbrev pub heard : Past → List Character → List Course → Past
 heard past characters taken = record {
   first = past.first;
@@ -72,7 +72,7 @@ heard past characters taken = record {
   taken = past.taken ++ taken;
 }
 
--- with a reset, after which this state stands
+-- the past, then a reset, which leaves this state
 abbrev pub reset_to : Past → CardState → Past
 reset_to past state = record {
   first = past.first;
@@ -97,8 +97,8 @@ pub record IsReset (old new : RunningEnd) : Type 0 where
   pub standing_is : new.standing ≡ after_reset old.standing
   pub is_led : IsLed new
 
--- The end takes a front of the characters: all, and then nothing is printed, or as many as come
--- before one that is refused since the next character is the card's, which is told.
+-- The end takes all characters, and nothing is printed. Or it takes those before one that it
+-- refuses, since the card sends next, and `! not listening` is printed.
 pub record TakesCharacters (old : RunningEnd) (bytes text : List ℕ) (new : RunningEnd)
     : Type 0 where
   pub taken : List ℕ
@@ -108,7 +108,7 @@ pub record TakesCharacters (old : RunningEnd) (bytes text : List ℕ) (new : Run
   pub prints : ((refused ≡ []) × (text ≡ []))
       ⊎ ((refused ≢ []) × (listens new.stage ≡ false) × (text ≡ not_listening_text))
 
--- no more than are asked for, and fewer only where the end listens then
+-- at most `most` characters, and fewer only if the end then listens
 abbrev pub IsEnough : Option ℕ → ℕ → Stage → Type 0
 IsEnough None n stage = listens stage ≡ true
 IsEnough (Some most) n stage = (n ≤ most) × ((listens stage ≡ true) ⊎ (n ≡ most))
@@ -121,16 +121,16 @@ pub record HandsOut (old : RunningEnd) (most : Option ℕ) (text : List ℕ) (ne
   pub is_enough : IsEnough most (length handed) new.stage
   pub prints : text ≡ handed_out_text handed
 
--- What a `>` line does: the card's end takes its characters, but none before the last character of
--- the answer to reset is handed out.
+-- What a `>` line does: the card's end takes its characters, but none until the whole answer to
+-- reset is handed out.
 pub data Takes (old : RunningCard) (bytes text : List ℕ) (new : RunningCard) : Type 0 where
   listens_now : old.answer.left ≡ [] → TakesCharacters old.end bytes text new.end
       → new.answer ≡ old.answer → Takes old bytes text new
   answers_first : old.answer.left ≢ [] → new ≡ old → text ≡ not_listening_text
       → Takes old bytes text new
 
--- What a `<` line does: what is left of the answer to reset is handed out, or so many characters
--- of it; and where nothing is left, those of the card's end.
+-- What a `<` line does: it hands out what is left of the answer to reset, or the first `most`
+-- characters of that. If nothing is left, it hands out those of the card's end.
 pub data HandsOutNext (old : RunningCard) (most : Option ℕ) (text : List ℕ) (new : RunningCard)
     : Type 0 where
   of_answer : old.answer.left ≢ [] → text ≡ handed_out_text (up_to most old.answer.left)
@@ -147,11 +147,11 @@ RunsLine old Reset text new = IsReset old.end new.end
 RunsLine old Table text new =
     (new ≡ old) × (text ≡ table_text old.end.standing.applications)
 
--- nothing has come to a card in this state
+-- the past of a card that was just built in this state
 abbrev pub no_past : CardState → Past
 no_past state = record { first = state; events = []; stood = state; came = []; taken = [] }
 
--- the end of a card with these tables, which has heard nothing yet, and all plans of the script
+-- the end of a card with these tables that was just made, with all plans of the script
 pub record IsFresh (tables : List Application) (plans : List Course) (e : RunningEnd) : Type 0 where
   pub past_is : e.past ≡ no_past (new_card tables).state
   pub all_left : e.left ≡ plans
@@ -164,7 +164,7 @@ pub record Built : Type 0 where
   pub plans : List Course
   pub answer : Option (List ℕ)
 
--- what is built, with a part more
+-- the table with one more part
 abbrev pub IsBuilt : Built → Part → Built → Type 0
 IsBuilt old (Adds addition) new = (after : List Application) × IsAdded old.tables addition after
     × (new ≡ record old { tables = after })
@@ -172,8 +172,7 @@ IsBuilt old (Atr bytes) new =
     (old.answer ≡ None) × AreOfAnswer bytes × (new ≡ record old { answer = Some bytes })
 IsBuilt old (Plan plan) new = new ≡ record old { plans = old.plans ++ plan ∷ [] }
 
--- a part is refused for this reason: by the builder, or as it is no answer to reset, or the second
--- one
+-- why a part is refused: the builder's reason; or it is no answer to reset, or the second one
 abbrev pub IsNotBuilt : Built → Part → Reason → Type 0
 IsNotBuilt old (Adds addition) reason = IsNotAdded old.tables addition (Line reason)
 IsNotBuilt old (Atr bytes) reason = RefusesAnswer old.answer bytes reason

@@ -1,4 +1,5 @@
--- The command line, as `clap` reads it: the command with its subcommands, and what is asked for.
+-- The command line as `clap` reads it: the command with its subcommands, and what the words ask
+-- for.
 use Rattle.std.specs.Prelude.{◌≡◌, ◌≢◌, ℕ, List, [], ◌∷◌, codes, Option, Some, None, true, if◌then◌else◌, unwrap_or, Ok, IsErr, ◌⊎◌}
 use Rattle.std.specs.Str.{bytes_eq}
 use Rattle.std.specs.Io.KnownBytes.{Appends}
@@ -22,7 +23,7 @@ use Rattle.card_trace.specs.declared.program_fault.ProgramFault.TheVariants as f
 use Rattle.card_trace.specs.declared.command_line.Request.{Request}
 use Rattle.card_trace.specs.declared.command_line.Request.TheVariants as request
 
--- the argument of `objects`, which is required
+-- the required argument of `objects`
 abbrev pub hex_rule : Rule
 hex_rule = record (new_rule (codes "HEX")) { required = true }
 
@@ -35,19 +36,19 @@ card_shape = new_shape (codes "card")
 abbrev pub objects_shape : Shape
 objects_shape = record (new_shape (codes "objects")) { rules = hex_rule ∷ [] }
 
--- a command of which a subcommand is required, and that has a version
+-- the command, which has a version and requires a subcommand
 abbrev pub program : App
 program = with_subcommand (with_subcommand
     (with_subcommand (on_top (λ s. record s { has_version = true; subcommand_required = true })
     (new_app (codes "card_trace"))) play_shape) card_shape) objects_shape
 
--- what can be asked for
+-- what the words can ask for
 pub data Asked : Type 0 where
   Play : Asked
   Card : Asked
   Objects : (digits : List ℕ) → Asked
 
--- what the subcommand of this name asks for, with these digits
+-- what the subcommand with this name and these digits asks for
 abbrev pub request_named : Text → Text → Option Asked
 request_named name digits =
     if bytes_eq name (codes "play") then Some Play
@@ -65,7 +66,7 @@ asked_by request.Play = Play
 asked_by request.Card = Card
 asked_by (request.Objects digits) = Objects digits.now
 
--- the tree of the bytes that the digits spell, at least one, is written
+-- the digits spell bytes, at least one, and the tree of these is written
 pub record PrintsTree (digits : List ℕ) (old new : Option (List ℕ)) : Type 0 where
   pub bytes : List ℕ
   pub forest : Forest
@@ -74,26 +75,25 @@ pub record PrintsTree (digits : List ℕ) (old new : Option (List ℕ)) : Type 0
   pub objects : Spells forest bytes 1
   pub written : Appends old new (forest_text forest)
 
--- what is written for a script or for digits, where no fault comes up
+-- what is written for a script or for digits, if there is no fault
 abbrev pub Does : Asked → Option (List ℕ) → Option (List ℕ) → Option (List ℕ) → Type 0
 Does Play script old new = ScriptWrites play_script script old new
 Does Card script old new = ScriptWrites card_script script old new
 Does (Objects digits) script old new = PrintsTree digits old new
 
--- digits spell no bytes, or memory was wanting for them
+-- the digits spell no bytes, or memory ran out
 abbrev pub IsDigitsFault : List ℕ → ProgramFault → Type 0
 IsDigitsFault digits fault.BadHex = (digits ≡ []) ⊎ IsErr (decode_of digits)
 IsDigitsFault digits fault.OutOfMemory = Unit {0}
 IsDigitsFault digits other = ⊥
 
--- what stands where bytes were not printed as a tree: after all but a fault of the writer, nothing
--- more than before
+-- what is written if bytes were not printed as a tree: nothing, unless the writer failed
 abbrev pub TreeStops : List ℕ → Option (List ℕ) → Option (List ℕ) → ObjectsFault → Type 0
 TreeStops bytes old new (objects.Tlv f) = (new ≡ old) × IsFirstFault bytes 1 f.place f.reason
 TreeStops bytes old new objects.OutOfMemory = new ≡ old
 TreeStops bytes old new objects.Write = Unit {0}
 
--- what stands where what is asked for was not done, for this fault
+-- what is written if the program did not do what it was asked for, because of this fault
 abbrev pub Stops : Asked → Option (List ℕ) → Option (List ℕ) → Option (List ℕ) → ProgramFault
     → Type 0
 Stops Play script old new (fault.Play f) = ScriptStops play_script script old new f
@@ -104,14 +104,13 @@ Stops (Objects digits) script old new fault.BadHex = (new ≡ old) × IsDigitsFa
 Stops asked script old new fault.OutOfMemory = new ≡ old
 Stops asked script old new other = ⊥
 
--- what stands where what a subcommand with its matches asks for was not done, for the fault that is
--- told
+-- the same for a subcommand with its matches, and a fault that is printed
 abbrev pub StopsAt : Option (Text × List Row) → Option (List ℕ) → Option (List ℕ) → Option (List ℕ)
     → (ProgramFault → Type 0) → Type 0
 StopsAt found script old new Told = (asked : Asked) × (request_in found ≡ Some asked)
     × (f : ProgramFault) × Stops asked script old new f × Told f
 
--- what is asked for by a subcommand with its matches is done
+-- the program did what a subcommand with its matches asks for
 abbrev pub Runs : Option (Text × List Row) → Option (List ℕ) → Option (List ℕ) → Option (List ℕ)
     → Type 0
 Runs found script old new = (asked : Asked) × (request_in found ≡ Some asked)
@@ -121,15 +120,15 @@ Runs found script old new = (asked : Asked) × (request_in found ≡ Some asked)
 abbrev pub IsCall : ErrorKind → Type 0
 IsCall k = (k ≡ kind.DisplayHelp) ⊎ (k ≡ kind.DisplayVersion)
 
--- the words are a call for help or for the version
+-- the words call for help or for the version
 abbrev pub AreCall : Kinds → Type 0
 AreCall kinds = (k : ErrorKind) × IsAmong k kinds × IsCall k
 
--- What is told where a call for help or for the version is not answered, as it can't be written,
--- or where there is no memory for the words.
+-- Which fault is printed if the program does not answer a call for help or the version, because
+-- that can't be written; or if memory ran out for the words.
 abbrev pub IsUnanswered : Kinds → (ProgramFault → Type 0) → Type 0
 IsUnanswered kinds Told = (AreCall kinds × Told fault.Write) ⊎ Told fault.OutOfMemory
 
--- the words are refused for a mistake in them
+-- the words have a mistake, and are refused
 abbrev pub AreRefused : Kinds → Type 0
 AreRefused kinds = (k : ErrorKind) × IsAmong k kinds × ¬ IsCall k × (k ≢ kind.OutOfMemory)

@@ -1,4 +1,4 @@
--- What is told of a fault: its text, in a line.
+-- The text of each fault, printed in one line.
 use Rattle.std.specs.Prelude.{◌≡◌, ℕ, List, ◌++◌, codes, decimal, Option, Bool, true}
 use Rattle.std.specs.Io.KnownBytes.{Appends}
 use Rattle.tlv_core.specs.FaultText.{fault_text}
@@ -11,7 +11,7 @@ use Rattle.card_trace.specs.declared.play_fault.PlayFault.TheVariants as play
 use Rattle.card_trace.specs.declared.program_fault.ProgramFault.{ProgramFault}
 use Rattle.card_trace.specs.declared.program_fault.ProgramFault.TheVariants as fault
 
--- why a script came to no end: the line that is refused and the reason, or what else was wanting
+-- why a script was not carried out to its end: the refused line with its reason, or another fault
 abbrev pub play_text : PlayFault → List ℕ
 play_text (play.Script line reason) =
     codes "line " ++ decimal line ++ codes ": " ++ reason_text reason
@@ -34,6 +34,6 @@ program_text fault.BadHex = codes "bad hex"
 program_text fault.Write = codes "write fault"
 program_text fault.OutOfMemory = codes "out of memory"
 
--- where the writer took it all, the text of the fault is written, and no more
+-- if the writer took all, it has the text of the fault and LF, and no more
 abbrev pub Tells : Bool → Option (List ℕ) → Option (List ℕ) → ProgramFault → Type 0
 Tells taken old new f = taken ≡ true → Appends old new (program_text f ++ newline)

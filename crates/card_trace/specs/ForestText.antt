@@ -1,4 +1,4 @@
--- The text of a list of objects: a line for each, with those in a template behind its line.
+-- The text of a list of objects: a line for each. The lines of a template's objects follow its own.
 use Rattle.std.specs.Prelude.{ℕ, zero, suc, List, [], ◌++◌, codes}
 use Rattle.hex.specs.Hex.{encode_upper}
 use Rattle.tlv_core.specs.Spelling.{Forest, Empty, Primitive, Template}
@@ -9,7 +9,7 @@ abbrev pub indent : ℕ → List ℕ
 indent zero = []
 indent (suc below) = codes "  " ++ indent below
 
--- the lines of objects so many levels below the first
+-- the lines of objects that are `below` levels below the first
 abbrev pub lines_below : ℕ → Forest → List ℕ
 lines_below below Empty = []
 lines_below below (Primitive tag value rest) =

@@ -1,4 +1,4 @@
--- What lines of printed text are made of: bytes as two digits each, in upper case.
+-- The parts of printed lines; bytes are two digits each, in upper case.
 use Rattle.std.specs.Prelude.{ℕ, List, [], ◌∷◌, codes}
 use Rattle.hex.specs.Hex.{encode_upper}
 

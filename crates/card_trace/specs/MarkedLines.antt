@@ -1,4 +1,4 @@
--- The lines of entries that are given as tags and values, where the marks stand in a table.
+-- For the proof: the lines of entries, given as tags and values, with their marks from a table.
 use Rattle.std.specs.Prelude.{ℕ, List, Option, Some}
 use Rattle.std.specs.List.{flat_map}
 use Rattle.object_card.specs.Tables.{Entry}

@@ -1,4 +1,4 @@
--- What a player stands for, and what a line that was read says.
+-- What a player stands for: a table, or a card that runs.
 use Rattle.std.specs.Prelude.{◌≡◌}
 use Rattle.card_trace.specs.declared.both_ends.BothEnds.{BothEnds}
 use Rattle.card_trace.specs.declared.player.Player.{Player}
@@ -9,7 +9,7 @@ use Rattle.card_trace.specs.Scripts.{InSession}
 abbrev pub in_session : {A : Type 0} → BothEnds A → InSession
 in_session ends = record { card = ends.session.state; plans = ends.plans.items }
 
--- by what a table and a card stand for
+-- the state of a player, given what its table and its card stand for
 abbrev pub Stands : {T R : Type 0} (s : Script) → (T → s.Table) → (R → s.Card → Type 0)
     → Player T R → State s → Type 0
 Stands s table_of StandsFor (player.Building table) state = state ≡ Building (table_of table)

@@ -1,4 +1,5 @@
--- What a line prints: lines that are always the same, or those of an operation or a table.
+-- What a line prints: one of three fixed lines, or those of an operation, of characters or of a
+-- table.
 use Rattle.std.specs.Prelude.{ℕ, List, [], ◌++◌, codes}
 use Rattle.card_trace.specs.LineText.{newline}
 use Rattle.card_trace.specs.declared.printed.Printed.{Printed}

@@ -1,4 +1,4 @@
--- Scripts, of `play` and of `card` alike: what their lines say and do, and what is written.
+-- Scripts of `play` and `card`: what their lines say and do, and what is written.
 use Rattle.std.specs.Prelude.{◌≡◌, ◌≢◌, ◌⊎◌, ℕ, List, [], ◌∷◌, ◌++◌, Option, IfSome}
 use Rattle.std.specs.Str.Lines.{lines}
 use Rattle.std.specs.Io.KnownBytes.{Appends}
@@ -9,7 +9,7 @@ use Rattle.card_trace.specs.declared.script.section.Section.TheVariants as secti
 use Rattle.card_trace.specs.ScriptKeywords.{keyword_text}
 use Rattle.card_trace.specs.ScriptWords.{words_of}
 
--- A kind of scripts. Table lines add parts to a table. The first run line makes a card of it, and
+-- A kind of script. Table lines add parts to a table. The first run line makes a card from it, and
 -- run lines carry out acts on the card.
 pub record Script : Type 1 where
   pub Part : Type 0
@@ -19,7 +19,7 @@ pub record Script : Type 1 where
   -- the keyword and the fields of a line that says this
   pub SaysPart : Part → Keyword → List (List ℕ) → Type 0
   pub SaysAct : Act → Keyword → List (List ℕ) → Type 0
-  -- the table before the first line, with one part more, and why a part is refused
+  -- the empty table, a table with one more part, and why a part is refused
   pub empty : Table
   pub Adds : Table → Part → Table → Type 0
   pub Refuses : Table → Part → Reason → Type 0
@@ -32,7 +32,7 @@ pub data Meaning (s : Script) : Type 0 where
   Builds : (part : s.Part) → Meaning s
   Runs : (act : s.Act) → Meaning s
 
--- Before the first run line there is a table, and from then on a card.
+-- Before the first run line there is a table, and after it a card.
 pub data State (s : Script) : Type 0 where
   Building : (table : s.Table) → State s
   Running : (card : s.Card) → State s
@@ -41,23 +41,23 @@ abbrev pub section_of : (s : Script) → State s → Section
 section_of s (Building table) = sections.Building
 section_of s (Running card) = sections.Running
 
--- In this section a keyword and fields say this. Behind the first run line no table line may stand.
+-- In this section a keyword and fields say this. After the first run line there is no table line.
 abbrev pub SaysBy : (s : Script) → Section → Keyword → List (List ℕ) → Meaning s → Type 0
 SaysBy s section keyword fields (Builds part) =
     (section ≡ sections.Building) × s.SaysPart part keyword fields
 SaysBy s section keyword fields (Runs act) = s.SaysAct act keyword fields
 
--- and so do these words, which are the keyword's and the fields
+-- the same for words: the keyword's text, and the fields
 abbrev pub Says : (s : Script) → Section → List (List ℕ) → Meaning s → Type 0
 Says s section words meaning = (keyword : Keyword) × (fields : List (List ℕ))
     × (words ≡ keyword_text keyword ∷ fields) × SaysBy s section keyword fields meaning
 
--- the line has words, and they say nothing that may stand there
+-- the line has words, but they say nothing in this section
 abbrev pub SaysNothing : (s : Script) → Section → List ℕ → Type 0
 SaysNothing s section line =
     (words_of line ≢ []) × ((meaning : Meaning s) → ¬ Says s section (words_of line) meaning)
 
--- the card on which a run line is carried out: the first makes it of the table
+-- the card on which a run line is carried out; the first run line makes it from the table
 abbrev pub RunsOn : (s : Script) → State s → s.Card → Type 0
 RunsOn s (Building table) card = s.Begins table card
 RunsOn s (Running now) card = card ≡ now
@@ -82,21 +82,21 @@ DoesLine s old line text new =
     ⊎ ((meaning : Meaning s) × Says s (section_of s old) (words_of line) meaning
     × DoesMeaning s old meaning text new)
 
--- A line is refused: its words say nothing that may stand there, or what they say is refused for
--- this reason.
+-- A line is refused: its words say nothing in this section, or what they say is refused for this
+-- reason.
 abbrev pub RefusesLine : (s : Script) → State s → List ℕ → Reason → Type 0
 RefusesLine s state line reason = SaysNothing s (section_of s state) line
     ⊎ ((meaning : Meaning s) × Says s (section_of s state) (words_of line) meaning
     × RefusesMeaning s state meaning reason)
 
--- lines one after another
+-- lines in order
 abbrev pub DoesAll : (s : Script) → State s → List (List ℕ) → List ℕ → State s → Type 0
 DoesAll s old [] text new = (text ≡ []) × (new ≡ old)
 DoesAll s old (line ∷ others) text new =
     (first rest : List ℕ) × (mid : State s) × DoesLine s old line first mid
     × (text ≡ first ++ rest) × DoesAll s mid others rest new
 
--- what is written for the bytes of a script that are read
+-- what is written for a script whose bytes are known
 abbrev pub ScriptWrites : Script → Option (List ℕ) → Option (List ℕ) → Option (List ℕ) → Type 0
 ScriptWrites s script old new = (text : List ℕ) × Appends old new text
     × IfSome script (λ bytes. (end : State s) × DoesAll s (Building s.empty) (lines bytes) text end)

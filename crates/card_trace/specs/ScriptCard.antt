@@ -10,7 +10,7 @@ use Rattle.card_trace.specs.declared.script.card_line.CardAct.TheVariants as act
 use Rattle.card_trace.specs.ScriptFields.{IsHexText, IsNumberText}
 use Rattle.card_trace.specs.ScriptTable.{Addition, addition_of, OneField, ArePlanFields, SaysAddition}
 
--- what a table line says: besides what it adds, the answer to reset, and plans
+-- what a table line says: an addition, the answer to reset, or a plan
 pub data Part : Type 0 where
   Adds : Addition → Part
   Atr : (bytes : List ℕ) → Part
@@ -34,7 +34,7 @@ act_of (act.HandOut most) = HandOut most
 act_of act.Reset = Reset
 act_of act.Table = Table
 
--- how many characters at most, where that is said
+-- the field N, or no field
 abbrev pub IsMostText : List (List ℕ) → Option ℕ → Type 0
 IsMostText fields None = fields ≡ []
 IsMostText fields (Some n) = OneField fields (λ text. IsNumberText text n)

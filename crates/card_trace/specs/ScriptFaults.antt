@@ -1,4 +1,4 @@
--- Where a script is not carried out to its end: which line is refused, and what stands.
+-- How a script ends before its last line: which line is refused, and what is written.
 use Rattle.std.specs.Prelude.{◌≡◌, ◌<◌, ◌+◌, ℕ, List, ◌∷◌, ◌++◌, length, Option, IfSome, Result, IsErrAnd}
 use Rattle.std.specs.Str.Lines.{lines}
 use Rattle.std.specs.Io.KnownBytes.{Appends}
@@ -9,8 +9,8 @@ use Rattle.card_trace.specs.declared.script.reason.Reason.{Reason}
 use Rattle.card_trace.specs.ScriptReading.{IsReadingFault}
 use Rattle.card_trace.specs.Script.{Script, State, Building, DoesAll, RefusesLine}
 
--- The line of this number, counted from 1, is refused for this reason: the lines before it are
--- carried out and print this text, and it is refused where they have led.
+-- The line with this number, counted from 1, is refused for this reason. The lines before it are
+-- carried out, and print this text.
 pub record IsRefusedAt (s : Script) (all : List (List ℕ)) (text : List ℕ) (number : ℕ)
     (reason : Reason) : Type 0 where
   pub before : List (List ℕ)
@@ -30,9 +30,9 @@ pub record IsLeftAfter (s : Script) (all : List (List ℕ)) (text : List ℕ) : 
   pub state : State s
   pub does : DoesAll s (Building s.empty) before text state
 
--- What stands after a fault: what the lines before a refused one print, and before want of memory
--- what the lines up to some place print. Where the reader fails or gives too much, nothing is
--- written, and where the writer fails, it is not known how much is.
+-- What is written when a script ends with a fault. If a line is refused, the text of the lines
+-- before it. If memory runs out, the text of the lines up to some place. If the reader fails or
+-- gives too much, nothing. If the writer fails, it is not known how much.
 abbrev pub ScriptStops : Script → Option (List ℕ) → Option (List ℕ) → Option (List ℕ) → PlayFault
     → Type 0
 ScriptStops s script old new (Refused line reason) = (text : List ℕ) × Appends old new text

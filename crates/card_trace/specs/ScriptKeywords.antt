@@ -4,7 +4,7 @@ use Rattle.card_trace.specs.declared.script.keyword.TableWord.TheVariants.{App, 
 use Rattle.card_trace.specs.declared.script.keyword.Keyword.{Keyword}
 use Rattle.card_trace.specs.declared.script.keyword.Keyword.TheVariants.{Adds, Atr, Plan, Select, Get, Put, Send, Take, HandOut, Reset, Table}
 
--- how a keyword is written
+-- the text of a keyword
 abbrev pub keyword_text : Keyword → List ℕ
 keyword_text (Adds App) = codes "app"
 keyword_text (Adds Object) = codes "object"

@@ -26,8 +26,7 @@ act_of (act.Send command) = Send command
 act_of act.Reset = Reset
 act_of act.Table = Table
 
--- The keyword and the fields of an operation. The value of a put has no more bytes than one may
--- have.
+-- The keyword and the fields of an operation. The value of a put keeps to its limit.
 abbrev pub SaysOperation : Operation → Keyword → List (List ℕ) → Type 0
 SaysOperation (Select aid) keyword fields =
     (keyword ≡ keywords.Select) × OneField fields (λ text. IsAidText text aid)

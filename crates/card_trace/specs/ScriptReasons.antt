@@ -1,4 +1,4 @@
--- Why a line of a script is refused, and what is told of it.
+-- The reasons to refuse a line of a script, with their texts.
 use Rattle.std.specs.Prelude.{ℕ, List, ◌++◌, codes}
 use Rattle.apdu_core.specs.declared.command.ApduFault.{ApduFault}
 use Rattle.apdu_core.specs.declared.command.ApduFault.TheVariants as command
@@ -34,7 +34,7 @@ reason_text NoApp = codes "no app"
 reason_text NotObjects = codes "not objects"
 reason_text TableFull = codes "table full"
 
--- the reason of a command that is none
+-- the reason for bytes that are no command
 abbrev pub reason_of_command : ApduFault → Reason
 reason_of_command command.TooShort = CommandTooShort
 reason_of_command command.BadLength = BadCommandLength
@@ -50,12 +50,12 @@ refusal_of_builder builder.NotObjects = Line NotObjects
 refusal_of_builder builder.Full = Line TableFull
 refusal_of_builder builder.OutOfMemory = OutOfMemory
 
--- the fault of a program at a line that is refused
+-- the program's fault at a line that is refused
 abbrev pub fault_at : ℕ → Refusal → PlayFault
 fault_at line (Line reason) = play.Script line reason
 fault_at line OutOfMemory = play.OutOfMemory
 
--- this holds of the reason; of want of memory nothing is said
+-- this holds of the reason; if memory ran out, nothing is promised
 abbrev pub OnReason : Refusal → (Reason → Type 0) → Type 0
 OnReason (Line reason) P = P reason
 OnReason OutOfMemory P = Unit {0}

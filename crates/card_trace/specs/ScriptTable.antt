@@ -1,4 +1,4 @@
--- What the lines of a script say that both programs have.
+-- What the table lines that `play` and `card` both have say.
 use Rattle.std.specs.Prelude.{◌≡◌, ℕ, List, [], ◌∷◌}
 use Rattle.t0_core.specs.Plan.{Course}
 use Rattle.card_trace.specs.declared.script.keyword.TableWord.{TableWord}
@@ -20,7 +20,7 @@ addition_of (line.App aid) = App aid
 addition_of (line.Object tag value) = Object tag value
 addition_of (line.Locked tag value) = Locked tag value
 
--- one field, of which this is known
+-- there is one field, and this holds of it
 abbrev pub OneField : List (List ℕ) → (List ℕ → Type 0) → Type 0
 OneField fields P = (text : List ℕ) × (fields ≡ text ∷ []) × P text
 
@@ -39,7 +39,7 @@ pub record ArePlanFields (fields : List (List ℕ)) (plan : Course) : Type 0 whe
   pub two : fields ≡ steps_text ∷ cut_text ∷ []
   pub is_plan : IsPlanText steps_text cut_text plan
 
--- the word of the line that adds this, and its fields
+-- the first word of the line that adds this, and its fields
 abbrev pub table_word : Addition → TableWord
 table_word (App aid) = word.App
 table_word (Object tag value) = word.Object

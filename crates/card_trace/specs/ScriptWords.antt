@@ -2,7 +2,7 @@
 use Rattle.std.specs.Prelude.{ℕ, List, [], ◌∷◌, length, filter, nat_lt, if◌then◌else◌, ◌==◌}
 use Rattle.std.specs.List.{slice_split}
 
--- what stands between spaces, but for what is empty
+-- the parts between spaces that are not empty
 abbrev pub words_in : List ℕ → List (List ℕ)
 words_in text = filter (λ word. nat_lt 0 (length word)) (slice_split (λ byte. byte == 0x20) text)
 

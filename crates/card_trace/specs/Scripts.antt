@@ -29,7 +29,7 @@ pub record InSession : Type 0 where
   pub card : CardState
   pub plans : List Course
 
--- the tables with what a table line adds, which they can take
+-- the tables can take what a table line adds, and then have it
 abbrev pub IsAdded : List Application → Addition → List Application → Type 0
 IsAdded old (App aid) new = TakesApplication aid old × (new ≡ with_application aid old)
 IsAdded old (Object tag value) new =
@@ -37,19 +37,19 @@ IsAdded old (Object tag value) new =
 IsAdded old (Locked tag value) new =
     TakesObject tag value old × (new ≡ with_last_entry tag value true old)
 
--- the builder's reason not to add it
+-- why the builder refuses to add it
 abbrev pub Refuses : List Application → Addition → BuilderFault → Type 0
 Refuses old (App aid) fault = RefusesApplication aid old fault
 Refuses old (Object tag value) fault = RefusesObject tag value old fault
 Refuses old (Locked tag value) fault = RefusesObject tag value old fault
 
--- what a table line adds is not added, and for this the line is refused
+-- what a table line adds is not added, and the line is refused because of this
 abbrev pub IsNotAdded : List Application → Addition → Refusal → Type 0
 IsNotAdded old addition refusal =
     (fault : BuilderFault) × Refuses old addition fault × (refusal ≡ refusal_of_builder fault)
 
--- An operation: its talk with the card under the plans, and its answer. A card with a chain pending
--- is sent nothing. Either way the plans are gone.
+-- An operation: its talk with the card under the plans, and its answer. If a chain is pending,
+-- nothing is sent. In both cases the plans are dropped.
 pub data IsRun (card : CardState) (plans : List Course) (operation : Operation)
     : List ℕ → InSession → Type 0 where
   talks : (reply : Reply) (after : CardState) (left : List Course) (line : List Character)
@@ -60,7 +60,7 @@ pub data IsRun (card : CardState) (plans : List Course) (operation : Operation)
   is_busy : is_idle card.pending ≡ false
       → IsRun card plans operation busy_text (record { card = card; plans = [] })
 
--- one command alone: its exchange with the card under the plans, and its answer
+-- one command: its exchange with the card under the plans, and its answer
 pub record IsSent (card : CardState) (plans : List Course) (bytes text : List ℕ)
     (new : InSession) : Type 0 where
   pub command : Command

@@ -5,7 +5,7 @@ use Rattle.hex.specs.Hex.{encode_upper}
 use Rattle.object_card.specs.Tables.{Application, Entry}
 use Rattle.card_trace.specs.LineText.{newline, value_text}
 
--- what stands behind a locked entry
+-- the mark after a locked entry
 abbrev pub mark : Bool → List ℕ
 mark true = codes " locked"
 mark false = []

@@ -42,7 +42,7 @@ line_of r = sign r.from ++ encode_upper r.bytes ++ newline
 abbrev pub characters_text : List Character → List ℕ
 characters_text cs = flat_map line_of (runs_of cs)
 
--- bytes, if there are any, stand behind a space
+-- a space and the bytes; nothing for no bytes
 abbrev pub spaced : List ℕ → List ℕ
 spaced [] = []
 spaced (b ∷ bytes) = codes " " ++ encode_upper (b ∷ bytes)
@@ -56,6 +56,6 @@ answer_text reply = codes "= " ++ encode_upper (reply.status.0 ∷ reply.status.
 abbrev pub operation_text : List Character → Reply → List ℕ
 operation_text heard reply = characters_text heard ++ answer_text reply
 
--- characters that a card's end hands out
+-- the line of the characters that a card's end hands out
 abbrev pub handed_out_text : List ℕ → List ℕ
 handed_out_text bytes = codes "<" ++ spaced bytes ++ newline

@@ -1,4 +1,4 @@
-//! What a script of `play` is played on: a terminal and a card.
+//! A terminal and a card in a session, for scripts of `play`.
 ghost use Rattle.std.specs.Prelude.{◌≡◌, IfOk};
 ghost use Rattle.card_terminal.specs.Operations.{operation_of};
 ghost use Rattle.card_trace.specs.Playing.{in_session};
@@ -23,7 +23,7 @@ use object_card::{CardBuilder, ObjectCard};
 use std::alloc::{AllocError, Allocator};
 use t0_core::{CardEnd, Plan, Plans, Recorder};
 
-/// A card in a session with a terminal, and the plans since the last operation.
+/// A card in a session with a terminal, and the plans for the next operation.
 #[derive(Drop)]
 pub struct BothEnds<A: Allocator + Copy> {
     session: Session<ObjectCard<A>>,
@@ -100,7 +100,11 @@ impl<A: Allocator + Copy> Runner for BothEnds<A> {
 }
 
 impl<A: Allocator + Copy> BothEnds<A> {
-    /// Carries out an operation under the plans, which are then gone.
+    /// Carries out an operation under the plans, and drops them. If a chain is pending, sends
+    /// nothing and returns `CardBusy`.
+    ///
+    /// # Errors
+    /// - `AllocError`: memory ran out, also for what the recorder hears; the script ends.
     fn operate(&mut self, alloc: A, op: &Op<A>) -> Result<Printed<A>, AllocError>
         ensures { IfOk result (λ printed. IsRun self.old.session.state self.old.plans.items
             (operation_of op.now) (printed_text printed) (in_session self.new)) }
@@ -120,7 +124,10 @@ impl<A: Allocator + Copy> BothEnds<A> {
         Ok(Printed::Lines(text))
     }
 
-    /// Sends one command under the plans, which are then gone.
+    /// Sends one command under the plans, and drops them.
+    ///
+    /// # Errors
+    /// - `AllocError`: memory ran out, also for what the recorder hears; the script ends.
     fn send(&mut self, alloc: A, bytes: &[u8]) -> Result<Printed<A>, AllocError>
         requires { AreOfAgreedCommand bytes.now }
         ensures { IfOk result (λ printed. IsSent self.old.session.state self.old.plans.items

@@ -1,5 +1,4 @@
-//! What the table lines of a script of `card` have added: what the card holds, and how it is to
-//! answer.
+//! The table of a script of `card`: the card's objects, its plans, and its answer to reset.
 ghost use Rattle.std.specs.Prelude.{◌≡◌, Some, None, OnOk, IfErr};
 ghost use Rattle.card_trace.specs.ScriptCard.{part_of};
 ghost use Rattle.card_trace.specs.CardScripts.{card_script, IsBuilt, IsNotBuilt};
@@ -26,7 +25,7 @@ pub struct CardTable<A: Allocator + Copy> {
 }
 
 impl<A: Allocator + Copy> CardTable<A> {
-    /// Nothing yet.
+    /// An empty table.
     pub fn new(alloc: A) -> CardTable<A>
         ensures { built result ≡ card_script.empty }
     {
@@ -37,8 +36,11 @@ impl<A: Allocator + Copy> CardTable<A> {
         }
     }
 
-    /// Adds what a table line says. What is refused is refused for its reason, and for want of
-    /// memory.
+    /// Adds what a table line says.
+    ///
+    /// # Errors
+    /// - `Line`: the builder refuses it, or the answer to reset is invalid or the second one.
+    /// - `OutOfMemory`: memory ran out.
     pub fn add(&mut self, part: CardPart<A>) -> Result<(), Refusal>
         ensures added { OnOk result (IsBuilt (built self.old) (part_of part) (built self.new)) }
         ensures refused { IfErr result (λ refusal.
@@ -52,8 +54,11 @@ impl<A: Allocator + Copy> CardTable<A> {
         Ok(())
     }
 
-    /// Keeps the answer to reset with these characters. `BadAtr` where they are none, and then
-    /// `AtrTwice` where there is one.
+    /// Stores the answer to reset with these characters.
+    ///
+    /// # Errors
+    /// - `BadAtr`: they are no answer to reset; the table is unchanged.
+    /// - `AtrTwice`: they are one, but the table already has one; the table is unchanged.
     fn answer(&mut self, answer: Bytes<A>) -> Result<(), Reason>
         ensures kept { OnOk result ((self.old.answer ≡ None) × AreOfAnswer answer
             × (self.new.answer ≡ Some answer)) }

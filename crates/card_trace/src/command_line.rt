@@ -1,4 +1,4 @@
-//! The command line.
+//! The command line: a subcommand, and the digits of `objects`.
 ghost use Rattle.std.specs.Prelude.{◌≡◌, [], map, false, IfOk, IfErr, Some, option_map, string_bytes};
 ghost use Rattle.clap.specs.declared.builder.command.Command.TheViews.{out-Command};
 ghost use Rattle.clap.specs.Words.{app_of, new_app, subcommand_of, fault_of, HasKind};
@@ -8,19 +8,23 @@ use crate::help;
 use clap::{Arg, Command, Error};
 use std::alloc::{AllocError, Global};
 
-/// What the words ask for.
+/// What the command line asks for.
 #[derive(Clone, Copy)]
 pub enum Request<'a> {
-    /// A script for both ends.
+    /// Plays a script with a terminal and a card.
     Play,
-    /// A script for the card's end alone.
+    /// Plays a script with the card alone.
     Card,
-    /// The tree of these hexadecimal digits.
+    /// Prints the objects of these hexadecimal digits as a tree.
     Objects(&'a str),
 }
 
-/// What the words, of which the first is the program's name, ask for. The error is the parser's:
-/// a call for help or the version, a mistake in the words, or want of memory.
+/// Returns what the words ask for. The first word is the program's name.
+///
+/// # Errors
+/// - `DisplayHelp`, `DisplayVersion`: the words call for help or the version.
+/// - `OutOfMemory`: memory ran out.
+/// - Another kind: the words have a mistake.
 pub fn parsed<'a>(alloc: Global, words: &'a [String]) -> Result<Request<'a>, Error>
     ensures ok { IfOk result (λ request. (fault_of program (map string_bytes words.entry.now) ≡ [])
         × (request_in (subcommand_of program (map string_bytes words.entry.now))
@@ -33,7 +37,7 @@ pub fn parsed<'a>(alloc: Global, words: &'a [String]) -> Result<Request<'a>, Err
     Ok(named(name, digits).unwrap())
 }
 
-/// What the subcommand of this name asks for, with these digits.
+/// What the subcommand with this name and these digits asks for; `None` for any other name.
 fn named<'a>(name: &str, digits: &'a str) -> Option<Request<'a>>
     ensures { option_map asked_by result ≡ request_named name.now digits.entry.now }
 {
@@ -45,7 +49,7 @@ fn named<'a>(name: &str, digits: &'a str) -> Option<Request<'a>>
     }
 }
 
-/// The program with its version and three subcommands, one of which is required.
+/// The program's command, with its version and three subcommands; one of these is required.
 fn command<'a>(alloc: Global) -> Result<Command<'a>, AllocError>
     ensures { IfOk result (λ command. app_of command ≡ program) }
 {

@@ -1,4 +1,4 @@
-//! How the program ends: its exit status, and what it tells on standard error.
+//! How the program ends: its exit status, and what it prints on standard error.
 ghost use Rattle.std.specs.Prelude.{◌≡◌, ◌≢◌, ◌≤◌, ◌⊎◌, OnOk, OnErr, IfErr};
 ghost use Rattle.clap.specs.Words.{kind_of};
 ghost use Rattle.card_trace.specs.CommandLine.{IsCall};
@@ -12,14 +12,15 @@ use std::io::Write;
 /// How the program ends.
 #[derive(Clone, Copy, Debug, PartialEq, Eq)]
 pub struct Ending {
-    /// The exit status.
+    /// The exit status, 0 to 2.
     pub status: u8,
-    /// Whether standard error took all that was to be told. That it didn't changes no status.
+    /// Whether standard error took the whole text, if there is one. The status does not depend on
+    /// it.
     pub is_told: bool,
 }
 
-/// How the program ends after an outcome: with status 0, or with status 1 for a fault, which is
-/// told on `faults` in one line.
+/// Returns status 0 after success. After a fault, prints its text in one line on `faults`, and
+/// returns status 1.
 pub fn ending_after<F: Write>(outcome: &Result<(), ProgramFault>, faults: &mut F) -> Ending
     ensures success { OnOk outcome.now (result.status ≡ 0) }
     ensures silent { OnOk outcome.now (F.contents faults.new ≡ F.contents faults.old) }
@@ -39,8 +40,9 @@ pub fn ending_after<F: Write>(outcome: &Result<(), ProgramFault>, faults: &mut F
     }
 }
 
-/// How the program ends with what the parser answered in place of matches. Help and the version go
-/// to `output`, and a refusal to `faults`.
+/// How the program ends if the parser returns an error. Help and the version go to `output`, with
+/// status 0. A mistake in the words goes to `faults`, with status 2. If memory ran out, or `output`
+/// fails, that fault goes to `faults`, with status 1.
 pub fn ending_unparsed<W: Write, F: Write>(error: &Error, output: &mut W, faults: &mut F) -> Ending
     ensures status { result.status ≤ 2 }
     ensures memory { kind_of error.now ≡ ErrorKind.OutOfMemory →
@@ -70,7 +72,10 @@ pub fn ending_unparsed<W: Write, F: Write>(error: &Error, output: &mut W, faults
     }
 }
 
-/// Writes the help, or the version.
+/// Writes the help or the version.
+///
+/// # Errors
+/// - `Write`: the writer failed; it is not known how much it took.
 fn shown<W: Write>(error: &Error, output: &mut W) -> Result<(), ProgramFault>
     ensures { IfErr result (λ fault. fault ≡ ProgramFault.Write) }
 {

@@ -1,12 +1,12 @@
-//! What `--help` and `--version` say, and what is said of words that are not UTF-8.
+//! The texts of `--help` and `--version`, and the message about words that are not UTF-8.
 
-/// What `--version` says behind the program's name.
+/// What `--version` prints after the program's name.
 pub const VERSION: &str = "0.2.0";
 
-/// Of the program.
+/// What the program does.
 pub const PROGRAM: &str = "A smart card and a terminal in dialogue over T=0, and the trace of it";
 
-/// What follows the list of subcommands.
+/// The text after the list of subcommands.
 pub const PROGRAM_EXAMPLE: &str = "\
 A script is lines of words on standard input; `card_trace play --help` and
 `card_trace card --help` list them.
@@ -20,10 +20,10 @@ Example:
   printf '%s\\n' 'app A0000000031010' 'object 5F20 4A4F45' \\
     'select A0000000031010' 'get 5F20' | card_trace play";
 
-/// Of `play`.
+/// What `play` does.
 pub const PLAY: &str = "Runs a script of operations, and prints characters and answers";
 
-/// The lines of a script of `play`, and what is printed.
+/// The lines of a script of `play`, and what the program prints.
 pub const PLAY_SCRIPT: &str = "\
 The script stands on standard input. Its first lines say what the card holds:
 
@@ -69,10 +69,10 @@ Example:
   select A0000000031010
   get 5F20";
 
-/// Of `card`.
+/// What `card` does.
 pub const CARD: &str = "Sends characters of a script to the card alone, and prints the card's";
 
-/// The lines of a script of `card`, and what is printed.
+/// The lines of a script of `card`, and what the program prints.
 pub const CARD_SCRIPT: &str = "\
 The script stands on standard input. Its first lines say what the card holds:
 
@@ -121,10 +121,10 @@ Example:
   > A0000000031010
   <";
 
-/// Of `objects`.
+/// What `objects` does.
 pub const OBJECTS: &str = "Prints data objects as a tree";
 
-/// How the tree is printed, with an example.
+/// What the tree looks like, with an example.
 pub const OBJECTS_EXAMPLE: &str = "\
 Each object has a line of its own: two spaces for each level that it lies inside
 others, its tag, and where it is no template its value, or `-` for no bytes.
@@ -140,10 +140,10 @@ prints
   6F
     84 A0000000031010";
 
-/// Of the argument of `objects`.
+/// The argument of `objects`.
 pub const HEX: &str = "The bytes of the objects, as pairs of hexadecimal digits";
 
-/// Of words of which one is not UTF-8, in the form in which `clap` tells of a mistake.
+/// The message if a word is not UTF-8, in the form that `clap` gives to mistakes.
 pub const NO_UTF_8: &str = "\
 error: invalid UTF-8 was detected in one or more arguments
 

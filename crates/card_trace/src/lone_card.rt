@@ -1,4 +1,4 @@
-//! What a script of `card` is played on: a card alone.
+//! A card without a terminal, for scripts of `card`.
 ghost use Rattle.std.specs.Prelude.{◌≡◌, ◌<◌, ℕ, [], ◌∷◌, length, None, Some, nat_lt, true, IfOk, IfSome, MatchOption};
 ghost use Rattle.t0_core.specs.declared.end.End.TheVariants.{Card};
 ghost use Rattle.t0_core.specs.Character.{sent_by};
@@ -22,7 +22,8 @@ use object_card::ObjectCard;
 use std::alloc::{AllocError, Allocator};
 use t0_core::{CardEnd, PlanQueue, Turn};
 
-/// A card without a terminal: what it hands out first, its end of the line, and the plans for it.
+/// A card without a terminal: its answer to reset, its end of the line, and the plans for its
+/// TPDUs.
 #[derive(Drop)]
 pub struct LoneCard<A: Allocator + Copy> {
     opening: Opening<A>,
@@ -102,8 +103,8 @@ impl<A: Allocator + Copy> Runner for LoneCard<A> {
 }
 
 impl<A: Allocator + Copy> LoneCard<A> {
-    /// The card takes these characters, none of them before its answer to reset is over, and up to
-    /// the first that it refuses, which is told.
+    /// The card takes these characters, up to the first that it refuses. It refuses each character
+    /// until it has handed out its whole answer to reset. Returns `NotListening` if it refused one.
     fn take(&mut self, characters: &[u8]) -> Printed<A>
         ensures { LeadsTo (λ old new. Takes old characters.now (printed_text result) new)
             self.old self.new }
@@ -117,8 +118,11 @@ impl<A: Allocator + Copy> LoneCard<A> {
         Printed::Nothing
     }
 
-    /// The card hands out what is left of its answer to reset, or else the characters of its end,
-    /// at most so many where it is said: their line.
+    /// Returns the line of the next characters: those left of the answer to reset, and otherwise
+    /// those of the card's end. There are at most `most`, if given.
+    ///
+    /// # Errors
+    /// - `AllocError`: memory ran out; the script ends.
     fn hand_out(&mut self, alloc: A, most: Option<u16>) -> Result<Vec<u8, A>, AllocError>
         ensures { IfOk result (λ text. LeadsTo (λ old new. HandsOutNext old most text.items new)
             self.old self.new) }
@@ -133,7 +137,10 @@ impl<A: Allocator + Copy> LoneCard<A> {
     }
 }
 
-/// The characters that the card's end hands out until it listens, at most so many where it is said.
+/// Returns the characters that the card's end hands out until it listens, at most `most`, if given.
+///
+/// # Errors
+/// - `AllocError`: memory ran out; the script ends.
 fn handed_out<A: Allocator + Copy>(
     alloc: A,
     end: &mut CardEnd<ObjectCard<A>>,
@@ -154,7 +161,8 @@ fn handed_out<A: Allocator + Copy>(
     Ok(characters)
 }
 
-/// The next character of the card's end; `None` where it listens.
+/// Returns the next character of the card's end, or `None` if it listens. A TPDU takes its plan
+/// from `plans`.
 fn next_of<A: Allocator + Copy>(
     end: &mut CardEnd<ObjectCard<A>>,
     plans: &mut PlanQueue<A>,
@@ -175,7 +183,7 @@ fn next_of<A: Allocator + Copy>(
     }
 }
 
-/// Whether more characters than these are asked for.
+/// Whether `most` allows more characters than the `handed` ones.
 fn wants_more(most: Option<u16>, handed: usize) -> bool
     ensures none { most ≡ None → result ≡ true }
     ensures some { (n : ℕ) → most ≡ Some n → result ≡ nat_lt handed n }

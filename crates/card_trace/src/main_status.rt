@@ -1,4 +1,4 @@
-//! The program over any reader and writers.
+//! The program over any reader and writers; `main` runs it with the standard streams.
 ghost use Rattle.std.specs.IoError.{error_kind};
 ghost use Rattle.std.specs.Prelude.{◌≡◌, ◌≢◌, ◌≤◌, [], map, Ok, IfOk, IfErr, OnOk, Bool, string_bytes};
 ghost use Rattle.hex.specs.Hex.{decode_of};
@@ -16,11 +16,13 @@ use hex::FromHexError;
 use std::alloc::Global;
 use std::io::{Error, ErrorKind, Read, Write};
 
-/// Runs the program on its words, of which the first is its name, and answers its exit status.
+/// Runs the program, and returns its exit status. The first word is the program's name.
 ///
-/// 0: the subcommand ended well, or help or the version was asked for, which goes to
-/// `output`. 1: a fault, which is told on `faults` by its text in one line. 2: the words were
-/// refused, as `faults` tells. That `faults` fails changes no status; `ended` says whether it did.
+/// - 0: the subcommand succeeded, or the words call for help or the version, which is in `output`.
+/// - 1: a fault; its text is in `faults`, in one line.
+/// - 2: the words are refused; the message is in `faults`.
+///
+/// The status is the same if `faults` fails; `ended` also returns whether it did.
 pub fn main_status<R: Read, W: Write, F: Write>(
     alloc: Global,
     words: &[String],
@@ -49,11 +51,7 @@ pub fn main_status<R: Read, W: Write, F: Write>(
     ended(alloc, words, input, output, faults).status
 }
 
-/// Runs the program on its words, of which the first is its name, and answers how it ends.
-///
-/// Status 0: the subcommand ended well, or help or the version was asked for, which goes to
-/// `output`. 1: a fault, which is told on `faults` by its text in one line. 2: the words were
-/// refused, as `faults` tells.
+/// As `main_status`, but also returns whether `faults` took the whole text.
 pub fn ended<R: Read, W: Write, F: Write>(
     alloc: Global,
     words: &[String],
@@ -88,7 +86,12 @@ pub fn ended<R: Read, W: Write, F: Write>(
     }
 }
 
-/// Carries out what was asked for.
+/// Carries out what the command line asks for.
+///
+/// # Errors
+/// - `Play`, `Objects`: the fault of the subcommand, which says what is written.
+/// - `BadHex`: the digits of `objects` are invalid; nothing is written.
+/// - `OutOfMemory`: memory ran out for the bytes of the digits; nothing is written.
 fn run<R: Read, W: Write>(
     alloc: Global,
     request: Request<'_>,
@@ -112,6 +115,10 @@ fn run<R: Read, W: Write>(
 }
 
 /// The bytes that the digits spell, at least one.
+///
+/// # Errors
+/// - `BadHex`: there are no digits, or they spell no bytes.
+/// - `OutOfMemory`: memory ran out.
 fn bytes_of(alloc: Global, digits: &str) -> Result<Vec<u8>, ProgramFault>
     ensures spelled { IfOk result (λ bytes. (digits.now ≢ [])
         × (decode_of digits.now ≡ Ok bytes.items)) }
@@ -127,8 +134,8 @@ fn bytes_of(alloc: Global, digits: &str) -> Result<Vec<u8>, ProgramFault>
     }
 }
 
-/// How the program ends where the words can't be had, which is told on `faults`: with status 1 for
-/// want of memory, and else with 2, as one of them is not UTF-8.
+/// How the program ends if it can't get its words. If memory ran out, prints that on `faults`, with
+/// status 1. Otherwise a word is not UTF-8: prints `NO_UTF_8`, with status 2.
 pub fn ending_without_words<F: Write>(error: &Error, faults: &mut F) -> Ending
     ensures memory { error_kind error.now ≡ ErrorKind.OutOfMemory → (result.status ≡ 1)
         × Tells result.is_told (F.contents faults.old) (F.contents faults.new)

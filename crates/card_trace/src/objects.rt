@@ -1,4 +1,4 @@
-//! Printing objects as a tree.
+//! Prints data objects as a tree.
 ghost use Rattle.std.specs.Prelude.{◌≡◌, OnOk, IsErrOf};
 ghost use Rattle.std.specs.Io.KnownBytes.{Appends};
 ghost use Rattle.tlv_core.specs.FirstFault.{IsFirstFault};
@@ -12,13 +12,13 @@ use std::alloc::Allocator;
 use std::io::Write;
 use tlv_core::Objects;
 
-/// Writes the objects that the bytes are: one line for each, two spaces further in for each level
+/// Writes the objects that the bytes spell, a line for each, two spaces further in for each level
 /// below the first.
 ///
 /// # Errors
-///
-/// `Tlv` with the first fault, exactly where the bytes are no list of objects, and `OutOfMemory`:
-/// before both nothing is written. `Write` is a fault of the writer.
+/// - `Tlv`: the bytes are no list of objects; this is their first fault, and nothing is written.
+/// - `OutOfMemory`: memory ran out; nothing is written.
+/// - `Write`: the writer failed; it is not known how much it took.
 pub fn print_objects<A: Allocator + Copy, W: Write>(
     alloc: A,
     bytes: &[u8],

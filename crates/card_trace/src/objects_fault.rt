@@ -1,4 +1,4 @@
-//! The faults of printing objects.
+//! The errors of printing objects, with their texts.
 use std::alloc::AllocError;
 use std::error::Error;
 use std::fmt;
@@ -9,9 +9,9 @@ use tlv_core::TlvFault;
 pub enum ObjectsFault {
     /// The bytes are no list of objects; nothing was written.
     Tlv(TlvFault),
-    /// The writer failed; how much it took is not known.
+    /// The writer failed; it is not known how much it took.
     Write,
-    /// Memory was wanting; nothing was written.
+    /// Memory ran out; nothing was written.
     OutOfMemory,
 }
 

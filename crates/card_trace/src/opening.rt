@@ -6,12 +6,12 @@ use card_terminal::Bytes;
 use std::alloc::Allocator;
 use std::marker::Model;
 
-/// The answer to reset of a card, and what of it is still to come. A card without one has no
-/// characters here.
+/// The answer to reset of a card, and how much of it has been handed out. It is empty for a card
+/// without one.
 #[derive(Drop)]
 pub struct Opening<A: Allocator> {
     answer: Option<Bytes<A>>,
-    /// How many characters have been handed out.
+    /// The number of characters that have been handed out.
     handed: usize,
 }
 
@@ -30,14 +30,14 @@ impl<A: Allocator> Model for Opening<A> {
 }
 
 impl<A: Allocator> Opening<A> {
-    /// All of this answer is still to come.
+    /// This answer, with nothing handed out yet.
     pub fn of(answer: Option<Bytes<A>>) -> Opening<A>
         ensures { result ≡ at_first (characters_of answer) }
     {
         Opening { answer, handed: 0 }
     }
 
-    /// All its characters.
+    /// All characters of the answer.
     fn all(&self) -> &[u8]
         ensures { result.now ≡ self.now.all }
     {
@@ -47,21 +47,21 @@ impl<A: Allocator> Opening<A> {
         }
     }
 
-    /// Those that are still to come.
+    /// The characters that are left.
     fn left(&self) -> &[u8]
         ensures { result.now ≡ self.now.left }
     {
         &self.all()[self.handed..]
     }
 
-    /// Whether the card has handed all of it out.
+    /// Whether the card has handed out the whole answer.
     pub fn is_over(&self) -> bool
         ensures { IsTrue result ↔ (self.now.left ≡ []) }
     {
         self.left().is_empty()
     }
 
-    /// The next characters: all that are left, or at most so many where it is said.
+    /// The next characters: all that are left, or the first `most` of them, if given.
     pub fn next_characters(&self, most: Option<u16>) -> &[u8]
         ensures { result.now ≡ up_to most self.now.left }
     {
@@ -72,7 +72,7 @@ impl<A: Allocator> Opening<A> {
         }
     }
 
-    /// The next characters have been handed out.
+    /// Passes over the next characters, which have been handed out.
     pub fn pass(&mut self, most: Option<u16>)
         ensures { self.new ≡ without most self.old }
     {
@@ -81,7 +81,7 @@ impl<A: Allocator> Opening<A> {
         self.handed = self.all().len().saturating_sub(still_left);
     }
 
-    /// The card is reset: all of it is still to come.
+    /// The card is reset, so the whole answer is left again.
     pub fn begin_anew(&mut self)
         ensures { self.new ≡ at_first self.old.all }
     {

@@ -1,21 +1,22 @@
-//! The faults of a script.
+//! The errors of a script, with their texts.
 use crate::script::reason::Reason;
 use std::alloc::AllocError;
 use std::error::Error;
 use std::fmt;
 
-/// Why a script, of `play` or of `card`, was not carried out to its end.
+/// Why a script of `play` or `card` was not carried out to its end.
 #[derive(Debug, Drop, PartialEq, Eq)]
 pub enum PlayFault {
-    /// A line, counted from 1, is refused; those before it were carried out.
+    /// The line with this number, counted from 1, is refused; those before it were carried out, and
+    /// their text was written.
     Script { line: usize, reason: Reason },
     /// The reader failed; nothing was written.
     Read,
-    /// The writer failed; how much it took is not known.
+    /// The writer failed; it is not known how much it took.
     Write,
-    /// The script has more bytes than a script may have; nothing was written.
+    /// The script has more than `SCRIPT_LIMIT` bytes; nothing was written.
     InputTooLong,
-    /// Memory was wanting; what lines before wrote stands.
+    /// Memory ran out; the lines up to some place were carried out, and their text was written.
     OutOfMemory,
 }
 

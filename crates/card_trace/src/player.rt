@@ -1,4 +1,4 @@
-//! The one loop over the lines of a script, and the one place that prints for it.
+//! Carries out a script in one loop over its lines, and writes what they print.
 ghost use Rattle.std.specs.Prelude.{◌≡◌, ◌<◌, ℕ, List, [], length, OnOk, IfOk, IfErr, IfSome};
 ghost use Rattle.std.specs.Io.KnownBytes.{Appends};
 ghost use Rattle.card_trace.specs.LineFaults.{IsFaultOfLine};
@@ -18,12 +18,12 @@ use crate::script::section::Section;
 use std::alloc::AllocError;
 use std::io::{Read, Write};
 
-/// A card that is being built, or that runs.
+/// Where a script is: its lines build a table, or run a card.
 #[derive(Drop)]
 pub enum Player<T, R> {
-    /// No run line has come.
+    /// There was no run line yet.
     Building(T),
-    /// A run line has come.
+    /// There was a run line.
     Running(R),
 }
 
@@ -57,8 +57,12 @@ pub fn run_script<R: Runner, I: Read, W: Write>(
     Ok(())
 }
 
-/// Carries out the line of this number, and writes what it prints. A fault ends the script:
-/// `Script` where the line is refused, and `OutOfMemory`, with nothing written of it, or `Write`.
+/// Carries out the line with this number, and writes what it prints.
+///
+/// # Errors
+/// - `Script`: the line is refused; nothing is written for it.
+/// - `OutOfMemory`: memory ran out; nothing is written for the line.
+/// - `Write`: the writer failed; it is not known how much it took.
 fn play<R: Runner, W: Write>(
     player: Player<R::Table, R>,
     alloc: R::Alloc,
@@ -95,7 +99,7 @@ fn play<R: Runner, W: Write>(
     }
 }
 
-/// Which lines may come.
+/// The section of the next line.
 fn section<R: Runner>(player: &Player<R::Table, R>) -> Section
     ensures { (state : State R.script) → Stands R.script R.table_of R.StandsFor player.now state →
         result ≡ section_of R.script state }
@@ -106,7 +110,11 @@ fn section<R: Runner>(player: &Player<R::Table, R>) -> Section
     }
 }
 
-/// The card with a part more.
+/// Adds a part to the table.
+///
+/// # Errors
+/// - `Line`: the reason to refuse the part.
+/// - `OutOfMemory`: memory ran out.
 fn add<R: Runner>(
     player: Player<R::Table, R>,
     part: R::Part,
@@ -130,7 +138,10 @@ fn add<R: Runner>(
     }
 }
 
-/// The card that runs: at the first run line that which was built.
+/// The card that runs; the first run line makes it from the table.
+///
+/// # Errors
+/// - `AllocError`: memory ran out.
 fn running<R: Runner>(alloc: R::Alloc, player: Player<R::Table, R>) -> Result<R, AllocError>
     ensures { (state : State R.script) → Stands R.script R.table_of R.StandsFor player state →
         IfOk result (λ runner. (card : R.script.Card) × RunsOn R.script state card

@@ -1,4 +1,4 @@
-//! What a line of a script prints.
+//! What a line of a script prints, and its text.
 ghost use Rattle.std.specs.Prelude.{◌≡◌};
 ghost use Rattle.card_trace.specs.PrintedText.{printed_text};
 
@@ -11,16 +11,16 @@ pub enum Printed<A: Allocator> {
     Nothing,
     /// The card was reset.
     Reset,
-    /// A chain is pending at the card, so no operation is run.
+    /// A chain is pending at the card, so the operation did not begin.
     CardBusy,
-    /// The card's end has characters to hand out, and takes none.
+    /// The card refused a character, since it sends next.
     NotListening,
-    /// Characters and an answer, or a table.
+    /// The lines of an operation, of characters handed out, or of a table.
     Lines(Vec<u8, A>),
 }
 
 impl<A: Allocator> Printed<A> {
-    /// Its text: whole lines.
+    /// The text, in whole lines.
     pub fn text(&self) -> &[u8]
         ensures { result.now ≡ printed_text self.now }
     {

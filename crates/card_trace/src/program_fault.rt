@@ -1,4 +1,4 @@
-//! The faults of the program, those of its subcommands among them.
+//! The errors of the program, with their texts.
 use crate::objects_fault::ObjectsFault;
 use crate::play_fault::PlayFault;
 use std::error::Error;
@@ -7,15 +7,15 @@ use std::fmt;
 /// Why the program ends with status 1.
 #[derive(Debug, Drop)]
 pub enum ProgramFault {
-    /// A script came to no end.
+    /// A script was not carried out to its end.
     Play(PlayFault),
     /// Objects were not printed.
     Objects(ObjectsFault),
-    /// The digits of `objects` are no bytes.
+    /// The digits of `objects` are not HEX.
     BadHex,
-    /// The help could not be written.
+    /// The help or the version could not be written.
     Write,
-    /// Memory was wanting.
+    /// Memory ran out.
     OutOfMemory,
 }
 

@@ -1,4 +1,4 @@
-//! What a script is played on, of either kind.
+//! The trait of what carries out a script, of either kind.
 ghost use Rattle.std.specs.Prelude.{◌≡◌, List, ℕ, OnOk, IfOk, IfErr};
 ghost use Rattle.card_trace.specs.LineMeaning.{meaning_of};
 ghost use Rattle.card_trace.specs.PrintedText.{printed_text};
@@ -14,7 +14,7 @@ use crate::script::refusal::Refusal;
 use crate::script::section::Section;
 use std::alloc::{AllocError, Allocator};
 
-/// The card on which run lines are carried out: both ends in a session (`play`), or a card alone
+/// What carries out run lines: a terminal and a card in a session (`play`), or a card alone
 /// (`card`).
 pub trait Runner: Drop {
     /// The allocator.
@@ -29,7 +29,7 @@ pub trait Runner: Drop {
     /// What the lines say and do.
     ghost script: { Script };
 
-    /// What these types stand for.
+    /// What values of these types stand for.
     ghost part_of: { Self.Part → script.Part };
 
     ghost act_of: { Self.Act → script.Act };
@@ -38,10 +38,11 @@ pub trait Runner: Drop {
 
     ghost StandsFor: { Self → script.Card → Type 0 };
 
-    /// Reads a line with this first word, of which this is left.
+    /// Reads a line with this first word; `rest` is what follows it.
     ///
     /// # Errors
-    /// - `Line`: its words, or the first of its fields that is invalid.
+    /// - `Line`: the first reason that holds: an unknown word, a late table line, a wrong number of
+    ///   words, or the first invalid field.
     /// - `OutOfMemory`: memory ran out for a field.
     fn read(
         alloc: Self::Alloc,
@@ -70,7 +71,7 @@ pub trait Runner: Drop {
         ensures refused { IfErr result (λ refusal.
             OnReason refusal (script.Refuses (table_of table.old) (part_of part))) };
 
-    /// The card of a table.
+    /// Makes the card of a table.
     ///
     /// # Errors
     /// - `AllocError`: memory ran out.

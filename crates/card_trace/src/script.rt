@@ -1,4 +1,4 @@
-//! Scripts: their lines, the words of a line, and what a line says.
+//! Scripts: their lines, the words of a line, what a line says, and why a line is refused.
 pub mod card_line;
 pub mod fields;
 pub mod keyword;

@@ -1,4 +1,4 @@
-//! Scripts of `play` and of `card`.
+//! Carries out scripts of `play` and of `card`.
 ghost use Rattle.std.specs.Prelude.{◌<◌, length, OnOk, IfErr, IfSome};
 ghost use Rattle.card_trace.specs.CardScripts.{card_script};
 ghost use Rattle.card_trace.specs.Script.{ScriptWrites};
@@ -13,8 +13,8 @@ use crate::script::reading::SCRIPT_LIMIT;
 use std::alloc::Allocator;
 use std::io::{Read, Write};
 
-/// Carries out a script: builds its card, runs its operations on both ends, and writes what its
-/// lines print. The faults are those of `run_script`.
+/// Carries out a script of `play` with a terminal and a card, and writes what its lines print. The
+/// errors are those of `run_script`.
 pub fn play_lines<A: Allocator + Copy, R: Read, W: Write>(
     alloc: A,
     reader: &mut R,
@@ -30,8 +30,8 @@ pub fn play_lines<A: Allocator + Copy, R: Read, W: Write>(
     run_script::<BothEnds<A>, R, W>(alloc, reader, writer)
 }
 
-/// Carries out a script of the card's end alone, and writes what its lines print. The faults are
-/// those of `run_script`.
+/// Carries out a script of `card` with the card alone, and writes what its lines print. The errors
+/// are those of `run_script`.
 pub fn card_lines<A: Allocator + Copy, R: Read, W: Write>(
     alloc: A,
     reader: &mut R,

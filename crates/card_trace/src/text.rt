@@ -1,4 +1,5 @@
-//! All text that goes to standard output: operations, tables, trees.
+//! All text on standard output: operations, tables and trees. Each function returns `AllocError` if
+//! memory runs out; what it has appended is then unknown.
 ghost use Rattle.std.specs.Prelude.{◌≡◌, ◌++◌, ◌+◌, List, Some, map, codes, OnOk, IfOk};
 ghost use Rattle.hex.specs.Hex.{encode_upper};
 ghost use Rattle.tlv_core.specs.Object.{IsObjectList};
@@ -17,8 +18,8 @@ use std::alloc::{AllocError, Allocator};
 use t0_core::End;
 use tlv_core::{ObjectTag, Objects};
 
-/// The lines of an operation: one for each longest run of characters from one end, `> ` and `< `
-/// before its bytes, and `= ` with status and data. The error is want of memory.
+/// Returns the lines of an operation: each longest run of characters from one end, after `> ` or `<
+/// `; and the status and data, after `= `.
 pub fn operation_text<A: Allocator + Copy, B: Allocator>(
     alloc: A,
     heard: &[(End, u8)],
@@ -32,8 +33,7 @@ pub fn operation_text<A: Allocator + Copy, B: Allocator>(
     Ok(text)
 }
 
-/// The line of characters that a card's end hands out, `<` alone where there are none. The error is
-/// want of memory.
+/// Returns the line of the characters that a card's end handed out; `<` alone if it has none.
 pub fn handed_out_text<A: Allocator + Copy>(
     alloc: A,
     characters: &[u8],
@@ -46,7 +46,7 @@ pub fn handed_out_text<A: Allocator + Copy>(
     Ok(text)
 }
 
-/// Adds the lines of the characters.
+/// Appends the lines of the characters.
 fn push_characters<A: Allocator + Copy>(
     alloc: A,
     text: &mut Vec<u8, A>,
@@ -67,7 +67,7 @@ fn push_characters<A: Allocator + Copy>(
     push_run(alloc, text, from, run.as_slice())
 }
 
-/// Adds the line of a run of characters from one end, where there are any.
+/// Appends the line of a run of characters from one end; nothing if it is empty.
 fn push_run<A: Allocator>(
     alloc: A,
     text: &mut Vec<u8, A>,
@@ -85,7 +85,7 @@ fn push_run<A: Allocator>(
     text.extend_from_slice(b"\n")
 }
 
-/// What stands before the characters of an end.
+/// The sign before the characters of an end.
 fn sign_of(from: End) -> &'static [u8]
     ensures { result.now ≡ sign from }
 {
@@ -95,7 +95,7 @@ fn sign_of(from: End) -> &'static [u8]
     }
 }
 
-/// Adds the line of the answer.
+/// Appends the line of the answer.
 fn push_answer<A: Allocator + Copy, B: Allocator>(
     alloc: A,
     text: &mut Vec<u8, A>,
@@ -110,7 +110,7 @@ fn push_answer<A: Allocator + Copy, B: Allocator>(
     text.extend_from_slice(b"\n")
 }
 
-/// Adds a space and the bytes, where there are any.
+/// Appends a space and the bytes; nothing for no bytes.
 fn push_spaced<A: Allocator + Copy>(
     alloc: A,
     text: &mut Vec<u8, A>,
@@ -125,7 +125,7 @@ fn push_spaced<A: Allocator + Copy>(
     push_hex(alloc, text, bytes)
 }
 
-/// The applications of a card, each with its entries. The error is want of memory.
+/// Returns the lines of a card's applications, each with its entries.
 pub fn table_text<A: Allocator + Copy, B: Allocator>(
     alloc: A,
     card: &ObjectCard<B>,
@@ -139,7 +139,7 @@ pub fn table_text<A: Allocator + Copy, B: Allocator>(
     Ok(text)
 }
 
-/// Adds the lines of an application.
+/// Appends the lines of an application.
 fn push_application<A: Allocator + Copy, B: Allocator>(
     alloc: A,
     text: &mut Vec<u8, A>,
@@ -161,7 +161,7 @@ fn push_application<A: Allocator + Copy, B: Allocator>(
     }
 }
 
-/// Adds the lines of entries of an application.
+/// Appends the lines of an application's entries.
 fn push_entries<A: Allocator + Copy, B: Allocator>(
     alloc: A,
     text: &mut Vec<u8, A>,
@@ -178,7 +178,7 @@ fn push_entries<A: Allocator + Copy, B: Allocator>(
     Ok(())
 }
 
-/// Adds the line of an entry.
+/// Appends the line of an entry.
 fn push_entry<A: Allocator + Copy>(
     alloc: A,
     text: &mut Vec<u8, A>,
@@ -197,14 +197,14 @@ fn push_entry<A: Allocator + Copy>(
     text.extend_from_slice(b"\n")
 }
 
-/// Adds what stands behind a locked entry, where it is one.
+/// Appends the mark of a locked entry; nothing for another.
 fn push_mark<A: Allocator>(text: &mut Vec<u8, A>, locked: bool) -> Result<(), AllocError>
     ensures { OnOk result (text.new.items ≡ text.old.items ++ mark locked) }
 {
     text.extend_from_slice(if locked { b" locked" } else { b"" })
 }
 
-/// Adds the lines of objects so many levels below the first.
+/// Appends the lines of objects that are `below` levels below the first.
 pub fn push_objects<A: Allocator + Copy>(
     alloc: A,
     text: &mut Vec<u8, A>,
@@ -235,7 +235,7 @@ pub fn push_objects<A: Allocator + Copy>(
     Ok(())
 }
 
-/// Adds two spaces for each level below the first.
+/// Appends two spaces for each level below the first.
 fn push_indent<A: Allocator>(text: &mut Vec<u8, A>, below: usize) -> Result<(), AllocError>
     ensures { OnOk result (text.new.items ≡ text.old.items ++ indent below) }
 {
@@ -245,7 +245,7 @@ fn push_indent<A: Allocator>(text: &mut Vec<u8, A>, below: usize) -> Result<(), 
     Ok(())
 }
 
-/// Adds bytes as hexadecimal digits in upper case.
+/// Appends bytes as hexadecimal digits in upper case.
 fn push_hex<A: Allocator>(alloc: A, text: &mut Vec<u8, A>, bytes: &[u8]) -> Result<(), AllocError>
     ensures { OnOk result (text.new.items ≡ text.old.items ++ encode_upper bytes.now) }
 {
@@ -253,7 +253,7 @@ fn push_hex<A: Allocator>(alloc: A, text: &mut Vec<u8, A>, bytes: &[u8]) -> Resu
     text.extend_from_slice(digits.as_bytes())
 }
 
-/// Adds a value: its bytes as digits, or `-` where there are none.
+/// Appends the digits of a value, or `-` if it is empty.
 fn push_value<A: Allocator>(alloc: A, text: &mut Vec<u8, A>, value: &[u8]) -> Result<(), AllocError>
     ensures { OnOk result (text.new.items ≡ text.old.items ++ value_text value.now) }
 {

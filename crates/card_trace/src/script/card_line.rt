@@ -1,4 +1,4 @@
-//! The lines of `card`.
+//! The lines of a script of `card`.
 ghost use Rattle.std.specs.Prelude.{ℕ, List, Option, IfOk, IfErr};
 ghost use Rattle.card_trace.specs.ScriptReasons.{OnReason};
 ghost use Rattle.card_trace.specs.ScriptFields.{IsHexText};
@@ -19,28 +19,29 @@ use t0_core::Plan;
 /// What a table line of `card` says.
 #[derive(Drop)]
 pub enum CardPart<A: Allocator = Global> {
-    /// Adds to the table.
+    /// An application or an entry of it.
     Adds(TableLine<A>),
-    /// The characters of the answer to reset, which are not read yet.
+    /// The characters of an answer to reset, which are not checked yet.
     Atr(Bytes<A>),
-    /// A plan for the TPDUs of the script, in turn.
+    /// A plan. The script's TPDUs take its plans in turn.
     Plan(Plan<A>),
 }
 
 /// What a run line of `card` says.
 #[derive(Drop)]
 pub enum CardAct<A: Allocator = Global> {
-    /// The card end takes these characters.
+    /// Sends these characters to the card.
     Take(Bytes<A>),
-    /// The card end hands out characters until it listens, at most so many where it is said.
+    /// Prints the characters that the card hands out until it listens, at most this many, if given.
     HandOut(Option<u16>),
-    /// Resets the card end.
+    /// Resets the card.
     Reset,
     /// Prints the table.
     Table,
 }
 
-/// The part of the card with this first word, of which this is left.
+/// Reads a table line with this first word; `rest` is what follows it. The errors are those of
+/// `Runner::read`.
 pub fn read_part<A: Allocator + Copy>(
     alloc: A,
     keyword: Keyword,
@@ -61,7 +62,8 @@ pub fn read_part<A: Allocator + Copy>(
     }
 }
 
-/// What a run line of `card` with this first word says, of which this is left.
+/// Reads a run line with this first word; `rest` is what follows it. The errors are those of
+/// `Runner::read`.
 pub fn read_act<A: Allocator>(
     alloc: A,
     keyword: Keyword,
@@ -86,8 +88,11 @@ pub fn read_act<A: Allocator>(
     }
 }
 
-/// The characters of the HEX that is left of a line; else the refusal of the number of words, or of
-/// what is no HEX, or for want of memory.
+/// Reads the one field HEX.
+///
+/// # Errors
+/// - `WrongWordCount`, `BadHex`: there is not one word, or it is not HEX.
+/// - `OutOfMemory`: memory ran out.
 fn read_characters<A: Allocator>(alloc: A, rest: &[u8]) -> Result<Bytes<A>, Refusal>
     ensures ok { IfOk result (λ bytes. OneField (words_in rest.now)
         (λ text. IsHexText text bytes)) }
@@ -98,7 +103,10 @@ fn read_characters<A: Allocator>(alloc: A, rest: &[u8]) -> Result<Bytes<A>, Refu
     Ok(Bytes::new(bytes))
 }
 
-/// How many characters are handed out at most, where that is left of a line.
+/// Reads the N of `< N`; `None` if there is no word.
+///
+/// # Errors
+/// - `WrongWordCount`, `BadNumber`: there is more than one word, or it is no number of 1 to 65,535.
 fn read_most(rest: &[u8]) -> Result<Option<u16>, Reason>
     ensures ok { IfOk result (λ most. IsMostText (words_in rest.now) most) }
     ensures refused { IfErr result (λ _. (most : Option ℕ) →

@@ -1,5 +1,5 @@
-//! The fields of a line: hexadecimal text, tags, identifiers, values, plans, numbers and commands.
-//! What owns memory, or is decoded from HEX, may be refused as `OutOfMemory` besides.
+//! The fields of a line: HEX, tags, identifiers, values, plans, numbers and commands. A function
+//! with an `alloc` also returns `OutOfMemory` if memory runs out.
 ghost use Rattle.std.specs.Prelude.{◌≡◌, ℕ, List, IfOk, IfErr, MatchOption, MatchResult};
 ghost use Rattle.t0_core.specs.declared.plan.Step.{Step};
 ghost use Rattle.t0_core.specs.Plan.{Course};
@@ -21,8 +21,8 @@ use std::alloc::{AllocError, Allocator};
 use t0_core::{Plan, Step};
 use tlv_core::{ObjectTag, Tag};
 
-/// The bytes of HEX: an even number of hexadecimal digits, at least two, in either case. `BadHex`
-/// for every other text.
+/// Reads HEX: an even number of hexadecimal digits, at least two, in either case. Any other text is
+/// `BadHex`.
 pub fn read_hex<A: Allocator>(alloc: A, text: &[u8]) -> Result<Vec<u8, A>, Refusal>
     ensures ok { IfOk result (λ bytes. IsHexText text.now bytes.items) }
     ensures refused { IfErr result (λ refusal. OnReason refusal (λ _.
@@ -38,8 +38,8 @@ pub fn read_hex<A: Allocator>(alloc: A, text: &[u8]) -> Result<Vec<u8, A>, Refus
     }
 }
 
-/// The application identifier of HEX. `BadHex`, and then `BadAid` where there are not 5 to 16
-/// bytes.
+/// Reads an application identifier in HEX. A text that is not HEX is `BadHex`; one with fewer than
+/// 5 or more than 16 bytes is `BadAid`.
 pub fn read_aid<A: Allocator>(alloc: A, text: &[u8]) -> Result<Aid, Refusal>
     ensures ok { IfOk result (λ aid. IsAidText text.now aid) }
     ensures refused { IfErr result (λ refusal. OnReason refusal (λ _.
@@ -50,7 +50,8 @@ pub fn read_aid<A: Allocator>(alloc: A, text: &[u8]) -> Result<Aid, Refusal>
     Ok(aid)
 }
 
-/// The tag of TAG. `BadHex`, and then `BadTag` where the bytes are no tag that can be addressed.
+/// Reads TAG. A text that is not HEX is `BadHex`; HEX that is no tag that a command can address is
+/// `BadTag`.
 pub fn read_tag<A: Allocator>(alloc: A, text: &[u8]) -> Result<ObjectTag, Refusal>
     ensures ok { IfOk result (λ tag. IsTagText text.now tag) }
     ensures refused { IfErr result (λ refusal. OnReason refusal (λ _.
@@ -61,7 +62,7 @@ pub fn read_tag<A: Allocator>(alloc: A, text: &[u8]) -> Result<ObjectTag, Refusa
     Ok(tag)
 }
 
-/// The tag that can be addressed and that the bytes are, all of them; `None` where they are none.
+/// The tag that all of these bytes are; `None` unless they are one that a command can address.
 fn object_tag(bytes: &[u8]) -> Option<ObjectTag>
     ensures { MatchOption result (¬ IsAddressable bytes.now)
         (λ tag. (tag ≡ bytes.now) × IsAddressable bytes.now) }
@@ -74,8 +75,8 @@ fn object_tag(bytes: &[u8]) -> Option<ObjectTag>
     }
 }
 
-/// The bytes of VALUE: `-` for none, HEX, or `HH*N` for the byte HH N times. `BadHex` for every
-/// other text.
+/// Reads VALUE: `-` for no bytes, HEX, or `HH*N` for N times the byte HH. Any other text is
+/// `BadHex`.
 pub fn read_value<A: Allocator>(alloc: A, text: &[u8]) -> Result<Vec<u8, A>, Refusal>
     ensures ok { IfOk result (λ value. IsValueText text.now value.items) }
     ensures refused { IfErr result (λ refusal. OnReason refusal (λ _.
@@ -88,7 +89,7 @@ pub fn read_value<A: Allocator>(alloc: A, text: &[u8]) -> Result<Vec<u8, A>, Ref
     }
 }
 
-/// The byte of two hexadecimal digits so many times. `BadHex` for other texts.
+/// The byte of two hexadecimal digits, this many times. Any other text is `BadHex`.
 fn repeated<A: Allocator>(alloc: A, digits: &[u8], times: &[u8]) -> Result<Vec<u8, A>, Refusal>
     ensures ok { IfOk result (λ value. IsRepeatedText digits.now times.now value.items) }
     ensures refused { IfErr result (λ refusal. OnReason refusal (λ _.
@@ -102,7 +103,7 @@ fn repeated<A: Allocator>(alloc: A, digits: &[u8], times: &[u8]) -> Result<Vec<u
     Ok(value)
 }
 
-/// The number of a decimal text: 1 to 65,535, without a leading zero; `None` for every other text.
+/// Reads a decimal number of 1 to 65,535, without a leading zero; `None` for any other text.
 pub fn read_number(text: &[u8]) -> Option<u16>
     ensures { MatchOption result ((n : ℕ) → ¬ IsNumberText text.now n)
         (λ n. IsNumberText text.now n) }
@@ -113,8 +114,8 @@ pub fn read_number(text: &[u8]) -> Option<u16>
     }
 }
 
-/// The plan of STEPS and CUT: `-` for no steps, or the letters `n`, `o` and `a`; and a number of 1
-/// to 256. `BadPlan` for every other text.
+/// Reads STEPS and CUT: `-` or the letters `n`, `o` and `a`; and a number of 1 to 256. Any other
+/// text is `BadPlan`.
 pub fn read_plan<A: Allocator>(alloc: A, steps: &[u8], cut: &[u8]) -> Result<Plan<A>, Refusal>
     ensures ok { IfOk result (λ plan. IsPlanText steps.now cut.now plan) }
     ensures refused { IfErr result (λ refusal. OnReason refusal (λ _.
@@ -126,7 +127,7 @@ pub fn read_plan<A: Allocator>(alloc: A, steps: &[u8], cut: &[u8]) -> Result<Pla
     Ok(plan)
 }
 
-/// The steps of STEPS; `BadPlan` for every other text.
+/// Reads STEPS. Any other text is `BadPlan`.
 fn read_steps<A: Allocator>(alloc: A, text: &[u8]) -> Result<Vec<Step, A>, Refusal>
     ensures ok { IfOk result (λ steps. IsStepsText text.now steps.items) }
     ensures refused { IfErr result (λ refusal. OnReason refusal (λ _.
@@ -148,9 +149,8 @@ fn read_steps<A: Allocator>(alloc: A, text: &[u8]) -> Result<Vec<Step, A>, Refus
     Ok(steps)
 }
 
-/// The bytes of HEX that are a command, which is agreed with a card of data objects. `BadHex`, then
-/// `CommandTooShort`, `BadCommandLength` and `InvalidIns` as of a command that is read, and
-/// `BadCommandLength` for one that is not agreed.
+/// Reads a command in HEX, which must be agreed with a card of data objects. A text that is not HEX
+/// is `BadHex`; the other errors are those of `agreed_command`.
 pub fn read_command<A: Allocator>(alloc: A, text: &[u8]) -> Result<Bytes<A>, Refusal>
     ensures ok { IfOk result (λ bytes. IsCommandText text.now bytes) }
     ensures refused { IfErr result (λ refusal. OnReason refusal (λ _.
@@ -161,7 +161,11 @@ pub fn read_command<A: Allocator>(alloc: A, text: &[u8]) -> Result<Bytes<A>, Ref
     Ok(Bytes::new(bytes))
 }
 
-/// The command that these bytes are, which is agreed; else why there is none.
+/// Reads a command that is agreed with a card of data objects.
+///
+/// # Errors
+/// - `CommandTooShort`, `BadCommandLength`, `InvalidIns`: the bytes are no command.
+/// - `BadCommandLength`: the command is not agreed.
 pub fn agreed_command(bytes: &[u8]) -> Result<Command<'_>, Reason>
     ensures agreed { IfOk result (λ c. IsCommand c × (bytes.now ≡ command_bytes c)
         × IsAgreed MayReceive MaySend c) }

@@ -1,9 +1,9 @@
-//! The words that a line may begin with.
+//! The words that a line can start with.
 ghost use Rattle.std.specs.Prelude.{◌≡◌, ◌≢◌, MatchOption};
 ghost use Rattle.card_trace.specs.declared.script.keyword.Keyword.{Keyword};
 ghost use Rattle.card_trace.specs.ScriptKeywords.{keyword_text};
 
-/// The words of table lines.
+/// The first words of table lines that both subcommands have.
 #[derive(Clone, Copy, Debug, PartialEq, Eq)]
 pub enum TableWord {
     App,
@@ -11,7 +11,7 @@ pub enum TableWord {
     Locked,
 }
 
-/// The first words of lines, those of both programs.
+/// The first words of lines, of both subcommands.
 #[derive(Clone, Copy, Debug, PartialEq, Eq)]
 pub enum Keyword {
     Adds(TableWord),
@@ -28,7 +28,7 @@ pub enum Keyword {
 }
 
 impl Keyword {
-    /// The keyword that is written so; `None` for every other word.
+    /// The keyword with this text; `None` for any other word.
     pub fn of(word: &[u8]) -> Option<Keyword>
         ensures { MatchOption result ((keyword : Keyword) → word.now ≢ keyword_text keyword)
             (λ keyword. word.now ≡ keyword_text keyword) }

@@ -1,4 +1,4 @@
-//! A line of a script.
+//! Reads a line of a script.
 ghost use Rattle.std.specs.Prelude.{◌≡◌, [], IfOk, IfErr, MatchOption};
 ghost use Rattle.card_trace.specs.LineMeaning.{meaning_of};
 ghost use Rattle.card_trace.specs.Script.{Says, SaysNothing};
@@ -17,15 +17,16 @@ use crate::script::words::first_of_line;
 pub enum Line<P, A> {
     /// A table line: a part of the card.
     Builds(P),
-    /// A run line: what is done with the card.
+    /// A run line: what to do with the card.
     Runs(A),
 }
 
-/// What a line says; `None` for one that is passed over.
+/// Reads a line; `None` if it has no words and is passed over.
 ///
-/// The first reason that holds is given: an unknown word, a table line in the run section, a wrong
-/// number of words, and then those of the fields from left to right. `OutOfMemory` where memory is
-/// wanting for a field.
+/// # Errors
+/// - `Line`: the first reason that holds: an unknown word, a table line in the run section, a wrong
+///   number of words, or the first invalid field from the left.
+/// - `OutOfMemory`: memory ran out for a field.
 pub fn read_line<R: Runner>(
     alloc: R::Alloc,
     section: Section,

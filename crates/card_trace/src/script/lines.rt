@@ -1,4 +1,4 @@
-//! The lines of a script.
+//! Cuts a script into lines.
 ghost use Rattle.std.specs.Prelude.{◌≡◌};
 ghost use Rattle.std.specs.Str.Lines.{lines, strip_carriage_return};
 ghost use Rattle.std.specs.Iterator.{YieldsFirstBy, item_count};
@@ -6,8 +6,8 @@ ghost use Rattle.std.specs.Iterator.{YieldsFirstBy, item_count};
 use crate::script::places::place_of;
 use std::marker::Model;
 
-/// The lines of a script that are still to come: cut at LF, which the last may lack, and without a
-/// CR that stands right before an LF. Contracts see their list.
+/// The lines of a script that are left. A line ends at LF, which the last may lack, and a CR right
+/// before LF is not part of it. Contracts see the list of these lines.
 #[derive(Debug, Drop)]
 pub struct Lines<'a> {
     rest: &'a [u8],
@@ -57,7 +57,7 @@ impl<'a> Iterator for Lines<'a> {
     }
 }
 
-/// The line without the CR at its end, if it has one.
+/// The line without a CR at its end.
 fn without_return(line: &[u8]) -> &[u8]
     ensures { result.now ≡ strip_carriage_return line.now }
 {

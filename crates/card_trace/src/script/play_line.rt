@@ -1,4 +1,4 @@
-//! The run lines of `play`.
+//! The run lines of a script of `play`.
 ghost use Rattle.std.specs.Prelude.{IfOk, IfErr};
 ghost use Rattle.object_card.specs.OneStep.{Operation};
 ghost use Rattle.card_terminal.specs.Operations.{operation_of};
@@ -16,14 +16,14 @@ use card_terminal::{Bytes, Op, PUT_LIMIT};
 use std::alloc::{Allocator, Global};
 use t0_core::Plan;
 
-/// What a run line of a script of `play` says.
+/// What a run line of `play` says.
 #[derive(Drop)]
 pub enum PlayAct<A: Allocator = Global> {
     /// A plan for the next operation.
     Plan(Plan<A>),
     /// An operation.
     Run(Op<A>),
-    /// The bytes of a command that is transmitted alone.
+    /// The bytes of one command to send.
     Send(Bytes<A>),
     /// Resets the card.
     Reset,
@@ -31,7 +31,8 @@ pub enum PlayAct<A: Allocator = Global> {
     Table,
 }
 
-/// What a run line of `play` with this first word says, of which this is left.
+/// Reads a run line with this first word; `rest` is what follows it. The errors are those of
+/// `Runner::read`.
 pub fn read_act<A: Allocator + Copy>(
     alloc: A,
     keyword: Keyword,
@@ -59,7 +60,8 @@ pub fn read_act<A: Allocator + Copy>(
     }
 }
 
-/// The operation with this first word, of which this is left.
+/// Reads an operation with this first word; `rest` is what follows it. The errors are those of
+/// `Runner::read`.
 fn read_operation<A: Allocator + Copy>(
     alloc: A,
     keyword: Keyword,

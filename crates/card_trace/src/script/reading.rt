@@ -1,4 +1,4 @@
-//! The whole script, from a reader.
+//! Reads a whole script.
 ghost use Rattle.std.specs.Prelude.{◌≡◌, ◌<◌, ◌≤◌, length, IfOk, IfErr, IfSome, IsErrOf};
 ghost use Rattle.card_trace.specs.ScriptReading.{IsReadingFault};
 
@@ -6,16 +6,18 @@ use crate::play_fault::PlayFault;
 use std::alloc::Allocator;
 use std::io::Read;
 
-/// The most bytes of a script (this project's profile).
+/// The most bytes of a script (profile).
 pub const SCRIPT_LIMIT: usize = 1_048_576;
 
-/// How many bytes are asked of the reader at once.
+/// The most bytes of one read.
 const CHUNK: usize = 4096;
 
-/// All bytes of the reader.
+/// Reads all bytes of the reader.
 ///
-/// `Read` at its first error, `InputTooLong` where it gives more than a script may have, also where
-/// it never ends, and `OutOfMemory`.
+/// # Errors
+/// - `Read`: the reader failed.
+/// - `InputTooLong`: it has more than `SCRIPT_LIMIT` bytes, or has no end.
+/// - `OutOfMemory`: memory ran out.
 pub fn read_script<A: Allocator, R: Read>(alloc: A, reader: &mut R) -> Result<Vec<u8, A>, PlayFault>
     ensures whole { IfOk result (λ script.
         IfSome (R.remaining reader.old) (λ bytes. script.items ≡ bytes)) }

@@ -7,41 +7,41 @@ use std::fmt;
 /// Why a line of a script is refused.
 #[derive(Clone, Copy, Debug, PartialEq, Eq, Hash)]
 pub enum Reason {
-    /// The first word is none of the program's.
+    /// No line of the subcommand starts with this word.
     UnknownWord,
-    /// A table line stands behind a run line.
+    /// A table line follows a run line.
     LateTableLine,
-    /// There are more or fewer words than the line has.
+    /// The line has more or fewer words than its form.
     WrongWordCount,
-    /// A field is no hexadecimal text, or no value.
+    /// A HEX or VALUE has another form.
     BadHex,
-    /// A field is hexadecimal text, and no tag that can be addressed.
+    /// A TAG is HEX, but no tag that a command can address.
     BadTag,
-    /// A field is no list of steps, or no cut.
+    /// A STEPS or CUT has another form.
     BadPlan,
-    /// A field is no number of 1 to 65,535.
+    /// An N is no number of 1 to 65,535.
     BadNumber,
-    /// An application identifier has not 5 to 16 bytes.
+    /// An application identifier has fewer than 5 or more than 16 bytes.
     BadAid,
-    /// The bytes are no answer to reset, for this fault.
+    /// The bytes are no answer to reset; this is their first fault.
     BadAtr(AtrFault),
-    /// A value has more bytes than a put, or an entry of the table, may have.
+    /// A value is longer than a put, or an entry of the table, may be.
     ValueTooLong,
     /// A command has fewer than four bytes.
     CommandTooShort,
-    /// A command's bytes fit none of the four cases, or not the one that goes with its INS.
+    /// A command's bytes fit none of the four cases, or a case that does not go with its INS.
     BadCommandLength,
     /// The INS of a command is `6X` or `9X`.
     InvalidIns,
-    /// There is an answer to reset before it.
+    /// There is an answer to reset already.
     AtrTwice,
-    /// The identifier is that of an application before it.
+    /// There is an application with this identifier already.
     AidTwice,
     /// There are as many applications as a card may have.
     TooManyApps,
-    /// There is no application to hold the entry.
+    /// No application precedes the entry.
     NoApp,
-    /// The tag is that of a constructed object, and the value is no list of objects.
+    /// The tag is that of a constructed object, but the value is no list of objects.
     NotObjects,
     /// The application has as many entries as it may have.
     TableFull,

@@ -1,4 +1,4 @@
-//! Why a line is not carried out: a reason to refuse it, or want of memory.
+//! Why a line is not carried out: a reason to refuse it, or that memory ran out.
 use crate::play_fault::PlayFault;
 use crate::script::reason::Reason;
 use object_card::BuilderFault;
@@ -9,7 +9,7 @@ use std::alloc::AllocError;
 pub enum Refusal {
     /// The line is refused for this reason.
     Line(Reason),
-    /// Memory is wanting.
+    /// Memory ran out.
     OutOfMemory,
 }
 
@@ -17,7 +17,7 @@ impl Refusal {
     ghost use Rattle.std.specs.Prelude.{◌≡◌};
     ghost use Rattle.card_trace.specs.ScriptReasons.{fault_at};
 
-    /// The fault of a program at this line, counted from 1.
+    /// The program's fault at this line, counted from 1.
     pub fn at(self, line: usize) -> PlayFault
         ensures { result ≡ fault_at line self }
     {

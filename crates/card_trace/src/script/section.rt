@@ -1,19 +1,19 @@
-//! The two sections of a script: its table lines, and the lines behind them.
+//! The two sections of a script: its table lines, and the lines after them.
 ghost use Rattle.std.specs.Prelude.{◌≡◌, ◌↔◌, IsOk, IfErr};
 
 use crate::script::reason::Reason;
 
-/// Where a line stands in a script.
+/// The section that a line is in.
 #[derive(Clone, Copy, Debug, PartialEq, Eq)]
 pub enum Section {
-    /// Before the first run line: table lines may still come.
+    /// Before the first run line: table lines may follow.
     Building,
-    /// Behind the first run line.
+    /// After the first run line.
     Running,
 }
 
 impl Section {
-    /// Nothing where a table line may come; else `LateTableLine`.
+    /// Accepts a table line in this section. After the first run line it is `LateTableLine`.
     pub fn takes_table_line(self) -> Result<(), Reason>
         ensures ok { IsOk result ↔ (self ≡ Section.Building) }
         ensures err { IfErr result (λ reason. reason ≡ Reason.LateTableLine) }

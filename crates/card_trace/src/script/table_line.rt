@@ -1,4 +1,4 @@
-//! The lines that build the table of a card.
+//! The table lines that `play` and `card` both have.
 ghost use Rattle.std.specs.Prelude.{◌≡◌, ℕ, List, OnOk, IfOk, IfErr};
 ghost use Rattle.card_trace.specs.ScriptReasons.{OnReason};
 ghost use Rattle.card_trace.specs.ScriptWords.{words_in};
@@ -25,8 +25,11 @@ pub enum TableLine<A: Allocator = Global> {
     Locked(ObjectTag, Bytes<A>),
 }
 
-/// The table line with this first word, of which this is left; else the refusal of its words, of
-/// the first field that is none, or for want of memory.
+/// Reads a table line with this first word; `rest` is what follows it.
+///
+/// # Errors
+/// - `Line`: the number of words is wrong, or a field is invalid; the first that holds.
+/// - `OutOfMemory`: memory ran out.
 pub fn read_table_line<A: Allocator + Copy>(
     alloc: A,
     word: TableWord,
@@ -54,8 +57,7 @@ pub fn read_table_line<A: Allocator + Copy>(
     }
 }
 
-/// The TAG and the VALUE that are left of a line; else the refusal of their number, of the first
-/// that is none, or for want of memory.
+/// Reads the fields TAG and VALUE. The errors are those of `read_table_line`.
 pub fn read_entry<A: Allocator + Copy>(
     alloc: A,
     rest: &[u8],
@@ -70,8 +72,11 @@ pub fn read_entry<A: Allocator + Copy>(
     Ok((tag, Bytes::new(value)))
 }
 
-/// Adds what a table line says to the card that is built. What the builder refuses is refused for
-/// its reason, and for want of memory.
+/// Adds what a table line says to the card.
+///
+/// # Errors
+/// - `Line`: the builder refuses it.
+/// - `OutOfMemory`: memory ran out.
 pub fn add<A: Allocator + Copy>(
     builder: &mut CardBuilder<A>,
     addition: TableLine<A>,

@@ -5,7 +5,7 @@ use Rattle.card_trace.proofs.text.+push_objects.Given as goal
 abbrev pub decreases-push_objects : goal.decreases-push_objects
 decreases-push_objects g l = 17 - l.objects.level
 
--- what is written and what the rest of the list spells
+-- the written text, and what the rest of the list spells
 abbrev pub invariant-loop-object : goal.invariant-loop-object
 invariant-loop-object g l =
     (goal.iterator-loop-object g).can_next l.object-iterator ×

@@ -3,7 +3,7 @@ use Rattle.object_card.specs.Tables.{entries_in}
 use Rattle.card_trace.specs.MarkedLines.{marked_lines}
 use Rattle.card_trace.proofs.text.push_entries.Given as goal
 
--- what is written and what is to be written are the whole
+-- the written text and the lines that are left make the whole text
 abbrev pub invariant-loop-tag : goal.invariant-loop-tag
 invariant-loop-tag g l =
     (goal.iterator-loop-tag g).can_next l.tag-iterator ×

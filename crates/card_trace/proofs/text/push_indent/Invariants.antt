@@ -2,6 +2,6 @@ use Rattle.std.proofs.Common.{◌≡◌, ◌++◌}
 use Rattle.card_trace.specs.ForestText.{indent}
 use Rattle.card_trace.proofs.text.push_indent.Given as goal
 
--- so many levels are written
+-- the first `_level` levels are written
 abbrev pub invariant-loop-level : goal.invariant-loop-level
 invariant-loop-level g l = l.text.items ≡ l.fn.text.items ++ indent l._level

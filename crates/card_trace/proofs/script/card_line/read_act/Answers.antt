@@ -1,4 +1,4 @@
--- A run line is its keyword and its fields.
+-- A run line consists of its keyword and its fields.
 use Rattle.std.proofs.Common.{ℕ, List, subst}
 use Rattle.card_trace.specs.declared.script.reason.Reason.{Reason}
 use Rattle.card_trace.specs.ScriptWords.{words_in}

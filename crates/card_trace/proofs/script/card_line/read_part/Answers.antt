@@ -1,4 +1,4 @@
--- A table line is its keyword and its fields.
+-- A table line consists of its keyword and its fields.
 use Rattle.std.proofs.Common.{ℕ, List, subst}
 use Rattle.t0_core.specs.Plan.{Course}
 use Rattle.card_trace.specs.declared.script.reason.Reason.{Reason}

@@ -1,4 +1,4 @@
--- The tag at the front is all of the bytes.
+-- The tag at the front must be all of the bytes.
 use Rattle.std.proofs.Common.{sym, ap, ◌∙◌, true≢false}
 use Rattle.std.specs.Prelude.{is_some}
 use Rattle.card_trace.proofs.ScriptFieldLemmas.{named_starts, whole_tag, named_tag, was_ok}

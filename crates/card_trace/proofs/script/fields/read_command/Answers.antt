@@ -1,4 +1,4 @@
--- The HEX of a command is HEX.
+-- The text of a command is HEX.
 use Rattle.std.proofs.Common.{List, ℕ}
 use Rattle.card_trace.specs.declared.script.reason.Reason.{Reason}
 use Rattle.card_trace.specs.ScriptFields.{IsCommandText, IsHexText}

@@ -1,4 +1,4 @@
--- What is no text is no number.
+-- Bytes that are not UTF-8 are no number.
 use Rattle.std.proofs.Common.{sym, ◌∙◌}
 use Rattle.card_trace.proofs.ScriptFieldLemmas.{number_is_utf8, was_err}
 use Rattle.card_trace.proofs.script.fields.read_number.Goals as goal

@@ -1,4 +1,4 @@
--- Another letter is of no step.
+-- Any other letter is no step.
 use Rattle.std.proofs.Common.{sym, ◌∙◌, arith}
 use Rattle.card_trace.proofs.ScriptFieldLemmas.{differs, no_steps}
 use Rattle.card_trace.proofs.script.fields.read_steps.Goals as goal

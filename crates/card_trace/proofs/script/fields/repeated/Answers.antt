@@ -1,4 +1,4 @@
--- What does not decode into one byte is no byte.
+-- Digits that do not decode into one byte are no HH.
 use Rattle.std.proofs.Common.{◌∷◌, [], ◌∙◌}
 use Rattle.card_trace.proofs.ScriptFieldLemmas.{sized_of}
 use Rattle.card_trace.proofs.script.fields.repeated.Goals as goal

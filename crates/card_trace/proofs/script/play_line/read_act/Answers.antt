@@ -1,4 +1,4 @@
--- A line of a command has the command's field alone.
+-- A line `send` has the command as its one field.
 use Rattle.std.proofs.Common.{◌≡◌, ◌∙◌, ℕ, List, [], ◌∷◌, sym, subst}
 use Rattle.card_trace.specs.declared.script.reason.Reason.{Reason}
 use Rattle.card_trace.specs.ScriptWords.{words_in}

@@ -1,4 +1,4 @@
--- A put has the fields of an entry, whose value is not too long.
+-- A put has the fields of an entry, and its value keeps to the limit.
 use Rattle.std.proofs.Common.{ℕ, List, length, arith, ap, subst, ◌∙◌}
 use Rattle.object_card.specs.OneStep.{Operation}
 use Rattle.card_trace.specs.declared.script.reason.Reason.{Reason}

@@ -1,4 +1,4 @@
--- What stands before the first space is a word, and the others are behind it.
+-- The text before the first space is a word, and the other words follow it.
 use Rattle.std.proofs.Common.{◌≢◌, ◌+◌, ◌∷◌, length, take, arith, sym, ap, ◌∙◌}
 use Rattle.std.proofs.lemmas.Bool.{eqb-false}
 use Rattle.card_trace.specs.ScriptWords.{words_in}

@@ -1,4 +1,4 @@
--- The line before the first LF, and the others behind it.
+-- The line before the first LF, and the other lines after it.
 use Rattle.std.proofs.Common.{◌≢◌, ◌+◌, ◌∷◌, length, drop, arith, sym, ap, ◌∙◌}
 use Rattle.std.specs.Str.Lines.{lines}
 use Rattle.std.proofs.lemmas.Bool.{eqb-false}

@@ -4,16 +4,16 @@
 pub const VERSION: &str = "0.2.0";
 
 /// What the program does.
-pub const PROGRAM: &str = "A smart card and a terminal in dialogue over T=0, and the trace of it";
+pub const PROGRAM: &str = "Plays scripts of a terminal and a smart card that talk T=0";
 
 /// The text after the list of subcommands.
 pub const PROGRAM_EXAMPLE: &str = "\
-A script is lines of words on standard input; `card_trace play --help` and
-`card_trace card --help` list them.
+A script is read from standard input; `card_trace play --help` and
+`card_trace card --help` list its lines.
 
-A fault is told on standard error, in one line. The exit status is 0 where all
-was done, whatever the card answered, 1 after a fault, and 2 where the words of
-the command line are refused.
+A fault is printed on standard error, in one line. The exit status is 0 after
+success, whatever the card answered, 1 after a fault, and 2 if the words of the
+command line are refused.
 
 Example:
 
@@ -25,42 +25,43 @@ pub const PLAY: &str = "Runs a script of operations, and prints characters and a
 
 /// The lines of a script of `play`, and what the program prints.
 pub const PLAY_SCRIPT: &str = "\
-The script stands on standard input. Its first lines say what the card holds:
+The script is read from standard input. Its first lines say what the card holds:
 
   app HEX            an application with this identifier, of 5 to 16 bytes
   object TAG VALUE   a data object of the application above
-  locked TAG VALUE   the same, and no command changes it
+  locked TAG VALUE   the same, but no command changes it
 
-The lines behind them are carried out in order:
+The lines after them are carried out in order:
 
   select HEX         selects the application
   get TAG            reads a data object
   put TAG VALUE      stores a data object
   send HEX           sends one command, of the case that goes with its INS
-  plan STEPS CUT     how the card is to answer one TPDU of the next operation
+  plan STEPS CUT     how the card answers one TPDU of the next operation
   reset              resets the card
   table              prints what the card holds
 
-HEX is one or more pairs of hexadecimal digits. TAG is one byte, 40 to FE but
-none of 5F, 7F, 9F, BF and DF, or two bytes: one of these or FF, then 01 to 7F.
-VALUE is HEX, `-` for no bytes, or HH*N for N times the byte HH, 1 to 65,535.
-STEPS is `-` or the letters n (a NULL), o (one byte) and a (all bytes that are
-left); CUT, 1 to 256, is the most that the card announces at a time. The first
-word of a line and STEPS are in lower case, and digits in either case. Words
-stand between spaces, and a tab is no space. Empty lines, and lines that start
-with #, are passed over.
+HEX is one or more pairs of hexadecimal digits. TAG is one byte, 40 to FE except
+5F, 7F, 9F, BF and DF, or two bytes: one of these or FF, then 01 to 7F. VALUE is
+HEX, `-` for no bytes, or HH*N for N times the byte HH, where N is 1 to 65,535.
+STEPS is `-` for none, or letters: n (a NULL), o (one byte), a (all bytes that
+are left). CUT, 1 to 256, is the most bytes that the card announces at a time.
+The first word of a line and STEPS are in lower case, digits in either case.
+Words are separated by spaces; a tab is no space. Empty lines, and lines that
+start with #, are passed over.
 
-A script has at most 1,048,576 bytes, and a card 8 applications, 64 objects in
-each, and 8,192 bytes in a value. A `put` line takes 16,320; the card refuses
-what is too long for it.
+A script has at most 1,048,576 bytes, a card 8 applications, each of them 64
+objects, and a value 8,192 bytes. A `put` line takes values of up to 16,320
+bytes; the card refuses one that is too long for it.
 
-Characters of the terminal are printed behind `> `, those of the card behind
-`< `, and each answer behind `= `, its status first. `! card busy` says that an
-operation was not begun, since a chain of `send` is pending.
+Characters of the terminal are printed after `> `, those of the card after `< `,
+and each answer after `= `, its status first. `! card busy` means that an
+operation did not begin, because a chain of `send` is pending.
 
-A line that is refused ends the script: `line N: reason` on standard error. The
-exit status is 0 where the script came to its end, whatever the card answered,
-1 after a fault, and 2 where the words of the command line are refused.
+A refused line ends the script, and `line N: reason` is printed on standard
+error. The exit status is 0 if the script was carried out to its end, whatever
+the card answered, 1 after a fault, and 2 if the words of the command line are
+refused.
 
 Example:
 
@@ -70,21 +71,21 @@ Example:
   get 5F20";
 
 /// What `card` does.
-pub const CARD: &str = "Sends characters of a script to the card alone, and prints the card's";
+pub const CARD: &str = "Sends characters to the card alone, and prints what the card sends";
 
 /// The lines of a script of `card`, and what the program prints.
 pub const CARD_SCRIPT: &str = "\
-The script stands on standard input. Its first lines say what the card holds:
+The script is read from standard input. Its first lines say what the card holds:
 
   app HEX            an application with this identifier, of 5 to 16 bytes
   object TAG VALUE   a data object of the application above
-  locked TAG VALUE   the same, and no command changes it
-  plan STEPS CUT     how the card is to answer one TPDU; plans serve them in
+  locked TAG VALUE   the same, but no command changes it
+  plan STEPS CUT     how the card answers one TPDU; TPDUs take the plans in
                      order, over resets too
-  atr HEX            the answer to reset, which the card sends at the beginning
-                     and after each reset, and before it listens
+  atr HEX            the answer to reset, which the card sends at the start and
+                     after each reset, before it listens
 
-The lines behind them are carried out in order:
+The lines after them are carried out in order:
 
   > HEX              sends these characters to the card
   <                  prints the characters that the card sends, until it listens
@@ -92,25 +93,26 @@ The lines behind them are carried out in order:
   reset              resets the card
   table              prints what the card holds
 
-HEX is one or more pairs of hexadecimal digits. TAG is one byte, 40 to FE but
-none of 5F, 7F, 9F, BF and DF, or two bytes: one of these or FF, then 01 to 7F.
-VALUE is HEX, `-` for no bytes, or HH*N for N times the byte HH, 1 to 65,535.
-STEPS is `-` or the letters n (a NULL), o (one byte) and a (all bytes that are
-left); CUT, 1 to 256, is the most that the card announces at a time. The first
-word of a line and STEPS are in lower case, and digits in either case. Words
-stand between spaces, and a tab is no space. Empty lines, and lines that start
-with #, are passed over.
+HEX is one or more pairs of hexadecimal digits. TAG is one byte, 40 to FE except
+5F, 7F, 9F, BF and DF, or two bytes: one of these or FF, then 01 to 7F. VALUE is
+HEX, `-` for no bytes, or HH*N for N times the byte HH, where N is 1 to 65,535.
+STEPS is `-` for none, or letters: n (a NULL), o (one byte), a (all bytes that
+are left). CUT, 1 to 256, is the most bytes that the card announces at a time.
+The first word of a line and STEPS are in lower case, digits in either case.
+Words are separated by spaces; a tab is no space. Empty lines, and lines that
+start with #, are passed over.
 
-A script has at most 1,048,576 bytes, and a card 8 applications, 64 objects in
-each, and 8,192 bytes in a value.
+A script has at most 1,048,576 bytes, a card 8 applications, each of them 64
+objects, and a value 8,192 bytes.
 
-Characters of the card are printed behind `< `, and `<` stands alone where it
-sends none. `! not listening` says that the card did not take a character, and
-that the others of its line were dropped.
+Characters of the card are printed after `< `; `<` alone means that it sends
+none. `! not listening` means that the card refused a character, and that the
+rest of its line was dropped.
 
-A line that is refused ends the script: `line N: reason` on standard error. The
-exit status is 0 where the script came to its end, whatever the card answered,
-1 after a fault, and 2 where the words of the command line are refused.
+A refused line ends the script, and `line N: reason` is printed on standard
+error. The exit status is 0 if the script was carried out to its end, whatever
+the card answered, 1 after a fault, and 2 if the words of the command line are
+refused.
 
 Example:
 
@@ -126,10 +128,10 @@ pub const OBJECTS: &str = "Prints data objects as a tree";
 
 /// What the tree looks like, with an example.
 pub const OBJECTS_EXAMPLE: &str = "\
-Each object has a line of its own: two spaces for each level that it lies inside
-others, its tag, and where it is no template its value, or `-` for no bytes.
-Bytes that are no objects are a fault: why and where is told on standard error,
-as `ValueCut at 0`, and the exit status is 1.
+Each object is a line: two spaces for each level below the first, its tag, and
+unless it is a template its value, or `-` for no bytes. If the bytes are no list
+of objects, the first fault and its place are printed on standard error, as
+`ValueCut at 0`, and the exit status is 1.
 
 Example:
 

@@ -1,4 +1,5 @@
-/* Whole commands, at an exchange, a terminal and a card (ISO/IEC 7816-4, 5.1; PC/SC at T=1). */
+/* Tests exchanges, terminals and cards that are driven by whole commands (ISO/IEC 7816-4, 5.1), as
+ * by PC/SC at T=1. */
 #include "galliumtoad.h"
 #include "check.h"
 
@@ -7,7 +8,7 @@ static const uint8_t GET[] = { 0x00, 0xCA, 0x5F, 0x20, 0x00 };
 #define SELECT "\x00\xA4\x04\x00\x07\xA0\x00\x00\x00\x03\x10\x10\x00"
 #define NAME "\x6F\x09\x84\x07\xA0\x00\x00\x00\x03\x10\x10\x90\x00"
 
-/* an exchange, or a terminal with an operation */
+/* An exchange or a terminal: the other pointer is NULL. */
 typedef struct {
     gt_exchange *exchange;
     gt_terminal *terminal;
@@ -29,7 +30,7 @@ static int32_t answer(const end *e, uint16_t *status, uint8_t *data, size_t room
                        : gt_terminal_answer(e->terminal, status, data, room, len);
 }
 
-/* This command is due, to which so many bytes may come back. */
+/* The next command is `want`, and its response has at most `may_come` bytes of data. */
 static void is_due(const end *e, const char *want, size_t n, size_t may_come) {
     uint8_t bytes[GT_APDU_LIMIT];
     size_t count = 0, most = 999;
@@ -41,7 +42,7 @@ static void is_due(const end *e, const char *want, size_t n, size_t may_come) {
     if (n < sizeof bytes) CHECK(bytes[n], 0xEE);
 }
 
-/* None is, and nothing is told. */
+/* No command is next: both calls return `code`, and write nothing. */
 static void none_is_due(const end *e, int32_t code) {
     uint8_t bytes[GT_APDU_LIMIT] = { 0xEE };
     size_t count = 7, most = 8;
@@ -52,7 +53,7 @@ static void none_is_due(const end *e, int32_t code) {
     CHECK(responded(e, "\x90\x00", 2), code);
 }
 
-/* It is over, with this status, data that begin so, and so many. */
+/* The command or operation has ended with this status and these data. */
 static void is_over(const end *e, uint16_t want, const char *data, size_t n) {
     uint8_t bytes[GT_RESPONSE_LIMIT];
     uint16_t status = 0;
@@ -64,7 +65,7 @@ static void is_over(const end *e, uint16_t want, const char *data, size_t n) {
     CHECK_BYTES(bytes, (const uint8_t *)data, n);
 }
 
-/* It has failed for good. */
+/* The exchange or operation has failed for good: it has no next command and no answer. */
 static void has_failed(const end *e) {
     uint8_t byte = 0;
     uint16_t status;
@@ -73,7 +74,7 @@ static void has_failed(const end *e) {
     CHECK(answer(e, &status, &byte, 1, &len), GT_STATE);
 }
 
-/* Begins the exchange of a command, or the same as a terminal's operation. */
+/* Starts an exchange of this command, or a terminal's operation that sends it. */
 static void begin(const end *e, const char *command, size_t n) {
     const uint8_t *bytes = (const uint8_t *)command;
     if (e->exchange) {
@@ -85,7 +86,7 @@ static void begin(const end *e, const char *command, size_t n) {
     }
 }
 
-/* Each case goes as it is, case 4 with its Le, and is over with 9000. */
+/* A command of each case is sent unchanged, case 4 with its Le, and ends with 9000. */
 static void cases(const end *e) {
     char longest[GT_APDU_LIMIT] = { 0x00, (char)0xDA, 0x5F, 0x20, (char)0xFF };
     memset(longest + 5, 0x41, 255);
@@ -113,7 +114,7 @@ static void cases(const end *e) {
     is_over(e, 0x9000, NAME, 11);
 }
 
-/* A card that leaves data behind a command of case 3 has them fetched if Le was asked for. */
+/* After 61XX the terminal fetches data if the command has an Le, and at most Le bytes. */
 static void fetches(const end *e) {
     begin(e, SELECT, 13);
     CHECK(responded(e, "\x61\x0B", 2), GT_OK);
@@ -130,7 +131,7 @@ static void fetches(const end *e) {
     is_over(e, 0x6101, "\x5F\x20\x03JO", 5);
 }
 
-/* 6CXX to case 2 is followed where XX is at most what is wanted, once; to case 4 it is the end. */
+/* 6CXX repeats a command of case 2, once, if XX is at most Le. It ends a command of case 4. */
 static void corrections(const end *e) {
     begin(e, "\x00\xCA\x5F\x20\x10", 5);
     CHECK(responded(e, "\x6C\x06", 2), GT_OK);
@@ -153,7 +154,7 @@ static void corrections(const end *e) {
     is_over(e, 0x6C0B, "", 0);
 }
 
-/* A response that can't be one changes nothing; 257 bytes of data are none to any command. */
+/* A refused response changes nothing. No command takes 257 bytes of data. */
 static void responses_refused(const end *e) {
     char many[259];
     memset(many, 0x5A, 257);
@@ -178,7 +179,7 @@ static void responses_refused(const end *e) {
     is_over(e, 0x9000, "", 0);
 }
 
-/* A fetch that brings nothing, and a byte above 16,384, are the end. */
+/* A GET RESPONSE without data and a byte above 16,384 fail for good. */
 static void failures(const end *e) {
     char full[258];
     begin(e, SELECT, 13);
@@ -195,7 +196,7 @@ static void failures(const end *e) {
     has_failed(e);
 }
 
-/* The other level is GT_STATE, and nothing changes. */
+/* Calls by characters or TPDUs return GT_STATE, and change nothing. */
 static void not_by_characters(const end *e) {
     uint8_t bytes[GT_TPDU_LIMIT] = { 0xEE };
     size_t n = 7, most = 8;
@@ -216,8 +217,8 @@ static void not_by_characters(const end *e) {
     CHECK(most, 8);
 }
 
-/* Asking for a command sets no level; the first response does, and so does the first character, or
- * the first answer to a TPDU. */
+/* The level is fixed by the first response, character or answer to a TPDU. Asking for the next
+ * command does not fix it. */
 static void levels(const end *e) {
     uint8_t bytes[GT_TPDU_LIMIT], byte = 0;
     size_t n, most;
@@ -276,7 +277,7 @@ static void is_answered(gt_card *c, const char *apdu, size_t n, size_t room, con
     CHECK(response[count], 0xEE);
 }
 
-/* A fault, and nothing is told. */
+/* The card refuses the command with `code`, and writes nothing. */
 static void is_refused(gt_card *c, const char *apdu, size_t n, size_t room, int32_t code) {
     uint8_t response[GT_ANSWER_LIMIT], same[GT_ANSWER_LIMIT];
     size_t len = 7;
@@ -294,7 +295,7 @@ static void a_card_with_a_name(gt_card *c, const uint8_t *value, size_t n) {
     CHECK(gt_card_finish(c), GT_OK);
 }
 
-/* A reader selects, reads and stores; the plans are not seen. */
+/* Selects, reads and stores by whole commands. Plans have no effect on these. */
 static void a_card(void) {
     gt_card c = GT_INIT;
     a_card_with_a_name(&c, (const uint8_t *)"JOE", 3);
@@ -315,7 +316,8 @@ static void a_card(void) {
     gt_card_free(&c);
 }
 
-/* Each refusal in its order, with nothing changed: a response of two bytes waits throughout. */
+/* Each refusal, in the order of the tests. None changes the card: the two bytes of a response that
+ * wait stay. */
 static void refusals_of_a_card(void) {
     static const struct { const char *apdu; size_t n; } wrong[] = {
         { "\x00\xCA\x5F\x20\x00\x00\x06", 7 },              /* extended, case 2 */
@@ -373,7 +375,7 @@ static void refusals_of_a_card(void) {
     gt_card_free(&c);
 }
 
-/* A chain stays pending after a command that is not agreed, and is dropped by another. */
+/* A chain stays pending after a command that is not agreed. Any other command drops it. */
 static void a_chain(void) {
     gt_card c = GT_INIT;
     a_card_with_a_name(&c, (const uint8_t *)"JOE", 3);
@@ -390,8 +392,7 @@ static void a_chain(void) {
     gt_card_free(&c);
 }
 
-/* Passes the commands of the operation that has begun, and notes each with its response: the
- * command's length, and the response's length and status. */
+/* The length of a command, and the length and status of its response. */
 typedef struct {
     size_t n, len;
     unsigned status;
@@ -411,7 +412,7 @@ static size_t pass(gt_terminal *t, gt_card *c, pair *pairs, size_t most_pairs) {
     return at;
 }
 
-/* An object of 600 bytes comes in three responses, and 8,192 bytes go in 33 commands. */
+/* Reads an object of 600 bytes in three responses, and stores 8,192 bytes with 33 commands. */
 static void long_values(void) {
     static uint8_t value[GT_VALUE_LIMIT], data[GT_OBJECT_LIMIT];
     pair pairs[40];

@@ -1,5 +1,5 @@
-/* Answers to reset, against what ISO/IEC 7816-3, clauses 8 and 11, and EMV Book 1, 8.2 and 8.3, say
- * of their characters, worked out by hand. */
+/* Tests the reader of answers to reset. The expected values are worked out by hand from ISO/IEC
+ * 7816-3, clauses 8 and 11, and EMV Book 1, 8.2 and 8.3. */
 #include "galliumtoad.h"
 #include "check.h"
 
@@ -40,9 +40,12 @@ static void is_atr(const gt_atr *got, const gt_atr *want) {
     CHECK(got->t1.bwt_cycles, want->t1.bwt_cycles);
 }
 
-/* what holds of an answer of TS 3B and T0 alone, with these sizes: T=0 alone, TA1 11, N 0, WI 10,
- * 10 * 960 * 372 cycles, negotiable mode, class A alone, no clock stop; of T=1 IFSC 32, LRC, BWI 4,
- * CWI 13, 11 + 8192 etu, 11 etu and 16 * 960 * 372 cycles, 22 etu */
+/* The values of an answer of these sizes that has only TS 3B, T0 and historical bytes.
+ *
+ * - Protocol T=0 in negotiable mode, TA1 11, N 0. WI 10: 10 * 960 * 372 cycles.
+ * - Class A alone, no clock stop.
+ * - For T=1: IFSC 32, LRC, BWI 4, CWI 13. CWT is 11 + 8192 etu, BWT is 11 etu and 16 * 960 * 372
+ *   cycles, BGT is 22 etu. */
 static gt_atr plain(size_t length, size_t historical, size_t count) {
     gt_atr atr;
     memset(&atr, 0, sizeof atr);
@@ -82,7 +85,7 @@ static void says(const uint8_t *bytes, size_t n, gt_atr want) {
     CHECK(place, 77);
 }
 
-/* a fault, and nothing but its place is written */
+/* The answer is refused with this code at this place; `gt_atr` is not written. */
 static void refuses(const uint8_t *bytes, size_t n, int32_t code, size_t at) {
     gt_atr atr, untouched;
     size_t place = 77;
@@ -93,7 +96,7 @@ static void refuses(const uint8_t *bytes, size_t n, int32_t code, size_t at) {
     CHECK_BYTES(&atr, &untouched, sizeof atr);
 }
 
-/* EMV Book 1: the basic answers of T=0 and of T=1, with TC1 00 and FF */
+/* EMV Book 1: the basic answers for T=0 and T=1, with TC1 00 and FF. */
 static void basic_answers(void) {
     gt_atr want = plain(9, 4, 5);
     says(BYTES("\x3B\x65\x00\x00\x20\x63\xCB\x68\x00"), want);
@@ -125,7 +128,7 @@ static void shortest_and_longest(void) {
                "\x31\x32\x33\x34\x35\x36\x37\x38\x39\x41\x42\x43\x44\x45\x46"), want);
 }
 
-/* an answer of a card for mobile phones: T=0, and T=15 with clock stop and classes */
+/* The answer of a card for mobile phones: T=0, and T=15 with clock stop and classes. */
 static void behind_t_15(void) {
     gt_atr want = plain(22, 6, 15);
     want.category = GT_HISTORY_OBJECTS;
@@ -141,7 +144,7 @@ static void behind_t_15(void) {
                "\x01\xA5"), want);
 }
 
-/* N is in etu without T=15, and in times Fi/Di cycles with it; 255 is the least of the protocol */
+/* N counts etu, or with T=15 units of Fi/Di cycles. 255 means the least that the protocol has. */
 static void guard_times(void) {
     gt_atr want = plain(3, 3, 0);
     want.extra_guard_time = 5;
@@ -166,7 +169,7 @@ static void guard_times(void) {
     says(BYTES("\x3B\xC0\xFF\x80\x1F\x03\xA3"), want);
 }
 
-/* the protocols, of which each is told once; T=15 is none */
+/* Each protocol is listed once. T=15 is not a protocol. */
 static void protocols(void) {
     gt_atr want = plain(5, 4, 0);
     size_t t;
@@ -221,7 +224,7 @@ static void waiting_times(void) {
     says(BYTES("\x3B\x80\x40\x00"), want);
 }
 
-/* clause 11: the first TB for T=1, with BWI in bits 8 to 5 and CWI in bits 4 to 1 */
+/* Clause 11: the first TB for T=1, with BWI in bits 8 to 5 and CWI in bits 4 to 1. */
 static void times_of_t_1(void) {
     static const uint64_t CYCLES[16] = { 357120, 714240, 1428480, 2856960, 5713920, 11427840,
                                          22855680, 45711360, 91422720, 182845440 };
@@ -243,7 +246,7 @@ static void times_of_t_1(void) {
     }
 }
 
-/* clause 11: the first TA and the first TC for T=1 */
+/* Clause 11: the first TA and the first TC for T=1. */
 static void fields_and_codes_of_t_1(void) {
     uint8_t bytes[6] = { 0x3B, 0x80, 0x81, 0, 0, 0 };
     gt_atr want = plain(6, 5, 0);
@@ -264,7 +267,7 @@ static void fields_and_codes_of_t_1(void) {
     }
 }
 
-/* which TA, TB and TC are for T=1: none behind TD1, none of another T, and of several the first */
+/* TA, TB and TC for T=1 are the first ones after TD2, TD3 .. that names T=1. TD1 does not count. */
 static void characters_of_t_1(void) {
     gt_atr want = plain(8, 7, 0);
     want.protocols[0] = want.specific = want.specific_t = want.can_change = 1;
@@ -294,7 +297,7 @@ static void characters_of_t_1(void) {
     says(BYTES("\x3B\x80\x81\xA1\x92\xF1\x50\x45\x01\x11\x60\xA6"), want);
 }
 
-/* 8.3, tables 7 and 8; 0 where a code is reserved */
+/* 8.3, tables 7 and 8. 0 is for a reserved code. */
 static void rates(void) {
     static const uint16_t FI[16] = { 372, 372, 558, 744, 1116, 1488, 1860, 0,
                                      0, 512, 768, 1024, 1536, 2048, 0, 0 };
@@ -314,7 +317,7 @@ static void rates(void) {
     }
 }
 
-/* 8.3, the first TA behind T=15: bits 8 and 7, and bits 6 to 1 */
+/* 8.3, the first TA after T=15: clock stop in bits 8 and 7, classes in bits 6 to 1. */
 static void supplies(void) {
     static const uint8_t STOPS[4] = { GT_STOP_NONE, GT_STOP_LOW, GT_STOP_HIGH, GT_STOP_EITHER };
     uint8_t bytes[6] = { 0x3B, 0x80, 0x80, 0x1F, 0, 0 };
@@ -370,8 +373,8 @@ static void faults(void) {
     refuses(BYTES("\x3B\xE0\x00\x00\x81\x31\xFE\x45\xEA"), GT_ATR_CHECK_WRONG, 8);
 }
 
-/* one character more than the longest is announced, or due with TCK: too long, whether it came or
- * not, and cut, or without TCK, up to there */
+/* An answer is too long if it announces a 33rd character after TS, received or not; TCK counts too.
+ * With fewer characters it is cut, or TCK is missing. */
 static void too_long(void) {
     const uint8_t answer[34] = {
         0x3B, 0xFF, 0x11, 0x00, 0x00, 0xF0, 0x00, 0x00, 0x0A, 0xF0, 0x00, 0x00,

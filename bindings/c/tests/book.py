@@ -1,11 +1,11 @@
 #!/usr/bin/env python3
-"""The scripts of the book of examples, as gt_pcsc can run them: for try_pcsc and try_book.
+"""Turns the scripts of the book of examples into what gt_pcsc can run, for try_pcsc and try_book.
 
 usage: book.py FOLDER   writes N.title, N.table, N.play and N.wanted for each script
 
-A card's table has the script's lines for that, with all bytes spelt out. The operations are those
-up to the first reset; plans are of characters, and left out. The answers come from the output
-beside the script. An operation that card_trace does not begin, since the card is busy, is left
+A table has the script's lines for the card, with all bytes written out. The operations are those
+up to the first reset, without plans, since these are for characters. The answers are those of the
+script's output. An operation that card_trace does not begin, since the card is busy, is left
 out."""
 
 import re

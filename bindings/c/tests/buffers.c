@@ -1,5 +1,5 @@
-/* Characters by buffers, against those that are written down, and against the same ends driven a
- * character at a time (ISO/IEC 7816-3, 10.3 and 12). */
+/* Tests the calls that move characters by buffers (ISO/IEC 7816-3, 10.3 and 12). They have to move
+ * listed characters, and the same ones as calls for one character. */
 #include "galliumtoad.h"
 #include "check.h"
 
@@ -10,11 +10,11 @@ static const uint8_t GET[] = { 0x00, 0xCA, 0x5F, 0x20, 0x00 };
 
 static uint8_t value[8192], data[GT_RESPONSE_LIMIT];
 
-/* what stands in a buffer before a call */
+/* Fills a buffer before a call. */
 #define UNTOUCHED 0xEE
 enum { ROOM = 300 };
 
-/* a function that hands out into a buffer or takes from one, with the handle that it has */
+/* An exchange, a terminal or a card: the other pointers are NULL. */
 typedef struct {
     gt_exchange *exchange;
     gt_terminal *terminal;
@@ -33,7 +33,7 @@ static int32_t receive_bytes(const end *e, const uint8_t *bytes, size_t n, size_
     return gt_card_receive_bytes(e->card, bytes, n, taken);
 }
 
-/* With so much room the end hands out these, and answers this; nothing stands behind them. */
+/* With `room` bytes the end writes exactly these `n`, and returns `code`. */
 static void sends(int line, const end *e, size_t room, const void *want, size_t n, int32_t code) {
     uint8_t bytes[ROOM + 1];
     size_t count = 999, same = 0, i;
@@ -56,7 +56,7 @@ static void receives(int line, const end *e, const void *bytes, size_t n, int32_
 #define SENDS(room, want, n, code) sends(__LINE__, &e, room, want, n, code)
 #define RECEIVES(bytes, n, code, taken) receives(__LINE__, &e, bytes, n, code, taken)
 
-/* Nothing is done of a handle that holds nothing, and nothing is told; `code` is why. */
+/* Sending returns `code`, receiving `taking` if that is not 0. Nothing is written. */
 static void does_nothing(const end *e, int32_t code, int32_t taking) {
     uint8_t bytes[2] = { UNTOUCHED, UNTOUCHED };
     size_t n = 7;
@@ -80,7 +80,7 @@ static void handles_that_hold_nothing(void) {
     e.exchange = NULL;
     e.terminal = &terminal;
     does_nothing(&e, GT_EMPTY, GT_EMPTY);
-    /* where no operation has begun the terminal takes none either, as after the end */
+    /* before an operation the terminal takes no character, as after one */
     CHECK(gt_terminal_new(&terminal), GT_OK);
     does_nothing(&e, GT_STATE, 0);
     RECEIVES("\x90", 1, GT_AFTER_END, 0);
@@ -94,8 +94,7 @@ static void handles_that_hold_nothing(void) {
     gt_card_free(&card);
 }
 
-/* GET DATA of `5F 20 03 4A 4F 45`: too long a count, and then the right one. Of an exchange, and of
- * a terminal. */
+/* GET DATA of `5F 20 03 4A 4F 45`: first with too high a count, then with the right one. */
 static void a_get(const end *given) {
     static const char again[] = "\x00\xCA\x5F\x20\x06";
     const end e = *given;
@@ -106,7 +105,7 @@ static void a_get(const end *given) {
     SENDS(2, GET + 3, 2, GT_SENDS);
     SENDS(1, NULL, 0, GT_OK);
     SENDS(0, NULL, 0, GT_SENDS);
-    /* it sends first once it has the status, so what stands behind that is out of turn */
+    /* after the status the terminal sends, so a character that follows is out of turn */
     RECEIVES("\x60\x60\x6C\x06\x90\x00", 6, GT_NOT_LISTENING, 4);
     SENDS(ROOM, again, 5, GT_OK);
     RECEIVES("\xCA\x5F\x20", 3, GT_OK, 3);
@@ -144,7 +143,7 @@ static void both_kinds_of_gets(void) {
     gt_terminal_free(&terminal);
 }
 
-/* Each fault for good, among characters before and behind it, of an exchange. */
+/* Each fault that ends an exchange for good, with characters before and after it. */
 static void faults_for_good(void) {
     static uint8_t answer[1 + 256 + 2];
     gt_exchange exchange = GT_INIT;
@@ -165,7 +164,7 @@ static void faults_for_good(void) {
     SENDS(ROOM, NULL, 0, GT_FAILED);
     gt_exchange_free(&exchange);
 
-    /* 64 answers of 256 bytes are the longest response, and one byte more is too much */
+    /* 64 answers of 256 bytes are the longest response: one byte more is too much */
     CHECK(gt_exchange_start(&exchange, GET, sizeof GET), GT_OK);
     SENDS(ROOM, GET, 5, GT_OK);
     answer[0] = 0xCA;
@@ -180,7 +179,7 @@ static void faults_for_good(void) {
     gt_exchange_free(&exchange);
 }
 
-/* A put of two pieces: the terminal goes from one command to the next, and sends then. */
+/* A put of two pieces: after the first command the terminal sends the next. */
 static void a_put_of_a_terminal(void) {
     gt_terminal terminal = GT_INIT;
     const end e = { NULL, &terminal, NULL };
@@ -198,7 +197,7 @@ static void a_put_of_a_terminal(void) {
     SENDS(ROOM, value + 256, 1, GT_OK);
     RECEIVES("\x90\x00", 2, GT_OK, 2);
     SENDS(ROOM, NULL, 0, GT_DONE);
-    /* an operation that fails ends, and the next may begin */
+    /* after a failed operation the next may begin */
     CHECK(gt_terminal_get(&terminal, 0x5F20), GT_OK);
     SENDS(ROOM, GET, 5, GT_OK);
     RECEIVES("\x60\x11\x60", 3, GT_BAD_PROCEDURE, 1);
@@ -216,7 +215,7 @@ static void build(gt_card *card) {
     CHECK(gt_card_finish(card), GT_OK);
 }
 
-/* A selection at a card, under a plan, which the card's first character takes. */
+/* A SELECT at a card with a plan. The card's first character takes the plan. */
 static void a_selection_at_a_card(void) {
     gt_card card = GT_INIT;
     const end e = { NULL, NULL, &card };
@@ -227,7 +226,7 @@ static void a_selection_at_a_card(void) {
     RECEIVES(NULL, 0, GT_OK, 0);
     RECEIVES(SELECT, 3, GT_OK, 3);
     SENDS(ROOM, NULL, 0, GT_OK);
-    /* behind the header it is the card that sends */
+    /* after the header the card sends */
     RECEIVES(SELECT + 3, 9, GT_NOT_LISTENING, 2);
     RECEIVES(NULL, 0, GT_OK, 0);
     SENDS(0, NULL, 0, GT_SENDS);
@@ -240,10 +239,10 @@ static void a_selection_at_a_card(void) {
     RECEIVES(SELECT + 6, 6, GT_OK, 6);
     SENDS(1, "\x61", 1, GT_SENDS);
     SENDS(ROOM, "\x0B", 1, GT_OK);
-    /* the plan was for one TPDU: the next one has none */
+    /* the plan was for one TPDU: the next has no plan */
     RECEIVES("\x00\xC0\x00\x00\x0B", 5, GT_OK, 5);
     SENDS(ROOM, "\xC0\x6F\x09\x84\x07\xA0\x00\x00\x00\x03\x10\x10\x90\x00", 14, GT_OK);
-    /* a reset drops what has come of a header */
+    /* a reset drops a part of a header */
     RECEIVES(GET, 4, GT_OK, 4);
     CHECK(gt_card_reset(&card), GT_OK);
     RECEIVES(GET, 5, GT_OK, 5);
@@ -251,7 +250,7 @@ static void a_selection_at_a_card(void) {
     gt_card_free(&card);
 }
 
-/* The characters of a dialogue, as they go, with the end that each comes from. */
+/* The characters of a dialogue in order, each with its sender. */
 typedef struct {
     gt_character went[40000];
     size_t count;
@@ -282,7 +281,7 @@ static void pass_characters(gt_terminal *t, gt_card *c) {
     CHECK(turn, GT_DONE);
 }
 
-/* All that one end hands out by so much room at a time goes to the other, until it listens. */
+/* Passes characters to the other end, at most `room` in one call, until the sender listens. */
 static int32_t pass_run(const end *from, const end *to, uint8_t whose, size_t room) {
     uint8_t bytes[ROOM];
     size_t n, taken;
@@ -303,7 +302,7 @@ static void pass_buffers(gt_terminal *t, gt_card *c, size_t room, size_t cards_r
         CHECK(pass_run(&card, &terminal, GT_CARD, cards_room), GT_OK);
 }
 
-/* An operation, at two terminals with a card each. */
+/* Carries out an operation at two terminals with a card each: by buffers, and by characters. */
 static void carry_out(gt_terminal t[2], gt_card c[2], size_t room, size_t cards_room) {
     uint16_t status[2] = { 0, 1 };
     size_t len[2] = { 0, 1 }, i, same = 0;
@@ -324,7 +323,7 @@ static void carry_out(gt_terminal t[2], gt_card c[2], size_t room, size_t cards_
     CHECK_BYTES(other, data, len[0]);
 }
 
-/* The same operations with both, whatever the rooms, and under plans. */
+/* Both ways carry out the same operations with the same characters, with plans. */
 static void both_ends(size_t room, size_t cards_room, size_t n) {
     static const char *const plans[] = { "", "n", "oo", "nona", "an", "oooooooooooooooooooon" };
     gt_terminal t[2] = { GT_INIT, GT_INIT };

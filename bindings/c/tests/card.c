@@ -1,5 +1,5 @@
-/* A card, built and then driven character by character: what it holds, refuses and answers, by the
- * rules of its profile. */
+/* Tests a card by characters, against the rules of its profile: its contents, refusals and
+ * answers. */
 #include "galliumtoad.h"
 #include "check.h"
 
@@ -15,7 +15,7 @@ static void build(gt_card *card) {
     CHECK(gt_card_finish(card), GT_OK);
 }
 
-/* The card takes these characters, answers those, and listens then. */
+/* The card takes the characters `sent`, sends `wanted`, and listens. */
 static void talk(gt_card *card, const uint8_t *sent, size_t n, const uint8_t *wanted, size_t m) {
     uint8_t byte = 0;
     size_t i;
@@ -39,7 +39,7 @@ static void select_app(gt_card *card) {
     TALK(card, AID, waits);
 }
 
-/* Each object stands where it was first stored; past the last there is none. */
+/* Objects are in the order in which they were first stored. After the last there is no other. */
 static void check_table(gt_card *card, const uint8_t *value, size_t n) {
     uint8_t aid[16], found[8];
     uint32_t tag = 0;
@@ -59,7 +59,7 @@ static void check_table(gt_card *card, const uint8_t *value, size_t n) {
     CHECK(locked, 1);
     CHECK(gt_card_entry_at(card, 0, 2, &tag, &locked, found, sizeof found, &len), GT_NOT_FOUND);
     CHECK(gt_card_entry_at(card, 1, 0, &tag, &locked, found, sizeof found, &len), GT_NOT_FOUND);
-    /* too little room: the length, and the buffer as it was */
+    /* too little room: the length is written, the buffer is not */
     memset(found, 0xEE, sizeof found);
     CHECK(gt_card_entry_at(card, 0, 0, &tag, &locked, found, n - 1, &len), GT_BUFFER);
     CHECK(len, n);
@@ -158,7 +158,7 @@ static void a_terminal_reads_and_writes(void) {
     gt_card_free(&card);
 }
 
-/* A reset between the two status characters: nothing is stored. */
+/* A reset between both characters of the status. */
 static void a_reset_before_the_last_character_stores_nothing(void) {
     static const uint8_t put[] = { 0x00, 0xDA, 0x5F, 0x20, 0x01 }, ins[] = { 0xDA };
     gt_card card = GT_INIT;
@@ -175,7 +175,7 @@ static void a_reset_before_the_last_character_stores_nothing(void) {
     gt_card_free(&card);
 }
 
-/* Each TPDU takes the next plan: NULL, one, NULL, all; then none is left. */
+/* Each TPDU takes the next plan: here NULL, one byte, NULL, all bytes. Then no plan is left. */
 static void plans_serve_tpdus_in_turn(void) {
     static const uint8_t get[] = { 0x00, 0xCA, 0x5F, 0x20, 0x06 };
     static const uint8_t slow[] = { 0x60, 0x35, 0x5F, 0x60, 0xCA, 0x20,

@@ -1,5 +1,5 @@
-/* The card's end of a line at T=1, by the blocks and rules of ISO/IEC 7816-3, clause 11, and with
- * the terminal's end. */
+/* Tests the card's end at T=1: against blocks by ISO/IEC 7816-3, clause 11, and with the terminal's
+ * end. */
 #include "galliumtoad.h"
 #include "check.h"
 
@@ -13,7 +13,7 @@ static const uint8_t JOE[] = { 0x5F, 0x20, 0x03, 0x4A, 0x4F, 0x45, 0x90, 0x00 };
 static const uint8_t NONE_SELECTED[] = { 0x69, 0x85 };
 static const uint8_t IFSD[] = { 0xFE };
 
-/* A block with these bytes before its LRC, which makes the exclusive-or of all 00. */
+/* Writes a block with this PCB and field. Its LRC makes the exclusive-or of all bytes 00. */
 static size_t block_of(uint8_t bytes[GT_BLOCK_LIMIT + 1], uint8_t pcb, const uint8_t *info,
                        size_t n) {
     size_t i;
@@ -29,7 +29,7 @@ static size_t block_of(uint8_t bytes[GT_BLOCK_LIMIT + 1], uint8_t pcb, const uin
     return n + 4;
 }
 
-/* The card sends this block now, and again. */
+/* The card's next block is this one. With too little room the call returns its length. */
 static void sends(gt_card *c, uint8_t pcb, const uint8_t *info, size_t size) {
     uint8_t want[GT_BLOCK_LIMIT + 1] = { 0 }, got[GT_BLOCK_LIMIT + 1];
     const size_t n = block_of(want, pcb, info, size);
@@ -45,7 +45,7 @@ static void sends(gt_card *c, uint8_t pcb, const uint8_t *info, size_t size) {
     CHECK(got[n], 0xEE);
 }
 
-/* The terminal sends this block, which comes byte by byte, and then one byte more. */
+/* Gives the card this block byte by byte. It takes no byte after the block. */
 static void comes(gt_card *c, uint8_t pcb, const uint8_t *info, size_t size) {
     uint8_t bytes[GT_BLOCK_LIMIT + 1] = { 0 };
     const size_t n = block_of(bytes, pcb, info, size);
@@ -67,7 +67,7 @@ static void build(gt_card *c) {
     CHECK(gt_card_finish(c), GT_OK);
 }
 
-/* It speaks T=1, and has agreed to an IFSD of 254. */
+/* The same at T=1, with an IFSD of 254 agreed. */
 static void open_card(gt_card *c) {
     build(c);
     CHECK(gt_card_t1_begin(c), GT_OK);
@@ -75,7 +75,7 @@ static void open_card(gt_card *c) {
     sends(c, 0xE1, IFSD, 1);
 }
 
-/* A card that does not speak T=1 answers so to its calls. */
+/* At a card that does not speak T=1, the calls of T=1 return `code`. */
 static void has_no_t1(gt_card *c, int32_t code) {
     uint8_t byte = 0xEE;
     size_t n = 7;
@@ -86,7 +86,7 @@ static void has_no_t1(gt_card *c, int32_t code) {
     CHECK(n, 7);
 }
 
-/* The calls of T=0 are none of a card at T=1, but for the reset; what it holds is told. */
+/* At T=1 the calls of T=0 return GT_STATE, except the reset. The contents can be read. */
 static void has_t1_alone(gt_card *c) {
     gt_session s = GT_INIT;
     uint8_t byte = 0xEE, aid[GT_AID_LIMIT];
@@ -137,7 +137,7 @@ static void states(void) {
     has_t1_alone(&c);
     CHECK(gt_card_reset(&c), GT_OK);
     has_no_t1(&c, GT_STATE);
-    /* T=0, under the plan from before */
+    /* T=0, with the plan from before */
     CHECK(gt_card_receive_bytes(&c, GET, sizeof GET, &n), GT_OK);
     CHECK(gt_card_turn(&c, &byte), GT_SENDS);
     CHECK(byte, 0x60);
@@ -175,7 +175,7 @@ static void chains(void) {
     gt_card_free(&c);
 }
 
-/* Blocks that are damaged, stop, come twice or out of turn: no command is carried out twice. */
+/* Damaged, short, repeated and unexpected blocks. The card carries out no command twice. */
 static void errors(void) {
     static const uint8_t piece[] = { 0x10, 0xDA, 0x5F, 0x20, 0x01, 0x41 }, ok[] = { 0x90, 0x00 };
     static const uint8_t last[] = { 0x00, 0xDA, 0x5F, 0x20, 0x01, 0x42 };
@@ -218,7 +218,7 @@ static void errors(void) {
     gt_card_free(&c);
 }
 
-/* What is no short command, and what is not agreed with the card. */
+/* Commands that are not short commands, and commands that are not agreed. */
 static void refusals(void) {
     static const struct { uint8_t bytes[7]; size_t n; uint8_t status[2]; } rows[] = {
         { { 0 }, 0, { 0x67, 0x00 } },
@@ -240,7 +240,8 @@ static void refusals(void) {
     gt_card_free(&c);
 }
 
-/* A command goes to the card by the terminal's end, and its response comes back. */
+/* Passes a command from the terminal's end to the card, and the response back. Returns the
+ * response's length. */
 static size_t carry(gt_t1 *t, gt_card *c, const uint8_t *apdu, size_t n, uint8_t *response) {
     uint8_t block[GT_BLOCK_LIMIT];
     size_t size = 0, taken = 0, len = 0;
@@ -257,7 +258,7 @@ static size_t carry(gt_t1 *t, gt_card *c, const uint8_t *apdu, size_t n, uint8_t
     return len;
 }
 
-/* Both ends, for the longest command and the longest response. */
+/* Both ends, with the longest command and the longest response. */
 static void both_ends(void) {
     static uint8_t apdu[GT_APDU_LIMIT], response[GT_ANSWER_LIMIT];
     gt_card c = GT_INIT;

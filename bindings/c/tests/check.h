@@ -1,4 +1,4 @@
-/* What the tests say of a value that is not as it should be. */
+/* CHECK and its count, for all tests in C. It prints each value that is wrong. */
 #ifndef CHECK_H
 #define CHECK_H
 

@@ -1,7 +1,7 @@
-/* `gt_card_tpdu` and `gt_card_apdu` copy what is sent: one buffer may serve for both sides, and the
- * copy is wiped. */
+/* Tests that `gt_card_tpdu` and `gt_card_apdu` copy their input, so that one buffer may serve as
+ * input and output, and that they wipe the copy. */
 #ifndef _GNU_SOURCE
-#define _GNU_SOURCE /* a thread on a stack of its own, in strict C99 too */
+#define _GNU_SOURCE /* for pthread_attr_setstack in strict C99 */
 #endif
 #include "galliumtoad.h"
 #include "check.h"
@@ -26,7 +26,7 @@ static void carries_out(const char *sent, size_t n, const char *answer, size_t w
     CHECK_BYTES(both, answer, want);
 }
 
-/* A name is stored and read, each answer in the place of what was sent. */
+/* Stores and reads a name. Each answer replaces its command in the buffer. */
 static void one_buffer(void) {
     carries_out("\x00\xA4\x04\x00\x07\xA0\x00\x00\x00\x03\x10\x10", 12, "\x61\x0B", 2);
     carries_out("\x00\xDA\x5F\x20\x03JOE", 8, "\x90\x00", 2);
@@ -35,8 +35,8 @@ static void one_buffer(void) {
 
 static int32_t code;
 
-/* Bytes whose length field is one too many are no TPDU, and no command: the card looks at none of
- * the others. Nothing is called behind, which would write over the copy. */
+/* A length field that is one too many: neither a TPDU nor a command, so the card looks at no other
+ * byte. No call follows, since it would overwrite the copy on the stack. */
 static void *refused(void *sent) {
     uint8_t answer[2] = { 0 };
     size_t len;
@@ -53,7 +53,7 @@ static void *leaves(void *tpdu) {
 
 static void *(*volatile runs)(void *);
 
-/* Runs it far down, where the end of the thread does not come. */
+/* Runs `runs` deep in the stack, where the end of the thread does not write. */
 static void *far_down(void *tpdu) {
     volatile uint8_t room[1 << 14];
     room[0] = 1;
@@ -61,7 +61,8 @@ static void *far_down(void *tpdu) {
     return room[0] ? NULL : tpdu;
 }
 
-/* Runs a function on a stack of zeros, with bytes that are all secret but for what is read. */
+/* Runs a function on a stack of zeros. All bytes of its input that the library does not read are
+ * `secret`. */
 static void run_on(unsigned char *stack, void *(*run)(void *), int secret) {
     static uint8_t tpdu[259];
     pthread_attr_t own;
@@ -79,8 +80,8 @@ static void run_on(unsigned char *stack, void *(*run)(void *), int secret) {
     CHECK(pthread_attr_destroy(&own), 0);
 }
 
-/* How many bytes a function leaves on its stack of those that it was handed: where one secret stood
- * in a first run, the other stands in a second. */
+/* Counts the bytes of its input that a function leaves on its stack. Such a place holds one secret
+ * after the first run, and the other secret after the second. */
 static size_t left_by(void *(*run)(void *)) {
     unsigned char *stack = NULL, *first = (unsigned char *)malloc(STACK);
     size_t i, left = 0;

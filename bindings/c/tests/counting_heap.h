@@ -1,4 +1,4 @@
-/* A heap that counts, and refuses one request: it stands in the place of malloc. */
+/* Replaces the heap in tests of memory: it counts bytes and requests, and refuses one request. */
 #ifndef COUNTING_HEAP_H
 #define COUNTING_HEAP_H
 
@@ -7,7 +7,7 @@
 #include <stdlib.h>
 #include <string.h>
 
-#define HEAD 16 /* the size of a block stands before it */
+#define HEAD 16 /* the size of a block is stored before it */
 
 static size_t taken, peak, requests, refused;
 

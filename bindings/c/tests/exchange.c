@@ -1,11 +1,11 @@
-/* A terminal's exchange, against characters of a card that are written down (ISO/IEC 7816-3, 10.3
- * and 12). */
+/* Tests an exchange by characters, against listed characters of a card (ISO/IEC 7816-3, 10.3 and
+ * 12). */
 #include "galliumtoad.h"
 #include "check.h"
 
 static const uint8_t GET[] = { 0x00, 0xCA, 0x5F, 0x20, 0x00 };
 
-/* The exchange sends these characters, and listens then. */
+/* The exchange sends these characters, and listens. */
 static void sends(gt_exchange *e, const uint8_t *want, size_t n) {
     uint8_t byte = 0;
     for (size_t i = 0; i < n; i++) {
@@ -21,7 +21,7 @@ static void takes(gt_exchange *e, const uint8_t *bytes, size_t n) {
     for (size_t i = 0; i < n; i++) CHECK(gt_exchange_take(e, bytes[i]), GT_OK);
 }
 
-/* GET DATA of `5F 20 03 4A 4F 45`: too long a count, and then the right one. */
+/* GET DATA of `5F 20 03 4A 4F 45`: first with too high a count, then with the right one. */
 static void get_data_again_with_6c(void) {
     static const uint8_t again[] = { 0x00, 0xCA, 0x5F, 0x20, 0x06 };
     static const uint8_t sw[] = { 0x6C, 0x06 };
@@ -39,7 +39,7 @@ static void get_data_again_with_6c(void) {
     takes(&e, answer, sizeof answer);
     CHECK(gt_exchange_next(&e, &byte), GT_DONE);
     CHECK(gt_exchange_take(&e, 0x90), GT_AFTER_END);
-    /* too little room: the length, and the buffer as it was; then all of it, twice */
+    /* too little room: the length is written, the buffer is not; then all of it, twice */
     memset(data, 0xEE, sizeof data);
     CHECK(gt_exchange_answer(&e, &status, data, 5, &len), GT_BUFFER);
     CHECK(len, 6);
@@ -57,7 +57,8 @@ static void get_data_again_with_6c(void) {
     CHECK(gt_exchange_next(&e, &byte), GT_EMPTY);
 }
 
-/* SELECT with its data byte by byte and after a NULL, and a response that is fetched after 61XX. */
+/* SELECT: the card asks for one byte of data, sends NULL, and asks for the rest. After 61XX the
+ * terminal sends GET RESPONSE. */
 static void select_with_fetch(void) {
     static const uint8_t command[] = { 0x00, 0xA4, 0x04, 0x00, 0x05, 1, 2, 3, 4, 5, 0x00 };
     static const uint8_t fetch[] = { 0x00, 0xC0, 0x00, 0x00, 0x02 };
@@ -69,7 +70,7 @@ static void select_with_fetch(void) {
     size_t len = 0;
     memcpy(copy, command, sizeof copy);
     CHECK(gt_exchange_start(&e, copy, sizeof copy), GT_OK);
-    memset(copy, 0, sizeof copy); /* the exchange has a copy of its own */
+    memset(copy, 0, sizeof copy); /* the exchange has its own copy */
     sends(&e, command, 5);
     takes(&e, &one, 1);
     sends(&e, command + 5, 1);

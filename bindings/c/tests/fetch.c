@@ -1,5 +1,5 @@
-/* When an exchange with a card is over, and what it has fetched by then: from the rules of the
- * terminal (ISO/IEC 7816-3, clause 12) and of the card's profile. */
+/* Tests when an exchange with a card ends, and what it has fetched by then. The rules are those of
+ * ISO/IEC 7816-3, clause 12, and of the card's profile. */
 #include "galliumtoad.h"
 #include "check.h"
 
@@ -15,8 +15,8 @@ static void build(gt_card *c) {
     CHECK(gt_card_finish(c), GT_OK);
 }
 
-/* Hands characters over until the exchange is over (GT_DONE), a fault comes, or both wait (GT_OK).
- * `sent` counts the terminal's. */
+/* Passes characters until the exchange ends (GT_DONE), fails, or both ends wait (GT_OK). `sent`
+ * counts those of the terminal. */
 static int32_t talk(gt_exchange *e, gt_card *c, size_t *sent) {
     uint8_t byte = 0;
     int32_t code;
@@ -35,7 +35,7 @@ static int32_t talk(gt_exchange *e, gt_card *c, size_t *sent) {
     return code;
 }
 
-/* A command, what the terminal sends for it, and the answer. */
+/* The terminal sends `sent` characters for a command, and the answer has this status and length. */
 static void row(gt_card *c, const uint8_t *command, size_t n, size_t sent, uint16_t status,
                 size_t length) {
     static uint8_t data[1024];
@@ -56,7 +56,7 @@ static void row(gt_card *c, const uint8_t *command, size_t n, size_t sent, uint1
         row(c, command_, sizeof command_, sent, status, length); \
     } while (0)
 
-/* Twelve characters are SELECT and its data, five a GET DATA or a GET RESPONSE. */
+/* SELECT with its data has 12 characters, GET DATA and GET RESPONSE have 5. */
 static void fetches_what_le_asks_for(void) {
     gt_card c = GT_INIT;
     build(&c);
@@ -74,7 +74,8 @@ static void fetches_what_le_asks_for(void) {
     gt_card_free(&c);
 }
 
-/* Terminal and card take the data the other way: both wait, or the card sends. A reset mends it. */
+/* Terminal and card disagree on the direction of data: both wait, or the card sends out of turn. A
+ * reset of the card recovers. */
 static void ends_that_do_not_agree(void) {
     static const uint8_t asks[] = { 0x00, 0xA4, 0x04, 0x00, 0x05 };
     static const uint8_t gives[] = { 0x00, 0xCA, 0x5F, 0x20, 0x01, 0xAA };
@@ -98,7 +99,7 @@ static void ends_that_do_not_agree(void) {
     gt_card_free(&c);
 }
 
-/* The terminal sends all it has, last this character, and is answered by a status. */
+/* The terminal sends all its characters, with `last` at the end, and takes a status. */
 static void answered(gt_exchange *e, uint8_t last, uint8_t sw1, uint8_t sw2) {
     uint8_t byte = 0;
     while (gt_exchange_next(e, &byte) == GT_SENDS) {}
@@ -118,7 +119,7 @@ static void over(gt_exchange *e, uint16_t status) {
     gt_exchange_free(e);
 }
 
-/* 6CXX is followed once, and only for as many bytes as are wanted. */
+/* The terminal repeats a command once after 6CXX, if XX is at most the count that it asked for. */
 static void a_wrong_length_is_mended_once(void) {
     static const uint8_t get[] = { 0x00, 0xCA, 0x5F, 0x20, 0x06 };
     gt_exchange e = GT_INIT;

@@ -1,4 +1,5 @@
-/* The object at a path of tags, against bytes that are worked out by hand (EMV Book 3, Annex B). */
+/* Tests the search for an object by a path of tags, on bytes that are worked out by hand (EMV Book
+ * 3, Annex B). */
 #include "galliumtoad.h"
 #include "check.h"
 
@@ -30,7 +31,7 @@ static void finds(const uint8_t *bytes, size_t n, const uint32_t *path, size_t s
     CHECK(place, 77);
 }
 
-/* the place is 77 where it stays */
+/* `at` is 77 if the place is not written. */
 static void refuses(const uint8_t *bytes, size_t n, const uint32_t *path, size_t steps,
                     int32_t code, size_t at) {
     gt_object object = UNTOUCHED;
@@ -51,7 +52,7 @@ static void finds_objects(void) {
     finds(BYTES(NAME), named, 1, whole);
     finds(BYTES(TEMPLATES), first, 2, a);
     finds(BYTES(TEMPLATES), second, 2, b);
-    /* 50 00, 00, 5F20 81 01 4A, 00: padding, and a length that is spelled in two bytes */
+    /* 50 00, 00, 5F20 81 01 4A, 00: padding, and a length field of two bytes */
     finds(BYTES("\x50\x00\x00\x5F\x20\x81\x01\x4A\x00"), two, 1, long_length);
     /* 70 05 (00, 9F8101 00) */
     finds(BYTES("\x70\x05\x00\x9F\x81\x01\x00"), three, 2, empty);
@@ -68,7 +69,7 @@ static void finds_nothing(void) {
     refuses(BYTES("\0\0"), name, 1, GT_NOT_FOUND, 77);
 }
 
-/* so many templates, each in the one before */
+/* Writes `levels` templates, each in the one before. */
 static size_t nest(uint8_t *bytes, size_t levels) {
     size_t i;
     for (i = 0; i < levels; i++) {
@@ -94,7 +95,7 @@ static void finds_at_every_depth(void) {
     refuses(bytes, nest(bytes, 16), path, 18, GT_NOT_FOUND, 77);
     refuses(bytes, nest(bytes, 17), path, 1, GT_TOO_DEEP, 32);
     refuses(bytes, nest(bytes, 17), path, 17, GT_TOO_DEEP, 32);
-    path[17] = 0x5F; /* no tag, and past the deepest level */
+    path[17] = 0x5F; /* not a tag, and below the deepest level */
     refuses(bytes, nest(bytes, 16), path, 18, GT_ARGUMENT, 77);
 }
 
@@ -102,7 +103,7 @@ static void first_faults(void) {
     const uint32_t path[] = { 0x50 };
     refuses(BYTES("\x50\x05\x41"), path, 1, GT_VALUE_CUT, 0);
     refuses(BYTES("\x50\x05\x41"), path, 0, GT_VALUE_CUT, 0);
-    refuses(BYTES("\x50\x00\x70\x03\x50\x02\xAA"), path, 1, GT_VALUE_CUT, 4); /* behind it */
+    refuses(BYTES("\x50\x00\x70\x03\x50\x02\xAA"), path, 1, GT_VALUE_CUT, 4); /* after it */
     refuses(BYTES("\x9F"), path, 1, GT_TAG_CUT, 0);
     refuses(BYTES("\x50\x00\x9F\x80\x00"), path, 1, GT_TAG_FORM, 2);
     refuses(BYTES("\x50\x82\x01"), path, 1, GT_LENGTH_CUT, 0);
@@ -119,7 +120,8 @@ static void steps_that_are_no_tags(void) {
     refuses(BYTES("\x50\x05\x41"), cut, 1, GT_ARGUMENT, 77);
 }
 
-/* one object with this tag, and nothing before, between or behind its parts */
+/* `gt_is_object`: the bytes are one object with this tag, without padding around or between its
+ * parts. */
 static void one_object(void) {
     static const uint8_t name[] = { 0x5F, 0x20, 0x03, 'J', 'O', 'E' };
     size_t n;
@@ -133,13 +135,13 @@ static void one_object(void) {
     CHECK(gt_is_object(name, sizeof name, 0x5F), 0);
     CHECK(gt_is_object(BYTES("JOE"), 0x5F20), 0);
     CHECK(gt_is_object(BYTES("JOE"), 0x50), 0);
-    CHECK(gt_is_object(BYTES("A"), 0x5F20), 0); /* a value alone, which is a tag */
+    CHECK(gt_is_object(BYTES("A"), 0x5F20), 0); /* a value alone that is also a tag */
     CHECK(gt_is_object(BYTES("\x00\x5F\x20\x03JOE"), 0x5F20), 0);
     CHECK(gt_is_object(BYTES("\x5F\x20\x03JOE\x00"), 0x5F20), 0);
     CHECK(gt_is_object(BYTES("\x5F\x20\x03JOE\x50\x00"), 0x5F20), 0);
     CHECK(gt_is_object(BYTES("\x50\x00\x5F\x20\x03JOE"), 0x5F20), 0);
-    CHECK(gt_is_object(BYTES(NAME), 0x84), 0); /* one level further in */
-    CHECK(gt_is_object(BYTES("\x70\x02\x50\x01"), 0x70), 0); /* a template of no objects */
+    CHECK(gt_is_object(BYTES(NAME), 0x84), 0); /* an inner tag */
+    CHECK(gt_is_object(BYTES("\x70\x02\x50\x01"), 0x70), 0); /* a template with an invalid value */
     CHECK(gt_is_object(NULL, 0, 0x5F20), 0);
     CHECK(gt_is_object(NULL, 6, 0x5F20), 0);
 }

@@ -1,7 +1,7 @@
-/* What each function of the header hands on. The archive's functions stand here: they note what
- * they are handed, and answer what they are told. None of them may be handed NULL, and none is
- * called where the caller's pointer is NULL. `forwards.py` writes these functions and their calls
- * from the header's declarations. */
+/* Tests what each function of the header passes to the archive. Stand-ins replace the archive's
+ * functions: they note their arguments, and return what the test sets. They never get NULL, and
+ * are not called if the caller's pointer is NULL. `forwards.py` writes them and their calls from
+ * the header's declarations. */
 #include "galliumtoad.h"
 #include "check.h"
 
@@ -33,7 +33,7 @@ static int32_t note(const char *name, const uintptr_t *what, size_t count) {
 #define NOTE(...) NOTED(__VA_ARGS__); return told_
 #define NOTE_ALONE(...) NOTED(__VA_ARGS__); (void)told_
 
-/* of a function that writes its answer first, and reads what it is handed then */
+/* The input of a stand-in that clears its output first, and reads its input after that. */
 static uint8_t seen[1024];
 #define READ(bytes, n, answer, room) do { \
         memset(answer, 0, room); \
@@ -46,7 +46,7 @@ uint32_t galliumtoad_version(void) {
     return library;
 }
 
-/* what each parameter points to: nothing but the archive's functions writes there */
+/* Each pointer parameter points to its own place here. Only stand-ins write to them. */
 static uint64_t places[MOST][64];
 #define AT(parameter) ((void *)places[parameter])
 
@@ -55,7 +55,7 @@ static const char *text(size_t n) {
     return letters + LETTERS - n;
 }
 
-/* what a pointer is where NULL came with a count of 0: any but NULL */
+/* Any pointer except NULL: what the archive gets if the caller passes NULL and a count of 0. */
 #define ANY UINTPTR_MAX
 
 static void is_handed(int line, size_t call, const char *name, const uintptr_t *want, size_t n) {
@@ -76,7 +76,7 @@ static void is_handed(int line, size_t call, const char *name, const uintptr_t *
         is_handed(__LINE__, call, "galliumtoad_" name, want_, sizeof want_ / sizeof *want_); \
     } while (0)
 
-/* The call hands these to the archive's function, and answers as it does, whatever that is. */
+/* The call passes these to the archive's function, and returns what that returns. */
 #define HANDS(call, name, ...) do { \
         static const int32_t answers_[] = { GT_OK, GT_SENDS, GT_BUFFER, GT_EMPTY }; \
         size_t i_; \
@@ -89,8 +89,8 @@ static void is_handed(int line, size_t call, const char *name, const uintptr_t *
         } \
     } while (0)
 
-/* The call of an operation hands these on. Where that went well it asks for the answer, and tells
- * what that does: of too little room only where there may be any. */
+/* The call of an operation passes these on. If that returns GT_OK, it asks for the answer, and
+ * returns the code of that; `of_room` is its result if that is GT_BUFFER. */
 #define OPERATES(call, name, of_room, ...) do { \
         static const int32_t faults_[] = { GT_NULL, GT_EMPTY, GT_BUFFER, GT_NOT_FOUND }; \
         size_t i_; \
@@ -129,8 +129,9 @@ static void is_handed(int line, size_t call, const char *name, const uintptr_t *
         CHECK(calls, 0); \
     } while (0)
 
-/* The function hands on a copy: so what the archive's function writes first is not what it reads,
- * though one buffer serves for both sides. Of too many bytes it may be too many of them. */
+/* The function passes on a copy, so that a stand-in that writes first still reads its input, even
+ * if one buffer serves as both. If `n` exceeds `most`, fewer bytes may be passed on, but more than
+ * `most`. */
 typedef int32_t copying(gt_card *, const uint8_t *, size_t, uint8_t *, size_t, size_t *);
 static void copies_from(copying *call, const char *name, size_t most, const uint8_t *bytes,
                         size_t n, uint8_t *answer, size_t room) {
@@ -166,7 +167,7 @@ static void copies(copying *call, const char *name, size_t most) {
 
 #include "forwards.h"
 
-/* Major and minor number have to be the header's, and the patch number may be any. */
+/* A version fits if its major and minor numbers are those of the header. */
 static void of_versions(void) {
     const uint32_t others[] = { 0, 0xFF, 0x000100, 0x0001FF, 0x000300, 0x010200, 0x010000,
                                 0x020001, 0xFF0200, 0x00FF00, 0x1000200, UINT32_MAX };

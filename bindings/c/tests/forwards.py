@@ -1,38 +1,39 @@
 #!/usr/bin/env python3
-"""forwards.py HEADER: writes the part of forwards.c that follows from the header's declarations: a
-stand-in for each function of the archive, and the calls that show what it is handed. A parameter is
-handed on under its name; `Function` has the rules for the others, and for NULL. It fails at a
-declaration that no rule fits."""
+"""forwards.py HEADER: writes the part of forwards.c that follows from the header's declarations.
+
+It writes a stand-in for each function of the archive, and calls that show its arguments. A
+parameter is passed on to the parameter of the same name. `Function` has the rules for the others,
+and for NULL. It fails at a declaration that no rule fits."""
 
 import re
 import sys
 
 ARCHIVE = r"\n(\w+) galliumtoad_(\w+)\(([^)]*)\);"
 HEADER = r"\nGT_(?:FUNCTION|MUST_CHECK) (\w+|const char \*)\s?gt_(\w+)\(([^)]*)\) \{"
-# these are over no function of the archive that has their name; forwards.c has the version's
+# The archive has no function with these names, except the one for the version in forwards.c.
 ALONE = {"text", "status_text", "is_object", "version_fits", "version"}
-# one buffer may serve for both sides of these, so they hand on a copy of at most so many bytes
+# One buffer may be input and output of these, so they pass on a copy of at most these sizes.
 COPIES = {"card_tpdu": "GT_TPDU_LIMIT", "card_apdu": "GT_APDU_LIMIT"}
 HANDLE = r"typedef struct \{ bool live; void \*held; \} (gt_\w+);"
-# numbers that a narrower type, or another parameter's place, would change
+# A narrower type, or the place of another parameter, would change these numbers.
 MOST = {"uint8_t": 0xF0, "uint16_t": 0xFED0, "uint32_t": 0xFEDCBA90, "size_t": 2**64 - 16}
-# values of a flag, and lengths of a text
+# Values of a flag, and lengths of a text.
 VALUES = {"int": ["1", "0", "2", "-1", "256"], "const char *": [0, 1, 8, 9, 255, 256, 300, 65536]}
 
 
 class Parameter:
-    """A parameter of a declaration: its type, its name, and the elements of an array."""
+    """A parameter of a declaration: its type, its name, and the length of an array."""
 
     def __init__(self, text):
         kind, self.name, self.elements = re.fullmatch(r"(.*?)(\w+)(?:\[(\w+)\])?", text).groups()
         self.type = kind.strip() + " *" * bool(self.elements)
         self.is_pointer = self.type.endswith("*")
-        # the parameter behind it, where that is the number of its elements
+        # the next parameter's name, if that is the number of elements
         self.count = None
 
 
 def declared(header, pattern):
-    """Each function that the pattern finds: what it returns, its name, and its parameters."""
+    """Each function that the pattern finds: its return type, name and parameters."""
     handles = {name + " *" for name in re.findall(HANDLE, header)}
     for back, name, parameters in re.findall(pattern, header):
         texts = [" ".join(text.split()) for text in parameters.split(",") if text != "void"]
@@ -45,8 +46,8 @@ def declared(header, pattern):
 
 
 class Function:
-    """A function of the header, what the archive's one of its name is handed and, of an operation
-    with an answer, what the one for that is handed then."""
+    """A function of the header, the parameters of the archive's function of its name, and those of
+    the archive's function that returns the answer, if it has one."""
 
     def __init__(self, name, parameters, archive):
         self.name, self.parameters, self.handed = name, parameters, archive[name]
@@ -56,7 +57,7 @@ class Function:
         self.answer = archive[name.split("_")[0] + "_answer"] if rest else None
 
     def given(self, is_full=True, null=(), value=None):
-        """The argument of each parameter: full buffers and high numbers, or empty and low."""
+        """The argument for each parameter: full buffers and high numbers, or empty and low."""
         counts = {it.count: it for it in self.parameters if it.count}
         for at, it in enumerate(self.parameters):
             if it in null:
@@ -75,7 +76,7 @@ class Function:
                 yield it.name, f"{MOST[it.type] + at:#x}" if full else str(low)
 
     def wanted(self, values, of):
-        """What a function of the archive is handed."""
+        """The arguments that a function of the archive gets."""
         for before, it in zip([None, *of], of):
             own, counted = self.own.get(it.name), before and self.own.get(before.name)
             if own and it.type == "bool":
@@ -87,13 +88,13 @@ class Function:
             elif counted and counted.type == "const char *":
                 yield values[counted.name][5:-1]
             elif of is self.answer:
-                # no data: no room for them
+                # without data there is no room for them
                 yield "ANY" if it.is_pointer else "0"
             else:
                 sys.exit(f"{self.name}: no rule says what {it.name} of the archive is")
 
     def row(self, **how):
-        """A call that is handed on."""
+        """A call that is passed on."""
         values = dict(self.given(**how))
         call = f"gt_{self.name}({', '.join(values.values())})"
         wanted = ", ".join(self.wanted(values, self.handed))
@@ -120,7 +121,7 @@ class Function:
 
 
 def stand_in(back, name, parameters):
-    """A function of the archive: it notes what it is handed."""
+    """A function in place of the archive's: it notes its arguments."""
     each = ", ".join(f"{it.type} {it.name}" for it in parameters)
     names = [it.name for it in parameters]
     reads = f"READ({', '.join(names[1:5])}); " if name in COPIES else ""

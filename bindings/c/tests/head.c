@@ -1,4 +1,4 @@
-/* The head of an object, against rows that are worked out by hand (EMV Book 3, Annex B). */
+/* Tests the head of an object, with rows that are worked out by hand (EMV Book 3, Annex B). */
 #include "galliumtoad.h"
 #include "check.h"
 
@@ -28,9 +28,9 @@ int main(void) {
     has_head(0x9F8101, 256, "\x9F\x81\x01\x82\x01\x00", 6);
     has_head(0x9F8101, 65535, "\x9F\x81\x01\x82\xFF\xFF", 6);
     is_no_tag(0x00);
-    is_no_tag(0x5F);      /* a second byte is wanting */
-    is_no_tag(0x5F80);    /* a third one */
-    is_no_tag(0x5020);    /* one too many */
+    is_no_tag(0x5F);      /* the second byte is missing */
+    is_no_tag(0x5F80);    /* the third byte is missing */
+    is_no_tag(0x5020);    /* one byte too many */
     is_no_tag(0x5F8001);  /* a second byte of 80 */
     is_no_tag(0x5F8180);  /* a fourth byte */
     is_no_tag(0x1005F20);

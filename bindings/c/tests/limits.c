@@ -1,4 +1,4 @@
-/* The limits of the header: each is reached, and one more is refused. */
+/* Tests the limits of the header: each is reached, and one more is refused. */
 #include "galliumtoad.h"
 #include "check.h"
 
@@ -38,7 +38,7 @@ static void applications_and_entries(void) {
     gt_card_free(&c);
 }
 
-/* A get of the longest value has as many bytes as the header says. */
+/* A get of the longest value returns GT_OBJECT_LIMIT bytes. */
 static void values_and_objects(void) {
     static uint8_t data[GT_OBJECT_LIMIT];
     gt_card c = GT_INIT;
@@ -61,7 +61,7 @@ static void values_and_objects(void) {
     gt_session_free(&s);
 }
 
-/* A card that always has 256 bytes more: 64 answers come, and the next byte is too much. */
+/* A card that always has 256 bytes more: the exchange takes 64 answers, and not one byte more. */
 static void responses(void) {
     static const uint8_t get[] = { 0x00, 0xCA, 0x5F, 0x20, 0x00 };
     gt_exchange e = GT_INIT;
@@ -85,7 +85,7 @@ static void responses(void) {
     gt_exchange_free(&e);
 }
 
-/* Templates in templates: the innermost is at the deepest level, or one below it. */
+/* Nested templates: the innermost is at the deepest level, or one below it. */
 static void levels(void) {
     gt_object objects[GT_LEVELS_LIMIT];
     uint8_t list[2 * (GT_LEVELS_LIMIT + 1)];

@@ -1,17 +1,18 @@
-/* Want of memory at each request in turn of an exchange, and what is taken and given back. */
+/* Tests an exchange that runs out of memory at each request in turn, and what it takes and
+ * frees. */
 #include "galliumtoad.h"
 #include "check.h"
 #include "counting_heap.h"
 
-/* The exchange of a command with 255 bytes of data, the most that there are. */
+/* Starts the exchange of a command with 255 bytes of data, the most that a command has. */
 static int32_t start(gt_exchange *e) {
     uint8_t command[261] = { 0x00, 0xA4, 0x04, 0x00, 255 };
     requests = 0;
     return gt_exchange_start(e, command, sizeof command);
 }
 
-/* With a limit the response's room is that, and no more: each request is refused in turn, and then
- * none. Of no bytes there is no request. */
+/* An exchange with a limit takes that many bytes for the response; for 0 bytes it requests none.
+ * Each request is refused in turn, and then none. */
 static void within(size_t limit) {
     static const uint8_t command[261] = { 0x00, 0xA4, 0x04, 0x00, 255 };
     const size_t times = limit > 0 ? 3 : 2;
@@ -48,7 +49,7 @@ int main(void) {
     CHECK(start(&e), GT_OK);
     CHECK(requests, 3);
     CHECK(peak <= 16895, 1); /* as the header says */
-    refused = 4; /* nothing asks for memory any more */
+    refused = 4; /* no later call asks for memory */
     CHECK(gt_exchange_next(&e, &byte), GT_SENDS);
     gt_exchange_free(&e);
     CHECK(taken, 0);

@@ -1,10 +1,10 @@
-/* The memory of arena.c, which is part of this file, so that all of its array can be looked at. */
+/* Tests the memory of arena.c. That file is included, so that the tests see its whole array. */
 #define GT_ARENA_SIZE 65536
 #include "arena.c"
 
 #include "check.h"
 
-/* How often this byte stands eight times in a row. */
+/* Counts the places where the arena has this byte eight times in a row. */
 static size_t holding(unsigned char byte) {
     size_t i, row = 0, found = 0;
     for (i = 0; i < sizeof arena.bytes; i++) {
@@ -14,7 +14,7 @@ static size_t holding(unsigned char byte) {
     return found;
 }
 
-/* A block that grows: what is kept goes along, and nothing stays where it was. */
+/* A block that grows keeps its bytes, and leaves nothing where it was. */
 static void blocks(void) {
     gt_taken small = rattle_alloc(11, 1), large;
     CHECK(small.some, 1);
@@ -45,7 +45,7 @@ static void blocks(void) {
     CHECK(large.at != NULL, 1);
 }
 
-/* All is one free block again, so nearly the whole array can be had at once. */
+/* After all blocks are freed, one block can take nearly the whole array. */
 static void all_of_it(void) {
     gt_taken all;
     CHECK(gt_arena_used(), 0);

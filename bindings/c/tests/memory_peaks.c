@@ -1,5 +1,5 @@
-/* How many bytes each handle asks of the heap at once, at most: the figures are those of the
- * header, where it declares the handles. */
+/* Tests how many bytes each handle has from the heap at once, at most. The header gives these
+ * figures where it declares the handles. */
 #include "galliumtoad.h"
 #include "check.h"
 #include "counting_heap.h"
@@ -39,7 +39,7 @@ static void is_at_most(const char *what, size_t most) {
     CHECK(taken > 0, 1);
 }
 
-/* the terminal's and the card's characters, handed over until the exchange is over */
+/* Passes characters between terminal and card until the exchange ends. */
 static void talk(gt_card *c, const uint8_t *command, size_t n) {
     gt_exchange e = GT_INIT;
     uint8_t byte, data[64];
@@ -101,7 +101,7 @@ static void a_session(size_t size, bool is_heard, size_t most) {
     CHECK(taken, 0);
 }
 
-/* A command that moves no data takes the next plan, and PUT DATA no more than its value besides. */
+/* The card answers a TPDU with this status, and takes at most `takes` more bytes to do so. */
 static void carries_out(gt_card *c, const uint8_t *tpdu, size_t n, uint16_t status, size_t takes) {
     const size_t before = taken;
     uint8_t answer[2];
@@ -112,7 +112,7 @@ static void carries_out(gt_card *c, const uint8_t *tpdu, size_t n, uint16_t stat
     CHECK(peak <= before + takes, 1);
 }
 
-/* Some are given, then some taken, up to all of them. */
+/* Gives plans to a card and takes some, up to all. */
 static void plans_that_wait(void) {
     static const uint8_t other[] = { 0x00, 0x6D, 0x00, 0x00 };
     gt_card c = GT_INIT;

@@ -1,6 +1,6 @@
-/* Once a card no longer holds a value, no block of its memory has a piece of it, held or given
- * back, however the value's chain ended. The linker puts the functions below in the place of malloc
- * and free, for heap.c as the library has it. */
+/* Tests that no block of memory, held or freed, has a piece of a value that the card no longer
+ * holds, however the value's chain ended. The linker replaces malloc and free in heap.c by the
+ * functions below. */
 #include "galliumtoad.h"
 #include "check.h"
 
@@ -18,17 +18,18 @@ enum { TAG = 0x5F20, TEMPLATE = 0x70, LOCKED = 0x50 };
 static const uint8_t AID[] = { 0xA0, 0x00, 0x00, 0x00, 0x03, 0x10, 0x10 };
 static const uint8_t ANN[] = { 0x41, 0x4E, 0x4E };
 
-/* the value: each byte follows from the one before it, so that any FRONT in a row are known */
+/* The value. Each byte follows from the one before it, so any FRONT bytes in a row identify it. */
 static uint8_t secret[GT_VALUE_LIMIT + PIECE];
 static struct { unsigned char *at; size_t size; } blocks[MOST];
-static size_t given_back; /* blocks with a piece of the value in them */
+static size_t given_back; /* freed blocks that had a piece of the value */
 static bool is_refused;
 
 static uint8_t behind(uint8_t byte) {
     return (uint8_t)(byte * 5 + 113);
 }
 
-/* Whether FRONT bytes in a row of the value stand there, so many places apart. */
+/* Whether these bytes have FRONT successive bytes of the value, each `apart` places after the last
+ * one. */
 static bool has_row(const unsigned char *at, size_t n, size_t apart) {
     size_t from, i, row = 1;
     for (from = 0; from < apart && row < FRONT; from++)
@@ -37,8 +38,8 @@ static bool has_row(const unsigned char *at, size_t n, size_t apart) {
     return row == FRONT;
 }
 
-/* Whether a piece of the value is there, or characters that a session heard of it, each with its
- * sender. */
+/* Whether these bytes have a piece of the value: in a row, or as characters that a session has
+ * recorded, each with its sender. */
 static bool has_piece(const unsigned char *at, size_t n) {
     return has_row(at, n, 1) || has_row(at, n, 2);
 }
@@ -71,7 +72,7 @@ void *__wrap_realloc(void *block, size_t n) {
     abort();
 }
 
-/* How many blocks that are held have a piece of the value in them. */
+/* Counts the held blocks that have a piece of the value. */
 static size_t held(void) {
     size_t i, n = 0;
     for (i = 0; i < MOST; i++) n += blocks[i].at && has_piece(blocks[i].at, blocks[i].size);
@@ -90,7 +91,7 @@ static unsigned tpdu(gt_card *c, const uint8_t *bytes, size_t n) {
     return len < 2 ? 0 : answer[len - 2] * 256u + answer[len - 1];
 }
 
-/* A PUT DATA of one piece of a chain, or of the last. */
+/* Sends one piece of a value by PUT DATA, and returns the status. */
 static unsigned piece(gt_card *c, uint8_t cla, unsigned tag, const uint8_t *value, size_t n) {
     uint8_t bytes[5 + PIECE] = { 0 };
     bytes[0] = cla;
@@ -102,7 +103,7 @@ static unsigned piece(gt_card *c, uint8_t cla, unsigned tag, const uint8_t *valu
     return tpdu(c, bytes, 5 + n);
 }
 
-/* The pieces but the last of a value; how many bytes these are. */
+/* Sends all pieces of a value except the last. Returns the number of bytes sent. */
 static size_t begun(gt_card *c, unsigned tag, size_t n) {
     size_t at = 0;
     for (; at + PIECE < n; at += PIECE) CHECK(piece(c, 0x10, tag, secret + at, PIECE), 0x9000);
@@ -121,7 +122,7 @@ static unsigned select_app(gt_card *c) {
     return tpdu(c, bytes, sizeof bytes);
 }
 
-/* A card with its application selected. */
+/* Builds a card, and selects its application. */
 static void build(gt_card *c) {
     CHECK(gt_card_new(c), GT_OK);
     CHECK(gt_card_app(c, AID, sizeof AID), GT_OK);
@@ -132,7 +133,7 @@ static void build(gt_card *c) {
     GONE();
 }
 
-/* What is stored stands in its own block alone, and goes with what replaces it. */
+/* A stored value is in one block alone, and the value that replaces it erases it. */
 static void stored(gt_card *c, size_t n) {
     CHECK(put(c, TAG, n), 0x9000);
     CHECK(held(), 1);
@@ -147,7 +148,7 @@ static void stored(gt_card *c, size_t n) {
     GONE();
 }
 
-/* Each answer but 9000 drops a chain: a put that is refused, before its data or behind them. */
+/* Each answer except 9000 drops a chain, whether the put is refused before or after its data. */
 static void refused(gt_card *c) {
     static const uint8_t le[] = { 0x00, 0xCA, 0x5F, 0x20, 0x01 };
     CHECK(put(c, TEMPLATE, LONG), 0x6A80);
@@ -186,7 +187,8 @@ static void want_of_memory(gt_card *c) {
     GONE();
 }
 
-/* A reset at each character of a put of two pieces, of which the second is the last or is not. */
+/* A reset after `characters` characters of the second piece of a put. CLA says whether that piece
+ * is the last. */
 static void reset_at(gt_card *c, uint8_t cla, size_t characters) {
     const uint8_t header[] = { cla, 0xDA, 0x5F, 0x20, PIECE };
     uint8_t byte = 0;
@@ -213,7 +215,7 @@ static void resets(gt_card *c) {
     }
 }
 
-/* A reader that stops: the card takes data and is given none, and is reset. */
+/* A TPDU without the data that it announces: the card is reset. */
 static void a_reader_stops(gt_card *c) {
     static const uint8_t bytes[] = { 0x10, 0xDA, 0x5F, 0x20, PIECE };
     uint8_t answer[GT_ANSWER_LIMIT];
@@ -224,7 +226,7 @@ static void a_reader_stops(gt_card *c) {
     CHECK(select_app(c), 0x610B);
 }
 
-/* A full application takes no tag more. */
+/* A full application takes no new tag. */
 static void full(gt_card *c) {
     unsigned tag;
     for (tag = 0xC0; tag < 0xC0 + 31; tag++) CHECK(piece(c, 0x00, tag, ANN, 1), 0x9000);
@@ -233,8 +235,8 @@ static void full(gt_card *c) {
     GONE();
 }
 
-/* A session to which nobody listens keeps nothing of a value; else it keeps the last operation,
- * until another one takes its place, and the end leaves the card. */
+/* A session without a listener keeps nothing of a value. With one it keeps the last operation until
+ * the next one, `gt_session_listen` or the end. */
 static void in_a_session(gt_card *c) {
     gt_session s = GT_INIT;
     uint16_t status = 0;
@@ -264,7 +266,7 @@ static void in_a_session(gt_card *c) {
     CHECK(select_app(c), 0x610B);
 }
 
-/* A terminal's end at T=1 whose card sends this block. */
+/* Gives the terminal's end at T=1 this block from the card. */
 static void comes(gt_t1 *t, uint8_t pcb, const uint8_t *info, size_t n) {
     uint8_t block[GT_BLOCK_LIMIT] = { 0 };
     size_t i, taken = 0;
@@ -275,7 +277,7 @@ static void comes(gt_t1 *t, uint8_t pcb, const uint8_t *info, size_t n) {
     CHECK(gt_t1_receive_bytes(t, block, n + 4, &taken), GT_SENDS);
 }
 
-/* An end at T=1 keeps its command and the response, until it is reset or given back. */
+/* An end at T=1 keeps its command and the response until it is reset or freed. */
 static void at_t1(bool is_reset) {
     static const uint8_t ifs[] = { 0xFE };
     uint8_t block[GT_BLOCK_LIMIT], waits = 0;

@@ -1,4 +1,4 @@
-/* Want of memory at each request in turn of a card and of a session with it. */
+/* Tests a card, and a session with it, that run out of memory at each request in turn. */
 #include "galliumtoad.h"
 #include "check.h"
 #include "counting_heap.h"
@@ -8,7 +8,7 @@ static const uint8_t SELECTED[] = {
     0x6F, 0x09, 0x84, 0x07, 0xA0, 0x00, 0x00, 0x00, 0x03, 0x10, 0x10
 };
 
-/* Each call is made again after want of memory, since nothing has changed then. */
+/* Repeats each call that returns GT_MEMORY, since such a call changes nothing. */
 static void build(gt_card *c) {
     int32_t code;
     while ((code = gt_card_new(c)) == GT_MEMORY) {}
@@ -21,14 +21,14 @@ static void build(gt_card *c) {
     CHECK(code, GT_OK);
 }
 
-/* How often a character was lost, and how often the card had no memory for a value. */
+/* How often the record lost a character, and how often the card had no memory for a value. */
 static int lost, unstored;
 
-/* NULL bytes before the card goes on, so that what is heard of a select outgrows its first room. */
+/* NULL bytes of a plan. They make a select too long for the first block of the record. */
 #define NULLS "nnnnnnnnnnnnnnnnnnnnnnnnnnnnnnnnnnnnnnnn"
 enum { SELECT_LINE = 34 + sizeof NULLS - 1 };
 
-/* A character that could not be noted is told as want of memory, and nothing else is. */
+/* GT_MEMORY, and no other code, means that the record lost a character. */
 static void check_heard(gt_session *s) {
     gt_character line[SELECT_LINE];
     size_t count = 99;
@@ -38,7 +38,7 @@ static void check_heard(gt_session *s) {
     lost += code == GT_MEMORY;
 }
 
-/* Want of memory at the card is its answer 6581, and leaves the value as it was. */
+/* A card that runs out of memory answers 6581, and keeps the old value. */
 static void operate(gt_session *s) {
     uint16_t status = 0;
     uint8_t data[32];
@@ -53,7 +53,7 @@ static void operate(gt_session *s) {
     CHECK(len, sizeof SELECTED);
     CHECK_BYTES(data, SELECTED, sizeof SELECTED);
     check_heard(s);
-    /* want of memory at the terminal: what was heard of the select is still told */
+    /* the terminal runs out of memory: the record still has the select */
     while ((code = gt_session_put(s, 0x5F20, (const uint8_t *)"AL", 2, &status)) == GT_MEMORY)
         check_heard(s);
     CHECK(code, GT_OK);
@@ -67,7 +67,7 @@ static void operate(gt_session *s) {
     CHECK_BYTES(data, stored ? "\x5F\x20\x02" "AL" : "\x5F\x20\x03" "JOE", len);
 }
 
-/* The first operation takes room for a response, and the next ones use it. */
+/* The first operation takes room for a response, and the next ones use it again. */
 static void takes_room_once(void) {
     gt_card c = GT_INIT;
     gt_session s = GT_INIT;

@@ -1,5 +1,5 @@
-/* Want of memory at each request in turn of a terminal's end at T=1 and of a card's, and what is
- * taken and given back: the figures are those of the header, where it declares the handles. */
+/* Tests both ends at T=1 that run out of memory at each request in turn, and what they take and
+ * free. The header gives these figures where it declares the handles. */
 #include "galliumtoad.h"
 #include "check.h"
 #include "counting_heap.h"
@@ -8,7 +8,7 @@ enum { ALONE = 368, LIMIT = 258 };
 
 static uint8_t apdu[GT_APDU_LIMIT], room[GT_BLOCK_LIMIT];
 
-/* The end sends a block; the first time there is no memory for it. */
+/* The end sends a block. The first request of memory for it is refused. */
 static void sends(gt_t1 *t) {
     const size_t before = taken;
     size_t n = 7;
@@ -26,7 +26,7 @@ static void sends(gt_t1 *t) {
     CHECK(taken, before);
 }
 
-/* A block of the card comes, with so many bytes 00 in its field. */
+/* Gives the end a block from the card, with `size` bytes 00 in its field. */
 static int32_t comes(gt_t1 *t, uint8_t pcb, size_t size, size_t *count) {
     uint8_t block[GT_BLOCK_LIMIT] = { 0 };
     block[1] = pcb;
@@ -43,7 +43,7 @@ static void opens(gt_t1 *t) {
     CHECK(gt_t1_receive_bytes(t, ifs, sizeof ifs, &count), GT_SENDS);
 }
 
-/* The bytes of a block for which memory is wanting are kept: it is taken later, or dropped. */
+/* If memory runs out for a block, the end keeps its bytes: it is taken later, or dropped. */
 static void wants_memory(gt_t1 *t) {
     size_t count = 0;
     refused = 1;
@@ -63,8 +63,8 @@ static void wants_memory(gt_t1 *t) {
     CHECK(comes(t, 0x40, 4, &count), GT_SENDS);
 }
 
-/* Hands the terminal's block to a card, of whose requests for memory this one is refused: it has no
- * answer then, and the block is dropped. Answers how many requests there were. */
+/* Gives a card the terminal's block, and refuses the request of memory with this number. The card
+ * has no answer then, and the block is dropped. Returns the number of requests. */
 static size_t card_takes(gt_card *c, const uint8_t *block, size_t size, size_t which) {
     size_t n = 0;
     int32_t code;
@@ -84,7 +84,7 @@ static size_t card_takes(gt_card *c, const uint8_t *block, size_t size, size_t w
     return requests;
 }
 
-/* The card's answer is this; the first time there is no memory for it. */
+/* The card's answer is this. The first request of memory for it is refused. */
 static void card_sends(gt_card *c, const char *want, size_t size) {
     size_t n = 7;
     room[0] = 0xEE;
@@ -99,8 +99,8 @@ static void card_sends(gt_card *c, const char *want, size_t size) {
     CHECK_BYTES(room, want, size);
 }
 
-/* Memory that is wanting within a command: the card has not carried it out, and the terminal's
- * block, sent again, finds it as it was. A put may be answered 6581 instead. */
+/* A card that runs out of memory in a command has not carried it out. The terminal's block, sent
+ * again, finds the card unchanged. A put may return 6581 instead. */
 static void of_a_card(void) {
     static const uint8_t aid[] = { 0xA0, 0x00, 0x00, 0x00, 0x03 };
     static const struct { const char *block; size_t size; const char *answer; size_t length; }

@@ -1,4 +1,4 @@
-/* Want of memory at each request in turn of a terminal, and what is taken and given back. */
+/* Tests a terminal that runs out of memory at each request in turn, and what it takes and frees. */
 #include "galliumtoad.h"
 #include "check.h"
 #include "counting_heap.h"
@@ -18,10 +18,11 @@ static int32_t begin(gt_terminal *t, int kind) {
     }
 }
 
-/* What goes to the card as data, of which a copy is kept. */
+/* The number of data bytes that each kind of operation sends: the terminal keeps a copy. */
 static const size_t copies[] = { sizeof AID, 0, sizeof value, 255 };
 
-/* With a limit a terminal takes that for each response, and no more; its own memory is as ever. */
+/* A terminal with a limit takes that many bytes for each response. Its own memory is the same as
+ * without one. */
 static void within(size_t limit, size_t alone) {
     gt_terminal t = GT_INIT;
     requests = 0;
@@ -48,7 +49,7 @@ static void within(size_t limit, size_t alone) {
     CHECK(taken, 0);
 }
 
-/* The first operation of a terminal, of this kind, is over. */
+/* Creates a terminal, and completes an operation of this kind. */
 static void over(gt_terminal *t, int kind) {
     refused = 0;
     CHECK(gt_terminal_new(t), GT_OK);
@@ -56,7 +57,7 @@ static void over(gt_terminal *t, int kind) {
     CHECK(gt_terminal_answered(t, (const uint8_t *)"\x6A\x82", 2), GT_OK);
 }
 
-/* More data than any before take a block, and then that of the fewer is given back. */
+/* More data than before take a new block, and the old one is freed. */
 static void more_data(size_t alone) {
     gt_terminal t = GT_INIT;
     uint16_t status = 0;
@@ -66,7 +67,7 @@ static void more_data(size_t alone) {
     CHECK(begin(&t, 3), GT_MEMORY);
     CHECK(requests, 1);
     CHECK(taken, alone + 16384 + copies[0]);
-    /* want of memory leaves the answer */
+    /* running out of memory leaves the answer */
     CHECK(gt_terminal_answer(&t, &status, NULL, 0, &len), GT_OK);
     CHECK(status, 0x6A82);
     refused = 0;
@@ -79,7 +80,7 @@ static void more_data(size_t alone) {
     CHECK(taken, 0);
 }
 
-/* Fewer take nothing, and give nothing back. */
+/* Fewer data take no block, and free none. */
 static void fewer_data(size_t alone) {
     gt_terminal t = GT_INIT;
     over(&t, 3);
@@ -92,8 +93,8 @@ static void fewer_data(size_t alone) {
     CHECK(taken, 0);
 }
 
-/* By commands the first call takes room for the response and a copy once more; want of it changes
- * nothing. The first response frees the other room, which the next operation takes again. */
+/* By commands the first call takes room for the response and another copy; a refused request
+ * changes nothing. The first response frees the other room. The next operation takes it again. */
 static void by_commands(void) {
     static const uint8_t absent[] = { 0x6A, 0x82 };
     uint8_t apdu[GT_APDU_LIMIT];
@@ -164,11 +165,11 @@ int main(void) {
         CHECK(taken, alone + 16384 + copies[kind]);
         CHECK(peak, taken);
         requests = 0;
-        refused = 1; /* nothing asks for memory any more */
+        refused = 1; /* no later call asks for memory */
         CHECK(gt_terminal_answered(&t, (const uint8_t *)"\x6A\x82", 2), GT_OK);
         CHECK(gt_terminal_answer(&t, &status, NULL, 0, &len), GT_OK);
         CHECK(status, 0x6A82);
-        /* nor does the next, which has no more data */
+        /* nor does the next operation, since it has no more data than this one */
         CHECK(begin(&t, kind), GT_OK);
         CHECK(requests, 0);
         CHECK(taken, alone + 16384 + copies[kind]);

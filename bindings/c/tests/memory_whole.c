@@ -1,5 +1,5 @@
-/* Memory that a card asks for when it carries out whole TPDUs and commands: room for the data of
- * each, and its plans. */
+/* Tests the memory that a card takes for whole TPDUs and commands, for their data and for its
+ * plans. */
 #include "galliumtoad.h"
 #include "check.h"
 #include "counting_heap.h"
@@ -8,7 +8,7 @@ static const uint8_t AID[] = { 0xA0, 0x00, 0x00, 0x00, 0x03, 0x10, 0x10 };
 static const uint8_t SELECT[] = { 0x00, 0xA4, 0x04, 0x00, 0x07, 0xA0, 0x00,
                                   0x00, 0x00, 0x03, 0x10, 0x10 };
 
-/* A card with an object of 256 bytes, its application selected. */
+/* Builds a card with an object of 256 bytes, and selects its application. */
 static void selected(gt_card *c) {
     static uint8_t value[253];
     uint8_t answer[GT_ANSWER_LIMIT];
@@ -21,7 +21,7 @@ static void selected(gt_card *c) {
     CHECK(len, 2);
 }
 
-/* A SELECT, for which there is no memory. */
+/* A SELECT needs no memory: a request would be refused. */
 static void takes_no_memory(gt_card *c) {
     uint8_t answer[2];
     size_t len = 0;
@@ -32,8 +32,8 @@ static void takes_no_memory(gt_card *c) {
     refused = 0;
 }
 
-/* A plan that waits takes 32 bytes, four times that at most while others join it, and one for each
- * of its letters. Those of the plan that was taken last stay until the next TPDU. */
+/* A waiting plan takes 32 bytes, at most four times that while plans are added, and one byte for
+ * each letter. The letters of the plan in use stay until the next TPDU. */
 static void plans(void) {
     enum { MANY = 1000, LETTERS = 4, SIZE = 32 };
     gt_card c = GT_INIT;
@@ -91,7 +91,7 @@ static void room(void) {
     CHECK(taken, 0);
 }
 
-/* Want of memory at each request in turn of a command changes nothing. */
+/* A command that runs out of memory, at each request in turn, changes nothing. */
 static void of_a_command(void) {
     static const uint8_t get[] = { 0x00, 0xCA, 0x00, 0x50, 0x00 };
     uint8_t answer[GT_ANSWER_LIMIT];

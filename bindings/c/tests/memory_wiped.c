@@ -1,6 +1,5 @@
-/* What heap.c gives back to malloc holds nothing any more. The linker puts the functions below in
- * the place of malloc and free, for heap.c as the library has it: so a wipe that the compiler has
- * left out is seen too. */
+/* Tests that heap.c wipes each block before it frees it. The linker replaces malloc and free in
+ * heap.c by the functions below, so the tests also see a wipe that the compiler left out. */
 #include "galliumtoad_heap.h"
 #include "check.h"
 
@@ -15,7 +14,7 @@ void __wrap_free(void *block);
 
 enum { MOST = 4096 };
 
-/* the blocks that are taken, how many were given back, and how many of these held something */
+/* The held blocks; how many were freed, and how many of those were not wiped. */
 static struct { unsigned char *at; size_t size; } blocks[MOST];
 static size_t given_back, not_wiped, moved;
 static bool is_refused;
@@ -43,7 +42,7 @@ void __wrap_free(void *block) {
     __real_free(block);
 }
 
-/* It would leave what it moves away from as it is. */
+/* heap.c must not call realloc, which may move a block without a wipe. */
 void *__wrap_realloc(void *block, size_t n) {
     moved++;
     (void)block;
@@ -56,7 +55,7 @@ static size_t taken(void) {
     return n;
 }
 
-/* A block that grows or gets shorter: what is kept goes along, and the old one is wiped whole. */
+/* A block that grows or shrinks keeps its bytes, and the old block is wiped whole. */
 static void a_block_that_changes(size_t from, size_t kept, size_t to) {
     gt_taken old = rattle_alloc(from, 8), next;
     size_t i, same = 0;
@@ -81,7 +80,7 @@ static void wants_memory(gt_taken got) {
     CHECK(got.at != NULL, 1);
 }
 
-/* Where memory is wanting, also for a size that no block has, a block stays as it was. */
+/* If memory runs out, or the size is too large for any block, a block stays as it was. */
 static void want_of_memory(void) {
     gt_taken block = rattle_alloc(3, 1);
     CHECK(block.some, 1);

@@ -1,4 +1,4 @@
-/* The object reader, against bytes that are worked out by hand (EMV Book 3, Annex B). */
+/* Tests the object reader, on bytes that are worked out by hand (EMV Book 3, Annex B). */
 #include "galliumtoad.h"
 #include "check.h"
 

@@ -1,7 +1,7 @@
-# What the scripts share that try programs with a pcscd of their own. They set `build` and source
-# this. Nothing of the machine's own settings is changed, and a pcscd that runs already is left
-# alone. Their last line is 'N passed, N failed', with ', N skipped' if something can't be tried
-# here, and a line 'skipped: WHAT, since REASON' for each.
+# Shared by scripts that start their own pcscd: they set `build`, and source this. The machine's
+# settings stay as they are, and a running pcscd is left alone. If something can't be tried here,
+# they print 'skipped: WHAT, since REASON'. Their last line is 'N passed, N failed', with ', N
+# skipped' if needed.
 # shellcheck shell=bash
 room=$(mktemp -d)
 pcscd=
@@ -38,14 +38,14 @@ cleanup() {
 }
 trap cleanup EXIT
 
-# start_pcscd FILE [OPTION..]: a pcscd with the readers of a file, and no others
+# start_pcscd FILE [OPTION..]: starts a pcscd with the readers of FILE alone
 start_pcscd() {
   pcscd --foreground --config "$@" > "$room/log" 2>&1 &
   pcscd=$!
 }
 
-# reader NAME DEVICE CHANNEL [LIBRARY]: adds a reader to the file; pcscd numbers those of one file
-# in its order
+# reader NAME DEVICE CHANNEL [LIBRARY]: adds a reader to the file; pcscd numbers the readers of a
+# file in order
 reader() {
   cat >> "$room/readers" <<END
 FRIENDLYNAME "$1"
@@ -55,8 +55,8 @@ CHANNELID $3
 END
 }
 
-# start_readers COUNT [OPTION..]: a pcscd with the readers of the file, which are there some time
-# after it is
+# start_readers COUNT [OPTION..]: starts a pcscd with the readers of the file, and waits until it
+# has COUNT of them
 start_readers() {
   local count=$1
   shift
@@ -74,7 +74,7 @@ start_readers() {
   done
 }
 
-# part WHAT STATUS: what is wanted stands on standard input, and what came in the file `found`
+# part WHAT STATUS: passes if STATUS is 0 and standard input is the same as the file `found`
 part() {
   if [ "$2" = 0 ] && diff -b - "$room/found" > "$room/difference"; then
     passed=$((passed + 1))
@@ -86,12 +86,12 @@ part() {
   fi
 }
 
-# what gt_pcsc prints and tells goes to the file `found`
+# run WORD..: runs gt_pcsc, with both outputs to the file `found`
 run() {
   timeout 60 "$build/gt_pcsc" "$@" > "$room/found" 2>&1
 }
 
-# need_pcscd WHAT: builds the programs; if they can't be tried here, that is the end
+# need_pcscd WHAT: builds the programs. If they can't be tried here, the script ends
 need_pcscd() {
   local needed
   for needed in pcscd pkg-config pgrep; do
@@ -114,7 +114,7 @@ need_pcscd() {
     skip "$1" "a pcscd runs already"
     sum
   fi
-  # where it does not run even without a reader, the reader is not to blame
+  # if pcscd does not run even without a reader, the reader is not the reason
   touch "$room/none"
   start_pcscd "$room/none"
   sleep 2

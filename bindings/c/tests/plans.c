@@ -1,4 +1,4 @@
-/* Plans: which procedure bytes a card sends, and how it cuts its answers. */
+/* Tests plans: the procedure bytes that a card sends, and how it cuts its answers. */
 #include "galliumtoad.h"
 #include "check.h"
 
@@ -16,7 +16,7 @@ static void build(gt_card *c) {
     CHECK(gt_card_finish(c), GT_OK);
 }
 
-/* Every byte goes to the card, which sends these alone before it listens again. */
+/* The card takes these bytes, sends exactly `want`, and listens. */
 static void trade(gt_card *c, const uint8_t *bytes, size_t n, const char *want, size_t count) {
     uint8_t byte = 0;
     for (size_t i = 0; i < n; i++) CHECK(gt_card_take(c, bytes[i]), GT_OK);
@@ -33,7 +33,7 @@ static void select_application(gt_card *c) {
     trade(c, AID, sizeof AID, "\x61\x0B", 2);
 }
 
-/* What is no plan, and one for each TPDU in turn. */
+/* Invalid plans, and one plan for each TPDU in turn. */
 static void card(void) {
     gt_card c = GT_INIT;
     const uint8_t more[] = { 0x00, 0xCA, 0x5F, 0x20, 0x02 };
@@ -51,7 +51,7 @@ static void card(void) {
     gt_card_free(&c);
 }
 
-/* A plan of many steps: a card may keep a terminal waiting for long. */
+/* A plan of many steps: a card may make a terminal wait for a long time. */
 static void many_steps(void) {
     gt_card c = GT_INIT;
     char steps[601], want[609];
@@ -66,7 +66,7 @@ static void many_steps(void) {
     gt_card_free(&c);
 }
 
-/* The plans of a session are for its next operation alone, whose answer is the same. */
+/* Plans of a session are for its next operation alone, and do not change its answer. */
 static void session(void) {
     gt_session s = GT_INIT;
     gt_card c = GT_INIT;
@@ -89,7 +89,7 @@ static void session(void) {
     gt_session_free(&s);
 }
 
-/* A chain that a command begins is over with the next one. */
+/* The next command ends a chain. */
 static void chain(void) {
     gt_session s = GT_INIT;
     gt_card c = GT_INIT;
@@ -121,8 +121,8 @@ static void chain(void) {
     gt_session_free(&s);
 }
 
-/* The characters of the last operation: those of the card, and how many TPDUs there were, where
- * the terminal has sent `data` bytes but headers. */
+/* In the last operation the card sent the characters `want` in `tpdus` TPDUs. The terminal sent
+ * headers and `data` bytes. */
 static void heard(gt_session *s, size_t data, size_t tpdus, const char *want, size_t n) {
     static gt_character line[1024];
     uint8_t card[1024];
@@ -139,7 +139,7 @@ static void heard(gt_session *s, size_t data, size_t tpdus, const char *want, si
     }
 }
 
-/* How many plans an operation takes: a short get has one for 6CXX, and one for its bytes. */
+/* The number of plans that an operation takes: a short get takes two, for 6CXX and for its data. */
 static void tpdus_of_operations(void) {
     static const uint8_t zeros[600] = { 0 };
     static const struct { size_t value, tpdus; } reads[] = {
@@ -176,7 +176,7 @@ static void tpdus_of_operations(void) {
     gt_session_free(&s);
 }
 
-/* A fault of an operation keeps its plans; the end of a session drops them. */
+/* An operation that fails keeps its plans. The end of a session drops them. */
 static void plans_that_are_left(void) {
     static const char slow[] = "\x60\xA4\x61\x0B\xC0\x6F\x09\x84\x07\xA0\x00\x00\x00\x03"
                                "\x10\x10\x90\x00";
@@ -202,7 +202,7 @@ static void plans_that_are_left(void) {
     gt_session_free(&s);
 }
 
-/* A SELECT takes the next plan: 11 bytes wait, and its 61XX announces at most the plan's cut. */
+/* A SELECT takes the next plan. 11 bytes wait, and 61XX announces at most the plan's cut. */
 static void takes_plan(gt_card *c, size_t cut) {
     static const uint8_t select[] = { 0x00, 0xA4, 0x04, 0x00, sizeof AID, 0xA0, 0x00, 0x00,
                                       0x00, 0x03, 0x10, 0x10 };
@@ -213,7 +213,7 @@ static void takes_plan(gt_card *c, size_t cut) {
     CHECK(answer[1], cut);
 }
 
-/* The cut of the plan with this number. */
+/* The cut of plan `number`. */
 static uint16_t cut_of(size_t number) {
     return (uint16_t)(number % 11 + 1);
 }
@@ -226,8 +226,8 @@ static void takes_plans_from(gt_card *c, size_t from, size_t n) {
     for (size_t i = from; i < from + n; i++) takes_plan(c, cut_of(i));
 }
 
-/* Plans are taken in the order in which they were given, however many wait meanwhile. After the
- * last one a TPDU has no plan. A queue that moves all that wait at each TPDU needs seconds. */
+/* TPDUs take plans in the order in which they were given, however many wait. After the last plan a
+ * TPDU has none. A queue that moves all plans at each TPDU would need seconds. */
 static void many_plans(void) {
     enum { MANY = 80000 };
     gt_card c = GT_INIT;
@@ -251,8 +251,8 @@ static void many_plans(void) {
     gt_card_free(&c);
 }
 
-/* As many plans wait as may. One more is refused and changes nothing; what is no plan is refused
- * first. Each that is taken leaves a place. */
+/* With the most plans waiting, one more is refused and changes nothing; an invalid plan is refused
+ * first. Each TPDU makes room for one. */
 static void the_most_plans(void) {
     gt_card c = GT_INIT;
     build(&c);
@@ -270,7 +270,7 @@ static void the_most_plans(void) {
     gt_card_free(&c);
 }
 
-/* The same in a session, whose next operation drops the plans that it has not used. */
+/* The same in a session. Its next operation drops the plans that it does not use. */
 static void the_most_plans_of_a_session(void) {
     gt_session s = GT_INIT;
     gt_card c = GT_INIT;

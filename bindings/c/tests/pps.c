@@ -1,4 +1,4 @@
-/* PPS requests and responses, against rows that are worked out by hand (ISO/IEC 7816-3, clause
+/* Tests PPS requests and responses, with rows that are worked out by hand (ISO/IEC 7816-3, clause
  * 9). */
 #include "galliumtoad.h"
 #include "check.h"
@@ -24,7 +24,7 @@ static void asks_nothing(uint8_t t, uint16_t pps1, uint16_t pps2, uint16_t pps3)
     CHECK(request[0], 0xEE);
 }
 
-/* PCK is the exclusive-or of what stands before it */
+/* PCK is the exclusive-or of all bytes before it. */
 static void requests(void) {
     asks(0, GT_ABSENT, GT_ABSENT, GT_ABSENT, "\xFF\x00\xFF", 3);
     asks(15, GT_ABSENT, GT_ABSENT, GT_ABSENT, "\xFF\x0F\xF0", 3);
@@ -43,7 +43,7 @@ static void requests(void) {
 #define ALL BYTES("\xFF\x71\x18\x01\x02\x95")
 #define RATE BYTES("\xFF\x10\x96\x79")
 
-/* 9.3: the same T, and each of PPS1 to PPS3 as asked for, or not there */
+/* 9.3: the response has the same T, and each of PPS1 to PPS3 as in the request, or not at all. */
 static void responses(void) {
     CHECK(gt_pps_agreed(ALL, ALL), 1);
     CHECK(gt_pps_agreed(ALL, BYTES("\xFF\x01\xFE")), 1);
@@ -71,7 +71,7 @@ static void no_responses(void) {
     CHECK(gt_pps_agreed(RATE, BYTES("\xFF\x10\x96\x78")), GT_PPS_CHECK_WRONG);
 }
 
-/* a request that is none comes first, whatever the response is */
+/* An invalid request is refused first, whatever the response is. */
 static void no_requests(void) {
     CHECK(gt_pps_agreed(NULL, 0, RATE), GT_ARGUMENT);
     CHECK(gt_pps_agreed(BYTES("\xFF\x10\x96\x78"), RATE), GT_ARGUMENT);

@@ -1,4 +1,4 @@
-/* Operations with a card, each to its answer. */
+/* Tests sessions: operations with a card, their answers and their characters. */
 #include "galliumtoad.h"
 #include "check.h"
 
@@ -31,7 +31,7 @@ static void answers(gt_session *s, uint16_t want, const char *bytes, size_t n) {
     }
 }
 
-/* Nobody listens to a session that begins, and what was said before is not heard. */
+/* A new session has no listener, and records nothing that was sent before it gets one. */
 static void listen(gt_session *s) {
     gt_character line[1] = { { 99, 98 } };
     uint8_t data[32];
@@ -49,7 +49,7 @@ static void listen(gt_session *s) {
     CHECK(count, 0);
 }
 
-/* The first characters of the last operation, and how many of them there were. */
+/* The last operation had `all` characters, and begins with these `n`. */
 static void heard(gt_session *s, const uint8_t *want, size_t n, size_t all) {
     gt_character line[64], less[1] = { { 99, 98 } };
     size_t count = 99;
@@ -68,7 +68,7 @@ static void heard(gt_session *s, const uint8_t *want, size_t n, size_t all) {
     CHECK(gt_session_heard(s, line, all - 1, &count), GT_BUFFER);
 }
 
-/* SELECT: the header, all data after A4, and 9000 or 61XX; then what GET RESPONSE brings. */
+/* SELECT: the header, all data after A4, and a status; then GET RESPONSE. */
 static const uint8_t SELECT_LINE[] = {
     GT_TERMINAL, 0x00, GT_TERMINAL, 0xA4, GT_TERMINAL, 0x04, GT_TERMINAL, 0x00, GT_TERMINAL, 0x07,
     GT_CARD, 0xA4, GT_TERMINAL, 0xA0, GT_TERMINAL, 0x00, GT_TERMINAL, 0x00, GT_TERMINAL, 0x00,
@@ -107,7 +107,7 @@ static void entry(gt_session *s, const char *want, size_t n) {
     CHECK_BYTES(value, want, n);
 }
 
-/* What a card tells of its data objects: none before it stands. */
+/* Reads the entries of a card, which is refused before the card is finished. */
 static void entries_of_a_card(gt_card *c) {
     uint32_t tag = 77;
     int32_t locked = 88;
@@ -136,7 +136,7 @@ static void entries_of_a_card(gt_card *c) {
     gt_card_free(c);
 }
 
-/* A value that is too long is the card's to refuse, a tag that it can't name is not sent. */
+/* The card refuses a value that is too long. A tag that no command can name is not sent. */
 static void puts_that_are_refused(gt_session *s) {
     static const uint8_t too_long[GT_VALUE_LIMIT + 1] = { 0 };
     uint16_t status = 77;

@@ -1,23 +1,23 @@
-/* Great sizes, of which each byte is looked at: values, lists, commands, answers and plans. What is
- * expected is counted here, from the header and the rules of the card's profile. */
+/* Tests large values, lists, commands, answers and plans, byte by byte. The expected bytes follow
+ * from the header and the rules of the card's profile. */
 #include "galliumtoad.h"
 #include "check.h"
 
 static uint8_t value[GT_VALUE_LIMIT], data[GT_RESPONSE_LIMIT];
 
-/* Fills the front of `value` with bytes that go round with a prime period. */
+/* Fills the first `n` bytes of `value` with a pattern whose period is prime. */
 static void fill(size_t n, size_t from) {
     size_t i;
     for (i = 0; i < n; i++) value[i] = (uint8_t)((i + from) % 251);
 }
 
-/* 777 bytes, the longest value, or a few bytes: in each application in another place. */
+/* 777 bytes, the longest value, or a few bytes: the order differs in each application. */
 static size_t size_of(size_t app, size_t entry) {
     static const size_t sizes[] = { 777, GT_VALUE_LIMIT, 3, 255, 256 };
     return sizes[(app + entry) % 5];
 }
 
-/* All that a card can hold, read back from it. */
+/* Builds a card with all that it can hold, and reads it back. */
 static void build_full(gt_card *c) {
     uint8_t aid[GT_AID_LEAST] = { 0xA0 };
     size_t app, entry;
@@ -53,7 +53,7 @@ static void check_full(gt_card *c) {
     }
 }
 
-/* A get answers the object: its tag, its length (ISO/IEC 7816-4, 5.2.2.2) and its value. */
+/* A get returns the object: tag, length (ISO/IEC 7816-4, 5.2.2.2) and value. */
 static void get_back(gt_session *s, size_t n, size_t from) {
     uint8_t head[6];
     uint16_t status = 0;
@@ -91,7 +91,7 @@ static void a_full_card(void) {
     gt_session_free(&s);
 }
 
-/* Objects of three bytes, one after another: 50 01 and a byte. */
+/* Many objects of three bytes: 50 01 and a byte. */
 static void a_long_list(void) {
     enum { OBJECTS = 2730 };
     static uint8_t list[3 * OBJECTS];
@@ -118,7 +118,7 @@ static void a_long_list(void) {
     CHECK(place, 3 * (OBJECTS - 1));
 }
 
-/* All of a command with 255 bytes of data goes out after the procedure byte. */
+/* After the procedure byte the terminal sends all 255 bytes of data. */
 static void a_long_command(void) {
     uint8_t command[260] = { 0x00, 0xDA, 0xDF, 0x01, 0xFF };
     gt_exchange e = GT_INIT;
@@ -169,7 +169,7 @@ static void a_long_answer(void) {
     gt_exchange_free(&e);
 }
 
-/* A plan of 300 letters o: each of 255 bytes is asked for by itself, with the complement of INS. */
+/* A plan of 300 letters `o`: the card asks for each of 255 bytes with the complement of INS. */
 static void a_long_plan(void) {
     static const uint8_t aid[GT_AID_LEAST] = { 0xA0 };
     static const uint8_t select[] = { 0x00, 0xA4, 0x04, 0x00, GT_AID_LEAST };

@@ -1,5 +1,5 @@
-/* The header's list of statuses, each for the reason that it gives, and what stays after it. That
- * of a card without memory (6581) is in memory_session.c, 6CXX in fetch.c. */
+/* Tests each status that the header lists, and the state after it. 6581 (out of memory) is in
+ * memory_session.c, 6CXX in fetch.c. */
 #include "galliumtoad.h"
 #include "check.h"
 
@@ -8,7 +8,7 @@
 static const uint8_t FIRST[] = { ONE }, FULL[] = { TWO };
 static const uint8_t OTHER[] = { 0xA0, 0x00, 0x00, 0x00, 0x05 };
 
-/* An application with an open and a locked object, and one with as many as it may have. */
+/* Starts a session. One application has an open and a locked object, the other is full. */
 static void start(gt_session *s) {
     gt_card c = GT_INIT;
     uint32_t i;
@@ -72,7 +72,7 @@ static void of_operations(gt_session *s) {
     CHECK(stores(s, 0x5F20, too_long, sizeof too_long), 0x6700);
     CHECK(stores(s, 0x50, "AL", 2), 0x6982);
     CHECK(stores(s, 0x70, "\x50\x05", 2), 0x6A80);
-    /* a select that fails keeps the selection, and no put has stored anything */
+    /* a failed select keeps the selection, and no put has stored anything */
     CHECK(selects(s, OTHER, sizeof OTHER), 0x6A82);
     CHECK(gt_session_selected(s, aid, &n), GT_OK);
     CHECK(n, sizeof FIRST);
@@ -104,7 +104,8 @@ static void of_commands(gt_session *s) {
     CHECK(gt_session_idle(s), 1);
 }
 
-/* A session that has ended leaves nothing selected, and two faults of handles come in order. */
+/* The end of a session deselects the application. Of two faults of handles the first is
+ * returned. */
 static void of_the_next_session(gt_session *s) {
     gt_card c = GT_INIT, none = GT_INIT;
     gt_session other = GT_INIT;

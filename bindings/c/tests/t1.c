@@ -1,4 +1,4 @@
-/* The terminal's end of a line at T=1, by the blocks and rules of ISO/IEC 7816-3, clause 11. */
+/* Tests the terminal's end at T=1, against blocks by ISO/IEC 7816-3, clause 11. */
 #include "galliumtoad.h"
 #include "check.h"
 
@@ -6,7 +6,7 @@ static const uint8_t SELECT[] = { 0x00, 0xA4, 0x04, 0x00, 0x07, 0xA0, 0x00, 0x00
                                   0x10, 0x00 };
 static const uint8_t GET[] = { 0x00, 0xCA, 0x5F, 0x20, 0x00 };
 
-/* A block with these bytes before its LRC, which makes the exclusive-or of all 00. */
+/* Writes a block with this PCB and field. Its LRC makes the exclusive-or of all bytes 00. */
 static size_t block_of(uint8_t bytes[GT_BLOCK_LIMIT], uint8_t pcb, const uint8_t *info, size_t n) {
     size_t i;
     uint8_t sum = (uint8_t)(pcb ^ n);
@@ -21,7 +21,7 @@ static size_t block_of(uint8_t bytes[GT_BLOCK_LIMIT], uint8_t pcb, const uint8_t
     return n + 4;
 }
 
-/* The end sends this block now, for whose answer the card has so many times BWT. */
+/* The end's next block is this one. The card has `times` times BWT to answer. */
 static void sends(gt_t1 *t, uint8_t pcb, const uint8_t *info, size_t size, uint8_t times) {
     uint8_t want[GT_BLOCK_LIMIT] = { 0 }, got[GT_BLOCK_LIMIT + 1];
     const size_t n = block_of(want, pcb, info, size);
@@ -40,7 +40,7 @@ static void sends(gt_t1 *t, uint8_t pcb, const uint8_t *info, size_t size, uint8
     CHECK(got[n], 0xEE);
 }
 
-/* Nothing is sent, with this code, and no block is awaited. */
+/* The end sends nothing, returns this code, and expects no block. */
 static void is_silent(gt_t1 *t, int32_t code) {
     uint8_t byte = 0xEE, waits = 0xEE;
     size_t n = 7;
@@ -52,7 +52,7 @@ static void is_silent(gt_t1 *t, int32_t code) {
     CHECK(n, 7);
 }
 
-/* The card sends this block, which comes byte by byte, and then one byte more. */
+/* Gives the end this block byte by byte. It takes no byte after the block. */
 static void comes(gt_t1 *t, uint8_t pcb, const uint8_t *info, size_t size) {
     uint8_t bytes[GT_BLOCK_LIMIT + 1] = { 0 };
     const size_t n = block_of(bytes, pcb, info, size);
@@ -79,7 +79,7 @@ static void is_faulty(gt_t1 *t, int32_t cause, int32_t outcome) {
     CHECK(byte, 0xEE);
 }
 
-/* The response is this, and the end is ready for the next command. */
+/* The response is this one, and the end is ready for the next command. */
 static void responds(gt_t1 *t, const uint8_t *want, size_t n) {
     uint8_t got[GT_ANSWER_LIMIT];
     size_t len = 0;
@@ -100,7 +100,7 @@ static void responds(gt_t1 *t, const uint8_t *want, size_t n) {
 
 static const uint8_t IFSD[] = { 0xFE };
 
-/* An end with this IFSC, whose card has agreed to an IFSD of 254. */
+/* Opens an end with this IFSC and a command, and agrees on an IFSD of 254 with the card. */
 static void open_end(gt_t1 *t, uint8_t ifsc, const uint8_t *apdu, size_t n) {
     CHECK(gt_t1_new(t, GT_LRC, ifsc, 2, 3, 20), GT_OK);
     CHECK(gt_t1_begin(t, apdu, n), GT_OK);
@@ -151,7 +151,7 @@ static void chains(void) {
     gt_t1_free(&t);
 }
 
-/* Each reception that brings no step forward costs a try; R(N(R)) asks for the card's block. */
+/* Each reception without progress costs a try. R(N(R)) asks for the card's block. */
 static void tries(void) {
     uint8_t bytes[GT_BLOCK_LIMIT];
     gt_t1 t = GT_INIT;
@@ -192,7 +192,7 @@ static void tries(void) {
     gt_t1_free(&t);
 }
 
-/* S(WTX), S(IFS) and S(ABORT) of the card, and a response above the limit of 20 bytes. */
+/* S(WTX), S(IFS) and S(ABORT) from the card, and a response above the limit of 20 bytes. */
 static void requests(void) {
     static const uint8_t times[] = { 0, 1, 255 };
     uint8_t data[21] = { 0 };
@@ -225,7 +225,7 @@ static void requests(void) {
     gt_t1_free(&t);
 }
 
-/* An I-block inside a chain without a field is invalid: a chain of them would never end. */
+/* An I-block without a field inside a chain is invalid: a chain of such blocks would never end. */
 static void empty_fields(void) {
     gt_t1 t = GT_INIT;
     int i;

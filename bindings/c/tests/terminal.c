@@ -1,5 +1,5 @@
-/* A terminal, against characters and TPDUs of a card that are written down, and with a card
- * (ISO/IEC 7816-3, 10.3 and 12; ISO/IEC 7816-4, 5.1.1 on chains). */
+/* Tests a terminal, against listed characters and TPDUs of a card, and with a card (ISO/IEC 7816-3,
+ * 10.3 and 12; ISO/IEC 7816-4, 5.1.1 on chains). */
 #include "galliumtoad.h"
 #include "check.h"
 
@@ -12,7 +12,7 @@ static const uint8_t GET_6[] = { 0x00, 0xCA, 0x5F, 0x20, 0x06 };
 
 static uint8_t value[16321], data[GT_RESPONSE_LIMIT];
 
-/* The terminal sends these characters, and listens then. */
+/* The terminal sends these characters, and listens. */
 static void sends(gt_terminal *t, const uint8_t *want, size_t n) {
     uint8_t byte = 0;
     for (size_t i = 0; i < n; i++) {
@@ -28,7 +28,7 @@ static void takes(gt_terminal *t, const char *bytes, size_t n) {
     for (size_t i = 0; i < n; i++) CHECK(gt_terminal_take(t, (uint8_t)bytes[i]), GT_OK);
 }
 
-/* The TPDU that is due is these bytes, and so many may come back. */
+/* The next TPDU is `want`, and its answer has at most `may_come` bytes of data. */
 static void is_due(gt_terminal *t, const uint8_t *want, size_t n, size_t may_come) {
     uint8_t tpdu[GT_TPDU_LIMIT];
     size_t count = 0, most = 999;
@@ -40,7 +40,7 @@ static void is_due(gt_terminal *t, const uint8_t *want, size_t n, size_t may_com
     if (n < sizeof tpdu) CHECK(tpdu[n], 0xEE);
 }
 
-/* None is, and nothing is told. */
+/* No TPDU is next: both calls return `code`, and write nothing. */
 static void none_is_due(gt_terminal *t, int32_t code) {
     uint8_t tpdu[GT_TPDU_LIMIT] = { 0xEE };
     size_t count = 7, most = 8;
@@ -54,7 +54,7 @@ static int32_t answered(gt_terminal *t, const char *answer, size_t n) {
     return gt_terminal_answered(t, (const uint8_t *)answer, n);
 }
 
-/* The operation is over, with this status and these data; asked twice. */
+/* The operation has ended with this status and these data. Asking twice gives the same. */
 static void is_over(gt_terminal *t, uint16_t want, const char *bytes, size_t n) {
     uint8_t byte = 0xEE;
     uint16_t status;
@@ -74,7 +74,7 @@ static void is_over(gt_terminal *t, uint16_t want, const char *bytes, size_t n) 
     }
 }
 
-/* There is no answer, and nothing is told. */
+/* There is no answer: the call returns `code`, and writes nothing. */
 static void has_no_answer(gt_terminal *t, int32_t code) {
     uint8_t bytes[1] = { 0xEE };
     uint16_t status = 7;
@@ -85,7 +85,7 @@ static void has_no_answer(gt_terminal *t, int32_t code) {
     CHECK(bytes[0], 0xEE);
 }
 
-/* A handle that holds nothing, and one in which no operation has begun. */
+/* An empty handle, and a terminal without an operation. */
 static void before_an_operation(void) {
     gt_terminal t = GT_INIT;
     uint8_t byte = 0xEE;
@@ -110,8 +110,8 @@ static void before_an_operation(void) {
     CHECK(gt_terminal_next(&t, &byte), GT_EMPTY);
 }
 
-/* What is no operation is not begun: identifiers of 4 and 17 bytes, tags that no command names, and
- * bytes that are no command. What can be begun at the same bounds is. */
+/* Invalid operations are refused: identifiers of 4 and 17 bytes, tags that no command can name, and
+ * bytes that are not a command. Valid ones at the same bounds begin. */
 static void arguments(void) {
     static const uint8_t aid[17] = { 0xA0 }, no_instruction[] = { 0x00, 0x60, 0x00, 0x00 };
     static const uint8_t cut[] = { 0x00, 0xDA, 0x5F, 0x20, 0x03, 0x41 };
@@ -151,7 +151,7 @@ static void arguments(void) {
     gt_terminal_free(&t);
 }
 
-/* While one operation is under way no other begins, also not one with an argument that is none. */
+/* While an operation is in progress, each other is refused with GT_STATE, even if invalid. */
 static void is_under_way(gt_terminal *t) {
     CHECK(gt_terminal_select(t, AID, sizeof AID), GT_STATE);
     CHECK(gt_terminal_select(t, AID, 4), GT_STATE);
@@ -164,14 +164,14 @@ static void is_under_way(gt_terminal *t) {
     has_no_answer(t, GT_STATE);
 }
 
-/* A selection, character by character, whose response is fetched after 61XX. */
+/* A selection by characters. The terminal fetches its response after 61XX. */
 static void a_selection_by_characters(void) {
     uint8_t aid[sizeof AID];
     gt_terminal t = GT_INIT;
     memcpy(aid, AID, sizeof aid);
     CHECK(gt_terminal_new(&t), GT_OK);
     CHECK(gt_terminal_select(&t, aid, sizeof aid), GT_OK);
-    memset(aid, 0, sizeof aid); /* the terminal has a copy of its own */
+    memset(aid, 0, sizeof aid); /* the terminal has its own copy */
     is_under_way(&t);
     CHECK(gt_terminal_take(&t, 0xA4), GT_NOT_LISTENING);
     sends(&t, SELECT, 5);
@@ -191,8 +191,8 @@ static void a_selection_by_characters(void) {
     gt_terminal_free(&t);
 }
 
-/* GET DATA by whole TPDUs, asked again after 6CXX; room of one byte too few, and what a reader may
- * not hand back. */
+/* GET DATA by whole TPDUs, repeated after 6CXX; room for one byte too few, and invalid answers of a
+ * reader. */
 static void a_get_by_tpdus(void) {
     gt_terminal t = GT_INIT;
     uint8_t room[6] = { 0xEE };
@@ -219,7 +219,7 @@ static void a_get_by_tpdus(void) {
     CHECK(gt_terminal_answer(&t, &status, NULL, 0, &len), GT_BUFFER);
     CHECK(status, 0x9000);
     is_over(&t, 0x9000, "\x5F\x20\x03\x4A\x4F\x45", 6);
-    /* what is no operation leaves the answer, and the next operation drops it */
+    /* an invalid operation leaves the answer, and the next valid one drops it */
     CHECK(gt_terminal_get(&t, 0x5F), GT_ARGUMENT);
     is_over(&t, 0x9000, "\x5F\x20\x03\x4A\x4F\x45", 6);
     CHECK(gt_terminal_send(&t, SELECT, sizeof SELECT), GT_OK);
@@ -233,7 +233,7 @@ static void a_get_by_tpdus(void) {
     gt_terminal_free(&t);
 }
 
-/* The piece of a put that begins at this byte of the value. */
+/* Writes the TPDU for the piece of a put that begins at byte `from` of the value. */
 static size_t piece(uint8_t *tpdu, size_t from, size_t n) {
     const size_t most = 255, rest = n - from, len = rest < most ? rest : most;
     tpdu[0] = rest > most ? 0x10 : 0x00;
@@ -245,7 +245,7 @@ static size_t piece(uint8_t *tpdu, size_t from, size_t n) {
     return len;
 }
 
-/* A value goes in pieces of 255 bytes, the last of 1 to 255: by TPDUs, and by characters. */
+/* Sends a value in pieces of 255 bytes, the last of 1 to 255, by TPDUs or by characters. */
 static void a_put(size_t n, int by_characters) {
     uint8_t tpdu[GT_TPDU_LIMIT];
     gt_terminal t = GT_INIT;
@@ -268,7 +268,7 @@ static void a_put(size_t n, int by_characters) {
     gt_terminal_free(&t);
 }
 
-/* It stops at the first status other than 9000, also where that comes before the data. */
+/* A put stops at the first status other than 9000, even before its data. */
 static void a_put_that_is_refused(void) {
     uint8_t tpdu[GT_TPDU_LIMIT];
     gt_terminal t = GT_INIT;
@@ -288,7 +288,7 @@ static void a_put_that_is_refused(void) {
     gt_terminal_free(&t);
 }
 
-/* Each fault that ends an operation: the terminal has failed, and the next may begin. */
+/* Each fault that ends an operation. After it the next operation may begin. */
 static void operations_that_fail(void) {
     gt_terminal t = GT_INIT;
     uint8_t byte = 0xEE;
@@ -325,7 +325,7 @@ static void operations_that_fail(void) {
     gt_terminal_free(&t);
 }
 
-/* 64 answers of 256 bytes are the longest response, and one byte more is too much. */
+/* 64 answers of 256 bytes are the longest response: one byte more is too much. */
 static void the_longest_response(void) {
     static uint8_t answer[GT_ANSWER_LIMIT];
     gt_terminal t = GT_INIT;
@@ -354,7 +354,7 @@ static void the_longest_response(void) {
     gt_terminal_free(&t);
 }
 
-/* Carries an operation out with a card: its characters, or its whole TPDUs. */
+/* Carries out an operation with a card, by characters or by whole TPDUs. */
 static void carry_out(gt_terminal *t, gt_card *c, int by_characters) {
     uint8_t tpdu[GT_TPDU_LIMIT], answer[GT_ANSWER_LIMIT], byte = 0;
     size_t n, most, len = 0;
@@ -377,7 +377,7 @@ static void carry_out(gt_terminal *t, gt_card *c, int by_characters) {
     }
 }
 
-/* A value of 3,000 bytes is stored in a card, and read back. */
+/* Stores a value of 3,000 bytes in a card, and reads it back. */
 static void with_a_card(int by_characters) {
     gt_terminal t = GT_INIT;
     gt_card c = GT_INIT;

@@ -1,9 +1,10 @@
-/* Numbers and layouts that the header fixes, each written out once more. `checks/bindings/same`
- * compares codes, texts and limits with those of the crate for Rust and of the definitions. */
+/* Tests the texts for unknown values, and the numbers and layouts that the header fixes.
+ * `checks/bindings/same` compares codes, texts and limits with the crate for Rust and the
+ * definitions. */
 #include "galliumtoad.h"
 #include "check.h"
 
-/* What is no code or status has a text too; there are 14 statuses beside 61XX and 6CXX. */
+/* Unknown codes and statuses have a text too. There are 14 statuses besides 61XX and 6CXX. */
 static void unknown(void) {
     uint32_t status, known = 0;
     CHECK(strcmp(gt_text(INT32_MIN), "unknown code"), 0);
@@ -15,7 +16,7 @@ static void unknown(void) {
     CHECK(known, 14 + 2 * 256);
 }
 
-/* What the fields of an answer to reset have for numbers, and the version. */
+/* The numbers in fields of an answer to reset, and the version. */
 static void numbers(void) {
     CHECK(GT_TERMINAL, 0);
     CHECK(GT_CARD, 1);
@@ -38,7 +39,7 @@ static void numbers(void) {
     CHECK(GT_VERSION, 0x000200);
 }
 
-/* Where each field stands, which the archive relies on. */
+/* The offset of each field, which the archive relies on. */
 static void layouts(void) {
     const gt_exchange e = GT_INIT;
     const gt_terminal t = GT_INIT;

@@ -1,6 +1,6 @@
-/* Handles go from one thread to another, and several threads use handles of their own at once. */
+/* Tests handles that move between threads, and several threads with their own handles. */
 #ifndef _GNU_SOURCE
-#define _GNU_SOURCE /* a barrier, in strict C99 too */
+#define _GNU_SOURCE /* for barriers in strict C99 */
 #endif
 #include "galliumtoad.h"
 #include "check.h"
@@ -14,7 +14,7 @@ static const uint8_t SELECT[] = {
     0x00, 0xA4, 0x04, 0x00, 0x07, 0xA0, 0x00, 0x00, 0x00, 0x03, 0x10, 0x10
 };
 
-/* What goes from thread to thread, and the code of what the last of them did. */
+/* The handles that move from thread to thread, and the code that the last call returned. */
 struct ends {
     gt_card card;
     gt_exchange exchange;
@@ -30,7 +30,7 @@ static int32_t build(gt_card *card) {
     return code == GT_OK ? gt_card_finish(card) : code;
 }
 
-/* Builds a card, and begins to select its application. */
+/* Builds a card, and starts an exchange that selects its application. */
 static void *begin(void *at) {
     struct ends *ends = (struct ends *)at;
     ends->code = build(&ends->card);
@@ -39,7 +39,7 @@ static void *begin(void *at) {
     return NULL;
 }
 
-/* Passes one character, of whichever end has one. */
+/* Passes one character, from the end that sends. */
 static void *pass(void *at) {
     struct ends *ends = (struct ends *)at;
     uint8_t byte;
@@ -54,7 +54,7 @@ static void *pass(void *at) {
     return NULL;
 }
 
-/* Frees the exchange, and makes a session of the card. */
+/* Frees the exchange, and starts a session with the card. */
 static void *join(void *at) {
     struct ends *ends = (struct ends *)at;
     gt_exchange_free(&ends->exchange);
@@ -67,15 +67,15 @@ static void *drop(void *at) {
     return NULL;
 }
 
-/* Runs a function in a thread of its own. */
+/* Runs a function in a new thread. */
 static void in_thread(void *(*run)(void *), struct ends *ends) {
     pthread_t thread;
     CHECK(pthread_create(&thread, NULL, run, ends), 0);
     CHECK(pthread_join(thread, NULL), 0);
 }
 
-/* Each character of a SELECT is passed by another thread than the one before: 12 of the terminal,
- * the procedure byte and the status. */
+/* A new thread passes each character of a SELECT: 12 from the terminal, the procedure byte and the
+ * status. */
 static void each_step_elsewhere(void) {
     struct ends ends = { GT_INIT, GT_INIT, GT_INIT, GT_OK, 0 };
     uint8_t data[GT_OBJECT_LIMIT], name[] = { 0x5F, 0x20, 0x03, 'J', 'O', 'E' };
@@ -98,7 +98,7 @@ static void each_step_elsewhere(void) {
 
 static pthread_barrier_t all;
 
-/* How many rounds went well, with a card and a session of this thread's own. */
+/* Counts the rounds that went well, with this thread's own card and session. */
 static void *rounds(void *at) {
     int *well = (int *)at, i;
     pthread_barrier_wait(&all);

@@ -1,5 +1,5 @@
-/* The library is that of this header. What `gt_version_fits` says of another is tried in
- * `forwards.c`. */
+/* Tests that the library fits this header. `forwards.c` tests `gt_version_fits` with other
+ * versions. */
 #include "galliumtoad.h"
 #include "check.h"
 

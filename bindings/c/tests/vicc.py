@@ -1,11 +1,11 @@
 #!/usr/bin/python3
-"""A card that nobody here wrote: the card `iso7816` of vsmartcard, behind its reader vpcd.
+"""Runs a card that others wrote: the card `iso7816` of vsmartcard, in its reader vpcd.
 
 usage: vicc.py PORT ATR
 
-Debian's `vicc` does not start, since the modules Crypto and sha are missing. This card needs
-neither. The data objects of its files don't work in Python 3, so they are mended here. It has one
-application with three objects."""
+Debian's `vicc` does not start, since the modules Crypto and sha are missing; this card needs
+neither. The data objects of its files don't work in Python 3, so this file replaces their
+functions. The card has one application with three objects."""
 
 import sys
 import types
@@ -22,20 +22,20 @@ OBJECTS = [(0x5F20, b"JOE"), (0x50, b"A" * 300), (0x51, b"B" * 600)]
 
 
 def head(tag, length):
-    """The tag and the length of an object, as it begins."""
+    """The tag and the length field of an object."""
     size = (length.bit_length() + 7) // 8
     more = b"" if length < 128 else bytes([0x80 + size])
     return tag.to_bytes(1 + (tag > 255), "big") + more + length.to_bytes(max(size, 1), "big")
 
 
 def pack(objects):
-    """The bytes of a list of objects: of each a tag, a length, and a value or a list."""
+    """The bytes of a list of objects. Each is a tag, a length, and a value or a list of objects."""
     values = [(it[0], pack(it[2]) if isinstance(it[2], list) else bytes(it[2])) for it in objects]
     return b"".join(head(tag, len(value)) + value for tag, value in values)
 
 
 def get(file, _simple, wanted):
-    """The object of a file with the tag that is wanted."""
+    """The object of a file with the wanted tag."""
     found = [it for it in file.bertlv_data if it[0] == wanted[0][0]]
     if not found:
         raise filesystem.SwError(filesystem.SW["ERR_DATANOTFOUND"])
@@ -43,7 +43,7 @@ def get(file, _simple, wanted):
 
 
 def put(file, _simple, objects):
-    """Stores objects in a file, each in the place of the one with its tag."""
+    """Stores objects in a file. Each replaces the one with its tag."""
     tags = [it[0] for it in objects]
     file.bertlv_data = [it for it in file.bertlv_data if it[0] not in tags] + objects
 

@@ -1,4 +1,5 @@
-/* Whole TPDUs, at an exchange and at a card (ISO/IEC 7816-3, 10.3 and 12; PC/SC). */
+/* Tests exchanges and cards that are driven by whole TPDUs (ISO/IEC 7816-3, 10.3 and 12), as by
+ * PC/SC. */
 #include "galliumtoad.h"
 #include "check.h"
 
@@ -7,7 +8,7 @@ static const uint8_t SELECT[] = { 0x00, 0xA4, 0x04, 0x00, 0x07, 0xA0, 0x00,
                                   0x00, 0x00, 0x03, 0x10, 0x10 };
 static const uint8_t GET_6[] = { 0x00, 0xCA, 0x5F, 0x20, 0x06 };
 
-/* The TPDU that is due is these bytes, and so many may come back. */
+/* The next TPDU is `want`, and its answer has at most `may_come` bytes of data. */
 static void is_due(gt_exchange *e, const uint8_t *want, size_t n, size_t may_come) {
     uint8_t tpdu[GT_TPDU_LIMIT];
     size_t count = 0, most = 999;
@@ -19,7 +20,7 @@ static void is_due(gt_exchange *e, const uint8_t *want, size_t n, size_t may_com
     if (n < sizeof tpdu) CHECK(tpdu[n], 0xEE);
 }
 
-/* None is, and nothing is told. */
+/* No TPDU is next: both calls return `code`, and write nothing. */
 static void none_is_due(gt_exchange *e, int32_t code) {
     uint8_t tpdu[GT_TPDU_LIMIT] = { 0xEE };
     size_t count = 7, most = 8;
@@ -33,7 +34,7 @@ static int32_t answered(gt_exchange *e, const char *answer, size_t n) {
     return gt_exchange_answered(e, (const uint8_t *)answer, n);
 }
 
-/* GET DATA of `5F 20 03 4A 4F 45`: 256 are asked for, and then the 6 that there are. */
+/* GET DATA of `5F 20 03 4A 4F 45`: the terminal asks for 256 bytes, and after 6C06 for 6. */
 static void an_exchange(void) {
     static const uint8_t get[] = { 0x00, 0xCA, 0x5F, 0x20, 0x00 };
     gt_exchange e = GT_INIT;
@@ -63,7 +64,7 @@ static void an_exchange(void) {
     gt_exchange_free(&e);
 }
 
-/* The response to a SELECT is fetched, and stalls; a character that has gone. */
+/* A SELECT whose response is fetched without data, and a TPDU after a character was sent. */
 static void faults_of_an_exchange(void) {
     static const uint8_t fetch[] = { 0x00, 0xC0, 0x00, 0x00, 0x0B };
     uint8_t command[sizeof SELECT + 1] = { 0 }, byte = 0;
@@ -87,7 +88,7 @@ static void faults_of_an_exchange(void) {
     gt_exchange_free(&e);
 }
 
-/* 64 answers of 256 bytes fill an exchange, and one byte more is too much. */
+/* 64 answers of 256 bytes fill an exchange: one byte more is too much. */
 static void the_longest_response(void) {
     static const uint8_t get[] = { 0x00, 0xCA, 0x5F, 0x20, 0x00 };
     static uint8_t answer[GT_ANSWER_LIMIT], data[GT_RESPONSE_LIMIT];
@@ -115,7 +116,7 @@ static void the_longest_response(void) {
     }
 }
 
-/* A command that moves nothing is four bytes, five with 00 ask for 256, and 255 of data are 260. */
+/* A TPDU without data has 4 bytes, with 255 bytes of data 260. P3 00 asks for 256 bytes. */
 static void bytes_of_tpdus(void) {
     static const uint8_t put[] = { 0x00, 0xDA, 0x5F, 0x20 };
     static const uint8_t get[] = { 0x00, 0xCA, 0x5F, 0x20, 0x00 };
@@ -144,7 +145,7 @@ static void is_answered(gt_card *c, const uint8_t *tpdu, size_t n, size_t room,
     CHECK(answer[count], 0xEE);
 }
 
-/* A fault, and nothing is told. */
+/* The card refuses the TPDU with `code`, and writes nothing. */
 static void is_refused(gt_card *c, const char *tpdu, size_t n, size_t room, int32_t code) {
     uint8_t answer[GT_ANSWER_LIMIT];
     size_t len = 7;
@@ -162,7 +163,7 @@ static void a_card_with_a_name(gt_card *c) {
     CHECK(gt_card_object(c, 0x5F20, (const uint8_t *)"JOE", 3, 0), GT_OK);
 }
 
-/* A reader selects, reads and stores. The plans are not seen. */
+/* Selects, reads and stores by whole TPDUs. Plans show no procedure bytes in these. */
 static void a_card(void) {
     static const uint8_t fetch[] = { 0x00, 0xC0, 0x00, 0x00, 0x0B };
     static const uint8_t get[] = { 0x00, 0xCA, 0x5F, 0x20, 0x00 };
@@ -190,7 +191,7 @@ static void a_card(void) {
     gt_card_free(&c);
 }
 
-/* What is not carried out changes nothing; where both ends would wait the card is reset. */
+/* A TPDU that is not carried out changes nothing. If both ends would wait, the card is reset. */
 static void faults_of_a_card(void) {
     gt_card c = GT_INIT;
     a_card_with_a_name(&c);
@@ -214,8 +215,8 @@ static void faults_of_a_card(void) {
     gt_card_free(&c);
 }
 
-/* Too little room for what a TPDU may bring changes nothing: 2 bytes if no data come back, else 2
- * more than P3 counts. The application stays selected, and GET RESPONSE still finds its 11. */
+/* With too little room for the answer a TPDU changes nothing. It needs 2 bytes without data, else
+ * 2 more than P3 counts. The application stays selected, and GET RESPONSE still finds 11 bytes. */
 static void room_for_an_answer(void) {
     static const uint8_t fetch[] = { 0x00, 0xC0, 0x00, 0x00, 0x0B };
     static const uint8_t put[] = { 0x00, 0xDA, 0x5F, 0x20, 0x03, 0x41, 0x4E, 0x4E };
@@ -252,7 +253,7 @@ static void room_for_an_answer(void) {
     gt_card_free(&c);
 }
 
-/* Bytes that are no TPDU take no plan, and one at which both ends would wait takes its own. */
+/* Bytes that are not a TPDU take no plan. A TPDU at which both ends would wait takes one. */
 static void plans_of_tpdus(void) {
     gt_card c = GT_INIT;
     a_card_with_a_name(&c);

@@ -1,5 +1,5 @@
-/* Limits on a response: each is reached, and passed by one byte, by characters, by TPDUs and by
- * commands. */
+/* Tests limits on a response, by characters, TPDUs and commands: each is reached, and then exceeded
+ * by one byte. */
 #include "galliumtoad.h"
 #include "check.h"
 
@@ -9,7 +9,7 @@ static uint8_t data[GT_RESPONSE_LIMIT + 1];
 
 enum { BY_CHARACTERS, BY_TPDUS, BY_COMMANDS, WAYS };
 
-/* an exchange, or a terminal with an operation */
+/* An exchange or a terminal: the other pointer is NULL. */
 typedef struct {
     gt_exchange *exchange;
     gt_terminal *terminal;
@@ -47,8 +47,7 @@ static int32_t answer(const end *e, uint16_t *status, size_t *len) {
                        : gt_terminal_answer(e->terminal, status, data, sizeof data, len);
 }
 
-/* What a card answers that has so many bytes left: data, and then the status. `p3` is what it is
- * asked for. */
+/* Writes the answer, data and status, of a card that has `left` bytes and is asked for `p3`. */
 static size_t card_answer(uint8_t *bytes, size_t left, uint8_t p3, size_t *moved) {
     const size_t asked = p3 == 0 ? 256 : p3, rest = left > asked ? left - asked : 0;
     const int is_asked_again = left > 0 && left < asked;
@@ -59,8 +58,8 @@ static size_t card_answer(uint8_t *bytes, size_t left, uint8_t p3, size_t *moved
     return *moved + 2;
 }
 
-/* The card has so many bytes, which come this way: what the last call answers, and how many of them
- * have come before. */
+/* The card has `n` bytes, and sends them this way. Returns the code of the last call; `came` counts
+ * the bytes that were taken before it. */
 static int32_t bring(const end *e, size_t n, int way, size_t *came) {
     uint8_t header[GT_APDU_LIMIT], bytes[GT_ANSWER_LIMIT];
     size_t count, most, size, moved, i;
@@ -86,8 +85,8 @@ static int32_t bring(const end *e, size_t n, int way, size_t *came) {
     }
 }
 
-/* With so much room all of so many bytes come, and there is an answer; one byte more is too much,
- * and comes after all others. */
+/* A response of `limit` bytes is taken, and there is an answer. With `over` it has one byte more,
+ * which is refused after all others were taken. */
 static void is_limited(const end *e, size_t limit, int over, int way) {
     size_t came = 0, len = 999;
     uint16_t status = 0;
@@ -115,8 +114,7 @@ static void of_an_exchange(size_t limit, int over, int way) {
     gt_exchange_free(&exchange);
 }
 
-/* Of a terminal the limit is that of each operation: of the first, of one after it, and of one
- * after a reset. */
+/* A terminal's limit holds for each operation: the first, the next, and one after a reset. */
 static void of_a_terminal(size_t limit, int over, int way) {
     gt_terminal terminal = GT_INIT;
     const end e = { NULL, &terminal };
@@ -129,7 +127,7 @@ static void of_a_terminal(size_t limit, int over, int way) {
     gt_terminal_free(&terminal);
 }
 
-/* A put of two pieces, to each of which the card answers with no data. */
+/* A put of two pieces with a limit of 0: the card answers each without data. */
 static void a_put_within_nothing(int way) {
     static const uint8_t value[256] = { 0 }, ok[] = { 0x90, 0x00 };
     gt_terminal terminal = GT_INIT;
@@ -146,8 +144,8 @@ static void a_put_within_nothing(int way) {
     gt_terminal_free(&terminal);
 }
 
-/* A limit over the most that a response may have is none, also of a handle that holds one already
- * or of bytes that are no command; the first fault counts. */
+/* A limit above the longest response is refused, even if the handle is in use or the bytes are not
+ * a command. The first fault counts. */
 static void what_is_no_limit(void) {
     static const size_t limits[] = { GT_RESPONSE_LIMIT + 1, 65536, SIZE_MAX };
     gt_exchange e = GT_INIT;

@@ -1,16 +1,16 @@
-/* exported LIBRARY NAME..: calls functions of the shared library as a language does that knows no
- * header, by their names, with NULL and 0 for all that they take, or 1 for how many bytes. */
+/* exported LIBRARY NAME..: calls functions of the shared library by their names, as a language
+ * without the header does. All arguments are NULL or 0, or 1 for a number of bytes. */
 #include "galliumtoad.h"
 #include "check.h"
 
 #include <dlfcn.h>
 
-/* The most arguments of a function. What it is handed beyond its own it does not look at. */
+/* A function with the most arguments. A function ignores those beyond its own. */
 typedef int32_t call(void *, void *, void *, void *, void *, void *, void *, void *);
 typedef const char *text(uint32_t);
 typedef uint32_t number(void);
 
-/* what the library would call, did it not go by its own functions */
+/* The library would call this if it did not use its own function. */
 uint32_t galliumtoad_version(void) { return 0; }
 
 static void *library;

@@ -1,5 +1,5 @@
-/* The stand-in for libpcsclite itself, as a careless program calls it: it refuses what libpcsclite
- * refuses, and its log says what was done out of order or not given back. */
+/* Tests the stand-in for libpcsclite with calls of a careless program: it refuses what libpcsclite
+ * refuses, and logs calls out of order and handles that were not released. */
 #define _POSIX_C_SOURCE 200112L
 
 #include "check.h"
@@ -11,7 +11,7 @@
 
 static const BYTE GET[] = { 0x00, 0xCA, 0x5F, 0x20, 0x00 };
 
-/* How many lines of the log are this one. */
+/* Counts this line in the log. */
 static int lines_of(const char *line)
 {
     char found[512];
@@ -31,7 +31,7 @@ static void lists(SCARDCONTEXT context)
 {
     char names[64];
     DWORD size = sizeof names, length = 0;
-    /* a fault is of one call, and neither of those before it nor of those behind it */
+    /* a fault is for one call, not for those before or after it */
     CHECK(setenv("STANDIN_FAULT", "list:2=80100014 begin:7=80100014", 1), 0);
     CHECK(SCardListReaders(context, NULL, NULL, &length), SCARD_S_SUCCESS);
     CHECK(SCardListReaders(context, NULL, NULL, &length), 0x80100014);
@@ -45,7 +45,7 @@ static void lists(SCARDCONTEXT context)
     CHECK(SCardListReaders(context + 1, NULL, names, &size), SCARD_E_INVALID_HANDLE);
 }
 
-/* What another program does to the card, and what of it shows. */
+/* Another program's use of the card, and what the stand-in shows of it. */
 static void other_programs(SCARDCONTEXT context, SCARDHANDLE card)
 {
     SCARD_READERSTATE state = { "one", NULL, SCARD_STATE_UNAWARE, 77, 0, { 0 } };
@@ -75,7 +75,7 @@ static void other_programs(SCARDCONTEXT context, SCARDHANDLE card)
     CHECK(SCardEndTransaction(card, SCARD_RESET_CARD), SCARD_S_SUCCESS);
 }
 
-/* What the state of a card has, and how long it is. */
+/* The parts of a card's state, and their lengths. */
 static void states(SCARDHANDLE card)
 {
     char name[64];
@@ -120,7 +120,7 @@ static void transmits(SCARDHANDLE card)
     CHECK(lines_of("disconnect, and not leave"), 1);
 }
 
-/* Runs at the end, behind what the stand-in itself does there. */
+/* Runs at exit, after the stand-in's own function. */
 static void check_what_is_left(void)
 {
     CHECK(lines_of("left: a transaction"), 1);
@@ -138,7 +138,7 @@ int main(void)
     SCARDCONTEXT context;
     SCARDHANDLE card;
     DWORD protocol, size = SCARD_AUTOALLOCATE;
-    static char *names; /* LeakSanitizer reads static storage: what is left is meant here */
+    static char *names; /* not freed on purpose; LeakSanitizer finds it in static storage */
     atexit(check_what_is_left);
     CHECK(SCardEstablishContext(0, NULL, NULL, &context), SCARD_S_SUCCESS);
     CHECK(lines_of("establish, of another scope"), 1);

@@ -1,4 +1,4 @@
-/* The functions of the virtual reader as pcscd calls them, without pcscd. */
+/* Tests the functions of the virtual reader, called as by pcscd. */
 #include "check.h"
 
 #include <galliumtoad.h>
@@ -6,7 +6,7 @@
 
 #include <stdlib.h>
 
-/* two readers, by the numbers that pcscd gives them: each has one slot */
+/* Readers, by the numbers that pcscd gives them. Each has one slot. */
 #define ONE 0x00000
 #define OTHER 0x10000
 #define NONE 0x20000
@@ -15,7 +15,7 @@ static const char NAMES[] = "app A0000000031010\nobject 5F20 4A4F45\nlocked 50 5
 static const char OTHERS[] = "atr 3B6500002063CB6800\n# another card\napp A0000000031010\n"
                              "object 5F20 414E4E\n";
 
-/* The file of a reader's table. */
+/* The name of the file of a reader's table. */
 static char *file_of(DWORD lun)
 {
     static char name[32];
@@ -30,7 +30,7 @@ static void write_table(DWORD lun, const char *text)
         exit(1);
 }
 
-/* Makes a reader whose table is this text. */
+/* Creates a reader with this table. */
 static RESPONSECODE create(DWORD lun, const char *text)
 {
     write_table(lun, text);
@@ -40,8 +40,8 @@ static RESPONSECODE create(DWORD lun, const char *text)
 static UCHAR received[300];
 static DWORD length;
 
-/* Sends a TPDU or a command at a protocol, and says what the reader answers; `room` is for what
- * comes back. */
+/* Sends a TPDU or a command at a protocol, with `room` bytes for the answer, and returns the
+ * reader's code. */
 static RESPONSECODE send_at(DWORD lun, DWORD protocol, const char *tpdu, DWORD n, DWORD room)
 {
     UCHAR sent[600];
@@ -54,7 +54,7 @@ static RESPONSECODE send_at(DWORD lun, DWORD protocol, const char *tpdu, DWORD n
     return code;
 }
 
-/* What comes back of a TPDU of T=0, or a command at T=1, that is carried out. */
+/* A TPDU at T=0, or a command at T=1, is carried out with this answer. */
 #define CHECK_AT(lun, protocol, tpdu, answer) do { \
         CHECK(send_at(lun, protocol, tpdu, sizeof tpdu - 1, 258), IFD_SUCCESS); \
         CHECK(length, sizeof answer - 1); \
@@ -64,7 +64,7 @@ static RESPONSECODE send_at(DWORD lun, DWORD protocol, const char *tpdu, DWORD n
 #define CHECK_ANSWER(lun, tpdu, answer) CHECK_AT(lun, 0, tpdu, answer)
 #define CHECK_RESPONSE(lun, apdu, response) CHECK_AT(lun, 1, apdu, response)
 
-/* One that is not, which leaves no bytes. */
+/* It is not carried out: the call returns `fault`, and no bytes. */
 #define CHECK_FAULT(lun, protocol, tpdu, room, fault) do { \
         CHECK(send_at(lun, protocol, tpdu, sizeof tpdu - 1, room), fault); \
         CHECK(length, 0); \
@@ -89,7 +89,7 @@ static void check_power(DWORD lun, DWORD action, const char *atr, size_t n)
     CHECK_BYTES(found, atr, n);
 }
 
-/* A number that no reader has. */
+/* A number without a reader. */
 static void no_reader(DWORD lun)
 {
     UCHAR bytes[MAX_ATR_SIZE];
@@ -102,7 +102,7 @@ static void no_reader(DWORD lun)
     CHECK_FAULT(lun, 0, GET, 258, IFD_NO_SUCH_DEVICE);
 }
 
-/* Each reader has a card of its own, and its own answer to reset. */
+/* Each reader has its own card with its own answer to reset. */
 static void two_cards(void)
 {
     CHECK(create(ONE, NAMES), IFD_SUCCESS);
@@ -125,7 +125,7 @@ static void two_cards(void)
     CHECK_ANSWER(OTHER, GET_NAME, "\x5F\x20\x03" "ANN\x90\x00");
 }
 
-/* What the card answers comes back as it is: nothing is fetched or asked again by the reader. */
+/* The reader returns the card's answers unchanged: it sends no command of its own. */
 static void answers(void)
 {
     CHECK_ANSWER(ONE, GET, "\x6C\x06");
@@ -135,7 +135,7 @@ static void answers(void)
     CHECK_ANSWER(ONE, "\x00\xDA\x5F\x20", "\x90\x00");
     CHECK_ANSWER(ONE, "\x00\xCA\x5F\x20\x03", "\x5F\x20\x00\x90\x00");
     CHECK_ANSWER(ONE, "\x00\xDA\x5F\x20\x03JOE", "\x90\x00");
-    /* INS that are none: the card answers, as it does to any that it does not know */
+    /* the card answers invalid INS like unknown ones */
     CHECK_ANSWER(ONE, "\x00\x60\x00\x00\x00", "\x6D\x00");
     CHECK_ANSWER(ONE, "\x00\x6F\x00\x00", "\x6D\x00");
     CHECK_ANSWER(ONE, "\x00\x90\x00\x00\x01\x00", "\x6D\x00");
@@ -143,7 +143,7 @@ static void answers(void)
     CHECK_ANSWER(ONE, GET_NAME, "\x5F\x20\x03JOE\x90\x00");
 }
 
-/* What can't be carried out is a fault; some of these reset the card. */
+/* Bytes that can't be carried out are a fault. Some of these reset the card. */
 static void faults(void)
 {
     CHECK_FAULT(ONE, 1, GET_NAME, 258, IFD_PROTOCOL_NOT_SUPPORTED);
@@ -162,8 +162,8 @@ static void faults(void)
     CHECK_FAULT(ONE, 0, "", 258, IFD_COMMUNICATION_ERROR);
 }
 
-/* Clients send the Le of a command that has data behind them too, which no TPDU has. It is
- * dropped, whatever it is; one byte more is a fault still, and so is one behind no data. */
+/* Clients also send the Le after the data of a command, which a TPDU does not have. The reader
+ * drops one byte, whatever it is. Two bytes are a fault, and so is one byte without data. */
 static void le_behind_data(void)
 {
     CHECK_ANSWER(ONE, SELECT "\x00", "\x61\x0B");
@@ -178,7 +178,7 @@ static void le_behind_data(void)
     CHECK_ANSWER(ONE, "\x00\xDA\x5F\x20\x03JOE\xFF", "\x90\x00");
 }
 
-/* Power and resets: what is stored stays, and nothing is selected. */
+/* Power and resets: stored values stay, and the selection ends. */
 static void power(void)
 {
     UCHAR atr[MAX_ATR_SIZE];
@@ -197,7 +197,7 @@ static void power(void)
     CHECK_ANSWER(ONE, GET_NAME, "\x5F\x20\x03LEE\x90\x00");
 }
 
-/* What pcscd asks of a handler. */
+/* The capabilities that pcscd asks for. */
 static void capabilities(void)
 {
     UCHAR bytes[MAX_ATR_SIZE];
@@ -222,7 +222,7 @@ static void capabilities(void)
     CHECK(IFDHCreateChannel(NONE, 0), IFD_COMMUNICATION_ERROR);
 }
 
-/* An object of 600 bytes comes in parts, none of which is more than a client's room of 258. */
+/* An object of 600 bytes is returned in parts of at most 258 bytes, the room of a client. */
 static void long_object(void)
 {
     char text[4096] = "app A0000000031010\nobject 5F20 ";
@@ -243,7 +243,7 @@ static void long_object(void)
     CHECK(IFDHCloseChannel(NONE), IFD_SUCCESS);
 }
 
-/* Answers to reset of 2 to 33 bytes are taken; what else a table may not say is refused. */
+/* A table may have an answer to reset of 2 to 33 bytes. Invalid tables are refused. */
 static void tables(void)
 {
     char name[] = "there.table", text[128];
@@ -274,7 +274,7 @@ static void tables(void)
     CHECK(IFDHCloseChannel(NONE), IFD_SUCCESS);
 }
 
-/* What a fault of a table says on standard error: the file, and the line or the reason. */
+/* A fault of a table prints the file, and the line or the reason, on standard error. */
 static void told_faults(void)
 {
     static const char *const wanted[] = {
@@ -298,7 +298,7 @@ static void told_faults(void)
     remove("ifd.told");
 }
 
-/* At T=1 a card that offers that alone answers whole commands, and each of them. */
+/* A card that offers T=1 alone takes whole commands, and answers each of them. */
 static void whole_commands(void)
 {
     static const char long_value[5 + 255] = "\x10\xDA\x00\x50\xFF";
@@ -315,7 +315,7 @@ static void whole_commands(void)
     CHECK_RESPONSE(NONE, SELECT, "\x61\x0B");
     CHECK_RESPONSE(NONE, GET, NAME);
     CHECK_RESPONSE(NONE, "\x00\xCA\x5F\x20\x02", "\x5F\x20\x61\x04");
-    /* what is no command, and what the card does not take: the response stays pending */
+    /* bytes that are not a command, and refused commands: the response stays pending */
     CHECK_RESPONSE(NONE, "", "\x67\x00");
     CHECK_RESPONSE(NONE, "\x00\xCA\x5F", "\x67\x00");
     CHECK_RESPONSE(NONE, "\x00\x60\x00\x00\x00", "\x6D\x00");
@@ -326,7 +326,7 @@ static void whole_commands(void)
     CHECK_BYTES(received, "\x67\x00", 2);
     CHECK_RESPONSE(NONE, "\x00\xC0\x00\x00\x00", "\x03JOE\x90\x00");
     CHECK_RESPONSE(NONE, "\x00\xB0\x00\x00\x00", "\x6D\x00");
-    /* a client whose room is less than the response */
+    /* a client with less room than the response needs */
     CHECK(send_at(NONE, 1, GET, 5, 8), IFD_SUCCESS);
     CHECK(length, 8);
     CHECK_FAULT(NONE, 1, GET, 7, IFD_ERROR_INSUFFICIENT_BUFFER);
@@ -342,7 +342,8 @@ static void whole_commands(void)
     CHECK(IFDHCloseChannel(NONE), IFD_SUCCESS);
 }
 
-/* A card that offers both takes TPDUs at T=0, and one without contacts whole commands at either. */
+/* A card that offers both takes TPDUs at T=0. A card without contacts takes whole commands at
+ * both. */
 static void both_protocols(void)
 {
     CHECK(create(NONE, "atr 3B9011800100\napp A0000000031010\n"), IFD_SUCCESS);
@@ -362,7 +363,7 @@ static void both_protocols(void)
     CHECK(IFDHCloseChannel(NONE), IFD_SUCCESS);
 }
 
-/* The card goes with the file, and comes with a new table. */
+/* The card is removed with the file, and inserted with a new table. */
 static void comes_and_goes(void)
 {
     UCHAR atr[MAX_ATR_SIZE];
@@ -378,7 +379,7 @@ static void comes_and_goes(void)
     CHECK(IFDHICCPresence(NONE), IFD_ICC_NOT_PRESENT);
     CHECK(IFDHPowerICC(NONE, IFD_POWER_UP, atr, &size), IFD_ERROR_POWER_ACTION);
     CHECK_FAULT(NONE, 0, GET_NAME, 258, IFD_COMMUNICATION_ERROR);
-    /* a file that is no table is told of once, and no card until it has gone */
+    /* an invalid table is reported once, and there is no card until the file is removed */
     write_table(NONE, "app A0\n");
     CHECK(IFDHICCPresence(NONE), IFD_ICC_NOT_PRESENT);
     write_table(NONE, OTHERS);
@@ -396,7 +397,7 @@ static void comes_and_goes(void)
     CHECK(IFDHCloseChannel(NONE), IFD_SUCCESS);
 }
 
-/* Answers to reset that offer neither, and that are none: the latter is one of T=0. */
+/* Answers to reset that offer neither protocol, and an invalid one, which counts as T=0. */
 static void other_protocols(void)
 {
     CHECK(create(NONE, "atr 3B800484\napp A0000000031010\n"), IFD_SUCCESS);
@@ -416,7 +417,7 @@ static void other_protocols(void)
     CHECK(IFDHCloseChannel(NONE), IFD_SUCCESS);
 }
 
-/* A name of 1,023 bytes, and one of 1,024. */
+/* Names of 1,023 and 1,024 bytes. */
 static void long_names(void)
 {
     char name[1025] = "";
@@ -434,7 +435,7 @@ static void long_names(void)
     no_reader(NONE);
 }
 
-/* As many readers as a pcscd has, and one more; a number that is free again gets a new card. */
+/* As many readers as a pcscd has, and one more. A number that is free again gets a new card. */
 static void all_readers(void)
 {
     DWORD lun;

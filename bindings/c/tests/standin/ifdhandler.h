@@ -1,5 +1,5 @@
-/* A stand-in for the header of an IFD handler of pcscd, with what examples/virtual_reader.c uses of
- * it, and with pcsc-lite's numbers. */
+/* A stand-in for the header of an IFD handler of pcscd: the part that examples/virtual_reader.c
+ * uses, with pcsc-lite's numbers. */
 #ifndef IFDHANDLER_H
 #define IFDHANDLER_H
 

@@ -1,6 +1,6 @@
-/* malloc and realloc that refuse one request, the one whose number the environment's REFUSE_AT is,
- * counted from 1, and note so in the stand-in's log. A program that is linked with --wrap of both
- * has these. */
+/* malloc and realloc, for programs that are linked with --wrap of both. They refuse the request
+ * with the number REFUSE_AT of the environment, counted from 1, and note that in the stand-in's
+ * log. */
 #include <stdio.h>
 #include <stdlib.h>
 

@@ -1,11 +1,14 @@
-/* A stand-in for libpcsclite: a reader with a card of data objects in it, in the same process.
+/* A stand-in for libpcsclite: a reader with a card of data objects, in the same process. The
+ * environment sets it up:
  *
- * The environment says what it is like: STANDIN_TABLE names the file of the card's tables (else it
- * is that of the examples), STANDIN_READERS has the readers' names between strokes, STANDIN_FAULT
- * says which call goes wrong, and how (`words_of`), and STANDIN_LOG names a file to which each call
- * is appended, and at the end what was not given back. STANDIN_OFFERS has the digits of the card's
- * protocols (else 0), STANDIN_RUNS that of the one it talks already, and STANDIN_OTHERS says that
- * another program is connected. With STANDIN_APDUS the reader takes commands at T=0, too. */
+ * - STANDIN_TABLE: the file of the card's table; else that of the examples.
+ * - STANDIN_READERS: the readers' names, with strokes between them.
+ * - STANDIN_FAULT: the call that fails, and how (`words_of`).
+ * - STANDIN_LOG: the file of the log. It gets each call, and at the end what was not released.
+ * - STANDIN_OFFERS: the digits of the card's protocols; else 0.
+ * - STANDIN_RUNS: the digit of the protocol that the card already talks.
+ * - STANDIN_OTHERS: another program is connected.
+ * - STANDIN_APDUS: the reader takes commands at T=0, too. */
 #define _POSIX_C_SOURCE 200112L
 
 #include "table.h"
@@ -20,7 +23,7 @@
 #define THE_CARD 0x2002
 #define THE_READER "Galliumtoad card 00 00"
 
-/* the most bytes of a list of names, and of what a faulty reader hands back */
+/* The most bytes of a list of names, and of a faulty reader's answer. */
 #define NAMES_ROOM 4096
 #define LONG_ANSWER 300
 
@@ -31,7 +34,7 @@ const SCARD_IO_REQUEST g_rgSCardRawPci = { 4, sizeof(SCARD_IO_REQUEST) };
 static gt_card card;
 static uint8_t answer_to_reset[TABLE_ATR_LIMIT];
 static size_t atr_length;
-static DWORD runs = SCARD_PROTOCOL_UNDEFINED;   /* what the card talks, as pcscd has it */
+static DWORD runs = SCARD_PROTOCOL_UNDEFINED;   /* the card's protocol, for pcscd */
 static int contexts, is_connected, is_held, is_reset, is_exclusive, has_forgotten, names_held;
 static volatile int is_held_by_another;
 
@@ -44,7 +47,7 @@ static FILE *log_file(void)
     return file;
 }
 
-/* A line of the log; the bytes come behind the words. */
+/* Writes a line of the log: the words, then the bytes. */
 static void note(const char *words, const uint8_t *bytes, size_t n)
 {
     FILE *file = log_file();
@@ -58,7 +61,7 @@ static void note(const char *words, const uint8_t *bytes, size_t n)
     fflush(file);
 }
 
-/* The words of protocols that a call asks for; both of them need none. */
+/* The words for the protocols that a call asks for: empty for both. */
 static const char *words_for(DWORD protocols)
 {
     if (protocols == (SCARD_PROTOCOL_T0 | SCARD_PROTOCOL_T1))
@@ -91,8 +94,8 @@ static void note_what_is_left(void)
     gt_card_free(&card);
 }
 
-/* What STANDIN_FAULT says of this call, or NULL: in `CALL:N=WHAT`, rows of which stand between
- * spaces, that of its N-th time, counted from 1. WHAT is the code that it answers, or a word. */
+/* The fault of this call in STANDIN_FAULT, or NULL. That is a list of `CALL:N=WHAT`, with spaces
+ * between them, for the N-th call of that name, from 1. WHAT is the code to return, or a word. */
 static const char *words_of(const char *call, unsigned long time)
 {
     static char word[16];
@@ -115,8 +118,8 @@ static const char *words_of(const char *call, unsigned long time)
     return NULL;
 }
 
-/* Waits as a call's word says, in tenths of a second: `holdN` for another program, which shows in
- * the reader's state, and `slowN` for the card. */
+/* Waits N tenths of a second: `holdN` for another program, which the reader's state shows, and
+ * `slowN` for the card. */
 static void wait_by(const char *word)
 {
     struct timespec tenth = { 0, 100000000 };
@@ -129,7 +132,7 @@ static void wait_by(const char *word)
     is_held_by_another = 0;
 }
 
-/* The code that a call is to answer, or success. */
+/* The code that a call has to return, or success. */
 static LONG fault_of(const char *call, unsigned long time)
 {
     const char *word = words_of(call, time);
@@ -162,7 +165,7 @@ LONG SCardReleaseContext(SCARDCONTEXT context)
     return fault_of("release", ++time);
 }
 
-/* The readers' names, each with a NUL behind it, and one more NUL. */
+/* Writes the readers' names, each with a NUL after it, and one more NUL. */
 static DWORD names_of_readers(char *names)
 {
     const char *set = getenv("STANDIN_READERS");
@@ -215,7 +218,7 @@ LONG SCardFreeMemory(SCARDCONTEXT context, LPCVOID memory)
     return SCARD_S_SUCCESS;
 }
 
-/* The card, which is made once; what is stored stays as long as the process. */
+/* Creates the card once. Stored values stay until the process ends. */
 static LONG make_card(void)
 {
     const char *name = getenv("STANDIN_TABLE");
@@ -235,7 +238,7 @@ static LONG make_card(void)
     return code == GT_OK ? SCARD_S_SUCCESS : SCARD_W_UNRESPONSIVE_CARD;
 }
 
-/* The protocols whose digits a word of the environment has. */
+/* The protocols whose digits are in a word of the environment. */
 static DWORD protocols_of(const char *name, const char *otherwise)
 {
     const char *digits = getenv(name);
@@ -245,8 +248,8 @@ static DWORD protocols_of(const char *name, const char *otherwise)
         | (strchr(digits, '1') != NULL ? SCARD_PROTOCOL_T1 : 0);
 }
 
-/* Chooses among the protocols that are asked for, T=1 before T=0, as pcscd does; with the word
- * `block` it is T=1, whatever is asked for, and with `unset` none. */
+/* Chooses one of the protocols that are asked for, T=1 before T=0, as pcscd does. With the word
+ * `block` it is always T=1, and with `unset` no protocol. */
 static LONG choose_protocol(DWORD asked, const char *word, LPDWORD protocol)
 {
     const DWORD both = asked & protocols_of("STANDIN_OFFERS", "0");
@@ -317,8 +320,8 @@ LONG SCardReconnect(SCARDHANDLE handle, DWORD share, DWORD protocols, DWORD init
     return choose_protocol(protocols, words_of("reconnect", time), protocol);
 }
 
-/* A pointer that is NULL asks for nothing. `forget`: the protocol is not set, and nothing goes to
- * the card before it is. `other`: it is the other one by now. */
+/* A NULL pointer asks for nothing. `forget`: the protocol is not set, and the card gets nothing
+ * until it is. `other`: the card now talks the other protocol. */
 LONG SCardStatus(SCARDHANDLE handle, LPSTR names, LPDWORD size, LPDWORD state, LPDWORD protocol,
                  LPBYTE atr, LPDWORD atr_size)
 {
@@ -398,7 +401,7 @@ LONG SCardEndTransaction(SCARDHANDLE handle, DWORD disposition)
     return fault_of("end", ++time);
 }
 
-/* What a faulty reader makes of an answer of `n` bytes; `answer` has room for LONG_ANSWER. */
+/* Changes an answer of `n` bytes as a faulty reader does. `answer` has room for LONG_ANSWER. */
 static size_t spoil(const char *word, uint8_t *answer, size_t n)
 {
     static const uint8_t get_response[] = { 0x00, 0xC0, 0x00, 0x00 };
@@ -416,16 +419,16 @@ static size_t spoil(const char *word, uint8_t *answer, size_t n)
         answer[n - 1] = (uint8_t)status;
         return n;
     }
-    if (strcmp(word, "more") == 0) { /* one byte of data before all others */
+    if (strcmp(word, "more") == 0) { /* one more byte of data, in front */
         memmove(answer + 1, answer, n);
         return n + 1;
     }
-    if (strncmp(word, "drop", 4) == 0) { /* without the first of them */
+    if (strncmp(word, "drop", 4) == 0) { /* without the first bytes of data */
         const size_t dropped = strtoul(word + 4, NULL, 10);
         memmove(answer, answer + dropped, n - dropped);
         return n - dropped;
     }
-    if (strcmp(word, "tail") == 0) { /* one byte of data behind all others */
+    if (strcmp(word, "tail") == 0) { /* one more byte of data, at the end */
         memmove(answer + n - 1, answer + n - 2, 2);
         answer[n - 2] = 0x00;
         return n + 1;
@@ -434,7 +437,7 @@ static size_t spoil(const char *word, uint8_t *answer, size_t n)
         answer[n - 3] ^= 1;
         return n;
     }
-    if (strcmp(word, "other") == 0) { /* of another tag of two bytes */
+    if (strcmp(word, "other") == 0) { /* another tag of two bytes */
         answer[1] ^= 1;
         return n;
     }
@@ -459,7 +462,7 @@ static int takes_apdus(void)
     return runs == SCARD_PROTOCOL_T1 || getenv("STANDIN_APDUS") != NULL;
 }
 
-/* Carries out a TPDU, or a command as a reader for T=1 does. */
+/* Carries out a TPDU, or a command if the reader takes those. */
 static LONG carry_out(LPCBYTE sent, DWORD n, uint8_t answer[LONG_ANSWER], size_t *size)
 {
     int32_t code;
@@ -470,7 +473,7 @@ static LONG carry_out(LPCBYTE sent, DWORD n, uint8_t answer[LONG_ANSWER], size_t
     return code == GT_OK ? SCARD_S_SUCCESS : SCARD_E_NOT_TRANSACTED;
 }
 
-/* With the word `againN` the reader carries it out N times more, as after damaged answers. */
+/* With the word `againN` the reader carries it out N more times, as after damaged answers. */
 LONG SCardTransmit(SCARDHANDLE handle, const SCARD_IO_REQUEST *protocol, LPCBYTE sent, DWORD n,
                    SCARD_IO_REQUEST *answered, LPBYTE received, LPDWORD length)
 {

@@ -1,22 +1,22 @@
-/* A stand-in for the tty of a serial port, over a pseudo terminal: the calls of serial_port.c that
- * set it and its lines end here, by the linker's --wrap. Without STANDIN_TTY it is not there. The
- * environment says what it is like:
+/* A stand-in for the tty of a serial port, over a pseudo terminal. By the linker's --wrap it gets
+ * the calls of serial_port.c that set the port and its lines. Without STANDIN_TTY it does nothing.
+ * The environment sets it up:
  *
- * STANDIN_TTY      the file in which each of these calls is noted, a line each
- * STANDIN_REFUSES  words, each of which is one of
- *                    get, set      the settings are not told, or not set: an error
- *                    set_again     it refuses the second of its settings
- *                    bits, stop, parity, odd  that setting is dropped without an error
- *                    baud          it runs at 1,200 baud
- *                    fast          it runs at most at 9,600 baud
- *                    lines         there are no other lines: an error
- *                    on, off       a line is not switched so: an error
- *                    stuck         a line stays as it is without an error
- *                    write         no character is ever taken
- * STANDIN_INPUTS   a file with the words cts, dsr, dcd: the lines of the other end that are on
+ * - STANDIN_TTY: the file that gets a line for each of these calls.
+ * - STANDIN_INPUTS: a file with the words cts, dsr, dcd, for the input lines that are on.
+ * - STANDIN_REFUSES: a list of these words:
+ *   - get, set: reading or changing the settings is an error.
+ *   - set_again: the second change of the settings is an error.
+ *   - bits, stop, parity, odd: that setting is dropped without an error.
+ *   - baud: the port runs at 1,200 baud.
+ *   - fast: the port runs at most at 9,600 baud.
+ *   - lines: there are no other lines, so their use is an error.
+ *   - on, off: switching a line on, or off, is an error.
+ *   - stuck: a line stays as it is, without an error.
+ *   - write: the port takes no character.
  *
- * Parity can't be told over a pseudo terminal, so the mark of a character with another parity is
- * what the other end writes: FF 00 before it, and FF FF for FF. */
+ * A pseudo terminal has no parity. So the other end writes the mark of a character with wrong
+ * parity: FF 00 before it, and FF FF for FF. */
 #define _GNU_SOURCE
 
 #include <asm/termbits.h>
@@ -31,19 +31,19 @@
 #include <sys/sysmacros.h>
 #include <unistd.h>
 
-/* the number of Linux for serial ports, and the first of these */
+/* The numbers of Linux for serial ports: the major number, and the first minor number. */
 enum { SERIAL_PORTS = 4, FIRST_PORT = 64 };
 
 int __real_ioctl(int fd, unsigned long request, ...);
 int __real_fstat(int fd, struct stat *found);
 ssize_t __real_write(int fd, const void *bytes, size_t n);
 
-/* what was set last, where something was, and how often that was tried */
+/* The last settings, whether there are any, and how often a change was tried. */
 static struct termios2 settings;
 static bool is_set;
 static unsigned long tries;
 
-/* RTS and DTR are on while a tty is open */
+/* RTS and DTR are on while a tty is open. */
 static int driven = TIOCM_RTS | TIOCM_DTR;
 
 static bool has_word(const char *words, const char *word)
@@ -90,7 +90,7 @@ static void note_settings(const struct termios2 *wanted)
     note(text);
 }
 
-/* What it makes of settings. */
+/* Takes settings, with the changes that STANDIN_REFUSES asks for. */
 static void take_settings(const struct termios2 *wanted)
 {
     settings = *wanted;
@@ -108,7 +108,7 @@ static void take_settings(const struct termios2 *wanted)
         settings.c_ispeed = settings.c_ospeed = 9600;
 }
 
-/* The pseudo terminal itself marks nothing. */
+/* The pseudo terminal gets these settings without the marking of parity errors. */
 static int set(int fd, const struct termios2 *wanted)
 {
     struct termios2 passed = *wanted;

@@ -1,6 +1,6 @@
-/* A stand-in for the header of PC/SC, with what gt_pcsc and the examples use of it: so they are
- * tried where there is no libpcsclite. Types and numbers are those of pcsc-lite for 64 bits; where
- * its header is installed, standin.c is compiled with that one too. */
+/* A stand-in for the header of PC/SC: the part that gt_pcsc and the examples use, so that they can
+ * be tested without libpcsclite. Types and numbers are those of pcsc-lite for 64 bits. If the real
+ * header is installed, standin.c is compiled with that too. */
 #ifndef WINSCARD_H
 #define WINSCARD_H
 

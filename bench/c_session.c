@@ -1,15 +1,14 @@
-/* c_session: a card of data objects asked for small and large ones through C, again and again, as
- * crates/session_speed asks it. With one word it says how long a character takes, in that way; a
- * number behind it is how often `repeat` carries each operation out, for a profiler to count:
+/* c_session: gets and puts of small and large objects through C, the same as crates/session_speed.
+ * The first word names the way, and the program prints the time of a character. A number after it
+ * is how often `repeat` carries out each operation, for a profiler. The ways:
  *
- *   session      a session, which joins both ends
- *   heard        the same, and somebody listens
- *   buffers      a terminal and a card, whose characters pass by buffers
- *   characters   the same, a character at a time
- *   tpdus        the same, by whole TPDUs
- *   apdus        the same, by whole commands; a character is one of those of the TPDUs
- *   by_hand      the two ends of ends_by_hand.c, a character at a time
- */
+ * - session: a session, which joins both ends.
+ * - heard: the same with a listener.
+ * - buffers: a terminal and a card that pass characters by buffers.
+ * - characters: the same, one character at a time.
+ * - tpdus: the same, by whole TPDUs.
+ * - apdus: the same, by whole commands. The characters are those of the TPDUs.
+ * - by_hand: both ends of ends_by_hand.c, one character at a time. */
 #define _POSIX_C_SOURCE 199309L
 
 #include "ends_by_hand.h"
@@ -27,7 +26,7 @@ enum { CONTENT = 0x42, BUFFER = 512, OK = 0x9000 };
 
 enum task { TASK_SELECT, TASK_GET, TASK_PUT };
 
-/* What is asked, and how often. */
+/* An operation, and how often it is carried out. */
 struct load {
     const char *name;
     enum task task;
@@ -263,7 +262,7 @@ static const struct way {
     { "by_hand", hand_start, hand_carry_out },
 };
 
-/* The time of this program alone, so that the machine's other work matters less. */
+/* The processor time of this program, so that other work of the machine matters less. */
 static double processor_time(void)
 {
     struct timespec time;
@@ -281,7 +280,8 @@ static void carry_out(const struct way *way, const struct load *load)
         need(len == head + load->size && data[len - 1] == CONTENT, "other data");
 }
 
-/* The characters of one operation are the same in all ways that count them. */
+/* Checks that this way needs the expected number of characters for the operation, if it counts
+ * them. */
 static void check_characters(const struct way *way, const struct load *load)
 {
     size_t count = 0;
@@ -293,8 +293,8 @@ static void check_characters(const struct way *way, const struct load *load)
     need(count == 0 || count == load->characters, "another number of characters");
 }
 
-/* Carries out this many operations. It is called by its pointer, so that it is a function of its
- * own, which a profiler finds by its name. */
+/* Carries out `times` operations. A call by pointer keeps it a separate function, so that a
+ * profiler finds it by its name. */
 void repeat(const struct way *way, const struct load *load, long times)
 {
     for (; times > 0; times--)
@@ -315,8 +315,8 @@ static void measure(const struct way *way, const struct load *load)
            seconds * 1e9 / ((double)load->times * (double)load->characters));
 }
 
-/* Carries out operations for a profiler to count: this many, after as many uncounted ones, so that
- * blocks are placed as from then on. */
+/* Carries out `times` operations for a profiler. As many precede them uncounted, so that memory is
+ * laid out as in a long run. */
 static void count(const struct way *way, const struct load *load, long times)
 {
     long i;

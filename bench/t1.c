@@ -1,6 +1,6 @@
-/* t1: puts and gets of 8,192 bytes by a terminal and a card over T=1, blocks by buffers. It prints
- * how many bytes of blocks a second both ends pass, those of the library and those by hand
- * (t1_by_hand.c), over the same terminal and card above them. */
+/* t1: puts and gets 8,192 bytes over T=1, with blocks by buffers. It prints how many bytes of
+ * blocks a second both ends pass: the library's ends, and those by hand (t1_by_hand.c). The
+ * terminal and the card above them are the same. */
 #define _POSIX_C_SOURCE 199309L
 
 #include "t1_by_hand.h"

@@ -2,7 +2,8 @@
 
 #include <string.h>
 
-/* the bits of a PCB: an R-block, and N(R) of one; more follows, and N(S) of an I-block */
+/* The bits of a PCB: an R-block, the place of its N(R); MORE, and the place of N(S) in an I-block.
+ * Then two whole PCBs. */
 enum { R = 0x80, NR = 4, MORE = 0x20, NS = 6, IFS_REQUEST = 0xC1, IFS_RESPONSE = 0xE1 };
 
 static size_t write_block(uint8_t *block, unsigned pcb, const uint8_t *info, size_t n)

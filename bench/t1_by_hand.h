@@ -1,5 +1,5 @@
-/* Both ends of T=1 by hand, without proof: what a firmware has, with R-blocks and chains, and no
- * S(WTX), S(ABORT) or S(RESYNCH). */
+/* Both ends of T=1, written by hand without a proof, as in firmware: with R-blocks and chains, but
+ * without S(WTX), S(ABORT) and S(RESYNCH). */
 #ifndef T1_BY_HAND_H
 #define T1_BY_HAND_H
 
@@ -10,13 +10,13 @@ struct t1_buffer {
     size_t n;
 };
 
-/* A card over the library's. */
+/* A card's end above the library's card. */
 struct t1_card {
     gt_card *card;
     uint8_t due, next, ifsd;
     bool is_answering;
     struct t1_buffer command, response;
-    size_t from, until;         /* the field of the response that went out last */
+    size_t from, until;         /* the part of the response in the last block */
 };
 
 struct t1_terminal {
@@ -25,16 +25,16 @@ struct t1_terminal {
     size_t from, until;
 };
 
-/* The card takes a block, valid or not, and answers it: how many bytes `answer` has. */
+/* Takes a block, valid or not, and writes the card's answer. Returns its length. */
 size_t t1_card_takes(struct t1_card *c, const uint8_t *block, size_t n,
                      uint8_t answer[GT_BLOCK_LIMIT]);
 
-/* The terminal's first block of a command. */
+/* Writes the terminal's first block of a command. Returns its length. */
 size_t t1_terminal_begins(struct t1_terminal *t, const uint8_t *apdu, size_t n,
                           uint8_t block[GT_BLOCK_LIMIT]);
 
-/* It takes a block of the card, valid or not: how many bytes its next one has, 0 once the response
- * is whole. */
+/* Takes a block of the card, valid or not, and writes the terminal's next one. Returns its length,
+ * or 0 if the response is whole. */
 size_t t1_terminal_takes(struct t1_terminal *t, const uint8_t *answer, size_t n,
                          uint8_t block[GT_BLOCK_LIMIT]);
 

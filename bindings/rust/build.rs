@@ -1,12 +1,12 @@
-//! Links the proved archive of the target, which is in `lib` of a package, and in `../lib` of the
-//! repository; or `libgalliumtoad.a` of the folder that `GALLIUMTOAD_LIB_DIR` names, which has the
-//! functions for memory in it.
+//! Links the proved archive of the target. It is in `lib` of a package, or in `../lib` of the
+//! repository. If `GALLIUMTOAD_LIB_DIR` is set, it links `libgalliumtoad.a` of that folder, which
+//! contains the functions for memory too.
 
 use std::env;
 use std::path::{Path, PathBuf};
 use std::process::exit;
 
-/// The targets that have an archive, for the words that say so.
+/// The targets with an archive, for the linker's error.
 const TARGETS: [&str; 2] = ["x86_64-linux-gnu", "aarch64-linux-gnu"];
 
 fn main() {
@@ -19,9 +19,9 @@ fn main() {
         }
         return;
     }
-    // asked for now: a package's copy of this program may have been compiled in another folder
+    // read at run time: a package's copy of this program may have been compiled in another folder
     let here = PathBuf::from(env::var_os("CARGO_MANIFEST_DIR").unwrap_or_default());
-    // a package has the archives in it; in the repository they stand beside the crate
+    // a package contains the archives; in the repository they are next to the crate
     let inside = here.join("lib");
     let archives = if inside.is_dir() {
         inside
@@ -36,9 +36,9 @@ fn main() {
     }
 }
 
-/// What is built for, in the words of the archives' folders: for Linux the processor alone counts,
-/// since an archive asks nothing of the C library but to copy and set memory. Of another width of
-/// pointers, or with the big end first, it is none of them.
+/// The target, as the archives' folders name it. For Linux only the processor counts, since an
+/// archive uses only functions of the C library that copy and set memory. No archive is for
+/// big-endian processors or pointers of another width than 64 bits.
 fn target() -> String {
     let of = |name: &str| env::var(format!("CARGO_CFG_TARGET_{name}")).unwrap_or_default();
     match (of("OS"), of("POINTER_WIDTH"), of("ENDIAN")) {
@@ -60,7 +60,7 @@ fn link(folder: &Path, library: &str) -> bool {
     file.is_file()
 }
 
-/// All but linking is done without an archive. A linker then says that it misses this name.
+/// Without an archive everything but linking works. The linker's error then has this name.
 fn link_nothing() {
     let target = env::var("TARGET").unwrap_or_default();
     println!(

@@ -1,6 +1,6 @@
-//! The operations of `c_session.c` through the crate for Rust, with the same words: a way
-//! (`session`, `heard`, `buffers` or `characters`), and for a profiler how often `repeat` carries
-//! each operation out.
+//! The operations of `c_session.c` through the crate for Rust, with the same words. The first is a
+//! way: `session`, `heard`, `buffers` or `characters`. A number after it is how often `repeat`
+//! carries out each operation, for a profiler.
 
 use galliumtoad::{Card, CardBuilder, Operation, Session, Stop, Terminal, Turn, RESPONSE_LIMIT};
 use std::time::Instant;
@@ -18,7 +18,7 @@ struct Load {
     times: u32,
 }
 
-/// The tag 5F20 holds 3 bytes, 5F50 holds 20, and 50 as many as a value may have.
+/// The object 5F20 has 3 bytes, 5F50 has 20, and 50 has the longest value.
 const LOADS: [Load; 5] = [
     load("get of 3 bytes", false, 0x5F20, 3, 21, 1_000_000),
     load("get of 20 bytes", false, 0x5F50, 20, 38, 500_000),
@@ -55,7 +55,7 @@ fn card() -> Card {
     builder.finish().expect("a card")
 }
 
-/// What carries operations out.
+/// The ends that carry out operations.
 enum Way {
     Session(Session),
     Buffers(Terminal, Card),
@@ -78,7 +78,7 @@ impl Way {
         }
     }
 
-    /// Carries an operation out. The data of its answer are in `room`, or in memory of their own.
+    /// Carries out an operation. The data of its answer are in `room`, or in their own memory.
     fn operate(&mut self, operation: Operation<'_>, room: &mut [u8], check: impl Fn(&[u8])) {
         let terminal = match self {
             Way::Session(session) => return check(&by_session(session, operation)),
@@ -155,7 +155,7 @@ fn by_characters(terminal: &mut Terminal, card: &mut Card) {
     }
 }
 
-/// So many operations: a function of its own, which a profiler finds by its name.
+/// Carries out `times` operations. It is a separate function, which a profiler finds by its name.
 #[no_mangle]
 #[inline(never)]
 extern "Rust" fn repeat(way: &mut Way, load: &Load, value: &[u8], room: &mut [u8], times: u32) {

@@ -1,8 +1,8 @@
-/* serial_card: a card at the other end of a terminal's line, at T=0 or T=1. The line is a tty or a
- * pseudo terminal that this program makes.
+/* serial_card: a card at the other end of a terminal's line, at T=0 or T=1. The line is a tty, or a
+ * pseudo terminal that this program creates.
  *
- * The card is the library's, and proved; this program waits for a reset, sends the answer to it,
- * and passes characters both ways until the next one. `serial_card --help` says what it does. */
+ * The card is the library's, and proved. This program waits for a reset, sends the answer to reset,
+ * and passes characters both ways until the next reset. See `serial_card --help`. */
 #include "descriptors.h"
 #include "serial_answer.h"
 #include "serial_options.h"
@@ -16,18 +16,18 @@ enum { ALL_WELL = 0, FAULT = 1, BAD_WORDS = 2 };
 #define NUMBER(number) #number
 #define DOTTED(major, minor, patch) NUMBER(major) "." NUMBER(minor) "." NUMBER(patch)
 
-/* how often the line of a reset is looked at, and whether a pseudo terminal was closed, in
- * microseconds */
+/* Microseconds between two looks at the line of a reset, and at whether a pseudo terminal was
+ * closed. */
 enum { LOOKS_EVERY = 1000, WAITS_FOR = 10000 };
 
-/* what a PPS request begins with, and the bits of its PPS0 for PPS1 and for the protocol (ISO/IEC
- * 7816-3, 9.2) */
+/* The first byte of a PPS request, and the bits of its PPS0 for PPS1 and for the protocol (ISO/IEC
+ * 7816-3, 9.2). */
 enum { PPSS = 0xFF, HAS_PPS1 = 0x10, PROTOCOL = 0x0F };
 
-/* no limit of what a status 61XX announces */
+/* No limit on what 61XX announces. */
 enum { PLAN_CUT = 256 };
 
-/* the clock cycles of an etu before PPS says otherwise, and the code of that rate */
+/* The clock cycles of an etu at a reset, and the code of that rate. */
 enum { RESET_CYCLES = 372, RATE_OF_RESET = 0x11 };
 
 static const char USAGE[] =
@@ -75,14 +75,14 @@ static const enum port_signal SIGNALS[] = { PORT_CTS, PORT_DSR, PORT_DCD, PORT_N
 
 static const struct serial_names NAMES = { OPTIONS, SIGNALS, PORT_NONE };
 
-/* Answered where the card has been reset: this very pointer. */
+/* Functions return this pointer if the card was reset. */
 static const char IS_RESET[] = "the card was reset";
 
 /* A card at its line. */
 struct socket {
     struct line *line;
     struct table *table;
-    const gt_atr *says;         /* what its answer to reset says */
+    const gt_atr *says;         /* the values of its answer to reset */
     enum port_signal reset;
     bool is_held_by_on;
     unsigned long baud;         /* at a reset */
@@ -107,8 +107,8 @@ static int end_output(void)
     return fflush(stdout) == 0 && !ferror(stdout) ? ALL_WELL : tell("write fault");
 }
 
-/* NULL, IS_RESET where the line of a reset is in that state, LINE_IS_GONE where the terminal has
- * closed its end, or a fault. */
+/* Looks at the line of a reset. Returns IS_RESET if it is in this state, LINE_IS_GONE if the
+ * terminal has closed its end, NULL if neither, or a fault. */
 static const char *look(const struct socket *socket, bool is_held)
 {
     const struct port *port = socket->line->port;
@@ -124,7 +124,7 @@ static const char *look(const struct socket *socket, bool is_held)
     return (is_on == socket->is_held_by_on) == is_held ? IS_RESET : NULL;
 }
 
-/* Waits for a state of that line. */
+/* Waits for a state of that line. Returns NULL, or LINE_IS_GONE or a fault. */
 static const char *await_state(const struct socket *socket, bool is_held)
 {
     const char *what;
@@ -133,8 +133,9 @@ static const char *await_state(const struct socket *socket, bool is_held)
     return what == IS_RESET ? NULL : what;
 }
 
-/* Waits for the first reset, or for the next one after what ended the talk before. Where there can
- * be none, that is the answer; else the card was mute from a fault on, which is told. */
+/* Waits for the first reset, or for the next one after a dialogue that ended with `before`. If no
+ * reset can come, it returns `before`. Otherwise a fault `before` is printed, and the card is mute
+ * until the reset. */
 static const char *await_reset(const struct socket *socket, const char *before)
 {
     struct port *port = socket->line->port;
@@ -157,7 +158,7 @@ static const char *await_reset(const struct socket *socket, const char *before)
     return fault;
 }
 
-/* Receives a character, for which a card waits as long as it takes, or up to a reset. */
+/* Receives a character. The card waits for it without a limit, or until a reset. */
 static const char *receive(const struct socket *socket, uint8_t *byte)
 {
     const int64_t wait = socket->reset == PORT_NONE ? WAITS_FOR : LOOKS_EVERY;
@@ -180,7 +181,7 @@ static const char *send_all(const struct socket *socket, const uint8_t *bytes, s
     return what;
 }
 
-/* Goes on at the rate of the card, or at that of a reset. */
+/* Sets the card's own rate, or that of a reset. */
 static const char *set_rate(const struct socket *socket, bool is_of_card)
 {
     const unsigned long clock = socket->baud * RESET_CYCLES;
@@ -188,7 +189,7 @@ static const char *set_rate(const struct socket *socket, bool is_of_card)
                     is_of_card ? clock * socket->says->di / socket->says->fi : socket->baud);
 }
 
-/* The bytes of a request, behind the first: as many as its PPS0 announces. */
+/* Receives the bytes of a request after the first, as its PPS0 announces them. */
 static const char *receive_request(const struct socket *socket, uint8_t request[GT_PPS_LIMIT],
                                    size_t *n)
 {
@@ -205,15 +206,16 @@ static const char *receive_request(const struct socket *socket, uint8_t request[
     return what;
 }
 
-/* Whether the answer to reset offers this protocol, and the card has it: T=1 with an LRC alone. */
+/* Whether the answer to reset offers this protocol, and this program has it: T=1 only with LRC. */
 static bool speaks(const gt_atr *says, int protocol)
 {
     return memchr(says->protocols, protocol, says->protocol_count) != NULL
         && (protocol == 0 || (protocol == 1 && says->t1.edc == GT_LRC));
 }
 
-/* The response to a request: its protocol, and its PPS1 where that is the card's own rate or that
- * of a reset. `is_of_card` says whether the card's own is then in use. */
+/* Writes the response to a request: its protocol, and its PPS1 if that is the card's own rate or
+ * that of a reset. `is_of_card` is whether the card's own rate is used next. Returns false if there
+ * is no response. */
 static bool respond(const struct socket *socket, const uint8_t *request, size_t n,
                     uint8_t response[GT_PPS_LIMIT], size_t *count, bool *is_of_card)
 {
@@ -229,8 +231,8 @@ static bool respond(const struct socket *socket, const uint8_t *request, size_t 
         && gt_pps_agreed(request, n, response, *count) == 1;
 }
 
-/* Takes a request whose first byte has come, and answers it. To one that is none, or that asks for
- * a protocol that is not offered, a card says nothing (ISO/IEC 7816-3, 9.1). */
+/* Takes a request after its first byte, and answers it. A card does not answer an invalid request,
+ * or one for a protocol that it does not offer (ISO/IEC 7816-3, 9.1). */
 static const char *answer_pps(struct socket *socket, FILE *trace)
 {
     struct line *line = socket->line;
@@ -251,8 +253,8 @@ static const char *answer_pps(struct socket *socket, FILE *trace)
     return what == NULL && is_of_card ? set_rate(socket, true) : what;
 }
 
-/* Receives the first character behind an answer to reset. It may begin PPS: then what follows that
- * is the first. */
+/* Receives the first character after an answer to reset. If it begins PPS, it answers that, and
+ * receives the next character. */
 static const char *receive_first(struct socket *socket, uint8_t *byte)
 {
     struct line *line = socket->line;
@@ -272,7 +274,7 @@ static const char *receive_first(struct socket *socket, uint8_t *byte)
     return what;
 }
 
-/* The card's characters, until it listens. */
+/* Sends the card's characters until it listens. */
 static const char *send_turns(const struct socket *socket)
 {
     gt_card *card = &socket->table->card;
@@ -287,7 +289,7 @@ static const char *send_turns(const struct socket *socket)
     return what;
 }
 
-/* T=0, from the first character of the terminal on. */
+/* Talks T=0 from the terminal's first character on, until a reset or a fault. */
 static const char *talk_t0(const struct socket *socket, uint8_t byte)
 {
     const char *what = NULL;
@@ -300,7 +302,7 @@ static const char *talk_t0(const struct socket *socket, uint8_t byte)
     return what;
 }
 
-/* The card's answer to what came. Where memory ran out, it is silent, and the terminal asks
+/* Sends the card's answer to a block. If memory ran out, the card is silent, and the terminal asks
  * again. */
 static const char *answer_block(const struct socket *socket)
 {
@@ -313,7 +315,7 @@ static const char *answer_block(const struct socket *socket)
     return code == GT_DONE || code == GT_MEMORY ? NULL : gt_text(code);
 }
 
-/* Hands a block to the card, or that none came. */
+/* Gives the card a block, or if `what` says so reports that it is damaged. Sends the answer. */
 static const char *take_block(const struct socket *socket, const struct t1_block *block,
                               const char *what)
 {
@@ -329,7 +331,7 @@ static const char *take_block(const struct socket *socket, const struct t1_block
     return code == GT_SENDS || code == GT_MEMORY ? answer_block(socket) : gt_text(code);
 }
 
-/* Receives a block whose first character has come, well or with a wrong parity. */
+/* Receives the rest of a block after its first character, which came with right or wrong parity. */
 static const char *receive_block(struct line *line, const struct t1_times *times, bool is_well,
                                  struct t1_block *block)
 {
@@ -340,7 +342,7 @@ static const char *receive_block(struct line *line, const struct t1_times *times
     return what == NULL ? LINE_IS_BROKEN : what;
 }
 
-/* T=1, from the first character of the terminal on. */
+/* Talks T=1 from the terminal's first character on, until a reset or a fault. */
 static const char *talk_t1(const struct socket *socket, uint8_t byte)
 {
     const struct t1_times times =
@@ -357,7 +359,7 @@ static const char *talk_t1(const struct socket *socket, uint8_t byte)
     return what;
 }
 
-/* From a reset on, until something ends the talk. */
+/* Talks from a reset on. Returns what ended the dialogue. */
 static const char *talk(struct socket *socket)
 {
     const struct table *table = socket->table;
@@ -380,7 +382,7 @@ static const char *talk(struct socket *socket)
     return socket->protocol == 1 ? talk_t1(socket, byte) : talk_t0(socket, byte);
 }
 
-/* One talk after another, until no reset can come. */
+/* Serves one dialogue after another, until no reset can come. */
 static int serve(struct port *port, struct table *table, const gt_atr *says,
                  const struct serial_options *options)
 {
@@ -422,7 +424,7 @@ static int open_and_serve(struct table *table, const gt_atr *says,
     return result;
 }
 
-/* Reads what the table's answer to reset says; the card has to talk T=0 or T=1 by it. */
+/* Reads the table's answer to reset, which has to offer T=0 or T=1. */
 static const char *read_answer(const struct table *table, gt_atr *says)
 {
     static char text[96];
@@ -444,7 +446,7 @@ static const char *read_answer(const struct table *table, gt_atr *says)
     return NULL;
 }
 
-/* Adds the plans; a word of another letter is refused. */
+/* Adds the plans. A word with another letter is refused. */
 static int add_plans(gt_card *card, const struct serial_options *options)
 {
     size_t i;

@@ -1,5 +1,5 @@
-//! Answers to reset, PPS and the version, by ISO/IEC 7816-3, clauses 8, 9 and 11, and EMV Book 1,
-//! worked out by hand.
+//! Tests answers to reset, PPS and the version. The expected values are worked out by hand from
+//! ISO/IEC 7816-3, clauses 8, 9 and 11, and EMV Book 1.
 
 use galliumtoad::{version, version_fits, Pps, PpsError, PPS_LIMIT};
 use galliumtoad::{Atr, AtrReason, Category, ClockStop, Convention, Edc, Mode};
@@ -20,7 +20,7 @@ fn fault(bytes: &[u8]) -> Option<(usize, AtrReason)> {
     Some((fault.place, fault.reason))
 }
 
-/// The guard times of T=0 and of T=1: etu, and times Fi/Di cycles.
+/// The guard times for T=0 and T=1: each in etu, and in units of Fi/Di cycles.
 fn guards(bytes: &[u8]) -> [(u16, u16); 2] {
     [0, 1].map(|t| {
         let guard = atr(bytes).guard_time(t);
@@ -107,7 +107,7 @@ fn what_a_reserved_code_says_is_none() {
     assert!(atr(b"\x3B\x80\x80\x1F\x05\x1A").classes.is_none());
 }
 
-/// What is said of T=1: IFSC, the error detection code, BWI, BWT in etu and cycles, CWI and CWT.
+/// The values for T=1: IFSC, error detection code, BWI, BWT in etu and cycles, CWI and CWT.
 type OfT1 = (
     Option<u8>,
     Option<Edc>,
@@ -130,7 +130,7 @@ fn of_t_1(bytes: &[u8]) -> OfT1 {
     )
 }
 
-/// 11 etu and 2^BWI * 960 * 372 cycles; 11 + 2^CWI etu.
+/// BWT is 11 etu and 2^BWI * 960 * 372 cycles. CWT is 11 + 2^CWI etu.
 #[test]
 fn values_of_t_1() {
     let plain: OfT1 = (
@@ -145,7 +145,7 @@ fn values_of_t_1() {
     let (ifsc, edc, bwi, bwt, ..) = plain;
     let emv = (Some(254), edc, bwi, bwt, 5, 43);
     assert_eq!(of_t_1(b"\x3B\xE0\x00\xFF\x81\x31\xFE\x45\x14"), emv);
-    // those behind TD1 are not of T=1
+    // those after TD1 are not for T=1
     assert_eq!(of_t_1(b"\x3B\x80\xF1\x01\x91\x01\x01\xE1"), plain);
     let two = b"\x3B\x80\x81\xA1\x92\xF1\x50\x45\x01\x11\x60\xA6";
     let first = (
@@ -201,7 +201,7 @@ fn categories_go_by_the_first_byte() {
     assert_eq!(category(0x90), Category::Proprietary);
 }
 
-/// The longest answer; with one more historical byte nothing that follows makes it an answer.
+/// The longest answer. With one more historical byte it is invalid, whatever follows.
 const LONGEST: [u8; ATR_LIMIT] = *b"\x3B\xFF\x11\x00\x00\xF0\x00\x00\x0A\xF0\x00\x00\x00\xF0\x00\
     \x00\x00\x00123456789ABCDEF";
 

@@ -1,4 +1,4 @@
-//! Characters by buffers, against those that are written down.
+//! Tests the calls that move characters by buffers, against listed characters.
 
 use galliumtoad::{Card, CardBuilder, Error, Exchange, Operation};
 use galliumtoad::{ReceiveError, Sent, Stop, Terminal};
@@ -7,7 +7,7 @@ use std::error::Error as _;
 const AID: [u8; 7] = [0xA0, 0x00, 0x00, 0x00, 0x03, 0x10, 0x10];
 const GET: [u8; 5] = [0x00, 0xCA, 0x5F, 0x20, 0x00];
 
-/// What stands in a buffer before a call.
+/// Fills a buffer before a call.
 const UNTOUCHED: u8 = 0xEE;
 
 fn card() -> Card {
@@ -17,7 +17,8 @@ fn card() -> Card {
     builder.finish().expect("a card")
 }
 
-/// With so much room the call hands out these, stops for this, and leaves what stands behind them.
+/// With `room` bytes the call writes these characters, stops for this reason, and leaves the rest
+/// of the buffer.
 fn sends(
     send: impl FnOnce(&mut [u8]) -> Result<Sent, Error>,
     room: usize,
@@ -32,7 +33,7 @@ fn sends(
     assert!(bytes[count..].iter().all(|it| *it == UNTOUCHED));
 }
 
-/// How many were taken, and the fault behind them.
+/// The number of characters taken before a fault, and the fault.
 fn refused(found: Result<(), ReceiveError>) -> Option<(usize, Error)> {
     found.err().map(|it| (it.taken, it.error))
 }
@@ -60,7 +61,7 @@ fn an_exchange_passes_buffers() {
     assert_eq!(answer.data, b"\x5F\x20\x03JOE");
 }
 
-/// A response of so many bytes is the longest, and one byte more is too much.
+/// A response may have `limit` bytes. One byte more is a fault.
 #[test]
 fn responses_have_a_limit() {
     for (limit, data) in [(3, &b"JOE"[..]), (2, b"JOE"), (0, b"J")] {

@@ -1,5 +1,5 @@
-//! What the build script says of targets, folders and features; and cargo for a target without an
-//! archive: a check and the documents pass, and the linker says why there is no program.
+//! Tests what the build script prints for targets, folders and features. For a target without an
+//! archive `cargo check` and the documents pass, and the linker's error gives the reason.
 
 use std::ffi::OsStr;
 use std::path::{Path, PathBuf};
@@ -17,7 +17,7 @@ fn rustc() -> std::ffi::OsString {
     std::env::var_os("RUSTC").unwrap_or_else(|| "rustc".into())
 }
 
-/// The build script as a program, which is compiled once for each name.
+/// Compiles the build script to a program with this name.
 fn script(name: &str) -> PathBuf {
     let program = room(name).join("script");
     let done = Command::new(rustc())
@@ -30,7 +30,7 @@ fn script(name: &str) -> PathBuf {
     program
 }
 
-/// What the script prints for Linux with 64 bits, with these variables besides.
+/// Runs the script for 64-bit Linux, with more variables. Returns its success and both outputs.
 fn prints(script: &Path, more: &[(&str, &OsStr)]) -> (bool, String, String) {
     let Output {
         status,
@@ -127,7 +127,7 @@ fn a_folder_has_to_have_the_library() {
     );
 }
 
-/// A compiler that says that it compiles for another processor than it does.
+/// A compiler that reports another processor than the one that it compiles for.
 const OTHER_TARGET: &str = "#!/bin/sh
 case \" $* \" in
 *' --print=cfg '*) \"$REAL_RUSTC\" \"$@\" | sed 's/^target_arch=.*/target_arch=\"riscv64\"/' ;;

@@ -1,4 +1,4 @@
-//! Each call, by the rules of the card and of the line.
+//! Tests each call, by the rules of the card and the line.
 
 use galliumtoad::{find, head, ObjectsError};
 use galliumtoad::{Card, CardBuilder, End, Error, Exchange, Objects, Reason, Session, Turn};
@@ -14,7 +14,7 @@ fn builder() -> CardBuilder {
     builder
 }
 
-/// What the card hands out until it listens, once it has taken these characters.
+/// Gives the card these characters. Returns what it sends until it listens.
 fn heard(card: &mut Card, sent: &[u8]) -> Vec<u8> {
     for byte in sent {
         card.take(*byte).expect("a character in turn");
@@ -26,7 +26,7 @@ fn heard(card: &mut Card, sent: &[u8]) -> Vec<u8> {
     heard
 }
 
-/// The place and the reason of a fault of the bytes.
+/// The place and the reason of a fault in the bytes.
 fn placed(fault: ObjectsError) -> Option<(usize, Reason)> {
     match fault {
         ObjectsError::Fault { place, reason, .. } => Some((place, reason)),
@@ -158,7 +158,7 @@ fn an_exchange_follows_its_card() {
     assert_eq!(exchange.take(0x00), Err(Error::AfterEnd));
 }
 
-/// Hands characters over until the exchange is done, or both ends wait.
+/// Passes characters until the exchange is done, or both ends wait.
 fn talk(exchange: &mut Exchange, card: &mut Card) -> Result<Turn, Error> {
     loop {
         match exchange.next()? {

@@ -1,4 +1,4 @@
-//! A card's end at T=1, by the blocks of ISO/IEC 7816-3, clause 11.
+//! Tests the card's end at T=1, against blocks by ISO/IEC 7816-3, clause 11.
 
 use galliumtoad::{Card, CardBuilder, CardT1, BLOCK_LIMIT};
 
@@ -22,7 +22,7 @@ fn block(pcb: u8, info: &[u8]) -> Vec<u8> {
     bytes
 }
 
-/// The card sends this block.
+/// The card's next block is this one.
 fn sends(end: &CardT1, wanted: &[u8]) {
     let mut room = [0xEE; BLOCK_LIMIT];
     let count = end.block_into(&mut room).expect("memory").expect("a block");
@@ -30,7 +30,7 @@ fn sends(end: &CardT1, wanted: &[u8]) {
     assert!(room[count..].iter().all(|byte| *byte == 0xEE));
 }
 
-/// It takes a block of the terminal, and not the byte behind it.
+/// The card takes this block from the terminal, and no byte after it.
 fn takes(end: &mut CardT1, mut bytes: Vec<u8>) {
     let count = bytes.len();
     bytes.push(0xEE);
@@ -85,7 +85,7 @@ fn resets() {
     let mut card = end.into_card().expect("a card");
     assert_eq!(card.selected(), None);
     card.take(0x00).expect("a card at T=0");
-    // its reset drops what has come of a TPDU
+    // a reset drops a part of a TPDU
     let mut end = CardT1::new(card).expect("a card");
     takes(&mut end, block(0x00, SELECT));
     sends(&end, &block(0x00, NAME));

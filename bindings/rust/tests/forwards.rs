@@ -1,8 +1,8 @@
-//! What each call hands on. Stand-ins for the archive's functions note what they are handed, and
-//! answer what they are told; nothing of the archive is linked. Over the archive some faults do
-//! nothing that a program could see: the handles of a card and of a session hold the same thing.
+//! Tests what each call passes to the archive. Stand-ins replace the archive's functions: they note
+//! their arguments, and return what the test sets. With the real archive some faults would not
+//! show: the handles of a card and of a session hold the same thing.
 
-// what most calls answer is no matter here
+// the results of most calls do not matter here
 #![allow(unused_must_use)]
 
 use galliumtoad::{find, head, version, version_fits, Atr, Card, CardBuilder, Error, Exchange};
@@ -11,7 +11,7 @@ use galliumtoad::{Objects, Operation, Pps, ReceiveError, Sent, Session, Stop, Te
 use std::cell::{Cell, RefCell};
 use std::process::Command;
 
-/// A call of the archive: its name, and what it is handed.
+/// A call of the archive: the function's name, and its arguments.
 type Call = (&'static str, Vec<usize>);
 
 thread_local! {
@@ -20,13 +20,13 @@ thread_local! {
     static VERSION: Cell<i32> = const { Cell::new(OWN) };
 }
 
-/// The version that is told where a test sets none: that of the crate.
+/// The archive's version if a test sets no other: that of the crate.
 const OWN: i32 = 0x000200;
 
-/// Says in a process of its own which version is told (`a_library_of_another_version`).
+/// Sets the archive's version in another process (`a_library_of_another_version_is_refused`).
 const TELLS: &str = "GALLIUMTOAD_TELLS_VERSION";
 
-/// Notes a call, and answers what it is told.
+/// Notes a call, and returns the code that the test has set.
 fn note(name: &'static str, handed: Vec<usize>) -> i32 {
     CALLS.with(|it| it.borrow_mut().push((name, handed)));
     if name != "galliumtoad_version" {
@@ -36,7 +36,7 @@ fn note(name: &'static str, handed: Vec<usize>) -> i32 {
     told.unwrap_or(VERSION.with(Cell::get))
 }
 
-// what is pointed to is not looked at
+// nothing reads through pointers to these
 enum Held {}
 enum Object {}
 enum Character {}
@@ -60,12 +60,13 @@ mod stand_ins {
     include!("../src/functions.rs");
 }
 
-/// Anything that is not NULL.
+/// Any pointer except NULL.
 const ANY: usize = usize::MAX;
 
-/// The call makes these of the archive, in turn, each handed these, and none of them NULL.
+/// `run` makes exactly these calls of the archive, in order, with these arguments. No pointer is
+/// NULL.
 fn hands<T>(run: impl FnOnce() -> T, wanted: &[(&str, &[usize])]) -> T {
-    // the first call of a process asks for the version, see `versions_are_looked_at_once`
+    // the first call of a process reads the version, see `versions_are_looked_at_once`
     let _ = head(0x50, 0);
     CALLS.with(|it| it.borrow_mut().clear());
     let made = run();
@@ -86,7 +87,7 @@ fn hands<T>(run: impl FnOnce() -> T, wanted: &[(&str, &[usize])]) -> T {
     made
 }
 
-/// `hands!(CALL => NAME(ARGUMENT, ..), ..)`, with `_` for anything that is not NULL.
+/// `hands!(CALL => NAME(ARGUMENT, ..), ..)`, with `_` for any pointer except NULL.
 macro_rules! hands {
     (@ _) => { ANY };
     (@ $argument:expr) => { $argument };
@@ -95,7 +96,7 @@ macro_rules! hands {
     };
 }
 
-/// What the archive answers from now on.
+/// Sets the code that the archive returns from now on.
 fn tell(code: i32) {
     TOLD.with(|it| it.set(code));
 }
@@ -143,7 +144,7 @@ fn of_pps() {
     assert_eq!(agreed, Ok(false));
 }
 
-/// Major and minor number have to be the crate's, and the patch number may be any.
+/// A version fits if its major and minor numbers are those of the crate.
 #[test]
 fn of_versions() {
     for (number, parts, fits) in [
@@ -161,7 +162,7 @@ fn of_versions() {
     }
 }
 
-/// Each first call of a process, of one of another version.
+/// Each call, as the first of a process, refuses a library of another version.
 #[test]
 fn a_library_of_another_version_is_refused() {
     let first: [(&str, fn()); 8] = [
@@ -182,7 +183,7 @@ fn a_library_of_another_version_is_refused() {
     let own = std::env::current_exe().expect("this program");
     let numbers = [OWN, OWN + 1, OWN + 0x010000, 0x0F00];
     let fits = |number| number / 0x100 == OWN / 0x100;
-    // each number once, and each call with one that does not fit
+    // each call with one version that does not fit, and one call with each version
     let rows = first.iter().map(|(name, _)| (*name, 0x0F00));
     for (name, number) in rows.chain(numbers.map(|number| ("head", number))) {
         let done = Command::new(&own)
@@ -199,7 +200,7 @@ fn a_library_of_another_version_is_refused() {
     }
 }
 
-/// The version is asked for before the first call of a process, and not again.
+/// The version is read before the first call of a process, and not again.
 #[test]
 fn versions_are_looked_at_once() {
     let _ = head(0x50, 0);
@@ -330,7 +331,7 @@ fn of_a_card_at_t1() {
     hands!(drop(card) => card_free(_));
 }
 
-/// Limits are handed on as they are, and what the archive makes of them is told.
+/// Limits are passed on unchanged, and the archive's code is returned.
 #[test]
 fn of_limits() {
     let bytes = at(&BYTES);
@@ -348,7 +349,7 @@ fn of_limits() {
     tell(0);
 }
 
-/// Each end by buffers; a buffer without room is handed on as one.
+/// Each end by buffers. An empty buffer is passed on as an empty one.
 #[test]
 fn of_buffers() {
     let mut exchange = Exchange::start(&BYTES).expect("started");
@@ -367,7 +368,7 @@ fn of_buffers() {
     }
 }
 
-/// Why a buffer has no more, and how many of one were taken, of each end and each code.
+/// For each end and code: why sending stopped, and how many characters were taken.
 #[test]
 fn of_what_buffers_tell() {
     let mut exchange = Exchange::start(&BYTES).expect("started");
@@ -462,7 +463,7 @@ fn of_a_session() {
     hands!(drop(it) => session_free(_));
 }
 
-/// Below 0 is a fault, also one that the crate does not know; 0 and above is none.
+/// A code below 0 is an error, even one that the crate does not know. Other codes are not.
 #[test]
 fn of_codes() {
     let mut it = card();

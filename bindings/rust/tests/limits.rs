@@ -1,12 +1,12 @@
-//! Each room at its limit, exactly full and one less or more, tables of a card and of a session,
-//! and iterators to their end.
+//! Tests each buffer at its limit, one byte below and one above, the tables of a card and of a
+//! session, and iterators to their end.
 
 use galliumtoad::{head, CardBuilder, Entry, Error, Exchange, Objects, Session, Turn};
 use galliumtoad::{Operation, Terminal, ANSWER_LIMIT, APDU_LIMIT, TPDU_LIMIT};
 use galliumtoad::{AID_LEAST, AID_LIMIT, APPS_LIMIT, ENTRIES_LIMIT, LEVELS_LIMIT};
 use galliumtoad::{OBJECT_LIMIT, PLANS_LIMIT, RESPONSE_LIMIT, VALUE_LIMIT};
 
-/// Bytes that go round with a prime period.
+/// A pattern of bytes whose period is prime.
 fn bytes(n: usize, from: usize) -> Vec<u8> {
     (from..from + n).map(|i| (i % 251) as u8).collect()
 }
@@ -17,8 +17,8 @@ fn aid(app: usize, n: usize) -> Vec<u8> {
     aid
 }
 
-/// As many applications as there may be, of identifiers of 5 to 16 bytes; the last has as many
-/// objects as it may, every other one locked, and the first of them the longest value.
+/// A card with the most applications, whose identifiers have 5 to 16 bytes. The last has the most
+/// objects: every other one is locked, and the first has the longest value.
 fn full_card() -> CardBuilder {
     let mut builder = CardBuilder::new().expect("memory");
     for app in 0..APPS_LIMIT {
@@ -51,7 +51,7 @@ fn wanted_entries() -> Vec<(u32, Vec<u8>, bool)> {
         .collect()
 }
 
-/// The parts of each object; its value takes no more memory than it needs.
+/// Returns the parts of each object. A value takes no more memory than it needs.
 fn parts(entries: impl Iterator<Item = Entry>) -> Vec<(u32, Vec<u8>, bool)> {
     entries
         .map(|it| {
@@ -119,7 +119,7 @@ fn identifiers_have_5_to_16_bytes() {
     assert_eq!(session.select(&aid(0, 5)).expect("one").status, 0x6A82);
 }
 
-/// A value of the most bytes, and what is heard of it: 33 TPDUs to put it, and as many to get it.
+/// Puts and gets the longest value. The session hears 33 TPDUs for each.
 #[test]
 fn the_longest_value_goes_through_a_session() {
     let card = full_card().finish().expect("a card");
@@ -144,7 +144,7 @@ fn the_longest_value_goes_through_a_session() {
     assert_eq!(builder.object(0xDF01, &too_long), Err(Error::ValueTooLong));
 }
 
-/// 64 TPDUs of 256 bytes; one byte more is too much.
+/// Sends 64 TPDUs of 256 bytes, the longest answer: one byte more is too much.
 fn longest_answer(exchange: &mut Exchange) {
     for tpdu in 0..64 {
         while let Ok(Turn::Sends(_)) = exchange.next() {}
@@ -198,7 +198,7 @@ fn the_longest_command_is_sent() {
     assert_eq!(refused.err(), Some(Error::BadLength));
 }
 
-/// 255 bytes of data in a TPDU, and 64 TPDUs that bring 256 each.
+/// A TPDU with 255 bytes of data, and 64 TPDUs that return 256 bytes each.
 #[test]
 fn the_longest_tpdus_go_through_a_terminal() {
     let command = [&[0x00, 0xDA, 0xDF, 0x01, 0xFF], &bytes(255, 3)[..]].concat();
@@ -240,7 +240,7 @@ fn the_longest_tpdu_of_a_card_is_told() {
     assert_eq!(card.apdu(&put), Ok(vec![0x90, 0x00]));
 }
 
-/// Nine letters, and 300: each is a NULL before the card goes on.
+/// Plans of 9 and of 300 letters. Each letter is a NULL before the card continues.
 #[test]
 fn plans_of_many_letters_are_carried_out() {
     let card = full_card().finish().expect("a card");
@@ -267,8 +267,8 @@ fn plans_of_many_letters_are_carried_out() {
     assert_eq!(card.turn(), Ok(Turn::Listens));
 }
 
-/// As many plans wait as may, and one more changes nothing: a TPDU takes the first of them, and
-/// leaves a place.
+/// With the most plans waiting, one more is refused and changes nothing. A TPDU takes the first,
+/// and makes room for one.
 #[test]
 fn a_plan_too_many_is_refused() {
     let mut card = full_card().finish().expect("a card");

@@ -1,5 +1,5 @@
-//! What is taken is given back, and want of memory is told: over a heap that counts, in the place
-//! of the crate's own, which the feature `own-memory` leaves out.
+//! Tests that all memory is freed, and that running out of memory is an error. A heap that counts
+//! replaces that of the crate, which the feature `own-memory` leaves out.
 
 use galliumtoad::{CardBuilder, Error, Exchange, Operation, Session, Terminal, Turn, APPS_LIMIT};
 use std::alloc::{alloc, dealloc, Layout};
@@ -12,7 +12,7 @@ pub struct Taken {
     at: *mut u8,
 }
 
-/// Before each block stands its size.
+/// The size of a block is stored in this many bytes before it.
 const HEAD: usize = 16;
 
 static TAKEN: AtomicUsize = AtomicUsize::new(0);
@@ -30,7 +30,7 @@ pub extern "C" fn rattle_alloc(size: usize, _align: usize) -> Taken {
         return Taken { some: false, at };
     }
     TAKEN.fetch_add(size, SeqCst);
-    // SAFETY: the layout has a size; the block has room for its own before what is handed out.
+    // SAFETY: the layout is not empty, and has room for the size before the block.
     let at = unsafe {
         let whole = alloc(layout(size));
         assert!(!whole.is_null(), "memory");
@@ -42,7 +42,7 @@ pub extern "C" fn rattle_alloc(size: usize, _align: usize) -> Taken {
 
 /// # Safety
 ///
-/// The block is one of `rattle_alloc`, which is not used again.
+/// `block` comes from `rattle_alloc`, and is not used again.
 #[no_mangle]
 pub unsafe extern "C" fn rattle_dealloc(block: *mut u8) {
     let whole = block.sub(HEAD);
@@ -53,7 +53,7 @@ pub unsafe extern "C" fn rattle_dealloc(block: *mut u8) {
 
 /// # Safety
 ///
-/// The block is one of `rattle_alloc`, which is not used again where there is a new one.
+/// `block` comes from `rattle_alloc`, and is not used again if the call returns a new one.
 #[no_mangle]
 pub unsafe extern "C" fn rattle_realloc(
     block: *mut u8,
@@ -69,7 +69,7 @@ pub unsafe extern "C" fn rattle_realloc(
     taken
 }
 
-/// The heap, for one test at a time; nothing of it is taken.
+/// Reserves the heap for one test. No block is taken then.
 fn heap() -> MutexGuard<'static, ()> {
     static ONE: Mutex<()> = Mutex::new(());
     let guard = ONE.lock().unwrap_or_else(|poisoned| poisoned.into_inner());
@@ -78,7 +78,7 @@ fn heap() -> MutexGuard<'static, ()> {
     guard
 }
 
-/// The request of this number is refused, counted from now.
+/// Refuses the request with this number, counted from now.
 fn refuse(number: usize) {
     REQUESTS.store(0, SeqCst);
     REFUSED.store(number, SeqCst);
@@ -198,7 +198,7 @@ fn want_of_memory_leaves_a_builder_as_it_was() {
     assert_eq!(builder.object(0xDF01, b"A"), Err(Error::Memory));
     refuse(1);
     assert_eq!(builder.locked(0xDF01, b"A"), Err(Error::Memory));
-    // there is room for some applications before one asks for more
+    // some applications fit before one needs more memory
     let mut apps = 1;
     while apps < APPS_LIMIT {
         refuse(1);
@@ -222,7 +222,7 @@ fn want_of_memory_leaves_a_builder_as_it_was() {
     assert_eq!(taken(), 0);
 }
 
-/// Requests of an operation are refused in turn, until it is carried out.
+/// Refuses the requests of an operation in turn, until it succeeds. Returns the number of tries.
 fn retried<T>(mut operation: impl FnMut() -> Result<T, Error>) -> (usize, T) {
     for number in 1.. {
         refuse(number);
@@ -242,7 +242,7 @@ fn want_of_memory_is_told_by_a_session() {
     let (tries, answer) = retried(|| session.select(&AID));
     assert!(tries > 1);
     assert_eq!(answer.status, 0x9000);
-    // The next operations use the room of the first.
+    // the next operations use the room of the first again
     let (tries, answer) = retried(|| session.get(0x5F20));
     assert_eq!(tries, 1);
     assert_eq!(answer.data, b"\x5F\x20\x03JOE");
@@ -257,8 +257,8 @@ fn want_of_memory_is_told_by_a_session() {
     assert_eq!(taken(), 0);
 }
 
-/// Some request of a get is for what is heard, which outgrows its first room: then the get goes
-/// well, and nothing is told of it.
+/// One request of a get is for the record of characters, which outgrows its first block. If that
+/// request is refused, the get succeeds, and `heard` returns an error.
 #[test]
 fn characters_that_were_lost_are_told() {
     let _heap = heap();

@@ -1,4 +1,4 @@
-//! A library that a program loads (a `cdylib`) keeps its functions for memory to itself.
+//! Tests that a plugin (a `cdylib`) does not export its functions for memory.
 #![cfg(not(feature = "own-memory"))]
 
 use std::path::{Path, PathBuf};
@@ -24,7 +24,7 @@ pub extern \"C\" fn plugin_starts() -> bool {
 }
 ";
 
-/// A plugin over this crate, built with these words.
+/// Builds a plugin that uses this crate, with these words for cargo.
 fn built(words: &[&str]) -> PathBuf {
     let folder = Path::new(env!("CARGO_TARGET_TMPDIR")).join("plugin");
     std::fs::create_dir_all(folder.join("src")).expect("a folder");
@@ -48,7 +48,7 @@ fn built(words: &[&str]) -> PathBuf {
     target.join(release).join("libplugin.so")
 }
 
-/// The names that a library exports, or asks others for.
+/// The names that a library exports or imports.
 fn dynamic_names(library: &Path) -> Vec<String> {
     let done = Command::new("nm").arg("-D").arg(library).output();
     let done = done.expect("nm runs");

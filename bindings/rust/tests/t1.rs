@@ -1,10 +1,10 @@
-//! A terminal's end at T=1, by the blocks of ISO/IEC 7816-3, clause 11.
+//! Tests the terminal's end at T=1, against blocks by ISO/IEC 7816-3, clause 11.
 
 use galliumtoad::{Cause, Edc, Error, Outcome, Received, T1Limits, BLOCK_LIMIT, T1};
 
 const GET: &[u8] = b"\x00\xCA\x5F\x20\x00";
 
-/// An end that survives one reception without a step forward, and takes 9 bytes.
+/// An end that allows one reception without progress, and a response of 9 bytes.
 fn end(ifsc: u8) -> T1 {
     let limits = T1Limits {
         tries: 1,
@@ -22,7 +22,7 @@ fn block(pcb: u8, info: &[u8]) -> Vec<u8> {
     bytes
 }
 
-/// The end sends this block, for whose answer the card has so many times BWT.
+/// The end's next block is this one. The card has `waits` times BWT to answer.
 fn sends(end: &T1, wanted: &[u8], waits: u8) {
     let mut room = [0xEE; BLOCK_LIMIT];
     let sent = end.block_into(&mut room).expect("memory").expect("a block");
@@ -31,7 +31,7 @@ fn sends(end: &T1, wanted: &[u8], waits: u8) {
     assert_eq!(sent.waits, waits);
 }
 
-/// It takes a block of the card, and not the byte behind it.
+/// The end takes this block from the card, and no byte after it.
 fn takes(end: &mut T1, mut bytes: Vec<u8>) {
     let count = bytes.len();
     bytes.push(0xEE);

@@ -1,4 +1,4 @@
-//! A terminal with a card behind a transport of whole TPDUs, or of commands.
+//! Tests a terminal with a card, over transports of whole TPDUs and of commands.
 
 use galliumtoad::{Card, CardBuilder, Error, Operation, RunError, Status, Terminal, Transport};
 use galliumtoad::{Level, Turn, ANSWER_LIMIT, APDU_LIMIT};
@@ -17,7 +17,7 @@ fn card() -> Card {
     builder.finish().expect("a card")
 }
 
-/// A card as a reader has it, which notes each TPDU or command with its answer.
+/// A reader with a card. It notes each TPDU or command with its answer.
 struct Reader {
     card: Card,
     level: Level,
@@ -78,7 +78,7 @@ fn operations_run_over_a_transport() {
     assert_eq!(reader.seen.len(), 7);
 }
 
-/// The same operations by commands: the same answers, each command with its Le.
+/// The same operations by commands have the same answers. Each command has its Le.
 #[test]
 fn operations_run_by_commands() {
     let mut reader = reader_at(Level::Apdu);
@@ -95,7 +95,7 @@ fn operations_run_by_commands() {
     let command = [0x00, 0xCA, 0x5F, 0x20, 0x02];
     let part = b"\x5F\x20".to_vec();
     assert_eq!(run(Operation::Send(&command)), (0x6104, part));
-    // 595 bytes and their head are 600; then 8,192 bytes in 33 pieces
+    // 595 bytes and their head are 600 bytes; then 8,192 bytes in 33 pieces
     assert_eq!(run(Operation::Put(0x5F20, &[0x41; 595])), (0x9000, vec![]));
     let (status, data) = run(Operation::Get(0x5F20));
     assert_eq!((status, data.len()), (0x9000, 600));
@@ -114,7 +114,7 @@ fn operations_run_by_commands() {
     assert_eq!(sent.len(), 10 + 33);
 }
 
-/// A response of 257 bytes fits no command, also where the reader has room for it.
+/// A response of 257 bytes fits no command, even if the reader has room for it.
 #[test]
 fn a_reader_that_brings_too_much_is_a_fault_at_each_level() {
     struct Brings(Level, usize);
@@ -205,7 +205,7 @@ fn a_closure_is_a_transport() {
     assert_eq!(asked, [b"\x00\xA4\x04\x00\x07\xA0\x00\x00\x00\x03\x10\x10"]);
 }
 
-/// What a terminal says of a reader that answers so, once.
+/// The result of a run with a reader that gives this answer once.
 fn fault_of(bytes: &[u8], says: usize) -> (Result<u16, RunError<Infallible>>, usize, bool) {
     let mut times = 0;
     let mut reader = |_: &[u8], answer: &mut [u8]| {
@@ -314,8 +314,7 @@ fn what_is_no_operation_is_not_begun() {
     assert_eq!(times, 0);
 }
 
-/// A reader by a reference to the trait, one in a box, and closures likewise; each has an error of
-/// its own.
+/// Readers and closures, by reference to the trait and in a box. Each has its own error type.
 #[test]
 fn transports_may_be_of_any_kind() {
     let mut terminal = Terminal::new().expect("memory");
@@ -368,7 +367,7 @@ fn reader_of(bytes: &'static [u8]) -> impl FnMut(&[u8], &mut [u8]) -> Result<usi
     }
 }
 
-/// A reader hands back a whole answer, and then claims as much and writes less, or nothing.
+/// A reader writes a whole answer. Later it claims the same length, and writes less, or nothing.
 #[test]
 fn a_transport_that_writes_less_than_it_claims_delivers_zeros() {
     let mut terminal = Terminal::new().expect("memory");
@@ -399,7 +398,7 @@ fn a_transport_that_writes_less_than_it_claims_delivers_zeros() {
             None => assert_eq!(found, Err(RunError::Terminal(Error::NoStatus))),
         }
     }
-    // the second TPDU of one operation, and each has no byte of the first
+    // the second TPDU of an operation: its answer has no byte of the first
     let mut times = 0;
     let mut reader = |_: &[u8], answer: &mut [u8]| {
         times += 1;
@@ -412,7 +411,7 @@ fn a_transport_that_writes_less_than_it_claims_delivers_zeros() {
     assert_eq!(times, 2);
 }
 
-/// An answer takes the bytes that it has, and a caller's buffer has to have room for them.
+/// An answer takes no more memory than it needs, and a caller's buffer must have room for it.
 #[test]
 fn answers_take_what_they_need() {
     let mut reader = reader();
@@ -444,7 +443,7 @@ fn answers_take_what_they_need() {
     assert_eq!(card.expect("an answer").capacity(), 8);
 }
 
-/// What the terminal sends until its operation is over, with a card at the line.
+/// Passes characters between terminal and card until the operation ends. Returns the terminal's.
 fn passed(terminal: &mut Terminal, card: &mut Card) -> Vec<u8> {
     let mut sent = Vec::new();
     loop {
@@ -503,7 +502,7 @@ fn a_terminal_at_rest_has_no_turn() {
     }
 }
 
-/// What a terminal makes of a card's answer to GET DATA: these data, and `9000`.
+/// The terminal's answer if the card answers GET DATA with these data and `9000`.
 fn answered_by(data: &[u8]) -> galliumtoad::Answer {
     let mut terminal = Terminal::new().expect("memory");
     terminal

@@ -1,4 +1,4 @@
-//! Values go from one thread to another, and several threads use values of their own at once.
+//! Tests values that move between threads, and several threads with their own values.
 
 use galliumtoad::{Card, CardBuilder, Exchange, Operation, Session, Terminal, Turn};
 use std::thread;
@@ -12,7 +12,7 @@ fn card() -> Card {
     builder.finish().expect("a card")
 }
 
-/// What a thread of its own makes of a value.
+/// Runs a function on a value in another thread.
 fn elsewhere<T: Send, U: Send>(value: T, run: impl FnOnce(T) -> U + Send) -> U {
     thread::scope(|scope| scope.spawn(|| run(value)).join().expect("a thread"))
 }
@@ -22,7 +22,7 @@ fn each_character_is_passed_by_another_thread() {
     let mut select = vec![0x00, 0xA4, 0x04, 0x00, 0x07];
     select.extend(AID);
     let mut ends = elsewhere((), |()| (card(), Exchange::start(&select).expect("memory")));
-    // those of the terminal, the procedure byte and the status
+    // the terminal's characters, the procedure byte and the status
     for _ in 0..15 {
         ends = elsewhere(ends, |(mut card, mut exchange)| {
             match exchange.next().expect("a turn") {

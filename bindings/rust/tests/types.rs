@@ -1,5 +1,5 @@
-//! The types by themselves: statuses, what `Debug` shows, where a fault says its cause, and which
-//! types threads share.
+//! Tests the types alone: texts of statuses, the output of `Debug`, causes of errors, and the types
+//! that threads may share.
 
 use galliumtoad::{find, Atr, CardBuilder, Error, Exchange, Objects, Operation, Pps, Session};
 use galliumtoad::{
@@ -12,7 +12,7 @@ use std::hash::Hash;
 
 const AID: [u8; 7] = [0xA0, 0x00, 0x00, 0x00, 0x03, 0x10, 0x10];
 
-/// No byte of it is part of a number that is shown otherwise.
+/// No byte of it is part of another number that is shown.
 const SECRET: [u8; 3] = [0xB7, 0xC8, 0xD9];
 
 fn session() -> Session {
@@ -44,7 +44,7 @@ fn only_9000_is_ok() {
     assert_eq!(ok, [0x9000]);
 }
 
-/// Each status that a card here answers, as `Answer` lists them, and others.
+/// The statuses of this library's card, as `Answer` lists them, and others.
 #[test]
 fn statuses_have_texts() {
     for (word, text) in [
@@ -80,7 +80,7 @@ fn shown(value: &impl fmt::Debug) -> String {
     format!("{value:?} {value:#?}")
 }
 
-/// Neither a byte of the secret is shown, in hexadecimal or in decimal, nor nothing at all.
+/// `Debug` shows something, but no byte of the secret, in hexadecimal or decimal.
 fn hides(value: &impl fmt::Debug, wanted: &str) {
     let shown = shown(value);
     assert!(shown.starts_with(wanted), "{shown}");
@@ -138,7 +138,7 @@ fn an_answer_is_one_object_or_not() {
     assert_eq!(empty.object(0x50).expect("the object").value, b"");
     let missing = session.get(0x51).expect("an answer");
     assert_eq!(missing.object(0x51), None);
-    // what any card may answer: the object with something around it, and the value alone
+    // possible answers of a card: the object, with other bytes around it, and the value alone
     for (data, is_one) in [
         (&b"\x50\x01A"[..], true),
         (b"\x00\x50\x01A", false),
@@ -162,7 +162,7 @@ fn an_answer_is_one_object_or_not() {
     }
 }
 
-/// A fault with a cause.
+/// An error with a cause.
 #[derive(Debug)]
 struct Gone(fmt::Error);
 
@@ -178,7 +178,7 @@ impl Cause for Gone {
     }
 }
 
-/// What a program prints that shows a fault and then each cause of it: nothing twice.
+/// A program that prints an error and each of its causes prints nothing twice.
 #[test]
 fn a_cause_is_told_once() {
     let chain = |fault: &dyn Cause| {
@@ -226,7 +226,7 @@ fn values_are_sorted_into_sets() {
     assert_eq!(counted([atr(b"\x3B\x00"), atr(b"\x3F\x00")]), 2);
 }
 
-/// What this crate's page says of threads.
+/// The crate's page lists which types may go to another thread, or be shared.
 #[test]
 fn handles_may_go_to_another_thread_and_other_values_be_shared() {
     fn goes<T: Send>() {}

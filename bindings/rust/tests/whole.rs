@@ -1,4 +1,4 @@
-//! Whole TPDUs and commands, at an exchange and at a card, by the rules of line and card.
+//! Tests exchanges and cards by whole TPDUs and commands, by the rules of the line and the card.
 
 use galliumtoad::{Card, CardBuilder, Error, Exchange, Turn, APDU_LIMIT, TPDU_LIMIT};
 
@@ -94,7 +94,7 @@ fn a_card_s_answer_needs_the_room_that_it_may_take() {
     assert_eq!(room[10..], *b"\x5F\x20\x03JOE\x90\x00\xEE\xEE");
 }
 
-/// The command that is due, and how many bytes may come back to it.
+/// The next command, and the most bytes of data in its response.
 fn due(exchange: &Exchange) -> Option<(Vec<u8>, usize)> {
     let mut room = [0; APDU_LIMIT];
     let due = exchange.apdu_into(&mut room).expect("at this level")?;
@@ -154,7 +154,8 @@ fn the_first_answer_sets_the_level() {
     assert!(exchange.tpdu().is_some());
 }
 
-/// What is no short command, or not agreed with the card, changes nothing at it.
+/// A card refuses bytes that are not a short command, and commands that are not agreed. It stays as
+/// it is.
 #[test]
 fn a_card_refuses_what_is_no_command() {
     let mut card = card();

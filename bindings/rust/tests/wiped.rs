@@ -1,7 +1,6 @@
-//! No copy of a value is left behind by a call, but what the call hands out. What the library has
-//! held is given back, all of it, and is wiped before that. An allocator in the program's place
-//! counts bytes, and looks for a secret in each block that comes back to it; and each call is made
-//! on a stack of its own, which is looked at behind it.
+//! Tests that a call leaves no copy of a value except what it returns. The library wipes and frees
+//! all memory that it held. An allocator counts bytes, and looks for a secret in each freed block.
+//! Each call runs on its own stack, in which the test then looks for the secret.
 #![cfg(not(feature = "own-memory"))]
 
 use galliumtoad::{find, head, Card, CardBuilder, Exchange, Objects, ObjectsError, Operation};
@@ -16,8 +15,7 @@ use std::sync::{Mutex, MutexGuard};
 
 static SECRET: [u8; 16] = *b"\xC3\x5A\x96\x0F\xE1\x3C\xA5\x78\x1E\xB4\x2D\xD2\x4B\x87\x69\xF0";
 
-/// Whether half of the secret is in these bytes, one after another, or with another byte between
-/// any two.
+/// Whether half of the secret is in these bytes, in a row or at every other place.
 fn has_secret(bytes: &[u8]) -> bool {
     let steps = |step: usize| {
         let ends = bytes.windows(7 * step + 1);
@@ -30,13 +28,13 @@ fn has_secret(bytes: &[u8]) -> bool {
     steps(1) || steps(2)
 }
 
-/// How many blocks have come back with the secret in them.
+/// The number of freed blocks that had the secret.
 static FOUND: AtomicUsize = AtomicUsize::new(0);
 
 thread_local! {
-    /// How many bytes this thread has taken, without those that it has given back.
+    /// The bytes that this thread has taken and not freed.
     static TAKEN: Cell<isize> = const { Cell::new(0) };
-    /// Blocks of so many bytes or more are refused.
+    /// Blocks of this size or more are refused.
     static MOST: Cell<usize> = const { Cell::new(usize::MAX) };
 }
 
@@ -81,15 +79,15 @@ extern "C" {
     fn pthread_join(thread: usize, result: *mut c_void) -> i32;
 }
 
-/// Reads all of them, so that a compiler leaves nothing out that was written there.
+/// Reads all bytes, so that a compiler leaves out no write to them.
 fn seen(bytes: &[u8]) {
     for byte in bytes {
-        // SAFETY: a byte that is borrowed.
+        // SAFETY: `byte` is borrowed.
         unsafe { std::ptr::read_volatile(byte) };
     }
 }
 
-/// Runs this so far below that nothing of its stack is written over before that is looked at.
+/// Runs `run` so deep in the stack that nothing overwrites its part before the test reads it.
 #[inline(never)]
 fn far_below<T>(run: impl FnOnce() -> T) -> (T, u8) {
     let above = [0_u8; 1 << 14];
@@ -97,7 +95,7 @@ fn far_below<T>(run: impl FnOnce() -> T) -> (T, u8) {
 }
 
 extern "C" fn start(run: *mut c_void) -> *mut c_void {
-    // SAFETY: it is what `left` hands over, and waits for.
+    // SAFETY: `left` passes this pointer, and waits for the thread.
     let run = unsafe { &mut *run.cast::<&mut dyn FnMut()>() };
     let taken = TAKEN.with(Cell::get);
     far_below(run);
@@ -105,14 +103,14 @@ extern "C" fn start(run: *mut c_void) -> *mut c_void {
     null_mut()
 }
 
-/// How many blocks with the secret come back while this runs, and whether the secret is on its
-/// stack then. What it takes it gives back.
+/// Runs `run` on its own stack. Returns how many blocks were freed with the secret, and whether the
+/// secret is on the stack after it. `run` has to free what it takes.
 fn left(mut run: impl FnMut()) -> (usize, bool) {
     let layout = Layout::from_size_align(1 << 20, 1 << 12).expect("a stack");
     let before = FOUND.load(SeqCst);
     let mut run: &mut dyn FnMut() = &mut run;
-    // SAFETY: the stack has this size, and is given back when its thread has ended; attributes of
-    // a thread have 64 bytes at most.
+    // SAFETY: the stack has this size, and is freed after its thread has ended; attributes of a
+    // thread have at most 64 bytes.
     unsafe {
         let (mut attr, mut thread) = ([0_u64; 16], 0);
         let attr = attr.as_mut_ptr().cast::<c_void>();
@@ -130,7 +128,8 @@ fn left(mut run: impl FnMut()) -> (usize, bool) {
 
 const NOTHING: (usize, bool) = (0, false);
 
-/// What a call has handed out, with the secret or without it; the test wipes it, as it is its own.
+/// Checks whether bytes that a call returned have the secret, and wipes them, since the test owns
+/// them.
 fn own(bytes: Vec<u8>, wanted: bool) {
     assert_eq!(has_secret(&bytes), wanted);
     let mut bytes = bytes;
@@ -283,7 +282,7 @@ fn an_exchange_leaves_nothing() {
     );
 }
 
-/// The copy of a value is given back for a longer one, and that with the terminal, also where the
+/// A terminal frees its copy of a value for a longer one, and the last copy at its end, even if the
 /// last value was shorter than the secret before it.
 #[test]
 fn what_a_terminal_keeps_is_wiped() {
@@ -307,7 +306,7 @@ fn what_a_terminal_keeps_is_wiped() {
     );
 }
 
-/// Ten values are put, and read, over a transport; and one fails, and one panics.
+/// Puts and gets ten values over a transport, over one that fails, and over one that panics.
 #[test]
 fn a_transport_leaves_nothing() {
     let _one = one();
@@ -351,13 +350,13 @@ fn a_transport_leaves_nothing() {
         let run = AssertUnwindSafe(|| terminal.run(&mut reader, put).is_ok());
         assert!(catch_unwind(run).is_err());
     };
-    // functions that are linked at their first call save registers then, with what was copied last
+    // a function that is linked at its first call saves registers then, with the last copied bytes
     panics(&[0; 16]);
     assert_eq!(left(|| panics(&SECRET)), NOTHING);
 }
 
-/// The value of an object is replaced while the card is in use, and each block that grows on the
-/// way is given back.
+/// The value of an object is replaced during a session, and each block that grows on the way is
+/// freed.
 #[test]
 fn a_session_leaves_nothing() {
     let _one = one();
@@ -410,7 +409,7 @@ fn objects_leave_nothing() {
     );
 }
 
-/// A list is refused where there is no memory for it, and the program goes on.
+/// A list without memory for it is an error, and the program continues.
 #[test]
 fn a_list_without_memory_is_refused() {
     let _one = one();

@@ -1,128 +1,101 @@
 -- Commands one after another, each begun once the one before it has its answer.
-use Rattle.std.proofs.Common.{◌≡◌, refl, sym, ap, subst, ◌∙◌, ℕ, zero, suc, ◌+◌, ◌-◌, ◌*◌, ◌<◌, ◌≤◌, Bool, true, false, List, [], ◌∷◌, ◌++◌, length, Option, Some, None, append_assoc, append-nil, length-append, arith, inl, inr}
-use Rattle.std.proofs.Math.Nat.{mul-le-mul_right}
+use Rattle.std.proofs.Common.{◌≡◌, refl, sym, ap, subst, ◌∙◌, ℕ, zero, suc, ◌+◌, ◌-◌, ◌*◌, ◌<◌, ◌≤◌, Bool, true, false, List, [], ◌∷◌, ◌++◌, length, map, take, drop, get_or, Option, Some, None, append_assoc, append-nil, length-append, arith, ◌⊎◌, inl, inr}
+use Rattle.std.proofs.lemmas.Bool.{cases_lt}
+use Rattle.std.proofs.lemmas.List.{length-map, map-append, take-append-drop, take_more}
+use Rattle.std.proofs.Math.ListN.{drop_of_length-le}
+use Rattle.std.proofs.Math.Nat.{div-le_self, mul-le-mul_right}
 use Rattle.t1_core.specs.declared.applet.Applet.{Ghosts}
 use Rattle.t1_core.specs.declared.line.Fates.{Fates}
 use Rattle.t1_core.specs.declared.settings.Settings.{Settings}
+use Rattle.t1_core.specs.declared.terminal.Cause.{Cause}
+use Rattle.t1_core.specs.declared.terminal.Fault.{Fault}
 use Rattle.t1_core.specs.declared.terminal.Phase.{Phase}
-use Rattle.t1_core.specs.declared.terminal.Phase.TheVariants.{Opening, Sending, Receiving, Aborting, Over, GivenUp}
+use Rattle.t1_core.specs.declared.terminal.Phase.TheVariants.{Over, GivenUp}
 use Rattle.t1_core.specs.Block.{Block}
 use Rattle.t1_core.specs.CardSide.{Card, Did, Meaning, card_after, card_meets}
-use Rattle.t1_core.specs.Carried.{EndsOf, HasCarried, Past, adds, answers_in, both_of, more, nothing_yet, with_command}
-use Rattle.t1_core.specs.Conversing.{Conversed, world_after}
-use Rattle.t1_core.specs.Doing.{Agrees, after, commands_of, meaning_of, most_bytes, ran_with}
+use Rattle.t1_core.specs.Carried.{EndsOf, HasCarried, Past, adds, answers_in, at_rest, more, nothing_yet, with_command, world_of as rest_of}
+use Rattle.t1_core.specs.Conversing.{Conversed}
+use Rattle.t1_core.specs.Doing.{Agrees, after, commands_of, meaning_of, most_bytes, ran_with, responses_of}
 use Rattle.t1_core.specs.Passing.{Passes, PassesWith}
-use Rattle.t1_core.specs.TerminalSide.{Terminal, longest, begins, first_phase, fresh, is_ready, has_stopped, fault_of, sends, takes}
-use Rattle.t1_core.specs.World.{World, all_blocks, arrives, exchange, exchanged, most_exchanges, next_command, run, settle, size_after, start}
-use Rattle.t1_core.proofs.Holding.{Holds, all_stand, first_stands, step_holds}
-use Rattle.t1_core.proofs.Measure.{active_or, ahead, behind, measure, more_blocks, response, some_left, step_less, weight}
+use Rattle.t1_core.specs.TerminalSide.{Terminal, longest, begins, first_phase, fresh, is_ready, has_stopped, fault_in, fault_of, outcome_of, sends, takes}
+use Rattle.t1_core.specs.World.{World, IsAtMostOnce, IsFrontOf, IsTrue, all_blocks, arrives, blocks, exchange, exchanged, most_exchanges, next_command, responses, run, settle, size_after, start}
+use Rattle.t1_core.proofs.Calm.{never_given_up}
+use Rattle.t1_core.proofs.Holding.{Holds, all_stand, at_most_once, first_stands, step_holds}
+use Rattle.t1_core.proofs.Logs.{before_it, commands_with, does_with, entry_short, log_with, own_meaning, responses_are, short_with}
+use Rattle.t1_core.proofs.Measure.{active_or, ahead, behind, measure, more_blocks, response, some_left, step_less, stops, weight}
 use Rattle.t1_core.proofs.Places.{Kept, Place, Opens, Behind, Taken, Waits, Grows, Answering, Between, Repeating, Given_up, Finished, IsActive, is_step, step, world_of}
-use Rattle.t1_core.proofs.SessionSteps.{before_it, conversed, entry_short, few_blocks, is_over, led_next, own_meaning, run_more}
 
--- ---- a command more
+-- ---- phases
 
-not_over : (opened : Bool) (cs : List (List ℕ)) (w : World) → w.terminal.phase ≡ first_phase opened
-    → more cs w ≡ record w { todo = w.todo ++ cs }
-not_over true cs w e = ap (λ p. adds p cs w) e
-not_over false cs w e = ap (λ p. adds p cs w) e
+pub is_over : (p : Phase) → is_ready p ≡ true → p ≡ Over
+is_over Over e = refl
+is_over _ e = absurd (cc)
 
--- after the answer
-pub next_more : (todo cs others : List (List ℕ)) (w : World) → w.terminal.phase ≡ Over
-    → next_command (todo ++ cs) (record w { todo = others }) ≡ more cs (next_command todo w)
-next_more [] [] others w over = sym (ap (λ p. adds p [] (record w { todo = [] })) over)
-next_more [] (c ∷ cs) others w over =
-    sym (ap (λ p. adds p (c ∷ cs) (record w { todo = [] })) over)
-next_more (t ∷ todo) cs others w over =
-    sym (not_over w.terminal.opened cs
-    (record w { terminal = begins t w.terminal; todo = todo }) refl)
+not_ready : (p : Phase) → has_stopped p ≡ false → is_ready p ≡ false
+not_ready Over e = absurd (cc)
+not_ready (GivenUp cause) e = refl
+not_ready _ e = refl
 
-settle_more : (p : Phase) (cs : List (List ℕ)) (w : World) → w.terminal.phase ≡ p
-    → settle p (record w { todo = w.todo ++ cs }) ≡ more cs (settle p w)
-settle_more Over cs w e =
-    next_more w.todo cs (w.todo ++ cs) (record w { answers = w.answers ++ w.terminal.got ∷ [] }) e
-settle_more Opening cs w e = sym (ap (λ p. adds p cs w) e)
-settle_more Sending cs w e = sym (ap (λ p. adds p cs w) e)
-settle_more Receiving cs w e = sym (ap (λ p. adds p cs w) e)
-settle_more Aborting cs w e = sym (ap (λ p. adds p cs w) e)
-settle_more (GivenUp cause) cs w e = sym (ap (λ p. adds p cs w) e)
-
-going_more : (p : Phase) (cs : List (List ℕ)) (w : World) → has_stopped p ≡ false
-    → adds p cs w ≡ record w { todo = w.todo ++ cs }
-going_more Opening cs w e = refl
-going_more Sending cs w e = refl
-going_more Receiving cs w e = refl
-going_more Aborting cs w e = refl
-going_more Over cs w e = absurd (cc)
-going_more (GivenUp cause) cs w e = absurd (cc)
-
-exchanged_more : (m : Meaning) (x : Fates) (cs : List (List ℕ)) (w : World) (o : Option Block)
-    → has_stopped w.terminal.phase ≡ false
-    → exchanged m x (record w { todo = w.todo ++ cs }) o ≡ more cs (exchanged m x w o)
-exchanged_more m x cs w None moving = sym (going_more w.terminal.phase cs w moving)
-exchanged_more m x cs w (Some b) moving =
-    let t = card_meets m x.down b w.card in
-    let now : Terminal = takes w.terminal (arrives x.up t.block) in
-    settle_more now.phase cs (record w { terminal = now; card = t.card }) refl
-
--- an exchange with more commands behind
-pub exchange_more : (m : Meaning) (x : Fates) (cs : List (List ℕ)) (w : World)
-    → has_stopped w.terminal.phase ≡ false → exchange m x (more cs w) ≡ more cs (exchange m x w)
-exchange_more m x cs w moving =
-    ap (exchange m x) (going_more w.terminal.phase cs w moving)
-    ∙ exchanged_more m x cs w (sends w.terminal) moving
-
--- ---- an exchange, as both ends see it
-
-unsettled : (p : Phase) (t : Terminal) (c : Card) (answers : List (List ℕ))
-    → settle p (record { terminal = t; card = c; todo = []; answers = answers })
-    ≡ record { terminal = t; card = c; todo = []; answers = answers_in p t.got answers }
-unsettled Over t c answers = refl
-unsettled Opening t c answers = refl
-unsettled Sending t c answers = refl
-unsettled Receiving t c answers = refl
-unsettled Aborting t c answers = refl
-unsettled (GivenUp cause) t c answers = refl
-
-none_yet : (p : Phase) (got : List ℕ) (answers : List (List ℕ)) → has_stopped p ≡ false
+pub none_yet : (p : Phase) (got : List ℕ) (answers : List (List ℕ)) → is_ready p ≡ false
     → answers_in p got answers ≡ answers
-none_yet Opening got answers e = refl
-none_yet Sending got answers e = refl
-none_yet Receiving got answers e = refl
-none_yet Aborting got answers e = refl
 none_yet Over got answers e = absurd (cc)
-none_yet (GivenUp cause) got answers e = absurd (cc)
+none_yet _ got answers e = refl
+
+-- ---- an exchange, with more commands behind
+
+abbrev world_with : Terminal → Card → (todo answers : List (List ℕ)) → World
+world_with t c todo answers = record { terminal = t; card = c; todo = todo; answers = answers }
+
+behind_it : (p : Phase) (t : Terminal) (c : Card) (cs answers : List (List ℕ)) → is_ready p ≡ false
+    → adds p cs (at_rest t c answers) ≡ world_with t c cs answers
+behind_it Over t c cs answers e = absurd (cc)
+behind_it _ t c cs answers e = refl
+
+none_behind : (p : Phase) (t : Terminal) (c : Card) (answers : List (List ℕ))
+    → adds p [] (at_rest t c answers) ≡ at_rest t c answers
+none_behind Over t c answers = refl
+none_behind _ t c answers = refl
+
+settles : (p : Phase) (t : Terminal) (c : Card) (cs answers : List (List ℕ))
+    → settle p (world_with t c cs answers) ≡ adds p cs (at_rest t c (answers_in p t.got answers))
+settles Over t c [] answers = refl
+settles Over t c (x ∷ cs) answers = refl
+settles _ t c cs answers = refl
 
 module _ (m : Meaning) (x : Fates) (t new : Terminal) (c later : Card)
-    (answers : List (List ℕ)) where
-  abbrev was : World
-  was = record { terminal = t; card = c; todo = []; answers = answers }
-
+    (cs answers : List (List ℕ)) where
   abbrev is_now : Terminal → Card → World
-  is_now u d = record {
-    terminal = u;
-    card = d;
-    todo = [];
-    answers = answers_in u.phase u.got answers;
-  }
+  is_now u d = adds u.phase cs (at_rest u d (answers_in u.phase u.got answers))
 
   pub passed_on : has_stopped t.phase ≡ false → PassesWith m x (sends t) t new c later
-      → is_now new later ≡ exchange m x was
-  passed_on moving p = by (sends t) refl p
+      → exchange m x (adds t.phase cs (at_rest t c answers)) ≡ is_now new later
+  passed_on moving p =
+      ap (exchange m x) (behind_it t.phase t c cs answers (not_ready t.phase moving))
+      ∙ by (sends t) p
     where
-      by : (o : Option Block) → sends t ≡ o → PassesWith m x o t new c later
-          → is_now new later ≡ exchanged m x was o
-      by None e (same, kept) =
-          ap (λ (u : Terminal). is_now u later) same ∙ ap (λ (d : Card). is_now t d) kept
-          ∙ ap (λ (told : List (List ℕ)).
-          record { terminal = t; card = c; todo = []; answers = told })
-          (none_yet t.phase t.got answers moving)
-      by (Some b) e (is, kept) =
+      by : (o : Option Block) → PassesWith m x o t new c later
+          → exchanged m x (world_with t c cs answers) o ≡ is_now new later
+      by None (same, kept) =
+          let e = not_ready t.phase moving in
+          sym (ap (λ (u : Terminal). is_now u later) same ∙ ap (λ (d : Card). is_now t d) kept
+          ∙ ap (λ told. adds t.phase cs (at_rest t c told)) (none_yet t.phase t.got answers e)
+          ∙ behind_it t.phase t c cs answers e)
+      by (Some b) (is, kept) =
           let r = card_meets m x.down b c in
           let u : Terminal = takes t (arrives x.up r.block) in
-          ap (λ (v : Terminal). is_now v later) is ∙ ap (λ (d : Card). is_now u d) kept
-          ∙ sym (unsettled u.phase u r.card answers)
+          settles u.phase u r.card cs answers
+          ∙ sym (ap (λ (v : Terminal). is_now v later) is ∙ ap (λ (d : Card). is_now u d) kept)
+
+pub run_more : (m : Meaning) (fates : List Fates) (x : Fates) (w : World)
+    → run m (fates ++ x ∷ []) w ≡ exchange m x (run m fates w)
+run_more m [] x w = refl
+run_more m (y ∷ ys) x w = run_more m ys x (exchange m y w)
 
 -- ---- how many exchanges may come
+
+few_blocks : (size n : ℕ) → blocks size n ≤ n + 1
+few_blocks size zero = omega arith
+few_blocks size (suc n) = let le = div-le_self n size in omega (arith, le)
 
 abbrev pub most_at : Terminal → Card → ℕ
 most_at t c = (length t.rest + length c.rest + most_bytes + 4) * (t.settings.tries + 1) + t.tries
@@ -228,26 +201,26 @@ module _ (m : Meaning) (before commands : List (List ℕ))
   measured (Given_up w cause) none = omega arith
   measured (Finished w) none = omega arith
 
--- ---- what led here leads on
-
-all_more : (m : Meaning) (size : ℕ) (ran commands : List (List ℕ)) (c : List ℕ)
-    → all_blocks m size ran commands ≤ all_blocks m size ran (commands ++ c ∷ [])
-all_more m size ran [] c = omega arith
-all_more m size ran (d ∷ commands) c =
+all_more : (m : Meaning) (size : ℕ) (ran commands cs : List (List ℕ))
+    → all_blocks m size ran commands ≤ all_blocks m size ran (commands ++ cs)
+all_more m size ran [] cs = omega arith
+all_more m size ran (d ∷ commands) cs =
     let now = ran ++ d ∷ [] in
-    let le = all_more m (size_after (m.asks now).size size) now commands c in
+    let le = all_more m (size_after (m.asks now).size size) now commands cs in
     omega (arith, le)
 
-pub most_more : (settings : Settings) (m : Meaning) (commands : List (List ℕ)) (c : List ℕ)
-    → most_exchanges settings m [] commands ≤ most_exchanges settings m [] (commands ++ c ∷ [])
-most_more settings m commands c =
-    let le = mul-le-mul_right (settings.tries + 1) (all_more m settings.ifsc [] commands c) in
-    let e = length-append commands (c ∷ []) in
+pub most_more : (settings : Settings) (m : Meaning) (commands cs : List (List ℕ))
+    → most_exchanges settings m [] commands ≤ most_exchanges settings m [] (commands ++ cs)
+most_more settings m commands cs =
+    let le = mul-le-mul_right (settings.tries + 1) (all_more m settings.ifsc [] commands cs) in
+    let e = length-append commands cs in
     let n = mul-le-mul_right settings.extensions
-    (let n : length commands ≤ length (commands ++ c ∷ []) = omega (arith, e) in n) in
+    (let n : length commands ≤ length (commands ++ cs) = omega (arith, e) in n) in
     omega (arith, le, n)
 
 module _ {C : Type 0} (a : Ghosts C) where
+  -- ---- what led here leads on
+
   pub carried_at_first : (settings : Settings) (card : C) (passed : List Fates) (e : EndsOf C)
       → e ≡ record {
         terminal = fresh settings;
@@ -258,17 +231,23 @@ module _ {C : Type 0} (a : Ghosts C) where
       let P : EndsOf C → Type 0 =
       λ x. HasCarried a (nothing_yet settings (a.standing card) passed) passed x in
       subst P (sym is) (record {
-        led = record {
-          did = [];
-          does = refl;
-          short = tt;
-          fates = [];
-          passed = sym (append-nil passed);
-          run_is = λ m h. refl;
-          few = λ m h. omega arith;
-        };
-        more_is = λ m h commands. refl;
+        did = [];
+        does = refl;
+        short = tt;
+        fates = [];
+        passed = sym (append-nil passed);
+        leads = λ m h commands. refl;
+        few = λ m h. omega arith;
       })
+
+  -- where both ends are
+  here : (past : Past a.State) (now : List Fates) (e : EndsOf C) (h : HasCarried a past now e)
+      (m : Meaning) → Agrees m [] h.did
+      → run m h.fates (start past.settings [] past.commands) ≡ rest_of e h.did past.answers
+  here past now e h m g =
+      ap (λ cs. run m h.fates (start past.settings [] cs)) (sym (append-nil past.commands))
+      ∙ h.leads m g []
+      ∙ none_behind e.terminal.phase e.terminal (after e.card (commands_of h.did)) past.answers
 
   abbrev pub begun : EndsOf C → List ℕ → EndsOf C
   begun e c = record { terminal = begins c e.terminal; card = e.card }
@@ -281,78 +260,82 @@ module _ {C : Type 0} (a : Ghosts C) where
       (c : List ℕ)
       → HasCarried a past now e → is_ready e.terminal.phase ≡ true
       → HasCarried a (and_now past c) now (begun e c)
-  carried_begins past now e c h ready =
-      let over : e.terminal.phase ≡ Over = is_over e.terminal.phase ready in
-      let at : List (List ℕ) → World = λ ran. world_after (both_of e past.answers) ran in
-      let leads : Meaning → List (List ℕ) → World =
-      λ m cs. run m h.led.fates (start past.settings [] cs) in
-      record {
-        led = record {
-          did = h.led.did;
-          does = h.led.does;
-          short = h.led.short;
-          fates = h.led.fates;
-          passed = h.led.passed;
-          run_is = λ m g. sym (h.more_is m g (c ∷ [])
-              ∙ ap (λ w. more (c ∷ []) w) (sym (h.led.run_is m g))
-              ∙ ap (λ p. adds p (c ∷ []) (at (commands_of h.led.did))) over);
-          few = λ m g.
-              let le = h.led.few m g in
-              let most = most_more past.settings m past.commands c in omega (arith, le, most);
-        };
-        more_is = λ m g cs.
-            let w : World = at (commands_of h.led.did) in
-            ap (leads m) (append_assoc past.commands (c ∷ []) cs)
-            ∙ h.more_is m g (c ∷ cs)
-            ∙ ap (λ v. more (c ∷ cs) v) (sym (h.led.run_is m g))
-            ∙ ap (λ p. adds p (c ∷ cs) w) over
-            ∙ next_more (c ∷ []) cs [] w over
-            ∙ ap (λ v. more cs v) (sym (ap (λ p. adds p (c ∷ []) w) over)
-            ∙ ap (λ v. more (c ∷ []) v) (h.led.run_is m g) ∙ sym (h.more_is m g (c ∷ [])));
-      }
+  carried_begins past now e c h ready = record {
+    did = h.did;
+    does = h.does;
+    short = h.short;
+    fates = h.fates;
+    passed = h.passed;
+    leads = λ m g cs.
+        ap (λ all. run m h.fates (start past.settings [] all))
+        (append_assoc past.commands (c ∷ []) cs)
+        ∙ h.leads m g (c ∷ cs)
+        ∙ ap (λ p. adds p (c ∷ cs) (rest_of e h.did past.answers))
+        (is_over e.terminal.phase ready)
+        ∙ sym (first_behind e.terminal.opened (begins c e.terminal)
+        (after e.card (commands_of h.did)) cs past.answers);
+    few = λ m g.
+        let le = h.few m g in
+        let most = most_more past.settings m past.commands (c ∷ []) in omega (arith, le, most);
+  }
+    where
+      first_behind : (opened : Bool) (t : Terminal) (d : Card) (cs answers : List (List ℕ))
+          → adds (first_phase opened) cs (at_rest t d answers) ≡ world_with t d cs answers
+      first_behind true t d cs answers = refl
+      first_behind false t d cs answers = refl
 
   -- the answers, with the newest if it has come
   abbrev pub answered : Past a.State → Terminal → Past a.State
   answered past t = record past { answers = answers_in t.phase t.got past.answers }
 
   module _ (past : Past a.State) (now next : List Fates) (x : Fates) (e f : EndsOf C)
-      (h : HasCarried a past now e) (moving : has_stopped e.terminal.phase ≡ false)
-      (one_more : next ≡ now ++ x ∷ []) (p : Passes a x e.terminal f.terminal e.card f.card) where
-    unfoldable pub carried_next : HasCarried a (answered past f.terminal) next f
-    unfolding led_next
-    carried_next =
-        let s = both_of e past.answers in
-        let t = both_of f (answers_in f.terminal.phase f.terminal.got past.answers) in
-        record {
-          led = led_next a past.settings past.first past.commands past.passed now next x s t h.led
-              moving one_more (
-                p.0,
-                p.1,
-                λ m ran g. passed_on m x e.terminal f.terminal (after e.card ran)
-                    (after f.card (ran_with ran p.0)) past.answers moving (p.2 m ran g),
-              );
-          more_is = λ m g cs.
-              let b = before_it m h.led.did p.0 g in
-              let w = run m h.led.fates (start past.settings [] past.commands) in
-              let still : has_stopped w.terminal.phase ≡ false =
-              ap (λ v. has_stopped v.terminal.phase) (sym (h.led.run_is m b.0)) ∙ moving in
-              run_more m h.led.fates x (start past.settings [] (past.commands ++ cs))
-              ∙ ap (exchange m x) (h.more_is m b.0 cs)
-              ∙ exchange_more m x cs w still
-              ∙ ap (λ v. more cs v)
-              (sym (run_more m h.led.fates x (start past.settings [] past.commands)));
-        }
+      (h : HasCarried a past now e) (moving : has_stopped e.terminal.phase ≡ false) where
+    -- as long as the terminal goes on, exchanges are left
+    pub fewer : (m : Meaning) → Agrees m [] h.did
+        → length h.fates < most_exchanges past.settings m [] past.commands
+    fewer m g =
+        elim (cases_lt (length h.fates) (most_exchanges past.settings m [] past.commands)) [
+          | inl lt ↦ lt
+          | inr le ↦ absurd (let no = sym moving
+              ∙ ap (λ v. has_stopped v.terminal.phase) (sym (here past now e h m g))
+              ∙ stops m past.settings [] past.commands h.fates le in cc)
+        ]
+
+    unfoldable pub carried_next : next ≡ now ++ x ∷ []
+        → Passes a x e.terminal f.terminal e.card f.card
+        → HasCarried a (answered past f.terminal) next f
+    carried_next one_more (did, goes, step) = record {
+      did = log_with h.did did;
+      does = does_with a.Does past.first (a.standing e.card.card) (a.standing f.card.card) h.did did
+          h.does goes;
+      short = short_with a.Does (a.standing e.card.card) (a.standing f.card.card) h.did did h.short
+          goes;
+      fates = h.fates ++ x ∷ [];
+      passed = one_more ∙ ap (λ l. l ++ x ∷ []) h.passed
+          ∙ append_assoc past.passed h.fates (x ∷ []);
+      leads = λ m g cs.
+          let b = before_it m h.did did g in
+          let ran = commands_of h.did in
+          run_more m h.fates x (start past.settings [] (past.commands ++ cs))
+          ∙ ap (exchange m x) (h.leads m b.0 cs)
+          ∙ passed_on m x e.terminal f.terminal (after e.card ran) (after f.card (ran_with ran did))
+          cs past.answers moving (step m ran b.1)
+          ∙ ap (λ r. more cs (at_rest f.terminal (after f.card r)
+          (answers_in f.terminal.phase f.terminal.got past.answers)))
+          (sym (commands_with h.did did));
+      few = λ m g.
+          let lt = fewer m (before_it m h.did did g).0 in
+          let e = length-append h.fates (x ∷ []) in
+          omega (arith, lt, e);
+    }
 
   -- ---- the loop
-
-  abbrev pub world_now : Past a.State → EndsOf C → List Did → World
-  world_now past e did = world_after (both_of e past.answers) (commands_of did)
 
   -- where both ends stand, and that no more exchanges come than so many
   abbrev IsWithin : (most so_far : ℕ) → Past a.State → EndsOf C → List Did → Type 0
   IsWithin most so_far past e did = (m : Meaning) → Agrees m [] did
       → ((ran : List (List ℕ)) → length (m.does ran) ≤ most_bytes)
-      → (p : Place) × (world_now past e did ≡ world_of m [] p) × Holds m [] past.commands p
+      → (p : Place) × (rest_of e did past.answers ≡ world_of m [] p) × Holds m [] past.commands p
       × (measure m [] past.commands p + so_far ≤ most)
 
   pub record InCourse (command : List ℕ) (before now : List Fates) (old e : EndsOf C)
@@ -361,9 +344,9 @@ module _ {C : Type 0} (a : Ghosts C) where
         → HasCarried a (with_command past command e.terminal) now e
     pub longer : length before ≤ length now
     pub past : Past a.State
-    pub here : HasCarried a past now e
+    pub carried : HasCarried a past now e
     pub within : IsWithin (most_at (begins command old.terminal) old.card.at)
-        (length now - length before) past e here.led.did
+        (length now - length before) past e carried.did
 
   pub course_begins : (command : List ℕ) (before : List Fates) (old e : EndsOf C)
       (past : Past a.State) → is_ready old.terminal.phase ≡ true → e ≡ begun old command
@@ -381,14 +364,14 @@ module _ {C : Type 0} (a : Ghosts C) where
             (carried_begins any before old command g ready);
         longer = omega arith;
         past = and_now past command;
-        here = carried_begins past before old command h ready;
+        carried = carried_begins past before old command h ready;
         within = λ m g short.
             let b = carried_begins past before old command h ready in
             let (q, holds, is_q) =
-            all_stand m [] (past.commands ++ command ∷ []) b.led.fates _
+            all_stand m [] (past.commands ++ command ∷ []) b.fates _
             (first_stands m [] past.settings (past.commands ++ command ∷ [])) in
-            let same : world_now (and_now past command) (begun old command) b.led.did
-            ≡ world_of m [] q = b.led.run_is m g ∙ is_q in
+            let same : rest_of (begun old command) b.did past.answers ≡ world_of m [] q =
+            sym (here (and_now past command) before (begun old command) b m g) ∙ is_q in
             let le = measured m [] (past.commands ++ command ∷ []) short q
             (ap (λ w. w.todo) (sym same)) in
             let e = ap (λ w. most_at w.terminal w.card) same in
@@ -417,30 +400,29 @@ module _ {C : Type 0} (a : Ghosts C) where
 
     pub course_goes_on : Passes a x e.terminal f.terminal e.card f.card
         → InCourse command before next old f
-    unfolding carried_next led_next
-    course_goes_on p = record {
-      led = λ past g. twice past (carried_next (with_command past command e.terminal) now next x e f
-          (c.led past g) moving one_more p);
-      longer = omega (arith, c.longer, counts_on);
-      past = answered c.past f.terminal;
-      here = carried_next c.past now next x e f c.here moving one_more p;
-      within = λ m g short.
-          let b = before_it m c.here.led.did p.0 g in
-          let (q, is, holds, le) = c.within m b.0 short in
-          let n = carried_next c.past now next x e f c.here moving one_more p in
-          let w = world_now c.past e c.here.led.did in
-          let r : Place = step m [] x.down x.up q in
-          let less = step_less m [] c.past.commands x.down x.up q
-          (active m q w is moving) holds in (
-            r,
-            n.led.run_is m g
-                ∙ run_more m c.here.led.fates x (start c.past.settings [] c.past.commands)
-                ∙ ap (exchange m x) (sym (c.here.led.run_is m b.0) ∙ is)
-                ∙ is_step m [] x.down x.up q,
-            step_holds m [] c.past.commands x.down x.up q holds,
-            omega (arith, less, le, c.longer, counts_on),
-          );
-    }
+    unfolding carried_next
+    course_goes_on p =
+        let n = carried_next c.past now next x e f c.carried moving one_more p in record {
+          led = λ past g.
+              twice past (carried_next (with_command past command e.terminal) now next x e f
+              (c.led past g) moving one_more p);
+          longer = omega (arith, c.longer, counts_on);
+          past = answered c.past f.terminal;
+          carried = n;
+          within = λ m g short.
+              let b = before_it m c.carried.did p.0 g in
+              let (q, is, holds, le) = c.within m b.0 short in
+              let less = step_less m [] c.past.commands x.down x.up q
+              (active m q (rest_of e c.carried.did c.past.answers) is moving) holds in (
+                step m [] x.down x.up q,
+                sym (here (answered c.past f.terminal) next f n m g)
+                    ∙ run_more m c.carried.fates x (start c.past.settings [] c.past.commands)
+                    ∙ ap (exchange m x) (here c.past now e c.carried m b.0 ∙ is)
+                    ∙ is_step m [] x.down x.up q,
+                step_holds m [] c.past.commands x.down x.up q holds,
+                omega (arith, less, le, c.longer, counts_on),
+              );
+        }
       where
         twice : (past : Past a.State)
             → HasCarried a (answered (with_command past command e.terminal) f.terminal) next f
@@ -450,26 +432,151 @@ module _ {C : Type 0} (a : Ghosts C) where
               commands = past.commands ++ command ∷ [];
               answers = answers_in f.terminal.phase f.terminal.got told;
             }) next f in
-            subst q (none_yet e.terminal.phase e.terminal.got past.answers moving) g
+            subst q (none_yet e.terminal.phase e.terminal.got past.answers
+            (not_ready e.terminal.phase moving)) g
 
     pub fewer_to_come : most_at (begins command old.terminal) old.card.at
         - (length next - length before)
         < most_at (begins command old.terminal) old.card.at - (length now - length before)
     fewer_to_come =
-        let did = c.here.led.did in
+        let did = c.carried.did in
         let m = meaning_of did in
         let (q, is, holds, le) = c.within m (own_meaning [] did)
-        (entry_short did c.here.led.short) in
+        (entry_short did c.carried.short) in
         let some : measure m [] c.past.commands q ≡ 0 → ⊥ =
-        some_left m [] c.past.commands q (active m q (world_now c.past e did) is moving) in
+        some_left m [] c.past.commands q (active m q (rest_of e did c.past.answers) is moving) in
         omega (arith, some, le, c.longer, counts_on)
 
-  -- it is a dialogue
-  pub carried_dialogue : (past : Past a.State) (now : List Fates) (e : EndsOf C)
-      → HasCarried a past now e → has_stopped e.terminal.phase ≡ true
-      → Conversed a past.settings past.first (a.standing e.card.card) past.commands past.answers
-      (fault_of e.terminal) past.passed now
-  carried_dialogue past now e h stopped =
-      conversed a past.settings past.first past.commands past.passed now
-      (both_of e past.answers) e.card.card past.answers (fault_of e.terminal) h.led stopped refl
-      refl refl
+  -- ---- it is a dialogue, and a fault ends it for the commands behind
+
+  module _ (past : Past a.State) (now : List Fates) (e : EndsOf C) (all rest : List (List ℕ))
+      (h : HasCarried a past now e) (stop : has_stopped e.terminal.phase ≡ true)
+      (whole : past.commands ++ rest ≡ all) (ends : is_ready e.terminal.phase ≡ true → rest ≡ [])
+    where
+      abbrev own : Meaning
+      own = meaning_of h.did
+
+      agrees : Agrees own [] h.did
+      agrees = own_meaning [] h.did
+
+      abbrev end : World
+      end = world_with e.terminal (after e.card (commands_of h.did)) rest past.answers
+
+      end_is : run own h.fates (start past.settings [] all) ≡ end
+      end_is = ap (λ cs. run own h.fates (start past.settings [] cs)) (sym whole)
+          ∙ h.leads own agrees rest ∙ by e.terminal.phase ends
+        where
+          by : (p : Phase) → (is_ready p ≡ true → rest ≡ [])
+              → adds p rest (at_rest e.terminal (after e.card (commands_of h.did)) past.answers)
+              ≡ end
+          by Over none =
+              let t = e.terminal in let d = after e.card (commands_of h.did) in
+              ap (λ cs. next_command cs (at_rest t d past.answers)) (none refl)
+              ∙ ap (λ cs. world_with t d cs past.answers) (sym (none refl))
+          by _ none = refl
+
+      which : (e.terminal.phase ≡ Over) ⊎ ((cause : Cause) × (e.terminal.phase ≡ GivenUp cause))
+      which = by e.terminal.phase stop where
+        by : (p : Phase) → has_stopped p ≡ true
+            → (p ≡ Over) ⊎ ((cause : Cause) × (p ≡ GivenUp cause))
+        by Over e = inl refl
+        by (GivenUp cause) e = inr (cause, refl)
+        by _ e = absurd (cc)
+
+      pub conversed : Conversed a past.settings past.first (a.standing e.card.card) all past.answers
+          (fault_of e.terminal) past.passed now
+      conversed =
+          let t = e.terminal in
+          let ran = commands_of h.did in
+          let once : IsAtMostOnce own [] all end = subst (λ v. IsAtMostOnce own [] all v) end_is
+          (at_most_once own past.settings [] all h.fates) in
+          let same : ran ≡ once.ran = once.ran_is in
+          let responses_so : responses own.does [] once.ran ≡ responses_of h.did =
+          ap (λ r. responses own.does [] r) (sym same) ∙ responses_are own [] h.did agrees in
+          let fault : (cause : Cause) → t.phase ≡ GivenUp cause
+          → fault_of t ≡ Some (record { cause = cause; outcome = outcome_of t }) =
+          λ cause is. ap (λ p. fault_in p t) is in
+          record {
+            did = h.did;
+            does = h.does;
+            carried_out = subst (λ r. IsFrontOf r all) (sym same) once.right.carried_out;
+            answered = subst (λ rs. IsFrontOf past.answers rs) responses_so once.right.answered;
+            all_but_one =
+                let n : length ran ≡ length h.did = length-map h.did (λ (d : Did). d.command) in
+                let le = once.right.all_but_one in
+                omega (arith, n, le, ap length same);
+            told = λ f is. elim which [
+              | inl over ↦ absurd (let n = sym (ap (λ p. fault_in p t) over) ∙ is in cc)
+              | inr given ↦
+                  let so : f ≡ record { cause = given.0; outcome = outcome_of t } =
+                  let two = sym is ∙ fault given.0 given.1 in cc in
+                  subst (λ r. IsTrue f.outcome r past.answers) (sym same)
+                  (subst (λ (g : Fault). IsTrue g.outcome once.ran past.answers) (sym so)
+                  (once.told given.0 given.1))
+            ];
+            finished = λ is. elim which [
+              | inl over ↦
+                  let done = once.finished over in
+                  (same ∙ done.0, done.1 ∙ responses_so)
+              | inr given ↦ absurd (let n = sym is ∙ fault given.0 given.1 in cc)
+            ];
+            fates = h.fates;
+            passed = h.passed;
+            few =
+                let le = h.few own agrees in
+                let most = most_more past.settings own past.commands rest in
+                subst (λ cs. length h.fates ≤ most_exchanges past.settings own [] cs) whole
+                (omega (arith, le, most));
+            survived = λ f enough mild. elim which [
+              | inl over ↦ ap (λ p. fault_in p t) over
+              | inr given ↦
+                  absurd (never_given_up own f past.settings [] all h.fates given.0 enough mild
+                  (ap (λ v. v.terminal.phase) end_is ∙ given.1))
+            ];
+          }
+
+  -- ---- a list of commands
+
+  module _ {V : Type 0} (items : V → List ℕ) (settings : Settings) (first : a.State)
+      (passed : List Fates) (vs : List V) where
+    -- the first n are carried, and these are the answers
+    abbrev pub first_of : ℕ → List V → Past a.State
+    first_of n answers = record {
+      settings = settings;
+      first = first;
+      commands = map items (take n vs);
+      answers = map items answers;
+      passed = passed;
+    }
+
+    pub one_more_carried : (n : ℕ) (v : V) (answers new : List V) (c : List ℕ) (now : List Fates)
+        (e : EndsOf C)
+        → HasCarried a (with_command (first_of n answers) c e.terminal) now e
+        → n < length vs → v ≡ get_or vs n v → c ≡ items v
+        → answers_in e.terminal.phase e.terminal.got (map items answers) ≡ map items new
+        → HasCarried a (first_of (n + 1) new) now e
+    one_more_carried n v answers new c now e h lt is same told =
+        let P : List (List ℕ) → List (List ℕ) → Type 0 = λ commands answers. HasCarried a (record {
+          settings = settings;
+          first = first;
+          commands = commands;
+          answers = answers;
+          passed = passed;
+        }) now e in
+        let so : map items (take n vs) ++ c ∷ [] ≡ map items (take (n + 1) vs) =
+        ap (λ x. map items (take n vs) ++ x ∷ []) (same ∙ ap items is)
+        ∙ sym (ap (λ l. map items l) (take_more vs n v lt)
+        ∙ map-append items (take n vs) (get_or vs n v ∷ [])) in
+        subst (λ cs. P cs (map items new)) so
+        (subst (λ rs. P (map items (take n vs) ++ c ∷ []) rs) told h)
+
+    pub list_conversed : (n : ℕ) (answers : List V) (now : List Fates) (e : EndsOf C)
+        → HasCarried a (first_of n answers) now e → has_stopped e.terminal.phase ≡ true
+        → (is_ready e.terminal.phase ≡ true → length vs ≤ n)
+        → Conversed a settings first (a.standing e.card.card) (map items vs) (map items answers)
+        (fault_of e.terminal) passed now
+    list_conversed n answers now e h stop all =
+        conversed (first_of n answers) now e (map items vs) (map items (drop n vs)) h stop
+        (sym (map-append items (take n vs) (drop n vs)) ∙ ap (λ l. map items l)
+        (take-append-drop n vs))
+        (λ ready. ap (λ l. map items l) (drop_of_length-le vs (all ready)))

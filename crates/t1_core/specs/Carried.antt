@@ -1,28 +1,29 @@
 -- Commands one after another over a line, each begun once the one before it has its answer, so that
 -- it may depend on that.
-use Rattle.std.specs.Prelude.{◌≡◌, List, ℕ, [], ◌∷◌, ◌++◌}
+use Rattle.std.specs.Prelude.{◌≡◌, ◌<◌, ◌≤◌, List, ℕ, [], ◌∷◌, ◌++◌, length}
+use Rattle.std.specs.List.{AllByRecursion}
 use Rattle.t1_core.specs.declared.applet.Applet.{Ghosts}
 use Rattle.t1_core.specs.declared.line.Fates.{Fates}
 use Rattle.t1_core.specs.declared.settings.Settings.{Settings}
 use Rattle.t1_core.specs.declared.terminal.Phase.{Phase}
 use Rattle.t1_core.specs.declared.terminal.Phase.TheVariants.{Over}
-use Rattle.t1_core.specs.CardSide.{Meaning}
-use Rattle.t1_core.specs.Conversing.{BothOf, Led}
-use Rattle.t1_core.specs.Doing.{Agrees, EndOf}
+use Rattle.t1_core.specs.CardSide.{Card, Did, Meaning}
+use Rattle.t1_core.specs.Doing.{Agrees, DoesAll, EndOf, after, commands_of, most_bytes}
 use Rattle.t1_core.specs.TerminalSide.{Terminal}
-use Rattle.t1_core.specs.World.{World, next_command, run, start}
+use Rattle.t1_core.specs.World.{World, most_exchanges, next_command, run, start}
 
 -- both ends of a line
 pub record EndsOf (C : Type 0) : Type 0 where
   pub terminal : Terminal
   pub card : EndOf C
 
--- the same without commands to come, if these are the answers
-abbrev pub both_of : {C : Type 0} → EndsOf C → (answers : List (List ℕ)) → BothOf C
-both_of e answers = record {
-  card = e.card.card;
-  at = record { terminal = e.terminal; card = e.card.at; todo = []; answers = answers };
-}
+-- their world, if the card has carried out these commands, no others are to come, and these are the
+-- answers
+abbrev pub at_rest : Terminal → Card → (answers : List (List ℕ)) → World
+at_rest t c answers = record { terminal = t; card = c; todo = []; answers = answers }
+
+abbrev pub world_of : {C : Type 0} → EndsOf C → List Did → (answers : List (List ℕ)) → World
+world_of e did answers = at_rest e.terminal (after e.card (commands_of did)) answers
 
 -- more commands behind those that are to be sent
 abbrev pub adds : Phase → List (List ℕ) → World → World
@@ -64,10 +65,17 @@ with_command past command t = record past {
 }
 
 -- Both ends are where these commands lead, had they been given all at once, and more of them would
--- lead further.
+-- lead further. `did` is what the card has carried out, `fates` what the line has done since the
+-- reset.
 pub record HasCarried {C : Type 0} (a : Ghosts C) (past : Past a.State) (now : List Fates)
     (e : EndsOf C) : Type 0 where
-  pub led : Led a past.settings past.first past.commands past.passed now (both_of e past.answers)
-  pub more_is : (m : Meaning) → Agrees m [] led.did → (commands : List (List ℕ))
-      → run m led.fates (start past.settings [] (past.commands ++ commands))
-      ≡ more commands (run m led.fates (start past.settings [] past.commands))
+  pub did : List Did
+  pub does : DoesAll a.Does past.first did (a.standing e.card.card)
+  pub short : AllByRecursion (λ (d : Did). length d.response < most_bytes) did
+  pub fates : List Fates
+  pub passed : now ≡ past.passed ++ fates
+  pub leads : (m : Meaning) → Agrees m [] did → (commands : List (List ℕ))
+      → run m fates (start past.settings [] (past.commands ++ commands))
+      ≡ more commands (world_of e did past.answers)
+  pub few : (m : Meaning) → Agrees m [] did
+      → length fates ≤ most_exchanges past.settings m [] past.commands

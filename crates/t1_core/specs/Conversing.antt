@@ -1,14 +1,13 @@
 -- A whole dialogue over a line.
-use Rattle.std.specs.Prelude.{◌≡◌, ◌<◌, ◌≤◌, ◌+◌, ℕ, List, [], ◌++◌, length, Option, Some, None}
-use Rattle.std.specs.List.{AllByRecursion}
+use Rattle.std.specs.Prelude.{◌≡◌, ◌≤◌, ◌+◌, ℕ, List, [], ◌++◌, length, Option, Some, None}
 use Rattle.t1_core.specs.declared.applet.Applet.{Ghosts}
 use Rattle.t1_core.specs.declared.line.Fates.{Fates}
 use Rattle.t1_core.specs.declared.settings.Settings.{Settings}
 use Rattle.t1_core.specs.declared.terminal.Fault.{Fault}
-use Rattle.t1_core.specs.CardSide.{Did, Meaning}
-use Rattle.t1_core.specs.Doing.{Agrees, DoesAll, DoesSome, IsOfSome, commands_of, meaning_of, most_bytes, ran_with, responses_of}
+use Rattle.t1_core.specs.CardSide.{Did}
+use Rattle.t1_core.specs.Doing.{DoesAll, commands_of, meaning_of, responses_of}
 use Rattle.t1_core.specs.Mild.{Enough, IsMild}
-use Rattle.t1_core.specs.World.{World, IsFrontOf, IsTrue, most_exchanges, exchange, run, start}
+use Rattle.t1_core.specs.World.{IsFrontOf, IsTrue, most_exchanges, start}
 
 -- `did` is what the card has carried out in the dialogue, from the first of its states to the last;
 -- `passed` is what the line has done in all, before the dialogue and after it
@@ -33,32 +32,3 @@ pub record Conversed {C : Type 0} (a : Ghosts C) (settings : Settings) (first la
   -- on a mild line there is no fault
   pub survived : (f : ℕ) → Enough (meaning_of did) f settings
       → IsMild (meaning_of did) f f (start settings [] commands) fates → fault ≡ None
-
--- Both ends, the commands to come and the answers: the card, and the world of the definitions,
--- without commands so far.
-pub record BothOf (C : Type 0) : Type 0 where
-  pub card : C
-  pub at : World
-
-abbrev pub world_after : {C : Type 0} → BothOf C → List (List ℕ) → World
-world_after s ran = record s.at { card = record s.at.card { ran = ran } }
-
-abbrev pub Exchanges : {C : Type 0} (a : Ghosts C) → Fates → BothOf C → BothOf C → Type 0
-Exchanges a fates old new = (did : Option Did)
-    × DoesSome a.Does (a.standing old.card) did (a.standing new.card)
-    × ((m : Meaning) (ran : List (List ℕ)) → IsOfSome m ran did
-    → world_after new (ran_with ran did) ≡ exchange m fates (world_after old ran))
-
--- where a line has led to
-pub record Led {C : Type 0} (a : Ghosts C) (settings : Settings) (first : a.State)
-    (commands : List (List ℕ)) (passed_before passed_after : List Fates) (s : BothOf C)
-    : Type 0 where
-  pub did : List Did
-  pub does : DoesAll a.Does first did (a.standing s.card)
-  pub short : AllByRecursion (λ (d : Did). length d.response < most_bytes) did
-  pub fates : List Fates
-  pub passed : passed_after ≡ passed_before ++ fates
-  pub run_is : (m : Meaning) → Agrees m [] did
-      → world_after s (commands_of did) ≡ run m fates (start settings [] commands)
-  pub few : (m : Meaning) → Agrees m [] did
-      → length fates ≤ most_exchanges settings m [] commands

@@ -1,10 +1,10 @@
 //! Follows a trace as a third party on the line.
 
 use apdu_core::Status;
-use t0_core::{End, Heard, Tap, Unheard};
+use t0_core::{End, Heard, Tap, TapFault};
 
 /// Returns the number of TPDUs in a trace, and the status of the last.
-pub fn followed(trace: &[(End, u8)]) -> Result<(usize, Option<Status>), Unheard> {
+pub fn followed(trace: &[(End, u8)]) -> Result<(usize, Option<Status>), TapFault> {
     let mut tap = Tap::new();
     let mut tpdus = 0usize;
     let mut last = None;

@@ -18,8 +18,8 @@ use Rattle.t0_core.specs.declared.heard.Heard.TheVariants as heard
 use Rattle.t0_core.specs.declared.heard.Due.TheVariants as due
 use Rattle.t0_core.specs.declared.tap.TapStage.{TapStage}
 use Rattle.t0_core.specs.declared.tap.TapStage.TheVariants as stage
-use Rattle.t0_core.specs.declared.unheard.Unheard.{Unheard}
-use Rattle.t0_core.specs.declared.unheard.Unheard.TheVariants.{OutOfTurn, BadProcedure}
+use Rattle.t0_core.specs.declared.tap_fault.TapFault.{TapFault}
+use Rattle.t0_core.specs.declared.tap_fault.TapFault.TheVariants.{OutOfTurn, BadProcedure}
 use Rattle.t0_core.specs.Character.{Character, sent_by}
 use Rattle.t0_core.specs.Dialogue.{Body, Dialogue, IsDialogue, characters, body_characters, segment_characters, data_sender, foreseen, procedure_byte, moves, all_moves, to_move}
 use Rattle.t0_core.specs.Front.{Front, IsFront, front_characters, fresh, In_header, In_body, After_first, GoesOn, Ends, IsBetween, IsBegun, EndInLast, with_segment, with_moved, GoesOnInHeader}
@@ -28,7 +28,7 @@ use Rattle.t0_core.specs.History.{Event, Passed, Whole, events_of, passed}
 use Rattle.t0_core.specs.TapHistory.{HasHeard, HearsOn, IsOverheard}
 use Rattle.t0_core.specs.TapView.{place_of, IsHeldAt}
 use Rattle.t0_core.specs.DialogueLaws.{all_more, ends_with, events_item}
-use Rattle.t0_core.specs.TapSide.{Place, In_opening, Between, In_data, After_sw1, SaysSo, Shows, IsRead, IsReadFront, IsPlace, TapStandsAt, Makes, unheard_at, heard_at, after_hearing, after_opening, begun_by, foreseen_by, may_come_from, due_at, direction_from, goes_this_way, way_of, with_one_more, is_terminal, unheard_byte, unheard_procedure, turned_body, turned, Takes, Concludes, afresh}
+use Rattle.t0_core.specs.TapSide.{Place, In_opening, Between, In_data, After_sw1, SaysSo, Shows, IsRead, IsReadFront, IsPlace, TapStandsAt, Makes, tap_fault_at, heard_at, after_hearing, after_opening, begun_by, foreseen_by, may_come_from, due_at, direction_from, goes_this_way, way_of, with_one_more, is_terminal, tap_byte_fault, tap_procedure_fault, turned_body, turned, Takes, Concludes, afresh}
 use Rattle.t0_core.specs.ProcedureLaws.{step_is, status_is_no_step, first_is_in_range}
 use Rattle.t0_core.proofs.HostTook.{step_tells}
 use Rattle.t0_core.proofs.HistoryLemmas.{events_with, passed_more}
@@ -37,7 +37,7 @@ use Rattle.t0_core.specs.CardLaws.{next_header}
 
 -- What the tap does with a character that continues a dialogue.
 pub record TapTook (place : Place) (from : End) (byte : ℕ) (front new : Front) : Type 0 where
-  pub none : unheard_at place from byte ≡ None
+  pub none : tap_fault_at place from byte ≡ None
   pub makes : Makes (heard_at place from byte) front (from, byte) new
   pub stands : TapStandsAt (after_hearing place from byte) new
 
@@ -286,7 +286,7 @@ takes_all _ _ _ _ _ _ at _ _ = absurd at
 -- ---- a character that is taken is one of a dialogue
 
 -- a character that is taken comes from an end that may send it
-taken_in_turn : (v : Bool) (o : Option Unheard) → (if v then o else Some OutOfTurn) ≡ None
+taken_in_turn : (v : Bool) (o : Option TapFault) → (if v then o else Some OutOfTurn) ≡ None
     → (v ≡ true) × (o ≡ None)
 taken_in_turn true o e = (refl, e)
 taken_in_turn false o e = absurd (cc)
@@ -505,7 +505,7 @@ took_step said from byte b s range says between way nulls is = by_count (b.p3 ==
 
 took_between : (said : Said) (from : End) (byte : ℕ) (b : Body) (found : Option Step)
     → begun_by said.header.ins byte ≡ found → said.header.ins < 256
-    → SaysSo said b → IsBetween b → from ≡ Card → unheard_procedure found byte ≡ None
+    → SaysSo said b → IsBetween b → from ≡ Card → tap_procedure_fault found byte ≡ None
     → TakesBody (Between said) from byte b
 took_between said from byte b (Some s) begun range says between way none =
     let tells = begun_tells said.header.ins byte s (ins_is_valid said.header.ins) refl begun in
@@ -599,14 +599,14 @@ took_end said sw1 from byte b first small says same way = record {
 }
 
 pub took : (place : Place) (from : End) (byte : ℕ) (front : Front) → IsPlace place → byte < 256
-    → TapStandsAt place front → unheard_at place from byte ≡ None
+    → TapStandsAt place front → tap_fault_at place from byte ≡ None
     → Takes (heard_at place from byte) front (from, byte) (after_hearing place from byte)
 took place from byte front range small at none =
-    let both = taken_in_turn (may_come_from (due_at place) from) (unheard_byte place byte) none in
+    let both = taken_in_turn (may_come_from (due_at place) from) (tap_byte_fault place byte) none in
     at_place place front range at both.0 both.1
   where
     at_place : (place : Place) (front : Front) → IsPlace place → TapStandsAt place front
-        → may_come_from (due_at place) from ≡ true → unheard_byte place byte ≡ None
+        → may_come_from (due_at place) from ≡ true → tap_byte_fault place byte ≡ None
         → Takes (heard_at place from byte) front (from, byte) (after_hearing place from byte)
     at_place (In_opening bytes) (In_header heard) range at turn none =
         took_header bytes heard from byte at.0 at.1 (of_terminal from turn)
@@ -627,8 +627,8 @@ stands_inside p seen front is stands = let P : Place → Type 0 = λ x. TapStand
     subst P (sym is) stands
 
 -- if it refuses a character, no dialogue continues with it
-pub hears_none : (p seen : Place) (from : End) (byte : ℕ) (fault : Unheard) → p ≡ seen → IsPlace p
-    → unheard_at p from byte ≡ Some fault → (front new : Front) → TapStandsAt seen front
+pub hears_none : (p seen : Place) (from : End) (byte : ℕ) (fault : TapFault) → p ≡ seen → IsPlace p
+    → tap_fault_at p from byte ≡ Some fault → (front new : Front) → TapStandsAt seen front
     → GoesOn front (from, byte) new → IsReadFront new → ⊥
 hears_none p seen from byte fault is range why front new stands goes read =
     let none = (takes_all p from byte front new (has_byte p range)
@@ -643,7 +643,7 @@ pub record HearsOne (p seen : Place) (from : End) (byte : ℕ) (heard : Heard) (
     pub seen_is : p ≡ seen
     pub range : IsPlace p
     pub small : byte < 256
-    pub none : unheard_at p from byte ≡ None
+    pub none : tap_fault_at p from byte ≡ None
     pub heard_is : heard ≡ heard_at p from byte
     pub next_is : next ≡ after_hearing p from byte
 
@@ -759,10 +759,10 @@ place_in_range _ held = held
 -- out of turn
 pub out_of_turn : (place : Place) (from : End) (byte : ℕ) → may_come_from (due_at place) from
     ≡ false
-    → unheard_at place from byte ≡ Some OutOfTurn
+    → tap_fault_at place from byte ≡ Some OutOfTurn
 out_of_turn place from byte e = rw e refl
 
-pub in_turn : (place : Place) (from : End) (byte : ℕ) (o : Option Unheard)
-    → may_come_from (due_at place) from ≡ true → unheard_byte place byte ≡ o
-    → unheard_at place from byte ≡ o
+pub in_turn : (place : Place) (from : End) (byte : ℕ) (o : Option TapFault)
+    → may_come_from (due_at place) from ≡ true → tap_byte_fault place byte ≡ o
+    → tap_fault_at place from byte ≡ o
 in_turn place from byte o e why = rw (e, why) refl

@@ -15,7 +15,7 @@ use Rattle.t0_core.specs.Front.{Front, In_header, In_body, After_first, GoesOn, 
 use Rattle.t0_core.specs.FrontLaws.{all_moves-within}
 use Rattle.t0_core.specs.WholeLaws.{goes_through}
 use Rattle.t0_core.specs.History.{IsByteEvent, passed}
-use Rattle.t0_core.specs.TapSide.{Place, In_opening, Between, In_data, After_sw1, TapStandsAt, IsRead, IsReadFront, Makes, Concludes, afresh, unheard_at, heard_at, after_hearing}
+use Rattle.t0_core.specs.TapSide.{Place, In_opening, Between, In_data, After_sw1, TapStandsAt, IsRead, IsReadFront, Makes, Concludes, afresh, tap_fault_at, heard_at, after_hearing}
 use Rattle.t0_core.specs.TapLine.{HearsInTurn, AreTold}
 use Rattle.t0_core.proofs.PlanLemmas.{nulls_where_none_left}
 use Rattle.t0_core.proofs.TapLemmas.{TapTook, HasByte, takes_all}
@@ -74,7 +74,7 @@ takes_on cs place front new c d small at goes on read =
 
 -- the end of a dialogue
 pub record Closes (place : Place) (from : End) (byte : ℕ) (d : Dialogue) : Type 0 where
-  pub none : unheard_at place from byte ≡ None
+  pub none : tap_fault_at place from byte ≡ None
   pub concludes : Concludes (heard_at place from byte) d
   pub after : after_hearing place from byte ≡ afresh
 

@@ -12,18 +12,18 @@ use Rattle.t0_core.specs.declared.heard.Heard.{Heard}
 use Rattle.t0_core.specs.declared.heard.Heard.TheVariants as heard
 use Rattle.t0_core.specs.declared.heard.Due.{Due}
 use Rattle.t0_core.specs.declared.heard.Due.TheVariants as due
-use Rattle.t0_core.specs.declared.unheard.Unheard.{Unheard}
-use Rattle.t0_core.specs.declared.unheard.Unheard.TheVariants.{OutOfTurn, BadProcedure}
+use Rattle.t0_core.specs.declared.tap_fault.TapFault.{TapFault}
+use Rattle.t0_core.specs.declared.tap_fault.TapFault.TheVariants.{OutOfTurn, BadProcedure}
 use Rattle.t0_core.specs.Dialogue.{Body, data_sender, foreseen, to_move}
 use Rattle.t0_core.specs.Front.{Front, In_header, In_body, After_first, IsBetween, with_segment, with_moved}
 use Rattle.t0_core.specs.FrontLaws.{all_moves-within, begins_between}
 use Rattle.t0_core.specs.DialogueLaws.{all_more}
-use Rattle.t0_core.specs.TapSide.{Place, In_opening, Between, In_data, After_sw1, SaysSo, TapStandsAt, HasTurn, other_end, unheard_at, unheard_procedure, heard_at, heard_procedure, after_hearing, begun_by, may_come_from, way_of}
+use Rattle.t0_core.specs.TapSide.{Place, In_opening, Between, In_data, After_sw1, SaysSo, TapStandsAt, HasTurn, other_end, tap_fault_at, tap_procedure_fault, heard_at, heard_procedure, after_hearing, begun_by, may_come_from, way_of}
 use Rattle.t0_core.proofs.TapLemmas.{HearsOne, header_goes, may_come, stands_inside}
 
 -- ---- out of turn: the other end sends next
 
-not_out_of_turn : (found : Option Step) (byte : ℕ) → unheard_procedure found byte ≡ Some OutOfTurn
+not_out_of_turn : (found : Option Step) (byte : ℕ) → tap_procedure_fault found byte ≡ Some OutOfTurn
     → ⊥
 not_out_of_turn (Some step) byte e = absurd (cc)
 not_out_of_turn None byte e = split (is_first_status byte) e
@@ -85,7 +85,7 @@ status_turn b first =
     (0, lit< tt, inr (record { body = b; status = (first, 0) }, (refl, lit< tt, refl)))
 
 others_turn : (place : Place) (from : End) (byte : ℕ) (front : Front) → TapStandsAt place front
-    → unheard_at place from byte ≡ Some OutOfTurn → HasTurn (other_end from) front
+    → tap_fault_at place from byte ≡ Some OutOfTurn → HasTurn (other_end from) front
 others_turn (In_opening bytes) Card byte (In_header heard) at e =
     header_turn heard (omega (arith, at.1, ap length at.0))
 others_turn (In_opening bytes) Terminal byte (In_header heard) at e = absurd (cc)
@@ -114,7 +114,7 @@ no_bad true e = absurd (cc)
 no_bad false e = absurd (cc)
 
 bad_in_turn : (place : Place) (from : End) (byte : ℕ) (front : Front) → TapStandsAt place front
-    → unheard_at place from byte ≡ Some BadProcedure → HasTurn (other_end from) front → ⊥
+    → tap_fault_at place from byte ≡ Some BadProcedure → HasTurn (other_end from) front → ⊥
 bad_in_turn (In_opening bytes) Terminal byte front at e turn = absurd (cc)
 bad_in_turn (In_opening bytes) Card byte front at e turn = absurd (cc)
 bad_in_turn (Between said) Terminal byte front at e turn = absurd (cc)
@@ -124,16 +124,16 @@ bad_in_turn (In_data said until) from byte front at e turn = no_bad _ e
 bad_in_turn (After_sw1 said sw1) Terminal byte front at e turn = absurd (cc)
 bad_in_turn (After_sw1 said sw1) Card byte front at e turn = absurd (cc)
 
-reason_at : (place : Place) (from : End) (byte : ℕ) (fault : Unheard) (front : Front)
-    → TapStandsAt place front → unheard_at place from byte ≡ Some fault
+reason_at : (place : Place) (from : End) (byte : ℕ) (fault : TapFault) (front : Front)
+    → TapStandsAt place front → tap_fault_at place from byte ≡ Some fault
     → (fault ≡ OutOfTurn) ↔ HasTurn (other_end from) front
 reason_at place from byte OutOfTurn front at e =
     (λ _. others_turn place from byte front at e, λ _. refl)
 reason_at place from byte BadProcedure front at e =
     (λ is. absurd (cc), λ turn. absurd (bad_in_turn place from byte front at e turn))
 
-pub reason : (p seen : Place) (from : End) (byte : ℕ) (fault : Unheard) → p ≡ seen
-    → unheard_at p from byte ≡ Some fault → (front : Front) → TapStandsAt seen front
+pub reason : (p seen : Place) (from : End) (byte : ℕ) (fault : TapFault) → p ≡ seen
+    → tap_fault_at p from byte ≡ Some fault → (front : Front) → TapStandsAt seen front
     → (fault ≡ OutOfTurn) ↔ HasTurn (other_end from) front
 reason p seen from byte fault is why front stands =
     reason_at p from byte fault front (stands_inside p seen front is stands) why

@@ -5,9 +5,9 @@ use Rattle.t0_core.specs.declared.direction.Direction.TheVariants.{FromCard}
 use Rattle.t0_core.specs.declared.plan.Step.TheVariants.{Null, One, All}
 use Rattle.t0_core.specs.declared.heard.Said.{Said}
 use Rattle.t0_core.specs.declared.heard.Heard.TheVariants.{Header, Procedure, Data, FirstStatus, SecondStatus}
-use Rattle.t0_core.specs.declared.unheard.Unheard.TheVariants.{OutOfTurn, BadProcedure}
+use Rattle.t0_core.specs.declared.tap_fault.TapFault.TheVariants.{OutOfTurn, BadProcedure}
 use Rattle.t0_core.specs.Character.{sent_by}
-use Rattle.t0_core.specs.TapSide.{Between, In_data, After_sw1, unheard_at, afresh, after_hearing}
+use Rattle.t0_core.specs.TapSide.{Between, In_data, After_sw1, tap_fault_at, afresh, after_hearing}
 use Rattle.t0_core.specs.TapLine.{HearsInTurn}
 
 -- an object of two bytes, after a NULL and one single byte
@@ -72,21 +72,21 @@ open_with ins p3 = record {
 }
 
 -- after INS either end may send the data; with P3 00 only the card
-either_end : unheard_at (In_data (open_with 0xDA 1) 1) Terminal 0x41 ≡ None
+either_end : tap_fault_at (In_data (open_with 0xDA 1) 1) Terminal 0x41 ≡ None
 either_end = refl
 
-the_card_alone : unheard_at (In_data (open_with 0xCA 0) 256) Terminal 0x41 ≡ Some OutOfTurn
+the_card_alone : tap_fault_at (In_data (open_with 0xCA 0) 256) Terminal 0x41 ≡ Some OutOfTurn
 the_card_alone = refl
 
 begins_256 : after_hearing (Between (open_with 0xCA 0)) Card 0xCA ≡ In_data (open_with 0xCA 0) 256
 begins_256 = refl
 
 -- if INS is invalid, its own value is SW1
-no_instruction : unheard_at (Between (open_with 0x6F 1)) Card 0x10 ≡ Some BadProcedure
+no_instruction : tap_fault_at (Between (open_with 0x6F 1)) Card 0x10 ≡ Some BadProcedure
 no_instruction = refl
 
 a_status : after_hearing (Between (open_with 0x6F 1)) Card 0x6F ≡ After_sw1 (open_with 0x6F 1) 0x6F
 a_status = refl
 
-not_the_cards : unheard_at afresh Card 0x3B ≡ Some OutOfTurn
+not_the_cards : tap_fault_at afresh Card 0x3B ≡ Some OutOfTurn
 not_the_cards = refl

@@ -4,13 +4,13 @@ use Rattle.t0_core.specs.declared.heard.Heard.{Heard}
 use Rattle.t0_core.specs.declared.heard.Heard.TheVariants as heard
 use Rattle.t0_core.specs.Character.{Character}
 use Rattle.t0_core.specs.Dialogue.{Dialogue}
-use Rattle.t0_core.specs.TapSide.{Place, unheard_at, heard_at, after_hearing, SaysSo}
+use Rattle.t0_core.specs.TapSide.{Place, tap_fault_at, heard_at, after_hearing, SaysSo}
 
 -- it takes each character, and returns these
 abbrev pub HearsInTurn : Place → List Character → List Heard → Place → Type 0
 HearsInTurn old [] told new = (told ≡ []) × (new ≡ old)
 HearsInTurn old (c ∷ cs) [] new = ⊥
-HearsInTurn old (c ∷ cs) (this ∷ told) new = (unheard_at old c.0 c.1 ≡ None)
+HearsInTurn old (c ∷ cs) (this ∷ told) new = (tap_fault_at old c.0 c.1 ≡ None)
     × (this ≡ heard_at old c.0 c.1) × HearsInTurn (after_hearing old c.0 c.1) cs told new
 
 -- Each SW2 among its results reports one of the dialogues, in turn: its header and P3, the

@@ -14,8 +14,8 @@ use Rattle.t0_core.specs.declared.heard.Heard.{Heard}
 use Rattle.t0_core.specs.declared.heard.Heard.TheVariants as heard
 use Rattle.t0_core.specs.declared.heard.Due.{Due}
 use Rattle.t0_core.specs.declared.heard.Due.TheVariants as due
-use Rattle.t0_core.specs.declared.unheard.Unheard.{Unheard}
-use Rattle.t0_core.specs.declared.unheard.Unheard.TheVariants.{OutOfTurn, BadProcedure}
+use Rattle.t0_core.specs.declared.tap_fault.TapFault.{TapFault}
+use Rattle.t0_core.specs.declared.tap_fault.TapFault.TheVariants.{OutOfTurn, BadProcedure}
 use Rattle.t0_core.specs.Character.{Character}
 use Rattle.t0_core.specs.Dialogue.{Body, Dialogue, foreseen, moves, to_move}
 use Rattle.t0_core.specs.Front.{Front, In_header, In_body, After_first, front_characters, GoesOn, Ends, IsBetween, IsFront, with_segment, with_moved}
@@ -111,20 +111,20 @@ begun_by ins byte =
     if ins_is_valid ins then step_of ins byte else (if byte == 0x60 then Some Null else None)
 
 -- the error of a byte of the card that is neither a procedure byte nor SW1
-abbrev pub unheard_procedure : Option Step → ℕ → Option Unheard
-unheard_procedure (Some step) byte = None
-unheard_procedure None byte = if is_first_status byte then None else Some BadProcedure
+abbrev pub tap_procedure_fault : Option Step → ℕ → Option TapFault
+tap_procedure_fault (Some step) byte = None
+tap_procedure_fault None byte = if is_first_status byte then None else Some BadProcedure
 
-abbrev pub unheard_byte : Place → ℕ → Option Unheard
-unheard_byte (In_opening bytes) byte = None
-unheard_byte (Between said) byte = unheard_procedure (begun_by said.header.ins byte) byte
-unheard_byte (In_data said until) byte = None
-unheard_byte (After_sw1 said sw1) byte = None
+abbrev pub tap_byte_fault : Place → ℕ → Option TapFault
+tap_byte_fault (In_opening bytes) byte = None
+tap_byte_fault (Between said) byte = tap_procedure_fault (begun_by said.header.ins byte) byte
+tap_byte_fault (In_data said until) byte = None
+tap_byte_fault (After_sw1 said sw1) byte = None
 
 -- why a character is refused, if it is
-abbrev pub unheard_at : Place → End → ℕ → Option Unheard
-unheard_at place from byte =
-    if may_come_from (due_at place) from then unheard_byte place byte else Some OutOfTurn
+abbrev pub tap_fault_at : Place → End → ℕ → Option TapFault
+tap_fault_at place from byte =
+    if may_come_from (due_at place) from then tap_byte_fault place byte else Some OutOfTurn
 
 abbrev pub other_end : End → End
 other_end Terminal = Card
@@ -229,6 +229,6 @@ IsPlace (In_data said until) = IsSaid said × (said.moved < until)
 IsPlace (After_sw1 said sw1) = IsSaid said × IsStatusWord (sw1, 0)
 
 -- the texts of errors
-abbrev pub unheard_text : Unheard → List ℕ
-unheard_text OutOfTurn = codes "character out of turn"
-unheard_text BadProcedure = codes "bad procedure byte"
+abbrev pub tap_fault_text : TapFault → List ℕ
+tap_fault_text OutOfTurn = codes "character out of turn"
+tap_fault_text BadProcedure = codes "bad procedure byte"

@@ -4,8 +4,8 @@
 //! A [`HostEnd`] opens a TPDU and appends the card's data to a [`Gather`]. A [`CardEnd`] serves any
 //! [`TpduCard`], under the [`Plan`]s of a [`Plans`] cursor. A [`Tap`] hears both and reports what
 //! each character is. [`WholeTpdu`] is for transports without single characters. A [`Watch`]
-//! observes a line. [`LineFault`], [`AnswerFault`], [`TpduFault`], [`NotListening`] and [`Unheard`]
-//! are the errors. One step between both ends:
+//! observes a line. [`LineFault`], [`AnswerFault`], [`TpduFault`], [`NotListening`] and
+//! [`TapFault`] are the errors. One step between both ends:
 //!
 //! ```rust
 //! // crates/library_use/src/line.rt
@@ -42,9 +42,9 @@ mod recorder;
 mod request;
 mod service;
 mod tap;
+mod tap_fault;
 mod tpdu_card;
 mod tpdu_fault;
-mod unheard;
 mod watch;
 mod whole_tpdu;
 
@@ -61,8 +61,8 @@ pub use plan::{Plan, Plans, Step};
 pub use plan_queue::PlanQueue;
 pub use recorder::Recorder;
 pub use tap::Tap;
+pub use tap_fault::TapFault;
 pub use tpdu_card::{TpduCard, Verdict};
 pub use tpdu_fault::TpduFault;
-pub use unheard::Unheard;
 pub use watch::{Silent, Watch};
 pub use whole_tpdu::WholeTpdu;

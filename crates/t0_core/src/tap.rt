@@ -3,7 +3,7 @@ ghost use Rattle.std.specs.Prelude.{◌≡◌, ◌≤◌, ◌<◌, ◌++◌, ◌
 ghost use Rattle.std.specs.Result.{result_err};
 ghost use Rattle.t0_core.specs.Front.{Front, GoesOn, Ends};
 ghost use Rattle.t0_core.specs.Dialogue.{Dialogue};
-ghost use Rattle.t0_core.specs.TapSide.{TapStandsAt, Takes, Makes, Concludes, IsReadFront, IsSaid, foreseen_by, begun_by, begun_at, moved_to, after_opening, due_at, unheard_at, unheard_byte, unheard_procedure, heard_at, heard_procedure, after_hearing, afresh, may_come_from, other_end, HasTurn};
+ghost use Rattle.t0_core.specs.TapSide.{TapStandsAt, Takes, Makes, Concludes, IsReadFront, IsSaid, foreseen_by, begun_by, begun_at, moved_to, after_opening, due_at, tap_fault_at, tap_byte_fault, tap_procedure_fault, heard_at, heard_procedure, after_hearing, afresh, may_come_from, other_end, HasTurn};
 ghost use Rattle.t0_core.specs.TapHistory.{HasHeard, HearsOn};
 ghost use Rattle.t0_core.specs.History.{Event, Reset};
 ghost use Rattle.t0_core.specs.TapView.{place_of, IsHeldAt};
@@ -13,7 +13,7 @@ use crate::end::End;
 use crate::heard::{Due, Heard, Said};
 use crate::plan::Step;
 use crate::procedure::{moves, step_of};
-use crate::unheard::Unheard;
+use crate::tap_fault::TapFault;
 use apdu_core::{Header, Status};
 use std::marker::Model;
 
@@ -79,8 +79,8 @@ impl Tap {
     ///
     /// - `OutOfTurn`: the other end sends the next character.
     /// - `BadProcedure`: a procedure byte or SW1 is expected, and the byte is neither.
-    pub fn hear(&mut self, from: End, byte: u8) -> Result<Heard, Unheard>
-        ensures fault { result_err result ≡ unheard_at self.old from byte }
+    pub fn hear(&mut self, from: End, byte: u8) -> Result<Heard, TapFault>
+        ensures fault { result_err result ≡ tap_fault_at self.old from byte }
         ensures refused { OnErr result (self.new ≡ self.old) }
         ensures taken { IfOk result (λ heard. (heard ≡ heard_at self.old from byte)
             × (self.new ≡ after_hearing self.old from byte)) }
@@ -98,7 +98,7 @@ impl Tap {
 
         // A refused character is out of turn exactly if the other end sends next.
         ensures reason { IfErr result (λ fault. (front : Front) → TapStandsAt self.old front →
-            (fault ≡ Unheard.OutOfTurn) ↔ HasTurn (other_end from) front) }
+            (fault ≡ TapFault.OutOfTurn) ↔ HasTurn (other_end from) front) }
 
         // The state after a data character does not depend on its value.
         ensures forgets { IfOk result (λ heard. (direction : Direction) (other : ℕ) →
@@ -109,7 +109,7 @@ impl Tap {
             IfOk result (λ heard. HearsOn led heard (from, byte) self.new) }
     {
         if !due_at(self.stage).may_come_from(from) {
-            return Err(Unheard::OutOfTurn);
+            return Err(TapFault::OutOfTurn);
         }
         let (stage, heard) = after(self.stage, from, byte)?;
         self.stage = stage;
@@ -145,10 +145,10 @@ fn due_at(stage: TapStage) -> Due
 }
 
 /// The stage after a character of an end that may send one, and what the character was.
-fn after(stage: TapStage, from: End, byte: u8) -> Result<(TapStage, Heard), Unheard>
+fn after(stage: TapStage, from: End, byte: u8) -> Result<(TapStage, Heard), TapFault>
     requires held { IsHeldAt stage }
     requires turn { may_come_from (due_at (place_of stage)) from ≡ true }
-    ensures fault { result_err result ≡ unheard_byte (place_of stage) byte }
+    ensures fault { result_err result ≡ tap_byte_fault (place_of stage) byte }
     ensures taken { IfOk result (λ next.
         (place_of next.0 ≡ after_hearing (place_of stage) from byte)
         × (next.1 ≡ heard_at (place_of stage) from byte) × IsHeldAt next.0) }
@@ -198,9 +198,9 @@ fn after_opening(mut bytes: [u8; 4], taken: usize, byte: u8) -> TapStage
 }
 
 /// The stage after a character of the card, where a procedure byte or SW1 is expected.
-fn after_procedure_byte(said: Said, byte: u8) -> Result<(TapStage, Heard), Unheard>
+fn after_procedure_byte(said: Said, byte: u8) -> Result<(TapStage, Heard), TapFault>
     requires { IsSaid said }
-    ensures fault { result_err result ≡ unheard_procedure (begun_by said.header.ins byte) byte }
+    ensures fault { result_err result ≡ tap_procedure_fault (begun_by said.header.ins byte) byte }
     ensures taken { IfOk result (λ next.
         (place_of next.0 ≡ begun_at (begun_by said.header.ins byte) said byte)
         × (next.1 ≡ heard_procedure (begun_by said.header.ins byte)) × IsHeldAt next.0) }
@@ -216,7 +216,7 @@ fn after_procedure_byte(said: Said, byte: u8) -> Result<(TapStage, Heard), Unhea
                 Heard::FirstStatus,
             ))
         }
-        _ => Err(Unheard::BadProcedure),
+        _ => Err(TapFault::BadProcedure),
     }
 }
 

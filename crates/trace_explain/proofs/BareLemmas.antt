@@ -14,9 +14,9 @@ use Rattle.t0_core.specs.Dialogue.{Body, Dialogue, IsDialogue, all_moves, charac
 use Rattle.t0_core.specs.DialogueLaws.{all_more, flat_map_last}
 use Rattle.t0_core.specs.Front.{Front, In_header, In_body, After_first, EndInLast, IsFront, fresh, front_characters}
 use Rattle.t0_core.specs.declared.heard.Heard.{Heard}
-use Rattle.t0_core.specs.declared.unheard.Unheard.{Unheard}
+use Rattle.t0_core.specs.declared.tap_fault.TapFault.{TapFault}
 use Rattle.t0_core.specs.History.{Event, Passed, Reset, Whole, events_of, passed}
-use Rattle.t0_core.specs.TapSide.{Place, TapStandsAt, afresh, heard_at, unheard_at}
+use Rattle.t0_core.specs.TapSide.{Place, TapStandsAt, afresh, heard_at, tap_fault_at}
 use Rattle.t0_core.specs.TapHistory.{HasHeard, HearsOn}
 use Rattle.trace_explain.specs.declared.follow.listener.Listener.{Listener}
 use Rattle.trace_explain.specs.declared.follow.tally.Tally.{Tally}
@@ -222,11 +222,11 @@ heard_behind events before whole old mid new h byte n bare status tap_is is whol
     (ap is_last (h_is ∙ ap (λ p. heard_at p Terminal byte) tap_is)) noted_is
 
 -- no character of the terminal is refused there
-pub header_refused : (p : Place) (byte : ℕ) (why : Unheard) → p ≡ afresh
-    → Some why ≡ unheard_at p Terminal byte → ⊥
+pub header_refused : (p : Place) (byte : ℕ) (why : TapFault) → p ≡ afresh
+    → Some why ≡ tap_fault_at p Terminal byte → ⊥
 header_refused p byte why is refused =
     absurd (let no : Some why ≡ None =
-    refused ∙ ap (λ q. unheard_at q Terminal byte) is in cc)
+    refused ∙ ap (λ q. tap_fault_at q Terminal byte) is in cc)
 
 -- something of such a command has come
 bare_some : (t : Told) (n : ℕ) → n ≡ length t.header → is_bare t ≡ true → (front : Front)

@@ -10,7 +10,7 @@ use Rattle.t0_core.specs.declared.plan.Step.TheVariants.{Null, All}
 use Rattle.t0_core.specs.Character.{Character}
 use Rattle.t0_core.specs.Dialogue.{Body, Dialogue, IsDialogue}
 use Rattle.t0_core.specs.Front.{Front, IsFront, GoesOn, Ends, front_characters}
-use Rattle.t0_core.specs.TapSide.{TapStandsAt, IsRead, IsReadFront, unheard_at}
+use Rattle.t0_core.specs.TapSide.{TapStandsAt, IsRead, IsReadFront, tap_fault_at}
 use Rattle.t0_core.specs.History.{Event, Item, Whole, Cut_off, events_of, passed}
 use Rattle.t0_core.specs.TapHistory.{IsOverheard}
 use Rattle.trace_explain.specs.declared.follow.listener.Listener.{Listener}
@@ -95,6 +95,6 @@ pub record NoneGoesOn (l : Listener) (c : Character) : Type 0 where
 
 -- A character was refused for this reason, and nothing has changed; or memory was wanting.
 abbrev pub IsRefused : Refusal → Listener → Character → Listener → Type 0
-IsRefused (NoDialogue unheard) old c new =
-    NoneGoesOn old c × (unheard_at old.tap c.0 c.1 ≡ Some unheard) × (new ≡ old)
+IsRefused (NoDialogue fault) old c new =
+    NoneGoesOn old c × (tap_fault_at old.tap c.0 c.1 ≡ Some fault) × (new ≡ old)
 IsRefused OutOfMemory old c new = Unit {0}

@@ -3,11 +3,11 @@
 use apdu_core::{Header, Status};
 use std::alloc::AllocGlobal;
 use std::process::Abort;
-use t0_core::{Direction, Due, End, Heard, Said, Step, Tap, Unheard};
+use t0_core::{Direction, Due, End, Heard, Said, Step, Tap, TapFault};
 
 /// A call of the tap. For the proof: it has no clause, since each proof that knows what the call
 /// promises is dearer, and the tests don't need it.
-fn said(tap: &mut Tap, from: End, byte: u8) -> Result<Heard, Unheard> {
+fn said(tap: &mut Tap, from: End, byte: u8) -> Result<Heard, TapFault> {
     tap.hear(from, byte)
 }
 
@@ -19,7 +19,7 @@ fn hears(rt: &impl Abort, tap: &mut Tap, from: End, heard: &[(u8, Heard)]) {
 }
 
 /// Checks that the tap refuses these characters of one end.
-fn refuses(rt: &impl Abort, tap: &mut Tap, from: End, bytes: &[u8], why: Unheard) {
+fn refuses(rt: &impl Abort, tap: &mut Tap, from: End, bytes: &[u8], why: TapFault) {
     for byte in bytes {
         assert!(rt; said(tap, from, *byte) == Err(why), "{byte}");
     }
@@ -133,7 +133,7 @@ fn sees_from_the_first_data_character_which_way_they_move(rt: HostRuntime) {
     hears(&rt, &mut tap, End::Card, &[(0xDA, ALL)]);
     wants(&rt, &tap, Due::Data(None));
     hears(&rt, &mut tap, End::Terminal, &[(0x41, IN)]);
-    refuses(&rt, &mut tap, End::Card, &[0x42], Unheard::OutOfTurn);
+    refuses(&rt, &mut tap, End::Card, &[0x42], TapFault::OutOfTurn);
     hears(&rt, &mut tap, End::Terminal, &[(0x42, IN)]);
     hears(&rt, &mut tap, End::Card, &[(0x90, SW1)]);
     ends(&rt, &mut tap, put, Some(Direction::ToCard), 2);
@@ -145,7 +145,7 @@ fn reads_ins_after_p3_of_zero_as_256_from_the_card(rt: HostRuntime) {
     let mut tap = opened(&rt, &get);
     hears(&rt, &mut tap, End::Card, &[(0xCA, ALL)]);
     wants(&rt, &tap, Due::Data(Some(Direction::FromCard)));
-    refuses(&rt, &mut tap, End::Terminal, &[0x00], Unheard::OutOfTurn);
+    refuses(&rt, &mut tap, End::Terminal, &[0x00], TapFault::OutOfTurn);
     hears(&rt, &mut tap, End::Card, &[(0x90, OUT); 256]);
     hears(&rt, &mut tap, End::Card, &[(0x90, SW1)]);
     ends(&rt, &mut tap, get, Some(Direction::FromCard), 256);
@@ -163,18 +163,18 @@ fn a_status_without_data_shows_no_way(rt: HostRuntime) {
 #[test]
 fn what_no_dialogue_goes_on_with_changes_nothing(rt: HostRuntime) {
     let mut tap = Tap::new();
-    refuses(&rt, &mut tap, End::Card, &[0x00], Unheard::OutOfTurn);
+    refuses(&rt, &mut tap, End::Card, &[0x00], TapFault::OutOfTurn);
     opens(&rt, &mut tap, &[0x00, 0xCA, 0x5F, 0x20, 0x01]);
-    refuses(&rt, &mut tap, End::Terminal, &[0x00], Unheard::OutOfTurn);
+    refuses(&rt, &mut tap, End::Terminal, &[0x00], TapFault::OutOfTurn);
     let none = [0x00, 0x5F, 0x70, 0x8F, 0xA0, 0xFF];
-    refuses(&rt, &mut tap, End::Card, &none, Unheard::BadProcedure);
+    refuses(&rt, &mut tap, End::Card, &none, TapFault::BadProcedure);
     hears(
         &rt,
         &mut tap,
         End::Card,
         &[(0xCA, ALL), (0x00, OUT), (0x6C, SW1)],
     );
-    refuses(&rt, &mut tap, End::Terminal, &[0x05], Unheard::OutOfTurn);
+    refuses(&rt, &mut tap, End::Terminal, &[0x05], TapFault::OutOfTurn);
     wants(&rt, &tap, Due::SecondStatus);
 }
 
@@ -201,13 +201,13 @@ fn a_reset_drops_the_dialogue_under_way(rt: HostRuntime) {
 }
 
 /// Checks the text of an error.
-fn says(rt: &(impl Abort + AllocGlobal), why: Unheard, text: &str) {
+fn says(rt: &(impl Abort + AllocGlobal), why: TapFault, text: &str) {
     let said = format!(in rt.alloc(); "{why}").expect(rt, "memory");
     assert!(rt; said.as_str() == text, "{text}");
 }
 
 #[test]
 fn texts_of_what_is_not_heard(rt: HostRuntime) {
-    says(&rt, Unheard::OutOfTurn, "character out of turn");
-    says(&rt, Unheard::BadProcedure, "bad procedure byte");
+    says(&rt, TapFault::OutOfTurn, "character out of turn");
+    says(&rt, TapFault::BadProcedure, "bad procedure byte");
 }

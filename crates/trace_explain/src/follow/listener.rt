@@ -63,7 +63,7 @@ impl Listener {
         }
         let heard = match self.tap.hear(from, byte) {
             Ok(heard) => heard,
-            Err(unheard) => return Err(Refusal::NoDialogue(unheard)),
+            Err(fault) => return Err(Refusal::NoDialogue(fault)),
         };
         self.under_way.note(&heard, byte)?;
         if is_last(&heard) {
@@ -89,7 +89,7 @@ impl Listener {
                 self.under_way.note(&heard, byte)?;
                 Ok(Some(whole))
             }
-            Err(unheard) => Err(Refusal::NoDialogue(unheard)),
+            Err(fault) => Err(Refusal::NoDialogue(fault)),
         }
     }
 

@@ -1,13 +1,13 @@
 //! The reasons why a listener does not take a character.
 
 use std::alloc::AllocError;
-use t0_core::Unheard;
+use t0_core::TapFault;
 
 /// Why a character was not taken.
 #[derive(Clone, Copy)]
 pub enum Refusal {
     /// No dialogue goes on with it.
-    NoDialogue(Unheard),
+    NoDialogue(TapFault),
     /// Memory was wanting.
     OutOfMemory,
 }

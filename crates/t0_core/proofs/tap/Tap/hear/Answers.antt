@@ -1,6 +1,6 @@
 use Rattle.std.proofs.Common.{sym, ◌≡◌, None, Some, ◌∙◌, ap}
-use Rattle.t0_core.specs.declared.unheard.Unheard.TheVariants.{OutOfTurn}
-use Rattle.t0_core.specs.TapSide.{may_come_from, unheard_at}
+use Rattle.t0_core.specs.declared.tap_fault.TapFault.TheVariants.{OutOfTurn}
+use Rattle.t0_core.specs.TapSide.{may_come_from, tap_fault_at}
 use Rattle.t0_core.specs.TapView.{place_of}
 use Rattle.t0_core.proofs.TapLemmas.{HearsOne, hears_none, hears_all, hears_of_one, hears_led, place_in_range, out_of_turn, in_turn}
 use Rattle.t0_core.proofs.TapTurns.{reason, leaves_no_trace}
@@ -8,7 +8,7 @@ use Rattle.t0_core.proofs.tap.Tap.hear.Goals as goal
 
 -- the other end sends next
 refused_is : (c : goal.Then-not-may_come_from)
-    → unheard_at (place_of c.self.inside.stage) c.args.from c.args.byte ≡ Some OutOfTurn
+    → tap_fault_at (place_of c.self.inside.stage) c.args.from c.args.byte ≡ Some OutOfTurn
 refused_is c = out_of_turn (place_of c.self.inside.stage) c.args.from c.args.byte
     (ap (λ x. may_come_from x c.args.from) (sym c.due_at.ensures) ∙ sym c.may_come_from.ensures
     ∙ c.if-not-may_come_from.true)

@@ -15,6 +15,6 @@ returns-in_ok-note-in-Ok-clause-noted c = λ events before n.
 
 pub returns-in-Err-clause-wants : goal.returns-in-Err-clause-wants
 returns-in-Err-clause-wants c =
-    absurd (header_refused c.cut.new.self.tap c.args.byte c.in-Err.unheard
+    absurd (header_refused c.cut.new.self.tap c.args.byte c.in-Err.fault
     (c.cut.ensures.tap ∙ c.reset.ensures.afresh)
     (ap result_err (sym c.in-Err.is) ∙ c.hear.ensures.fault))

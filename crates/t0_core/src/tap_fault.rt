@@ -6,7 +6,7 @@ use std::fmt;
 /// Why no dialogue continues with a character (ISO/IEC 7816-3, 10.3). After either, the tap is
 /// unchanged.
 #[derive(Clone, Copy, Debug, PartialEq, Eq)]
-pub enum Unheard {
+pub enum TapFault {
     /// The other end sends the next character.
     OutOfTurn,
     /// A procedure byte or SW1 is expected, and this byte is neither. If INS is invalid, only NULL
@@ -14,18 +14,18 @@ pub enum Unheard {
     BadProcedure,
 }
 
-impl fmt::Display for Unheard {
+impl fmt::Display for TapFault {
     ghost use Rattle.std.specs.Prelude.{Some};
-    ghost use Rattle.t0_core.specs.TapSide.{unheard_text};
+    ghost use Rattle.t0_core.specs.TapSide.{tap_fault_text};
 
-    ghost output = { λ fault. Some (unheard_text fault) };
+    ghost output = { λ fault. Some (tap_fault_text fault) };
 
     fn fmt<W: fmt::Write>(&self, f: &mut fmt::Formatter<W>) -> fmt::Result {
         match self {
-            Unheard::OutOfTurn => f.write_str("character out of turn"),
-            Unheard::BadProcedure => f.write_str("bad procedure byte"),
+            TapFault::OutOfTurn => f.write_str("character out of turn"),
+            TapFault::BadProcedure => f.write_str("bad procedure byte"),
         }
     }
 }
 
-impl Error for Unheard {}
+impl Error for TapFault {}

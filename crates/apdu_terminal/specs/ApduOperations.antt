@@ -1,5 +1,5 @@
--- An operation at a terminal of whole commands that its caller drives: what is kept of it, which
--- pairs led there, and what each call does.
+-- An operation at a terminal of whole commands that its caller drives: what the terminal keeps,
+-- which pairs led there, and what each call does.
 use Rattle.std.specs.Prelude.{◌≡◌, ◌+◌, ◌*◌, ◌<◌, ◌≤◌, ◌⊎◌, ℕ, List, [], ◌∷◌, ◌++◌, length, Option, Some, None, IfSome, IfErr, Result, MatchResult, Bool, true, false}
 use Rattle.std.specs.List.{AllByRecursion}
 use Rattle.apdu_core.specs.StatusWord.{StatusWord, ok}
@@ -20,15 +20,15 @@ use Rattle.apdu_terminal.specs.ApduSide.{ApduExchangeOf, ComesTo, HasFew, IsSoun
 use Rattle.apdu_terminal.specs.ApduTalk.{AreApdusOf, talk_pairs}
 use Rattle.apdu_terminal.specs.CardApdu.{RespondsToAll}
 
--- The exchange of the operation's command that came last, and what is still to be put after its
--- data, under a tag that these P1-P2 name.
+-- The exchange of the operation's last command, and the rest of a put after its data, under the tag
+-- that P1-P2 name.
 pub record ApduOperationOf : Type 0 where
   pub exchange : ApduExchangeOf
   pub p1 : ℕ
   pub p2 : ℕ
   pub rest : List ℕ
 
--- the most bytes that a response may have, and the operation that began last, if any
+-- the most bytes of a response, and the last operation, if one has begun
 pub record ApduTerminalOf : Type 0 where
   pub limit : ℕ
   pub operation : Option ApduOperationOf
@@ -37,32 +37,32 @@ pub record ApduTerminalOf : Type 0 where
 abbrev pub at_rest : ℕ → ApduTerminalOf
 at_rest limit = record { limit = limit; operation = None }
 
--- the data of the command that came last lie within those of the operation, and its exchange can
--- continue
+-- the data of the last command are part of the operation's, and its exchange satisfies its
+-- invariant
 pub record IsPart (content : List ℕ) (from until : ℕ) (ex : ApduExchangeOf) : Type 0 where
   pub begin : from ≤ until
   pub within : until ≤ length content
   pub sound : IsSound ex
 
--- after a command that is answered 9000 the next has begun, if one follows
+-- after a command with the status 9000 the next has begun, if one follows
 abbrev pub IsSettled : ApduOperationOf → Type 0
 IsSettled o = o.exchange.stage ≡ Done ok → o.rest ≡ []
 
 abbrev pub HasRoomFor : ℕ → Option ApduOperationOf → Type 0
 HasRoomFor limit operation = IfSome operation (λ o. o.exchange.gather.limit ≡ limit)
 
--- what holds of every terminal
+-- the invariant of terminals
 pub record IsSet (limit : ℕ) (operation : Option ApduOperationOf) : Type 0 where
   pub few : limit ≤ response_limit
   pub is_room : HasRoomFor limit operation
   pub settled : IfSome operation (λ o. IsSettled o)
 
--- the limit stays, and is the room of the operation's exchange
+-- the limit stays, and is that of the exchange's room
 pub record KeepsLimit (old new : ApduTerminalOf) : Type 0 where
   pub stays : new.limit ≡ old.limit
   pub is_room : HasRoomFor new.limit new.operation
 
--- a command is due
+-- a command is to be sent
 abbrev pub is_under_way : Option ApduOperationOf → Bool
 is_under_way None = false
 is_under_way (Some o) = is_going o.exchange.stage
@@ -71,15 +71,15 @@ abbrev pub operation_due : Option ApduOperationOf → Option Command
 operation_due None = None
 operation_due (Some o) = due_of o.exchange
 
--- each command has had its exchange and was answered 9000, but for those that are left
+-- each command except those left has had its exchange, with the status 9000
 abbrev pub AreApdusUpTo : List Command → List (List Pair) → List Command → Type 0
 AreApdusUpTo commands [] left = left ≡ commands
 AreApdusUpTo [] (pairs ∷ exchanges) left = ⊥
 AreApdusUpTo (c ∷ commands) (pairs ∷ exchanges) left =
     (brought : List ℕ) × GathersApdus c pairs brought ok × AreApdusUpTo commands exchanges left
 
--- These pairs lead to what is kept of an operation with these commands: the exchanges of the first,
--- each answered 9000, and then what led to the exchange of the next.
+-- These pairs lead to the state of an operation with these commands: the exchanges of the first
+-- ones, each with the status 9000, then the pairs that led to the exchange of the next.
 pub record LeadsThrough (commands : List Command) (pairs : List Pair) (o : ApduOperationOf)
     : Type 0 where
   pub gone : List (List Pair)
@@ -95,18 +95,18 @@ abbrev pub LeadsTo : List Command → List Pair → Option ApduOperationOf → T
 LeadsTo commands pairs None = ⊥
 LeadsTo commands pairs (Some o) = LeadsThrough commands pairs o × IsSettled o
 
--- a card has responded to all that led to an operation
+-- a card has responded to the commands that led to the state of an operation
 abbrev pub HasResponded : {State : Type 0} → (State → ℕ → Tpdu → State → Type 0) → List Command
     → State → State → Option ApduOperationOf → Type 0
 HasResponded Does commands old new operation = (pairs : List Pair)
     × LeadsTo commands pairs operation × RespondsToAll Does old pairs new
 
--- the data of each exchange are at most so many bytes
+-- the data of each exchange are at most `limit` bytes
 abbrev pub HaveRoom : ℕ → List (List Pair) → Type 0
 HaveRoom limit exchanges =
     AllByRecursion (λ pairs. length (all_content pairs) ≤ limit) exchanges
 
--- the exchange of the first command has begun, and the rest is to be put
+-- the exchange of the first command has begun, and the rest is still to be put
 pub record BeginsWith (first : Command) (p1 p2 : ℕ) (rest : List ℕ) (o : ApduOperationOf)
     : Type 0 where
   pub led : ComesTo first (wanted_by first.le) [] o.exchange
@@ -143,17 +143,17 @@ pub record GoesToNext (old new : ApduOperationOf) : Type 0 where
   pub few : HasFew new.exchange
   pub limit : new.exchange.gather.limit ≡ old.exchange.gather.limit
 
--- A number that falls with each response, wherever the next piece begins: how many more commands
--- may be due, at most so many for each byte that is still to be put.
+-- A number that falls with each response, also if the next piece begins: how many more commands
+-- there may be, a fixed number for each byte that is still to be put.
 abbrev pub may_follow : Option ApduOperationOf → ℕ
 may_follow None = 0
 may_follow (Some o) = (2 * (response_limit + 2) + 2) * length o.rest + to_go o.exchange
 
--- after a command's exchange that is over the next begins, if one follows; else nothing changes
+-- if a command's exchange has ended and another follows, that begins; otherwise nothing changes
 abbrev pub GoesOver : ApduOperationOf → ApduOperationOf → Type 0
 GoesOver old new = (IsSettled old × (new ≡ old)) ⊎ GoesToNext old new
 
--- the fault that a response with so many bytes is, if any
+-- the fault of a response with `came` bytes, if it is one
 abbrev pub operation_fault : Option ApduOperationOf → ℕ → Option AnswerFault
 operation_fault None came = Some NotDue
 operation_fault (Some o) came = response_fault o.exchange came
@@ -162,13 +162,13 @@ abbrev pub has_failed_at : Option ApduOperationOf → Type 0
 has_failed_at None = ⊥
 has_failed_at (Some o) = o.exchange.stage ≡ Failed
 
--- the command that is due, with this response
+-- the next command, with this response
 abbrev pub pair_of : Option ApduOperationOf → List ℕ → StatusWord → List Pair
 pair_of None content status = []
 pair_of (Some o) content status = answered_by o.exchange content status ∷ []
 
--- A response is taken, or is a fault. A fault that is not final changes nothing; after a final one
--- the operation has failed.
+-- A terminal takes a response, or returns a fault. A fault that is not final changes nothing; after
+-- a final one the operation has failed.
 pub record IsTakingResponse (old : Option ApduOperationOf) (content : List ℕ)
     (status : StatusWord) (result : Result (Unit {0}) AnswerFault)
     (new : Option ApduOperationOf) : Type 0 where
@@ -187,7 +187,7 @@ abbrev pub operation_answer : Option ApduOperationOf → Option (StatusWord × L
 operation_answer None = None
 operation_answer (Some o) = answer_of o.exchange
 
--- The status and the data of the last command, if the operation is over. The pairs that led there
+-- The status and the data of the last command, if the operation has ended. The pairs that led there
 -- are the exchanges of its commands, with that answer.
 pub record IsOperationAnswer (t : Option ApduOperationOf)
     (answer : Option (StatusWord × List ℕ)) : Type 0 where

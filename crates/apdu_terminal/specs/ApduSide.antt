@@ -1,4 +1,4 @@
--- How far an exchange of whole commands has come.
+-- The state of an exchange of whole commands, and what each of its calls does.
 use Rattle.std.specs.Prelude.{◌≡◌, ℕ, ◌+◌, ◌-◌, ◌*◌, ◌≤◌, List, [], ◌∷◌, ◌++◌, length, Option, Some, None, Bool, true, false, nat_lt, nat_le, if◌then◌else◌, ◌⊎◌, ◌<◌, Result, MatchResult, IfErr, OnOk}
 use Rattle.apdu_core.specs.StatusWord.{StatusWord}
 use Rattle.apdu_core.specs.CommandBytes.{Command, HasSizes}
@@ -17,8 +17,8 @@ use Rattle.apdu_terminal.specs.declared.stage.Stage.{Stage}
 use Rattle.apdu_terminal.specs.declared.stage.Stage.TheVariants.{Going, Done, Failed}
 use Rattle.apdu_terminal.specs.Apdus.{Pair, Place, first_place, is_case_2, may_bring, GoesThrough, all_content, Brings, StallsAt, IsTooLong}
 
--- what an exchange keeps: data and Le of the command that went last or is due, the data so far, the
--- place of that command, what is wanted, and whether one is due
+-- what an exchange keeps: data and Le of its last or next command, the data received so far, the
+-- place of that command, how much is wanted, and the stage
 pub record ApduExchangeOf : Type 0 where
   pub content : List ℕ
   pub le : Option ℕ
@@ -35,11 +35,11 @@ is_going Going = true
 is_going (Done status) = false
 is_going Failed = false
 
--- the command that is due
+-- the next command, if there is one
 abbrev pub due_of : ApduExchangeOf → Option Command
 due_of ex = if is_going ex.stage then Some (command_of ex) else None
 
--- where it stands
+-- the place of its next command
 abbrev pub place_of : ApduExchangeOf → Place
 place_of ex = record {
   due = command_of ex;
@@ -49,15 +49,15 @@ place_of ex = record {
   brought = length ex.gather.bytes - ex.attempt.before;
 }
 
--- An exchange with this room has begun; or the limit is above the most that a response may have;
--- or it is not, and memory ran out.
+-- An exchange with this room has begun; or the limit is above the largest response; or it is not,
+-- and memory ran out.
 abbrev pub IsLimitedTo : ℕ → Result ApduExchangeOf StartFault → Type 0
 IsLimitedTo limit result = MatchResult result
     (λ ex. (limit ≤ response_limit) × (ex.gather.limit ≡ limit))
     (λ fault. ((fault ≡ OverLimit) × (response_limit < limit))
     ⊎ ((fault ≡ OutOfMemory) × (limit ≤ response_limit)))
 
--- what holds of every exchange
+-- the invariant of exchanges
 pub record IsSound (ex : ApduExchangeOf) : Type 0 where
   pub counted : IsCounted ex.attempt (length ex.gather.bytes)
   pub sizes : HasSizes ex.content ex.le
@@ -65,11 +65,11 @@ pub record IsSound (ex : ApduExchangeOf) : Type 0 where
   pub room : ex.gather.limit ≤ response_limit
   pub fits : length ex.gather.bytes ≤ ex.gather.limit
 
--- with so many bytes gathered, at most twice two more commands have gone
+-- with r bytes gathered, at most 2(r + 2) commands were sent or are next
 abbrev pub HasFew : ApduExchangeOf → Type 0
 HasFew ex = ex.attempt.number ≤ 2 * (length ex.gather.bytes + 2)
 
--- the status and the data, where it is over
+-- the status and the data, if it has ended
 abbrev pub answer_at : Stage → List ℕ → Option (StatusWord × List ℕ)
 answer_at Going bytes = None
 answer_at (Done status) bytes = Some (status, bytes)
@@ -83,16 +83,17 @@ has_failed Going = false
 has_failed (Done status) = false
 has_failed Failed = true
 
--- a number that falls with each response: how many more commands may be due
+-- a number that falls with each response: how many more commands there may be
 abbrev pub to_go : ApduExchangeOf → ℕ
 to_go ex =
     if is_going ex.stage then (2 * (ex.gather.limit + 2) + 1) - ex.attempt.number else 0
 
--- the data and Le of the command are those of the one before, or it has no data
+-- the command has the data and Le of the one before, or no data
 abbrev pub KeepsData : ApduExchangeOf → ApduExchangeOf → Type 0
 KeepsData old new = (new.content ≡ []) ⊎ ((new.content ≡ old.content) × (new.le ≡ old.le))
 
--- These pairs lead to the exchange as it is: it goes on; or it is over; or it has failed.
+-- These pairs lead to the exchange as it is: it continues, has ended, has stalled, or has too
+-- little room.
 pub data ComesTo (c : Command) (wanted : Wanted) (pairs : List Pair) (ex : ApduExchangeOf)
     : Type 0 where
   to_place : ex.stage ≡ Going → GoesThrough (first_place c wanted) pairs (place_of ex)
@@ -105,12 +106,12 @@ pub data ComesTo (c : Command) (wanted : Wanted) (pairs : List Pair) (ex : ApduE
   to_fault : ex.stage ≡ Failed → IsTooLong c wanted pairs ex.gather.limit
       → ComesTo c wanted pairs ex
 
--- more came than may
+-- the fault of more data than the command asks for
 abbrev pub excess : Option ℕ → AnswerFault
 excess None = NotAsked
 excess (Some n) = TooMany
 
--- the fault that a response with so many bytes is, if any
+-- the fault of a response with `came` bytes, if it is one
 abbrev pub response_fault : ApduExchangeOf → ℕ → Option AnswerFault
 response_fault ex came =
     if is_going ex.stage then
@@ -118,12 +119,12 @@ response_fault ex came =
     else (if nat_le (length ex.gather.bytes + came) ex.gather.limit then None else Some TooLong))
     else Some NotDue
 
--- the command that is due, with this response
+-- the next command, with this response
 abbrev pub answered_by : ApduExchangeOf → List ℕ → StatusWord → Pair
 answered_by ex content status =
     record { command = command_of ex; content = content; status = status }
 
--- A response is taken, or is a fault, by an exchange.
+-- An exchange takes a response, or returns a fault.
 pub record IsResponding (old : ApduExchangeOf) (content : List ℕ) (status : StatusWord)
     (result : Result (Unit {0}) AnswerFault) (new : ApduExchangeOf) : Type 0 where
   pub fault : MatchResult result (λ _. response_fault old (length content) ≡ None)
@@ -140,7 +141,7 @@ pub record IsResponding (old : ApduExchangeOf) (content : List ℕ) (status : St
       (λ f. fails_with f ≡ true
       → ComesTo c wanted (pairs ++ answered_by old content status ∷ []) new)
 
--- the same exchange over these data of its command
+-- the same exchange, with these data of its command
 abbrev pub over_data : ApduExchangeOf → List ℕ → ApduExchangeOf
 over_data ex content = record {
   content = content;

@@ -1,6 +1,6 @@
--- How a command goes over a transport of whole commands, and what comes back: a reader with a card
--- at T=1 or without contacts, or one that fetches by itself (ISO/IEC 7816-4, 5.1 and GET RESPONSE;
--- when a terminal goes on: this project's profile).
+-- The pairs of command and response of one exchange, and the data that they bring (ISO/IEC 7816-4,
+-- 5.1 and GET RESPONSE). So a reader talks that has a card at T=1 or without contacts, or fetches by
+-- itself. When a terminal sends another command is this project's profile.
 use Rattle.std.specs.Prelude.{◌≡◌, ℕ, ◌+◌, ◌≤◌, ◌<◌, List, [], ◌∷◌, ◌++◌, length, Option, Some, None, Bool, true, false, not, ◌&&◌, ◌==◌, if◌then◌else◌}
 use Rattle.std.specs.List.{flat_map}
 use Rattle.apdu_core.specs.declared.header.Header.{Header}
@@ -10,15 +10,15 @@ use Rattle.object_card.specs.CarryingOut.{get_response}
 use Rattle.card_terminal.specs.declared.wanted.Wanted.{Wanted}
 use Rattle.card_terminal.specs.Gathered.{wanted_by, less, wants_at_least, fetched_after}
 
--- a command that has gone, and the response to it
+-- a command that was sent, and its response
 pub record Pair : Type 0 where
   pub command : Command
   pub content : List ℕ
   pub status : StatusWord
 
--- Where an exchange stands between two of them: the command that is due; whether that is a GET
--- RESPONSE of the exchange's own; whether it repeats the one before, with the count that a 6CXX
--- told; how much is still wanted; and how many bytes what it repeats has brought.
+-- The place of an exchange between two pairs. `due` is the next command. `fetches`: that is a GET
+-- RESPONSE of the exchange's own. `repeats`: it repeats the last command, with the count of a 6CXX.
+-- `left` is how much is still wanted. `brought` is how many bytes the repeated command has brought.
 pub record Place : Type 0 where
   pub due : Command
   pub fetches : Bool
@@ -42,17 +42,17 @@ is_case_2 [] None = false
 is_case_2 [] (Some n) = true
 is_case_2 (b ∷ bs) le = false
 
--- a command with this header that asks for so many bytes
+-- a command with this header that asks for `n` bytes
 abbrev pub asking : Header → ℕ → Command
 asking header n = record { header = header; content = []; le = Some n }
 
--- how many bytes a response may bring: none without Le
+-- how many bytes a response may bring: Le, none without Le
 abbrev pub may_bring : Option ℕ → ℕ
 may_bring None = 0
 may_bring (Some n) = n
 
--- The count that a command is repeated with, where it may be: the one that was told by 6CXX,
--- whatever it had asked for, if that is no more than what is still wanted.
+-- The count that a command is repeated with, if it may be: that of the 6CXX, whatever the command
+-- asked for, if no more than what is still wanted.
 abbrev pub correction : Bool → Wanted → Option ℕ → Option ℕ
 correction may left None = None
 correction may left (Some n) = if may && wants_at_least n left then Some n else None
@@ -63,7 +63,7 @@ pub data Follow : Type 0 where
   Stalls : Follow
   Ends : Follow
 
--- the command again, with this count, after so many bytes
+-- the command again, with the count `n`, after `came` bytes
 abbrev pub repeated : Place → ℕ → ℕ → Place
 repeated at came n = record {
   due = asking at.due.header n;
@@ -73,7 +73,7 @@ repeated at came n = record {
   brought = at.brought + came;
 }
 
--- or a GET RESPONSE for so many
+-- or a GET RESPONSE for `n` bytes
 abbrev pub fetched : Place → ℕ → ℕ → Place
 fetched at came n = record {
   due = asking get_response n;
@@ -83,16 +83,16 @@ fetched at came n = record {
   brought = 0;
 }
 
--- A repetition comes first, then a fetch; but a fetch that has brought nothing, with its
--- repetition, is not followed by another (this project's profile).
+-- A repetition comes first, then a fetch. But no fetch follows one that has brought no data, with
+-- its repetition (this project's profile).
 abbrev pub follow_by : Place → ℕ → Option ℕ → Option ℕ → Follow
 follow_by at came (Some n) announced = Goes (repeated at came n)
 follow_by at came None None = Ends
 follow_by at came None (Some n) =
     if at.fetches && (at.brought + came == 0) then Stalls else Goes (fetched at came n)
 
--- What follows a response with so many bytes. A command of case 2 is repeated once; what is
--- announced by 61XX is fetched, as far as it is still wanted.
+-- What follows a response with `came` bytes. A command of case 2 is repeated once; what a 61XX
+-- announces is fetched, as far as it is still wanted.
 abbrev pub follow : Place → ℕ → StatusWord → Follow
 follow at came status =
     follow_by at came
@@ -100,23 +100,23 @@ follow at came status =
     (corrects status))
     (fetched_after (less at.left came) status)
 
--- the command that is due has gone, and was not answered with more than it asks for
+-- a pair of the next command: its response has no more bytes than the command asks for
 pub record Suits (at : Place) (p : Pair) : Type 0 where
   pub is_due : p.command ≡ at.due
   pub asked_for : length p.content ≤ may_bring at.due.le
 
--- pairs in turn, after which the exchange goes on at this place
+-- pairs in turn, which lead from place to place
 abbrev pub GoesThrough : Place → List Pair → Place → Type 0
 GoesThrough at [] last = last ≡ at
 GoesThrough at (p ∷ pairs) last = (next : Place) × Suits at p
     × (follow at (length p.content) p.status ≡ Goes next) × GoesThrough next pairs last
 
--- all that came back
+-- all data of the responses
 abbrev pub all_content : List Pair → List ℕ
 all_content pairs = flat_map (λ p. p.content) pairs
 
--- The pairs of a whole exchange that begins with this command and wants so much: nothing follows
--- the last, which gives the status.
+-- The pairs of a whole exchange that begins with this command and wants this much. Nothing follows
+-- the last pair, which gives the status.
 pub record Brings (c : Command) (wanted : Wanted) (pairs : List Pair) (gathered : List ℕ)
     (status : StatusWord) : Type 0 where
   pub before : List Pair
@@ -129,7 +129,7 @@ pub record Brings (c : Command) (wanted : Wanted) (pairs : List Pair) (gathered 
   pub status_is : status ≡ last.status
   pub gathered_is : gathered ≡ all_content pairs
 
--- The pairs of one that stalls: the last is a fetch that brought nothing, and more is announced.
+-- The pairs of one that stalls: the last is a fetch that brought no data, and announces more.
 pub record StallsAt (c : Command) (wanted : Wanted) (pairs : List Pair) : Type 0 where
   pub before : List Pair
   pub last : Pair
@@ -139,7 +139,7 @@ pub record StallsAt (c : Command) (wanted : Wanted) (pairs : List Pair) : Type 0
   pub suits : Suits at last
   pub stalls : follow at (length last.content) last.status ≡ Stalls
 
--- The pairs of one whose data are more than there is room for, with the last.
+-- The pairs of one whose room is too small: with the last, the data exceed it.
 pub record IsTooLong (c : Command) (wanted : Wanted) (pairs : List Pair) (limit : ℕ) : Type 0 where
   pub before : List Pair
   pub last : Pair
@@ -149,6 +149,6 @@ pub record IsTooLong (c : Command) (wanted : Wanted) (pairs : List Pair) (limit 
   pub suits : Suits at last
   pub long : limit < length (all_content pairs)
 
--- What a terminal gathers: with Le = 00 everything, also past 256 bytes (this project's profile).
+-- What a terminal gathers: for Le = 00 everything, even above 256 bytes (this project's profile).
 abbrev pub GathersApdus : Command → List Pair → List ℕ → StatusWord → Type 0
 GathersApdus c pairs gathered status = Brings c (wanted_by c.le) pairs gathered status

@@ -1,5 +1,5 @@
--- A whole command at a card whose end takes TPDUs, as a card at T=1 answers it, and as a reader
--- carries it out that fetches by itself (ISO/IEC 7816-3, 12.2).
+-- A whole command at a card whose end takes TPDUs: what a card at T=1 responds, and a reader that
+-- fetches by itself (ISO/IEC 7816-3, 12.2).
 use Rattle.std.specs.Prelude.{◌≡◌, ℕ, ◌%◌, ◌⊎◌, List, [], ◌∷◌, length, Option, Some, None, false}
 use Rattle.apdu_core.specs.CommandBytes.{Command}
 use Rattle.apdu_core.specs.StatusWord.{StatusWord}
@@ -23,7 +23,7 @@ p3_of [] None = 0
 p3_of [] (Some n) = n % 256
 p3_of (b ∷ bs) le = length (b ∷ bs)
 
--- a command of case 4 goes as a TPDU without its Le
+-- a command of case 4 is sent as a TPDU without its Le
 abbrev pub le_of_tpdu : List ℕ → Option ℕ → Option ℕ
 le_of_tpdu [] le = le
 le_of_tpdu (b ∷ bs) le = None
@@ -32,7 +32,7 @@ abbrev pub tpdu_command : Command → Command
 tpdu_command c =
     record { header = c.header; content = c.content; le = le_of_tpdu c.content c.le }
 
--- the TPDU of such a command and its response: all data go to the card or none
+-- the TPDU of such a command, with its response: the card takes all of its data or none
 pub record IsTpduOf (p : Pair) (t : Tpdu) : Type 0 where
   pub header_is : t.header ≡ p.command.header
   pub p3_is : t.p3 ≡ p3_of p.command.content p.command.le
@@ -40,14 +40,15 @@ pub record IsTpduOf (p : Pair) (t : Tpdu) : Type 0 where
   pub received_is : t.received ≡ p.content
   pub status_is : t.status ≡ p.status
 
--- from state to state, a pair at a time
+-- from state to state, one step for each pair
 abbrev pub InTurn : {State : Type 0} → (State → Pair → State → Type 0) → State → List Pair → State
     → Type 0
 InTurn One old [] new = new ≡ old
 InTurn {State = State} One old (p ∷ pairs) new =
     (mid : State) × One old p mid × InTurn One mid pairs new
 
--- the card goes by one TPDU, whose 61XX announces up to 256 bytes, or by one for each pair
+-- the card carries out a pair as a TPDU, whose 61XX announces up to 256 bytes; pairs as TPDUs in
+-- turn
 abbrev pub GoesAs : {State : Type 0} → (State → ℕ → Tpdu → State → Type 0) → State → Pair → State
     → Type 0
 GoesAs Does old p new = (t : Tpdu) × IsTpduOf p t × Does old 256 t new
@@ -56,42 +57,42 @@ abbrev pub GoesBy : {State : Type 0} → (State → ℕ → Tpdu → State → T
     → State → Type 0
 GoesBy Does old pairs new = InTurn (GoesAs Does) old pairs new
 
--- what is wanted of a card that carries out this command: Le bytes
+-- how much is wanted of a card that carries out this command: Le bytes, none without Le
 abbrev pub le_of : Command → Wanted
 le_of c = Bytes (may_bring c.le)
 
--- The card's response to a whole command: what its TPDUs bring to who wants Le bytes, 256 with 00.
+-- The card's response to a whole command: what its TPDUs bring if Le bytes are wanted, 256 for 00.
 abbrev pub Responds : {State : Type 0} → (State → ℕ → Tpdu → State → Type 0) → State → Pair
     → State → Type 0
 Responds Does old p new = (pairs : List Pair)
     × Brings (tpdu_command p.command) (le_of p.command) pairs p.content p.status
     × GoesBy Does old pairs new
 
--- an exchange is over, and holds that response
+-- an exchange has ended, and holds that response
 abbrev pub HasResponse : {State : Type 0} → (State → ℕ → Tpdu → State → Type 0) → State → Command
     → State → ApduExchangeOf → Type 0
 HasResponse Does old c new ex = (status : StatusWord) × (ex.stage ≡ Done status)
     × Responds Does old (record { command = c; content = ex.gather.bytes; status = status }) new
 
--- whole commands in turn
+-- the responses to whole commands in turn
 abbrev pub RespondsToAll : {State : Type 0} → (State → ℕ → Tpdu → State → Type 0) → State
     → List Pair → State → Type 0
 RespondsToAll Does old pairs new = InTurn (Responds Does) old pairs new
 
--- what has been carried out of an exchange: the pairs that led there
+-- the card has carried out the pairs that led to an exchange
 abbrev pub HasHad : {State : Type 0} → (State → Pair → State → Type 0) → Command → Wanted
     → State → State → ApduExchangeOf → Type 0
 HasHad One c wanted old new ex =
     (pairs : List Pair) × ComesTo c wanted pairs ex × InTurn One old pairs new
 
--- of a whole command at a card's end, by TPDUs
+-- the same of a whole command at a card's end, by TPDUs
 abbrev pub HasCome : {State : Type 0} → (State → ℕ → Tpdu → State → Type 0) → Command → State
     → State → ApduExchangeOf → Type 0
 HasCome Does c old new ex = HasHad (GoesAs Does) (tpdu_command c) (le_of c) old new ex
 
--- How a card leaves a whole command that it does not answer. It did not carry out a TPDU of a
--- command that is not agreed with it, and is reset after those before. Or a GET RESPONSE brought
--- nothing, and it announced more.
+-- The state of a card that gives no response to a whole command. It did not finish a TPDU of a
+-- command that is not agreed with it, and is reset after the TPDUs before. Or a GET RESPONSE brought
+-- no data, and the card announced more.
 abbrev pub HasFailed : {C : Type 0} (card : Ghosts C) → Command → card.State → ApduFault
     → card.State → Type 0
 HasFailed card c old why.UnderWay new = ⊥
@@ -103,7 +104,7 @@ HasFailed card c old (why.Tpdu fault) new = (IsAgreed card.MayReceive card.MaySe
 HasFailed card c old (why.Response fault) new = (fault ≡ Stalled) × ((pairs : List Pair)
     × StallsAt (tpdu_command c) (le_of c) pairs × GoesBy card.Does old pairs new)
 
--- Or it has not begun, and nothing has changed.
+-- Or the command has not begun, and nothing has changed.
 abbrev pub IsLeft : {C : Type 0} (card : Ghosts C) → Command → EndOf C → ApduFault → EndOf C
     → Type 0
 IsLeft card c old why.UnderWay new = (rests old.stage ≡ false) × (new ≡ old)

@@ -1,17 +1,17 @@
-//! The faults of a whole command at a card.
+//! The error of `apdu` and `respond`: why a card does not carry out a whole command.
 use std::alloc::AllocError;
 use t0_core::{AnswerFault, TpduFault};
 
-/// Why a card's end does not carry out a whole command.
+/// Why a card's end does not carry out a whole command, and the state after each fault.
 #[derive(Clone, Copy, Debug, PartialEq, Eq)]
 pub enum ApduFault {
-    /// Memory for the response ran out.
+    /// Memory for the response ran out. Nothing changes.
     OutOfMemory,
-    /// A TPDU is in progress at the card's end.
+    /// A TPDU is in progress at the card's end. Nothing changes.
     UnderWay,
-    /// The card did not carry out one of the command's TPDUs, and is reset.
+    /// The card did not finish a TPDU: the command is not agreed with it. The card is reset.
     Tpdu(TpduFault),
-    /// A GET RESPONSE brought nothing, and the card announces more.
+    /// A GET RESPONSE brought no data, and the card announces more. The card is as that leaves it.
     Response(AnswerFault),
 }
 

@@ -1,4 +1,4 @@
-//! Carries out whole commands at a card whose end takes TPDUs.
+//! Carries out a whole command at a card whose end takes TPDUs.
 ghost use Rattle.std.specs.Prelude.{◌≡◌, ◌<◌, ◌≤◌, ◌⊎◌, ℕ, [], Some, None, Err, false, true, IfOk, IfErr, OnOk, MatchResult, length};
 ghost use Rattle.apdu_terminal.specs.declared.apdu_fault.ApduFault.TheVariants as ApduFault;
 ghost use Rattle.apdu_core.specs.CommandBytes as spec;
@@ -20,16 +20,18 @@ use card_terminal::Wanted;
 use std::alloc::Allocator;
 use t0_core::{CardEnd, Gather, Plan, Plans, TpduCard, TpduFault};
 
-/// Carries out a whole command at a card's end (profile). It goes as a TPDU, in case 4 without its
-/// Le. After `6CXX` it goes once more with that count. After `61XX` GET RESPONSE fetches what Le
-/// asks for, 256 bytes with `00`. The rest stays pending, and the status announces it. The exchange
-/// that comes back is over: it holds the data and the status.
+/// Carries out a whole command at a card's end, by TPDUs (profile). The first is the command
+/// itself, in case 4 without its Le. After `6CXX` a TPDU that asks for data is sent once more with
+/// that count. After `61XX` GET RESPONSE fetches as much as Le asks for, 256 bytes for `00`. The
+/// rest stays pending, and the status announces it. The returned exchange has ended: it holds the
+/// data and the status.
 ///
 /// # Errors
 /// - `UnderWay`: a TPDU is in progress at the card's end. Nothing changes.
 /// - `OutOfMemory`: memory for the response ran out. Nothing changes.
-/// - `Tpdu`: the card did not carry out a TPDU, as the command is not agreed with it. It is reset.
-/// - `Response`: a GET RESPONSE brought nothing, and the card announces more. It is as after that.
+/// - `Tpdu`: the card did not finish a TPDU: the command is not agreed with it. The card is reset.
+/// - `Response`: a GET RESPONSE brought no data, and the card announces more. The card is as that
+///   leaves it.
 pub fn apdu<'c, C: TpduCard, A: Allocator + Copy>(
     alloc: A,
     end: &mut CardEnd<C>,
@@ -51,7 +53,7 @@ pub fn apdu<'c, C: TpduCard, A: Allocator + Copy>(
     carry_out(end, command, room, &mut gather)
 }
 
-/// Carries out a whole command in this room, with room for the data of its TPDUs.
+/// The body of `apdu`: `room` is for the response, and `gather` for the data of one TPDU.
 pub(crate) fn carry_out<'c, C: TpduCard, A: Allocator, B: Allocator>(
     end: &mut CardEnd<C>,
     command: Command<'c>,
@@ -86,7 +88,7 @@ fn without_le(command: Command<'_>) -> Command<'_>
     Command::new(command.header(), content, le).unwrap()
 }
 
-/// Carries out the commands that are due, a TPDU each.
+/// Carries out the exchange's commands, one TPDU each, until no command follows.
 fn converse<C: TpduCard, A: Allocator, B: Allocator>(
     end: &mut CardEnd<C>,
     exchange: &mut ApduExchange<'_, A>,
@@ -106,13 +108,14 @@ fn converse<C: TpduCard, A: Allocator, B: Allocator>(
         (λ _. HasCome C.Does c first (C.standing end.new.card) exchange.new)
         (λ f. HasFailed C.TpduCard c first f (C.standing end.new.card)) }
 {
+    // For the proof: the label names the loop's goals.
     'talk: while let Some(due) = exchange.apdu() {
         pass(end, exchange, &due, gather)?;
     }
     Ok(())
 }
 
-/// Carries out the command that is due.
+/// Carries out the exchange's next command.
 fn pass<C: TpduCard, A: Allocator, B: Allocator>(
     end: &mut CardEnd<C>,
     exchange: &mut ApduExchange<'_, A>,
@@ -145,8 +148,8 @@ fn pass<C: TpduCard, A: Allocator, B: Allocator>(
     }
 }
 
-/// Carries out a command of case 1, 2 or 3 as a TPDU, and gathers its data. A card that does not
-/// is reset.
+/// Carries out a command of case 1, 2 or 3 as a TPDU, and gathers its data. If the card does not
+/// finish the TPDU, it is reset.
 fn sent<C: TpduCard, B: Allocator>(
     end: &mut CardEnd<C>,
     due: &Command<'_>,
@@ -166,6 +169,7 @@ fn sent<C: TpduCard, B: Allocator>(
         (λ fault. (C.standing end.new.card ≡ C.after_reset (C.standing end.old.card))
         × (IsAgreed C.MayReceive C.MaySend due.now → ⊥)) }
 {
+    // For the proof: states how long the data are, and which Le there may be.
     let _le = due.le();
     let mut bytes = [0; COMMAND_LIMIT];
     let Some(count) = write_command(due, &mut bytes) else {

@@ -1,4 +1,4 @@
-//! Answers whole commands, as a card of data objects does.
+//! Answers a whole command as a card of data objects does, also one that is not agreed with it.
 ghost use Rattle.std.specs.Prelude.{◌≡◌, ◌⊎◌, ◌≤◌, [], false, true, IfOk, IfErr, length};
 ghost use Rattle.object_card.specs.Agreed.{IsAgreed};
 ghost use Rattle.object_card.specs.Instructions.{MayReceive, MaySend};
@@ -18,9 +18,8 @@ use std::alloc::Allocator;
 use t0_core::{CardEnd, Gather};
 
 /// Answers a whole command, as a card of data objects does (profile). A command that is not agreed
-/// with the card (`object_card::is_agreed`) is answered `6700` before any other refusal, and
-/// nothing changes: a chain or a response stays pending. Every other one is carried out, as `apdu`
-/// does.
+/// with the card (`object_card::is_agreed`) gets `6700` before any other refusal. Then nothing
+/// changes: a chain or a response stays pending. `apdu` carries out every other command.
 ///
 /// # Errors
 /// - `UnderWay`: a TPDU is in progress at the card's end. Nothing changes.
@@ -53,8 +52,8 @@ pub fn respond<'c, C: DataCard, A: Allocator + Copy>(
     Ok(answered(end, command, room, &mut gather))
 }
 
-/// Answers a whole command that is agreed with the card in this room, with room for the data of its
-/// TPDUs.
+/// Answers a whole command that is agreed with the card: `room` is for the response, and `gather`
+/// for the data of one TPDU.
 pub(crate) fn answered<'c, C: DataCard, A: Allocator, B: Allocator>(
     end: &mut CardEnd<C>,
     command: Command<'c>,
@@ -77,7 +76,7 @@ pub(crate) fn answered<'c, C: DataCard, A: Allocator, B: Allocator>(
     exchange
 }
 
-/// `6700`, wrong length.
+/// Returns `6700`, wrong length.
 fn wrong_length() -> Status
     ensures { result ≡ (0x67, 0x00) }
 {

@@ -1,14 +1,14 @@
-//! Writes a whole command as bytes.
+//! Writes a whole command as bytes, for a reader or a line.
 ghost use Rattle.std.specs.Prelude.{◌≡◌, ◌<◌, ◌≤◌, ◌++◌, length, drop, MatchOption};
 ghost use Rattle.apdu_core.specs.CommandBytes.{command_bytes};
 
 use apdu_core::{Command, Header};
 
-/// The most bytes of a command.
+/// The most bytes of a command: header, Lc, 255 bytes of data, Le.
 pub const COMMAND_LIMIT: usize = 261;
 
-/// Writes the command's bytes to the front of `out`, and returns how many they are. If `out` is
-/// too short, returns `None` and changes nothing.
+/// Writes the command's bytes to the front of `out`, and returns their number, 4 to
+/// `COMMAND_LIMIT`. If `out` is too short, returns `None` and changes nothing.
 pub fn write_command(command: &Command<'_>, out: &mut [u8]) -> Option<usize>
     ensures { let bytes = command_bytes command.now in MatchOption result
         ((length out.old < length bytes) × (out.new ≡ out.old))
@@ -24,7 +24,7 @@ pub fn write_command(command: &Command<'_>, out: &mut [u8]) -> Option<usize>
     }
 }
 
-/// Writes these bytes in turn to the front of `out`.
+/// Writes the three parts, one after another, to the front of `out`.
 fn write_parts(first: &[u8], second: &[u8], third: &[u8], out: &mut [u8]) -> Option<usize>
     requires { (length first.now ≤ 5) × (length second.now ≤ 255) × (length third.now ≤ 1) }
     ensures { let bytes = first.now ++ second.now ++ third.now in MatchOption result

@@ -1,4 +1,4 @@
-//! The terminal's side of one command over a transport of whole commands.
+//! The terminal's side of one command and all that follows it, by whole commands.
 ghost use Rattle.std.specs.Prelude.{◌≡◌, ◌≤◌, ◌<◌, OnOk, ◌⊎◌, ◌↔◌, ◌++◌, ◌∷◌, ℕ, List, [], Option, Some, None, true, false, IfOk, IfErr, IfSome, MatchResult, length};
 ghost use Rattle.std.specs.Option.{option_map};
 ghost use Rattle.apdu_core.specs.CommandBytes as spec;
@@ -21,10 +21,11 @@ use std::alloc::{AllocError, Allocator, Global};
 use std::marker::Model;
 use t0_core::{AnswerFault, Gather};
 
-/// The terminal's side of one command: the command itself, once more after `6CXX`, and a GET
-/// RESPONSE after each `61XX` while more is wanted.
+/// The terminal's side of one command. The command is sent first. After `6CXX` a command without
+/// data is sent once more with that count. After `61XX` GET RESPONSE follows, while more is wanted.
 ///
-/// Send what `apdu` returns, and give `responded` the response, until `apdu` is `None`.
+/// Send what `apdu` returns, and give `responded` the response, until `apdu` is `None`. Then
+/// `answer` returns the status and the data.
 #[derive(Drop)]
 pub struct ApduExchange<'a, A: Allocator = Global> {
     content: &'a [u8],
@@ -93,8 +94,8 @@ impl<'a, A: Allocator> ApduExchange<'a, A> {
         Ok(ApduExchange::wanting(alloc, command, wanted, limit)?)
     }
 
-    /// Starts an exchange that wants this much, with room for `limit` bytes. Returns `AllocError`
-    /// if memory ran out.
+    /// Starts an exchange that wants `wanted`, with room for `limit` bytes of the response. Returns
+    /// `AllocError` if memory ran out.
     pub(crate) fn wanting(
         alloc: A,
         command: Command<'a>,
@@ -112,7 +113,7 @@ impl<'a, A: Allocator> ApduExchange<'a, A> {
         Ok(ApduExchange::begin(gather, command, wanted))
     }
 
-    /// Starts an exchange that wants this much, in an empty room.
+    /// Starts an exchange that wants `wanted`, in an empty room.
     pub(crate) fn begin(
         gather: Gather<A>,
         command: Command<'a>,
@@ -159,7 +160,7 @@ impl<'a, A: Allocator> ApduExchange<'a, A> {
         Ok(exchange)
     }
 
-    /// The command to send now; `None` if the exchange is over or has failed.
+    /// Returns the command to send now, or `None` if the exchange has ended or failed.
     pub fn apdu(&self) -> Option<Command<'a>>
         ensures { result ≡ due_of self.now }
     {
@@ -169,7 +170,7 @@ impl<'a, A: Allocator> ApduExchange<'a, A> {
         }
     }
 
-    /// The fault of a response with `came` bytes, if any.
+    /// Returns the fault of a response with `came` bytes of data, if it is one.
     fn fault(&self, came: usize) -> Option<AnswerFault>
         ensures { result ≡ response_fault self.now came }
     {
@@ -184,8 +185,8 @@ impl<'a, A: Allocator> ApduExchange<'a, A> {
         }
     }
 
-    /// Takes the response to the command that is due: its data and its status. If a command
-    /// follows, `apdu` returns it next.
+    /// Takes the response to the command that `apdu` returns: its data and its status. If a command
+    /// follows, `apdu` returns that one next.
     ///
     /// # Errors
     /// In this order (profile):
@@ -193,8 +194,8 @@ impl<'a, A: Allocator> ApduExchange<'a, A> {
     /// - `NotAsked`: data came, and the command has no Le. Nothing changes.
     /// - `TooMany`: more data came than Le asks for. Nothing changes.
     /// - `TooLong`: the data exceed the room. The exchange has failed for good.
-    /// - `Stalled`: a GET RESPONSE that the exchange sent itself brought nothing, and the card
-    ///   announces more. The exchange has failed for good.
+    /// - `Stalled`: a GET RESPONSE of the exchange's own, with its repetition, brought no data, and
+    ///   the card announces more. The exchange has failed for good.
     pub fn responded(&mut self, bytes: &[u8], status: Status) -> Result<(), AnswerFault>
         ensures fault { MatchResult result
             (λ _. response_fault self.old (length bytes.now) ≡ None)
@@ -241,7 +242,7 @@ impl<'a, A: Allocator> ApduExchange<'a, A> {
         }
     }
 
-    /// The status, if the exchange is over.
+    /// Returns the last status, or `None` if the exchange has not ended.
     pub fn status(&self) -> Option<Status>
         ensures { (status : StatusWord) → (result ≡ Some status)
             ↔ (self.now.stage ≡ stage.Done status) }
@@ -252,14 +253,14 @@ impl<'a, A: Allocator> ApduExchange<'a, A> {
         }
     }
 
-    /// The data that have come so far.
+    /// Returns the data received so far.
     pub fn data(&self) -> &[u8]
         ensures { result.now ≡ self.now.gather.bytes }
     {
         self.gather.bytes()
     }
 
-    /// The status and the data, if the exchange is over.
+    /// Returns the status and all data, or `None` if the exchange has not ended.
     pub fn answer(&self) -> Option<(Status, &[u8])>
         ensures done { answer_of self.now ≡ option_map (λ a. (a.0, a.1.now)) result }
         ensures led { (c : spec.Command) (wanted : Wanted) (pairs : List Pair)
@@ -272,7 +273,7 @@ impl<'a, A: Allocator> ApduExchange<'a, A> {
         }
     }
 
-    /// Returns the room, with the data so far.
+    /// Returns the room, with the data received so far.
     pub(crate) fn into_gather(self) -> Gather<A>
         ensures { result ≡ self.entry.gather }
     {
@@ -281,7 +282,7 @@ impl<'a, A: Allocator> ApduExchange<'a, A> {
     }
 }
 
-/// Whether a command with these data and this Le is of case 2: it asks for data and sends none.
+/// Returns whether a command with these data and this Le is of case 2: it only asks for data.
 fn asks_alone(content: &[u8], le: Option<u16>) -> bool
     ensures { result ≡ is_case_2 content.now le }
 {

@@ -1,4 +1,4 @@
-//! Laws of exchanges of whole commands: the contract of each function is one.
+//! Laws of exchanges by whole commands. Each function's contract is a law, for proofs above.
 ghost use Rattle.std.specs.Prelude.{◌≡◌, ◌≤◌, ◌++◌, ◌∷◌, ℕ, List, length, Some, true, ◌+◌, ◌*◌, ◌⊎◌};
 ghost use Rattle.apdu_core.specs.CommandBytes.{Command};
 ghost use Rattle.apdu_core.specs.StatusWord.{StatusWord};
@@ -13,8 +13,8 @@ ghost use Rattle.object_card.specs.State.{CardState, is_idle};
 ghost use Rattle.object_card.specs.OneStep.{Operation, Reply, Answers, AnswersAll, SameTables};
 ghost use Rattle.object_card.specs.CardMeaning.{Does};
 
-/// The pairs leave an exchange no choice. If what led to it continues to a whole exchange, for
-/// whose data there is room, the next command of that is due.
+/// The pairs settle the next command. If the pairs so far begin a whole exchange, and there is room
+/// for its data, the exchange's next command is that one's.
 pub fn the_next_command_is_settled()
     ensures { (c : Command) (wanted : Wanted) (came rest : List Pair) (p : Pair)
         (ex : ApduExchangeOf) (gathered : List ℕ) (status : StatusWord) →
@@ -22,8 +22,8 @@ pub fn the_next_command_is_settled()
         length gathered ≤ ex.gather.limit → due_of ex ≡ Some p.command }
 {}
 
-/// If the pairs that led to an exchange are those of a whole one, for whose data there is room, it
-/// is over, with the status and the data of that one.
+/// An exchange whose pairs are whole has ended, with their status and data, if there is room for
+/// the data.
 pub fn a_whole_exchange_of_commands_is_done()
     ensures { (c : Command) (wanted : Wanted) (pairs : List Pair)
         (ex : ApduExchangeOf) (gathered : List ℕ) (status : StatusWord) →
@@ -32,8 +32,8 @@ pub fn a_whole_exchange_of_commands_is_done()
         (ex.stage ≡ Done status) × (ex.gather.bytes ≡ gathered) }
 {}
 
-/// With any card, and after every list of pairs, an exchange holds what they brought, or has failed
-/// for one of two reasons: it stalled, or the data exceed its room.
+/// With any card, and after any list of pairs, an exchange holds the data that they brought. Or it
+/// has failed for one of two reasons: it stalled, or the data exceed its room.
 pub fn an_exchange_holds_what_came()
     ensures { (c : Command) (wanted : Wanted) (pairs : List Pair) (ex : ApduExchangeOf) →
         ComesTo c wanted pairs ex → (ex.gather.bytes ≡ all_content pairs)
@@ -41,16 +41,16 @@ pub fn an_exchange_holds_what_came()
         × (StallsAt c wanted pairs ⊎ IsTooLong c wanted pairs ex.gather.limit)) }
 {}
 
-/// An exchange that brings r bytes has at most 2(r + 2) commands.
+/// An exchange that brings r bytes takes at most 2(r + 2) commands.
 pub fn an_exchange_has_few_commands()
     ensures { (c : Command) (wanted : Wanted) (pairs : List Pair) (gathered : List ℕ)
         (status : StatusWord) → Brings c wanted pairs gathered status →
         length pairs ≤ 2 * (length gathered + 2) }
 {}
 
-/// What goes over a transport of whole commands for an operation, with a card that responds by its
-/// TPDUs, is that operation in one step. A card with no chain pending then has what the step
-/// leaves, and again no chain is pending.
+/// An operation by whole commands is that operation in one step. The card responds by its TPDUs,
+/// and no chain is pending before. Then its tables are those that the step leaves, and again no
+/// chain is pending.
 pub fn an_operation_by_whole_commands_is_one_step()
     ensures { (old new : CardState) (operation : Operation) (exchanges : List (List Pair))
         (answer : Reply) → is_idle old.pending ≡ true
@@ -60,7 +60,8 @@ pub fn an_operation_by_whole_commands_is_one_step()
         × (is_idle new.pending ≡ true) }
 {}
 
-/// A list of operations has the answers of the card that answers each in one step, and its tables.
+/// Operations by whole commands, one after another, have the answers of the card that carries out
+/// each in one step, and leave its tables.
 pub fn operations_by_whole_commands_are_single_steps()
     ensures { (old new : CardState) (operations : List Operation)
         (talks : List (List (List Pair))) (replies : List Reply) → is_idle old.pending ≡ true
@@ -69,7 +70,7 @@ pub fn operations_by_whole_commands_are_single_steps()
         AnswersAll old operations replies new × (is_idle new.pending ≡ true) }
 {}
 
-/// No exchange of any command with a card of data objects stalls: each GET RESPONSE brings data.
+/// No exchange with a card of data objects stalls: each GET RESPONSE brings data.
 pub fn no_exchange_of_commands_stalls()
     ensures { (c : Command) (wanted : Wanted) (pairs : List Pair) (old new : CardState) →
         StallsAt c wanted pairs → RespondsToAll Does old pairs new → ⊥ }

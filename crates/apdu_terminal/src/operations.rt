@@ -1,4 +1,4 @@
-//! Operations with a card of data objects, by whole commands.
+//! Runs operations between a terminal of whole commands and a card of data objects.
 ghost use Rattle.std.specs.Prelude.{◌≡◌, ◌<◌, ◌++◌, ◌∷◌, [], List, length, None, true, is_ok, is_some, MatchResult, OnErr, OnOk};
 ghost use Rattle.std.specs.List.{AllByRecursion, flat_map};
 ghost use Rattle.apdu_core.specs.CommandBytes as spec;
@@ -22,10 +22,12 @@ use object_card::DataCard;
 use std::alloc::{AllocError, Allocator};
 use t0_core::{CardEnd, Gather};
 
-/// Carries out the operations in turn, by whole commands, and appends an answer for each to `out`.
+/// Carries out the operations, one after another, by whole commands, and appends the answer of each
+/// to `out`.
 ///
-/// Returns `AllocError` if memory ran out, before an operation, which has not begun. Those before
-/// it stand, with their answers, and no chain is pending.
+/// # Errors
+/// - `AllocError`: memory ran out before an operation, which has not begun. The operations before
+///   it are carried out, `out` holds their answers, and no chain is pending.
 pub fn run<C: DataCard, A: Allocator + Copy, V: Allocator>(
     alloc: A,
     end: &mut CardEnd<C>,
@@ -35,14 +37,14 @@ pub fn run<C: DataCard, A: Allocator + Copy, V: Allocator>(
     requires rests { rests end.old.stage ≡ true }
     requires idle { is_idle (C.state end.old.card).pending ≡ true }
 
-    // Each operation has its answer, after those that were there; or memory ran out, and then the
-    // next one and those after it have none.
+    // The answers are appended, one for each operation. If memory ran out, only the operations
+    // before that have answers.
     ensures answered { let answers = new_answers out.old.given out.new.given in
         (out.new.given ≡ out.old.given ++ answers)
         × MatchResult result (λ _. length answers ≡ length ops.now)
         (λ _. length answers < length ops.now) }
 
-    // The answers and the tables are those of the card that answers each in one step.
+    // The answers and the tables are those of the card that carries out each in one step.
     ensures one_step { let answers = new_answers out.old.given out.new.given in
         AnswersAll (C.state end.old.card) (carried_out ops.now answers) answers
         (C.state end.new.card) }
@@ -62,8 +64,10 @@ pub fn run<C: DataCard, A: Allocator + Copy, V: Allocator>(
     Ok(())
 }
 
-/// Carries out one operation, and appends its answer. Returns `AllocError` if memory ran out, and
-/// then nothing has changed.
+/// Carries out one operation, and appends its answer.
+///
+/// # Errors
+/// - `AllocError`: memory ran out. Nothing changes.
 fn carry_out<C: DataCard, A: Allocator + Copy, V: Allocator>(
     alloc: A,
     end: &mut CardEnd<C>,
@@ -91,10 +95,10 @@ fn carry_out<C: DataCard, A: Allocator + Copy, V: Allocator>(
     Ok(())
 }
 
-/// Begins an operation at a terminal that has begun none.
+/// Begins an operation at a terminal that has begun no operation.
 ///
 /// # Errors
-/// - `AllocError`: memory ran out; no operation has begun.
+/// - `AllocError`: memory ran out. No operation has begun.
 pub fn begin<A: Allocator + Copy, V: Allocator>(
     terminal: &mut ApduTerminal<A>,
     op: &Op<V>,
@@ -113,7 +117,7 @@ pub fn begin<A: Allocator + Copy, V: Allocator>(
     }
 }
 
-/// The error of a terminal that has begun no operation before is that memory ran out.
+/// Returns the error as `AllocError`: a terminal with no operation can only run out of memory.
 fn has_begun(begun: Result<(), BeginFault>) -> Result<(), AllocError>
     ensures { is_ok result ≡ is_ok begun }
 {
@@ -123,8 +127,9 @@ fn has_begun(begun: Result<(), BeginFault>) -> Result<(), AllocError>
     }
 }
 
-/// Has the card answer the commands of an operation that has begun, until it is over. Returns the
-/// room for the responses.
+/// Passes the operation's commands to the card and its responses to the terminal, until the
+/// operation has ended. `room` is for a response, and returned; `gather` is for the data of one
+/// TPDU.
 fn go_through<C: DataCard, A: Allocator + Copy, B: Allocator>(
     end: &mut CardEnd<C>,
     terminal: &mut ApduTerminal<A>,
@@ -145,6 +150,7 @@ fn go_through<C: DataCard, A: Allocator + Copy, B: Allocator>(
         HasResponded C.Does commands (C.standing end.old.card) (C.standing end.new.card)
         terminal.new.operation }
 {
+    // For the proof: the card is in a sound state. The label names the loop's goals.
     let _sound = is_sound(end);
     'talk: while let Some(due) = terminal.apdu() {
         let response = answered(end, due, room, gather);
@@ -157,7 +163,7 @@ fn go_through<C: DataCard, A: Allocator + Copy, B: Allocator>(
     room
 }
 
-/// For the proof: says that the card is in a sound state.
+/// For the proof: states that the card is in a sound state.
 fn is_sound<C: DataCard>(end: &CardEnd<C>) -> bool
     ensures { IsCardState (C.state end.now.card) }
 {

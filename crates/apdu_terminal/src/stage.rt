@@ -1,13 +1,13 @@
-//! How far an exchange of whole commands has come.
+//! The stage of an exchange of whole commands: in progress, ended or failed.
 use apdu_core::Status;
 
-/// Whether a command is to be sent.
+/// The stage of an exchange.
 #[derive(Clone, Copy, Debug, PartialEq, Eq)]
 pub enum Stage {
-    /// A command is to be sent.
+    /// The next command is to be sent.
     Going,
-    /// The exchange is over, with this status.
+    /// It has ended, with this status.
     Done(Status),
-    /// It has failed.
+    /// It has failed for good.
     Failed,
 }

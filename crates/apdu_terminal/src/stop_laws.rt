@@ -1,4 +1,5 @@
-//! Laws of operations by whole commands that stop on the way: the contract of each function is one.
+//! Laws of operations by whole commands that stop before their end. Each function's contract is a
+//! law, for proofs above.
 ghost use Rattle.std.specs.Prelude.{◌≡◌, ◌++◌, ◌∷◌, [], List, ℕ, Option, Result, Some, true, IsOk};
 ghost use Rattle.apdu_core.specs.CommandBytes.{Command};
 ghost use Rattle.apdu_core.specs.StatusWord.{StatusWord};
@@ -19,8 +20,9 @@ ghost use Rattle.apdu_terminal.specs.declared.stage.Stage.TheVariants.{Failed};
 
 use object_card::DataCard;
 
-/// An operation that stops before a command of it or after it: a value is stored by the last piece
-/// alone, and only GET RESPONSE follows what an operation does.
+/// How far an operation is carried out if it stops before one of its commands, or after it. Only
+/// the last piece of a put stores the value. Only GET RESPONSE follows a command that carries out
+/// the operation.
 pub fn an_operation_that_stops()
     ensures before { (old new : CardState) (operation : Operation) (pairs : List Pair)
         (due : Command) → is_idle old.pending ≡ true → IsUnderWay operation pairs due →
@@ -31,13 +33,13 @@ pub fn an_operation_that_stops()
         IsLeftAfter old operation p.command.header new }
 {}
 
-/// Each command of an operation is agreed with each card of data objects.
+/// Each command of an operation is agreed with every card of data objects.
 pub fn a_due_command_is_agreed()
     ensures { (operation : Operation) (pairs : List Pair) (due : Command) →
         IsUnderWay operation pairs due → IsAgreed MayReceive MaySend due }
 {}
 
-/// No operation with a card of data objects fails: its terminal takes each response of the card.
+/// No operation with a card of data objects fails: the terminal takes each response of the card.
 pub fn a_card_of_data_objects_is_taken()
     ensures taken { (old mid new : CardState) (commands : List Command) (pairs : List Pair)
         (o : ApduOperationOf) (due : Command) (content : List ℕ) (status : StatusWord)
@@ -55,7 +57,8 @@ pub fn a_card_of_data_objects_is_taken()
         RespondsToAll Does old pairs new → IsCardState new }
 {}
 
-/// So it is with any card of data objects, by what its own states stand for.
+/// What any card of data objects responds, the card state that its own state stands for responds
+/// too.
 pub fn any_card_responds_so<C: DataCard>()
     ensures { (state_of : C.State → CardState) → StandsFor C.Does C.after_reset state_of →
         (old new : C.State) (pairs : List Pair) → RespondsToAll C.Does old pairs new →

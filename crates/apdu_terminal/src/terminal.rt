@@ -1,4 +1,4 @@
-//! A terminal of whole commands that a caller drives: an operation in progress, over any reader.
+//! The terminal's side of operations by whole commands, for callers with a reader of their own.
 ghost use Rattle.std.specs.Prelude.{◌≡◌, ◌≤◌, ◌<◌, ◌∷◌, [], length, drop, MatchResult, OnOk, Some};
 ghost use Rattle.std.specs.Option.{option_map};
 ghost use Rattle.object_card.specs.OneStep.{Select, Get, Put};
@@ -22,12 +22,12 @@ use tlv_core::ObjectTag;
 /// A terminal that carries out operations with a card by whole commands. It holds no borrow.
 ///
 /// `select`, `get`, `put` and `send` begin an operation, and take all its memory. Send what `apdu`
-/// returns, and give `responded` the response, until `apdu` is `None`; then `answer` has the status
-/// and the data. The next operation may begin once this one is over, has failed or was dropped by
-/// `reset`.
+/// returns, and give `responded` the response, until `apdu` is `None`. Then `answer` returns the
+/// status and the data. The next operation may begin after this one has ended or failed, or after
+/// `reset` has dropped it.
 ///
-/// The memory of an operation is kept for the next, and with it what was sent and received, secrets
-/// too. `reset` and a drop free it.
+/// The next operation uses the same memory. It keeps sent and received bytes, secrets included,
+/// until they are overwritten, or `reset` or a drop frees it.
 #[derive(Drop)]
 pub struct ApduTerminal<A: Allocator + Copy = Global> {
     alloc: A,
@@ -46,7 +46,7 @@ impl<A: Allocator + Copy> Model for ApduTerminal<A> {
 }
 
 impl<A: Allocator + Copy> ApduTerminal<A> {
-    /// Returns a terminal for responses of up to `RESPONSE_LIMIT` bytes. Takes no memory.
+    /// Returns a terminal for responses of up to `RESPONSE_LIMIT` bytes. This takes no memory.
     pub fn new(alloc: A) -> ApduTerminal<A>
         ensures { result ≡ at_rest response_limit }
     {
@@ -58,10 +58,10 @@ impl<A: Allocator + Copy> ApduTerminal<A> {
     }
 
     /// Returns a terminal for responses of up to `limit` bytes, 0 to `RESPONSE_LIMIT` (profile).
-    /// Takes no memory.
+    /// This takes no memory.
     ///
     /// # Errors
-    /// - `OverLimit`: the limit is above `RESPONSE_LIMIT`.
+    /// - `OverLimit`: the limit is above `RESPONSE_LIMIT`. There is no terminal.
     pub fn new_within(alloc: A, limit: usize) -> Result<ApduTerminal<A>, StartFault>
         ensures { MatchResult result (λ t. (limit ≤ response_limit) × (t ≡ at_rest limit))
             (λ fault. (response_limit < limit) × (fault ≡ StartFault.OverLimit)) }
@@ -79,7 +79,6 @@ impl<A: Allocator + Copy> ApduTerminal<A> {
     /// Begins the selection of the application with this identifier.
     ///
     /// # Errors
-    /// For each operation:
     /// - `UnderWay`: an operation is in progress. Nothing changes.
     /// - `OutOfMemory`: memory for the response or the copy of the data ran out. Nothing changes.
     pub fn select(&mut self, aid: &Aid) -> Result<(), BeginFault>
@@ -90,7 +89,7 @@ impl<A: Allocator + Copy> ApduTerminal<A> {
         self.send(select_command(aid))
     }
 
-    /// Begins the reading of the data object with this tag, as `select`.
+    /// Begins the reading of the data object with this tag. The errors are those of `select`.
     pub fn get(&mut self, tag: ObjectTag) -> Result<(), BeginFault>
         ensures begins { IsBeginning (AreCommandsOf (Get tag)) self.old.operation result
             self.new.operation }
@@ -99,8 +98,8 @@ impl<A: Allocator + Copy> ApduTerminal<A> {
         self.send(get_command(tag))
     }
 
-    /// Begins the storing of this value, which is copied, under the tag, as `select`. It goes in
-    /// pieces, up to the first that is answered with another status than `9000`.
+    /// Begins to store the value, which is copied, under this tag. The errors are those of `select`.
+    /// The value is sent in pieces, up to the first whose status is not `9000`.
     pub fn put(&mut self, tag: ObjectTag, value: &[u8]) -> Result<(), BeginFault>
         ensures begins { IsBeginning (AreCommandsOf (Put tag value.now)) self.old.operation result
             self.new.operation }
@@ -123,7 +122,7 @@ impl<A: Allocator + Copy> ApduTerminal<A> {
         Ok(())
     }
 
-    /// Begins the exchange of a command, whose data are copied, as `select`.
+    /// Begins the exchange of a command, with a copy of its data. The errors are those of `select`.
     pub fn send(&mut self, command: Command<'_>) -> Result<(), BeginFault>
         ensures begins { IsBeginning (λ commands. commands ≡ command.entry ∷ [])
             self.old.operation result self.new.operation }
@@ -141,8 +140,11 @@ impl<A: Allocator + Copy> ApduTerminal<A> {
         Ok(())
     }
 
-    /// Begins an operation wherever the last one is, as one that was begun at another terminal, of
-    /// which nothing has gone. `AllocError`: memory ran out, nothing changes.
+    /// Begins an operation that another terminal has begun, and sent nothing of. Drops the last
+    /// operation, even one in progress.
+    ///
+    /// # Errors
+    /// - `AllocError`: memory ran out. Nothing changes.
     pub fn begin(&mut self, unsent: Unsent<'_>) -> Result<(), AllocError>
         ensures begins { MatchResult result (λ _. (o : ApduOperationOf)
             × (self.new.operation ≡ Some o) × Begins unsent.entry o)
@@ -156,7 +158,7 @@ impl<A: Allocator + Copy> ApduTerminal<A> {
         Ok(())
     }
 
-    /// Whether a command is due: then no operation may begin.
+    /// Returns whether an operation is in progress: then no other may begin.
     pub fn is_going(&self) -> bool
         ensures going { result ≡ is_under_way self.now.operation }
         ensures limit { KeepsLimit self.now self.now }
@@ -167,7 +169,8 @@ impl<A: Allocator + Copy> ApduTerminal<A> {
         }
     }
 
-    /// The command to send now; `None` if no operation has begun, or it is over or has failed.
+    /// Returns the command to send now, or `None` if no operation has begun, or it has ended or
+    /// failed.
     pub fn apdu(&self) -> Option<Command<'_>>
         ensures { result ≡ operation_due self.now.operation }
     {
@@ -177,14 +180,17 @@ impl<A: Allocator + Copy> ApduTerminal<A> {
         }
     }
 
-    /// Takes the response to the command that is due, as `ApduExchange::responded`. With the status
-    /// `9000` of a piece of a put the next piece is due, if one follows.
+    /// Takes the response to the command that `apdu` returns: its data and its status. After a piece
+    /// of a put with the status `9000`, `apdu` returns the next piece, if one follows.
     ///
     /// # Errors
     /// In this order (profile):
     /// - `NotDue`: `apdu` is `None`. Nothing changes.
-    /// - `NotAsked`, `TooMany`: more data came than the command asks for. Nothing changes.
-    /// - `TooLong`, `Stalled`: as of an exchange. The operation has failed for good.
+    /// - `NotAsked`: data came, and the command has no Le. Nothing changes.
+    /// - `TooMany`: more data came than Le asks for. Nothing changes.
+    /// - `TooLong`: the data exceed the limit. The operation has failed for good.
+    /// - `Stalled`: a GET RESPONSE of the terminal's own, with its repetition, brought no data, and
+    ///   the card announces more. The operation has failed for good.
     pub fn responded(&mut self, bytes: &[u8], status: Status) -> Result<(), AnswerFault>
         ensures responding { IsTakingResponse self.old.operation bytes.now status result
             self.new.operation }
@@ -198,8 +204,8 @@ impl<A: Allocator + Copy> ApduTerminal<A> {
         }
     }
 
-    /// The status and the data of the last command, if the operation is over. They stay until the
-    /// next begins, or a reset.
+    /// Returns the status and the data of the last command, or `None` if the operation has not
+    /// ended. They stay until the next operation begins, or until `reset`.
     pub fn answer(&self) -> Option<(Status, &[u8])>
         ensures { IsOperationAnswer self.now.operation (option_map (λ a. (a.0, a.1.now)) result) }
     {
@@ -209,7 +215,7 @@ impl<A: Allocator + Copy> ApduTerminal<A> {
         }
     }
 
-    /// Returns the answer as `answer` does, in memory of its size.
+    /// Returns the same as an `Answer`, in memory of its size.
     pub fn into_answer(self) -> Option<Answer<A>>
         ensures { IsOperationAnswer self.operation
             (option_map (λ a. (a.status, a.content)) result) }
@@ -220,7 +226,7 @@ impl<A: Allocator + Copy> ApduTerminal<A> {
         }
     }
 
-    /// Drops the operation, wherever it is, and frees its memory. The card learns nothing of it.
+    /// Drops the operation, even one in progress, and frees its memory. Sends nothing to the card.
     pub fn reset(&mut self)
         ensures { self.new ≡ at_rest self.old.limit }
     {
@@ -228,7 +234,7 @@ impl<A: Allocator + Copy> ApduTerminal<A> {
     }
 }
 
-/// The bytes after the first `count`.
+/// Returns the bytes after the first `count`.
 fn rest_after(value: &[u8], count: usize) -> &[u8]
     requires { count ≤ length value.now }
     ensures { result.now ≡ drop count value.now }

@@ -1,4 +1,5 @@
-//! Laws of operations at a terminal of whole commands: the contract of each function is one.
+//! Laws of operations at a terminal of whole commands. Each function's contract is a law, for
+//! proofs above.
 ghost use Rattle.std.specs.Prelude.{◌≡◌, ◌++◌, ◌∷◌, [], List, Option, Some};
 ghost use Rattle.std.specs.List.{AllByRecursion};
 ghost use Rattle.apdu_core.specs.CommandBytes.{Command, IsCommand};
@@ -14,8 +15,8 @@ ghost use Rattle.apdu_terminal.specs.ApduTalk.{AreApdusOf, talk_pairs};
 ghost use Rattle.apdu_terminal.specs.ApduSide.{due_of};
 ghost use Rattle.apdu_terminal.specs.ApduOperations.{ApduOperationOf, Begins, HaveRoom, LeadsTo};
 
-/// The pairs leave an operation no choice. If what led to it continues to whole exchanges of its
-/// commands, for whose data there is room, the next command of those is due.
+/// The pairs settle the next command. If the pairs so far begin whole exchanges of the operation's
+/// commands, and there is room for their data, the terminal's next command is theirs.
 pub fn the_next_command_of_an_operation_is_settled()
     ensures { (commands : List Command) (came rest : List Pair) (p : Pair) (o : ApduOperationOf)
         (exchanges : List (List Pair)) (answer : Reply) → LeadsTo commands came (Some o) →
@@ -23,8 +24,8 @@ pub fn the_next_command_of_an_operation_is_settled()
         talk_pairs exchanges ≡ came ++ p ∷ rest → due_of o.exchange ≡ Some p.command }
 {}
 
-/// If the pairs that led to an operation are whole exchanges of its commands, for whose data there
-/// is room, it is over, with their answer.
+/// An operation whose pairs are whole exchanges of its commands has ended, with their answer, if
+/// there is room for their data.
 pub fn a_whole_operation_by_commands_is_done()
     ensures { (commands : List Command) (came : List Pair) (o : ApduOperationOf)
         (exchanges : List (List Pair)) (answer : Reply) → LeadsTo commands came (Some o) →
@@ -33,7 +34,7 @@ pub fn a_whole_operation_by_commands_is_done()
         × (o.exchange.gather.bytes ≡ answer.content) }
 {}
 
-/// What a terminal of TPDUs is to send, of which nothing has gone, is the same operation at a
+/// An operation that a terminal of TPDUs has begun, and sent nothing of, is the same operation at a
 /// terminal of whole commands.
 pub fn an_unsent_operation_begins_by_commands()
     ensures { (t : Option OperationOf) (unsent : Unsent) (o : ApduOperationOf)

@@ -2,6 +2,7 @@
 //! and prints the result of each.
 #![tactic(auto)]
 
+mod apdus;
 mod card;
 mod commands;
 mod line;
@@ -61,6 +62,8 @@ fn main(rt: HostRuntime) -> anyhow::Result<()> {
     let (tpdus, last) = heard()?;
     println!(rt; "tap: {tpdus} TPDU, {}", digits(alloc, last)?)?;
     print!(rt; "{}", answers_text(alloc)?)?;
+    let answer = by_whole_commands(alloc)?;
+    println!(rt; "whole commands: {}", digits(alloc, answer.status())?)?;
     Ok(())
 }
 
@@ -110,6 +113,12 @@ fn push_answer(alloc: Global, text: &mut String, answer: &Answer) -> anyhow::Res
     let data = hex::encode_upper(alloc, answer.data())?;
     writeln!(text, "session: {status} {data}")?;
     Ok(())
+}
+
+/// The answer of a SELECT by whole commands.
+fn by_whole_commands(alloc: Global) -> anyhow::Result<Answer> {
+    let mut card = card::card(alloc, identifier()?, name_tag()?)?;
+    apdus::select(alloc, &mut card, &identifier()?).context("no memory")
 }
 
 /// The identifier of the application.

@@ -1,4 +1,4 @@
-//! An exchange of whole commands without the data of its command, which each call is given.
+//! An exchange of whole commands that holds no borrow: each call takes the command's data.
 ghost use Rattle.std.specs.Prelude.{◌≡◌, ◌≤◌, ℕ, List, [], IfOk};
 ghost use Rattle.apdu_core.specs.StatusWord.{StatusWord};
 ghost use Rattle.card_terminal.specs.Gathered.{wanted_by};
@@ -16,7 +16,7 @@ use std::marker::Model;
 use std::mem;
 use t0_core::{AnswerFault, Gather};
 
-/// An exchange that holds no borrow: its owner keeps the data of its command, and gives them to
+/// An exchange that holds no borrow. Its owner keeps the data of its command, and passes them to
 /// each call. Contracts see it as an exchange without data.
 #[derive(Drop)]
 pub struct Detached<A: Allocator + Copy = Global> {
@@ -60,7 +60,7 @@ impl<A: Allocator + Copy> Detached<A> {
         Ok(Detached::of(alloc, exchange))
     }
 
-    /// Starts the exchange of another command in the same room, which is emptied.
+    /// Starts the exchange of another command in the same room, and empties that.
     pub fn again(&mut self, command: Command<'_>)
         requires { self.old.gather.limit ≤ response_limit }
         ensures led { ComesTo command.entry (wanted_by command.entry.le) []
@@ -75,7 +75,7 @@ impl<A: Allocator + Copy> Detached<A> {
         *self = Detached::of(self.alloc, ApduExchange::begin(gather, command, wanted));
     }
 
-    /// What is kept of an exchange.
+    /// Returns the exchange without its borrow.
     fn of(alloc: A, exchange: ApduExchange<'_, A>) -> Detached<A>
         ensures same { over_data result exchange.entry.content ≡ exchange.entry }
         ensures sound { IsSound exchange.entry }
@@ -98,14 +98,14 @@ impl<A: Allocator + Copy> Detached<A> {
         }
     }
 
-    /// How far it has come.
+    /// Returns the stage of the exchange.
     pub fn stage(&self) -> Stage
         ensures { result ≡ self.now.stage }
     {
         self.stage
     }
 
-    /// The command that is due, whose data these are, as `ApduExchange::apdu`.
+    /// Returns the command to send now, as `ApduExchange::apdu`. `content` is its data.
     pub fn apdu<'c>(&self, content: &'c [u8]) -> Option<Command<'c>>
         requires { IsSound (over_data self.now content.now) }
         ensures { result ≡ due_of (over_data self.now content.now) }
@@ -116,8 +116,8 @@ impl<A: Allocator + Copy> Detached<A> {
         }
     }
 
-    /// Takes the response to it, as `ApduExchange::responded`. Returns also whether the next
-    /// command has the same data; else it has none.
+    /// Takes the response to it, as `ApduExchange::responded`. Also returns whether the data are
+    /// kept: if not, the next command has no data.
     pub fn responded(
         &mut self,
         bytes: &[u8],
@@ -143,7 +143,7 @@ impl<A: Allocator + Copy> Detached<A> {
         (taken, keeps)
     }
 
-    /// The status and the data, if the exchange is over.
+    /// Returns the status and all data, or `None` if the exchange has not ended.
     pub fn answer(&self) -> Option<(Status, &[u8])>
         ensures { answer_of self.now ≡ option_map (λ a. (a.0, a.1.now)) result }
     {
@@ -153,7 +153,7 @@ impl<A: Allocator + Copy> Detached<A> {
         }
     }
 
-    /// Returns that answer in memory of its size.
+    /// Returns the same as an `Answer`, in memory of its size.
     pub fn into_answer(self) -> Option<Answer<A>>
         ensures { answer_of self ≡ option_map (λ a. (a.status, a.content)) result }
     {

@@ -1,5 +1,5 @@
-//! An operation by whole commands: the exchange of one of its commands, and what is still to be
-//! put.
+//! An operation by whole commands, for `ApduTerminal`: the exchange of one of its commands, and the
+//! rest of a put.
 ghost use Rattle.std.specs.Prelude.{◌≡◌, ℕ, ◌<◌, ◌≤◌, List, [], ◌++◌, length, Some, IfOk, OnOk, is_ok, MatchResult, if◌then◌else◌, true, false};
 ghost use Rattle.std.specs.Option.{option_map};
 ghost use Rattle.apdu_core.specs.StatusWord.{ok};
@@ -20,9 +20,9 @@ use t0_core::AnswerFault;
 #[derive(Drop)]
 pub struct ApduOperation<A: Allocator + Copy = Global> {
     exchange: Detached<A>,
-    /// All that goes to the card as data.
+    /// The data of all commands, one after another.
     content: Vec<u8, A>,
-    /// The data of the command that came last begin here..
+    /// The data of the last command begin here..
     from: usize,
     /// ..and end here. The rest goes in more pieces of a put.
     until: usize,
@@ -50,8 +50,8 @@ impl<A: Allocator + Copy> Model for ApduOperation<A> {
 }
 
 impl<A: Allocator + Copy> ApduOperation<A> {
-    /// Begins an operation. Takes all memory: room for `limit` bytes of a response, and for the
-    /// data. Returns `AllocError` if memory ran out.
+    /// Begins an operation. This takes all its memory: room for `limit` bytes of a response, and for
+    /// a copy of the data. Returns `AllocError` if memory ran out.
     pub fn start(alloc: A, limit: usize, unsent: Unsent<'_>) -> Result<ApduOperation<A>, AllocError>
         requires { limit ≤ response_limit }
         ensures begins { IfOk result (λ o. Begins unsent.entry o) }
@@ -78,8 +78,9 @@ impl<A: Allocator + Copy> ApduOperation<A> {
         })
     }
 
-    /// Begins another operation in the place of this one, as `start`, in the same memory. Takes
-    /// more only for longer data than any before. `AllocError`: memory ran out, nothing changes.
+    /// Begins another operation in place of this one, as `start`, in the same memory. Takes more only
+    /// for longer data than any before. If memory ran out, returns `AllocError` and changes
+    /// nothing.
     pub fn again(&mut self, unsent: Unsent<'_>) -> Result<(), AllocError>
         ensures begins { MatchResult result (λ _. Begins unsent.entry self.new)
             (λ _. self.new ≡ self.old) }
@@ -101,22 +102,22 @@ impl<A: Allocator + Copy> ApduOperation<A> {
         Ok(())
     }
 
-    /// Whether a command is due.
+    /// Returns whether a command is to be sent.
     pub fn is_going(&self) -> bool
         ensures { result ≡ is_going self.now.exchange.stage }
     {
         matches!(self.exchange.stage(), Stage::Going)
     }
 
-    /// The command that is due.
+    /// Returns the command to send now, if there is one.
     pub fn apdu(&self) -> Option<Command<'_>>
         ensures { result ≡ due_of self.now.exchange }
     {
         self.exchange.apdu(&self.content[self.from..self.until])
     }
 
-    /// Takes the response to it, as `ApduExchange::responded`. With a status `9000` the next piece
-    /// of a put begins, if one follows.
+    /// Takes the response to it, as `ApduExchange::responded`. After the status `9000` the next
+    /// piece of a put begins, if one follows.
     pub fn responded(&mut self, bytes: &[u8], status: Status) -> Result<(), AnswerFault>
         ensures responding { (ex : ApduExchangeOf)
             × IsResponding self.old.exchange bytes.now status result ex
@@ -132,8 +133,7 @@ impl<A: Allocator + Copy> ApduOperation<A> {
         taken
     }
 
-    /// Begins the exchange of the next piece of a put, if the last was answered `9000` and one
-    /// follows.
+    /// Begins the exchange of the next piece of a put, if the last piece got `9000` and one follows.
     fn go_on(&mut self)
         ensures { GoesOver self.old self.new }
     {
@@ -162,14 +162,14 @@ impl<A: Allocator + Copy> ApduOperation<A> {
         self.exchange.again(next);
     }
 
-    /// The status and the data of the last command, if the operation is over.
+    /// Returns the status and the data of the last command, if the operation has ended.
     pub fn answer(&self) -> Option<(Status, &[u8])>
         ensures { answer_of self.now.exchange ≡ option_map (λ a. (a.0, a.1.now)) result }
     {
         self.exchange.answer()
     }
 
-    /// Returns that answer in memory of its size.
+    /// Returns the same as an `Answer`, in memory of its size.
     pub fn into_answer(self) -> Option<Answer<A>>
         ensures { answer_of self.exchange ≡ option_map (λ a. (a.status, a.content)) result }
     {
@@ -178,8 +178,8 @@ impl<A: Allocator + Copy> ApduOperation<A> {
     }
 }
 
-/// Makes a vector a copy of these bytes, in the room that it has if they fit. `AllocError`: memory
-/// ran out, and its items stay.
+/// Makes `copy` a copy of both parts, in its own room if they fit. If memory ran out, returns
+/// `AllocError` and keeps the items.
 fn copy_again<A: Allocator>(
     copy: &mut Vec<u8, A>,
     front: &[u8],

@@ -17,7 +17,7 @@ use Rattle.object_card.specs.CardView.{CardView}
 use Rattle.card_trace.specs.AnswerToReset.{AnswerToReset, at_first}
 use Rattle.card_trace.specs.PrintedText.{reset_text}
 use Rattle.card_trace.specs.ScriptCard.{Act, Reset}
-use Rattle.card_trace.specs.CardScripts.{Past, heard, reset_to, no_past, RunningCard, TakeInTurn, GoesOnBy, IsEnough, RunsLine}
+use Rattle.card_trace.specs.CardScripts.{Past, extended, reset_to, no_past, RunningCard, TakeInTurn, GoesOnBy, IsEnough, RunsLine}
 use Rattle.card_trace.specs.CardPlaying.{AtWork, end_at, IsReady, LeadOn, steps_in, may_hand_out}
 
 -- ---- characters that pass
@@ -32,15 +32,15 @@ passed_both [] b = refl
 passed_both (c ∷ a) b = ap (λ l. Passed c ∷ l) (passed_both a b)
 
 -- characters and plans, then more of both
-heard_both : (past : Past) (a b : List Character) (p q : List Course)
-    → heard (heard past a p) b q ≡ heard past (a ++ b) (p ++ q)
-heard_both past a b p q =
+extended_both : (past : Past) (a b : List Character) (p q : List Course)
+    → extended (extended past a p) b q ≡ extended past (a ++ b) (p ++ q)
+extended_both past a b p q =
     rw (append_assoc past.events (passed a) (passed b)) (rw (passed_both a b)
-    (rw (append_assoc past.came a b) (rw (append_assoc past.taken p q) refl)))
+    (rw (append_assoc past.characters a b) (rw (append_assoc past.taken p q) refl)))
 
-heard_none : (past : Past) → heard past [] [] ≡ past
-heard_none past =
-    rw (append-nil past.events) (rw (append-nil past.came) (rw (append-nil past.taken) refl))
+extended_none : (past : Past) → extended past [] [] ≡ past
+extended_none past =
+    rw (append-nil past.events) (rw (append-nil past.characters) (rw (append-nil past.taken) refl))
 
 in_turn_both : (left p mid q still : List Course) → TakeInTurn left p mid → TakeInTurn mid q still
     → TakeInTurn left (p ++ q) still
@@ -55,16 +55,16 @@ lead_both : (old mid new : AtWork) (a b : List Character) → LeadOn old a mid
     → LeadOn mid b new → LeadOn old (a ++ b) new
 lead_both old mid new a b first second = λ past ready.
     let f = first past ready in
-    let s = second (heard past a f.0) f.2 in (
+    let s = second (extended past a f.0) f.2 in (
       f.0 ++ s.0,
       in_turn_both old.1.rest f.0 mid.1.rest s.0 new.1.rest f.1 s.1,
-      subst (λ p. IsReady p new) (heard_both past a b f.0 s.0) s.2,
+      subst (λ p. IsReady p new) (extended_both past a b f.0 s.0) s.2,
     )
 
 pub lead_none : (now : AtWork) (none : List Character) → none ≡ [] → LeadOn now none now
 lead_none now none is =
     subst (λ l. LeadOn now l now) (sym is)
-    (λ past ready. ([], refl, subst (λ p. IsReady p now) (sym (heard_none past)) ready))
+    (λ past ready. ([], refl, subst (λ p. IsReady p now) (sym (extended_none past)) ready))
 
 -- one more character after those so far
 pub lead_one_more : (from : End) (old mid new : AtWork) (bytes more : List ℕ) (byte : ℕ) → more
@@ -132,15 +132,15 @@ pub lead_turn : (old new : EndOf CardView) (before after : Cursor) (byte : ℕ)
 lead_turn old new before after byte silent is led led_under = λ past ready.
     let takes = takes_plan old.stage in
     let last = kept_is_last past (old, before) ready silent in
-    let U : List Course → Type 0 = λ l. LeadsUnder Does past.stood
-    (past.came ++ (Card, byte) ∷ []) l new.card.state new.card.prepared new.stage in (
+    let U : List Course → Type 0 = λ l. LeadsUnder Does past.start
+    (past.characters ++ (Card, byte) ∷ []) l new.card.state new.card.prepared new.stage in (
       next_taken takes (plan_kept after),
       takes_next takes before.rest before.kept after is,
       record {
         led = record {
           by_all = led past.first past.events ready.led.by_all;
           under_plans = subst U (more_taken takes past.taken (plan_kept after))
-              (led_under past.stood past.came past.taken ready.led.under_plans last);
+              (led_under past.start past.characters past.taken ready.led.under_plans last);
         };
         keeps = λ plan has. still_last takes before after past.taken is last;
       },
@@ -167,8 +167,8 @@ pub lead_take : (old new : EndOf CardView) (byte : ℕ) → new
     new.stage)
     → (plans : Cursor) → LeadOn (old, plans) ((Terminal, byte) ∷ []) (new, plans)
 lead_take old new byte is led led_under plans = λ past ready.
-    let N : List Course → Type 0 = λ l. LeadsUnder Does past.stood
-    (past.came ++ (Terminal, byte) ∷ []) l
+    let N : List Course → Type 0 = λ l. LeadsUnder Does past.start
+    (past.characters ++ (Terminal, byte) ∷ []) l
     new.card.state new.card.prepared new.stage in
     let K : Stage → Type 0 = λ s. (plan : Course) → under_way s plan ≡ plan ∷ []
     → IsTakenLast (plan_kept plans) past.taken in
@@ -180,7 +180,7 @@ lead_take old new byte is led led_under plans = λ past ready.
         led = record {
           by_all = led past.first past.events ready.led.by_all;
           under_plans = subst N (sym (append-nil past.taken))
-              (led_under past.stood past.came past.taken ready.led.under_plans);
+              (led_under past.start past.characters past.taken ready.led.under_plans);
         };
         keeps = subst L (sym (append-nil past.taken))
             (subst K (sym (ap (λ e. e.stage) is))
@@ -326,26 +326,26 @@ pub leads_by : (Between : RunningCard → RunningCard → Type 0) (answer : Answ
     → LeadsBy Between answer old answer new
 leads_by Between answer old new characters led does = λ past ready.
     let l = led past ready in (
-      heard past characters l.0,
+      extended past characters l.0,
       l.2,
-      does past (heard past characters l.0)
+      does past (extended past characters l.0)
           (record { taken = l.0; past_is = refl; in_turn = l.1; is_led = l.2.led }),
     )
 
 -- a line runs on any running card that a card stands for
-pub runs_as : (said act : Act) (answer : AnswerToReset) (old : AtWork) (later : AnswerToReset)
-    (new : AtWork) (text : List ℕ) → said ≡ act
+pub runs_as : (meant act : Act) (answer : AnswerToReset) (old : AtWork) (later : AnswerToReset)
+    (new : AtWork) (text : List ℕ) → meant ≡ act
     → LeadsBy (λ o n. RunsLine o act text n) answer old later new → (card : RunningCard)
     → ((past : Past) × IsReady past old
     × (card ≡ record { answer = answer; end = end_at past old }))
     → (next : RunningCard) × ((more : Past) × IsReady more new
-    × (next ≡ record { answer = later; end = end_at more new })) × RunsLine card said text next
-runs_as said act answer old later new text is leads card (past, ready, stands) =
+    × (next ≡ record { answer = later; end = end_at more new })) × RunsLine card meant text next
+runs_as meant act answer old later new text is leads card (past, ready, stands) =
     let (more, still, does) = leads past ready in
     let next : RunningCard = record { answer = later; end = end_at more new } in (
       next,
       (more, still, refl),
-      subst (λ c. RunsLine c said text next) (sym stands)
+      subst (λ c. RunsLine c meant text next) (sym stands)
           (subst (λ a. RunsLine (record { answer = answer; end = end_at past old }) a text next)
           (sym is) does),
     )

@@ -314,18 +314,18 @@ refused_for kinds k (inr among) call no_memory = (k, among, call, no_memory)
 
 -- which fault is printed if the program answers neither with matches nor with a mistake in the
 -- words
-pub unanswered_for : (kinds : Kinds) (k : ErrorKind) (Told : ProgramFault → Type 0)
-    → (k ≡ OutOfMemory) ⊎ IsAmong k kinds → (k ≡ OutOfMemory → Told fault.OutOfMemory)
-    → (k ≡ OutOfMemory) ⊎ (IsCall k × Told fault.Write) → IsUnanswered kinds Told
-unanswered_for kinds k Told (inl memory) told ended = inr (told memory)
-unanswered_for kinds k Told (inr among) told (inl memory) = inr (told memory)
-unanswered_for kinds k Told (inr among) told (inr call) = inl ((k, among, call.0), call.1)
+pub unanswered_for : (kinds : Kinds) (k : ErrorKind) (IsPrinted : ProgramFault → Type 0)
+    → (k ≡ OutOfMemory) ⊎ IsAmong k kinds → (k ≡ OutOfMemory → IsPrinted fault.OutOfMemory)
+    → (k ≡ OutOfMemory) ⊎ (IsCall k × IsPrinted fault.Write) → IsUnanswered kinds IsPrinted
+unanswered_for kinds k IsPrinted (inl memory) printed ended = inr (printed memory)
+unanswered_for kinds k IsPrinted (inr among) printed (inl memory) = inr (printed memory)
+unanswered_for kinds k IsPrinted (inr among) printed (inr call) = inl ((k, among, call.0), call.1)
 
 -- after status 1 there is a fault, and it is printed
-pub has_fault : {T E : Type 0} (r : Result T E) (status : ℕ) (P Told : E → Type 0)
-    → OnOk r (status ≡ 0) → status ≡ 1 → IfErr r P → IfErr r Told → (e : E) × P e × Told e
-has_fault (Ok x) status P Told well one stops told = absurd (cc)
-has_fault (Err e) status P Told well one stops told = (e, stops, told)
+pub has_fault : {T E : Type 0} (r : Result T E) (status : ℕ) (P IsPrinted : E → Type 0)
+    → OnOk r (status ≡ 0) → status ≡ 1 → IfErr r P → IfErr r IsPrinted → (e : E) × P e × IsPrinted e
+has_fault (Ok x) status P IsPrinted well one stops printed = absurd (cc)
+has_fault (Err e) status P IsPrinted well one stops printed = (e, stops, printed)
 
 -- a subcommand of the program's asks for something
 asks : (found : Option (Text × List Row)) → IsNamed found
@@ -343,10 +343,10 @@ stops_unchanged (Objects digits) script old new same = same
 
 -- for words without a fault the only error is that memory ran out
 pub stops_unread : (words : List Text) (k : ErrorKind) (script old new : Option (List ℕ))
-    (Told : ProgramFault → Type 0) → (k ≡ OutOfMemory) ⊎ IsAmong k (fault_of program words)
-    → (k ≡ OutOfMemory → (new ≡ old) × Told fault.OutOfMemory)
-    → fault_of program words ≡ [] → StopsAt (subcommand_of program words) script old new Told
-stops_unread words k script old new Told (inl memory) same none =
+    (IsPrinted : ProgramFault → Type 0) → (k ≡ OutOfMemory) ⊎ IsAmong k (fault_of program words)
+    → (k ≡ OutOfMemory → (new ≡ old) × IsPrinted fault.OutOfMemory)
+    → fault_of program words ≡ [] → StopsAt (subcommand_of program words) script old new IsPrinted
+stops_unread words k script old new IsPrinted (inl memory) same none =
     let asked = asks (subcommand_of program words) (taken words none) in (
       asked.0,
       asked.1,
@@ -354,5 +354,5 @@ stops_unread words k script old new Told (inl memory) same none =
       stops_unchanged asked.0 script old new (same memory).0,
       (same memory).1,
     )
-stops_unread words k script old new Told (inr among) same none =
+stops_unread words k script old new IsPrinted (inr among) same none =
     let Among : Kinds → Type 0 = λ kinds. IsAmong k kinds in absurd (subst Among none among)

@@ -77,12 +77,12 @@ into_run from (x ∷ bytes) b cs = ap (λ t. (from, x) ∷ t) (into_run from byt
 
 -- the character at this index
 abbrev pub at_index : List Character → ℕ → Character
-at_index heard i = get_or heard i (Terminal, 0)
+at_index all i = get_or all i (Terminal, 0)
 
-drop_next : (heard : List Character) (i : ℕ) → i < length heard
-    → drop i heard ≡ at_index heard i ∷ drop (i + 1) heard
-drop_next heard i lt =
-    drop-cons heard i (Terminal, 0) lt ∙ ap (λ n. at_index heard i ∷ drop n heard) (sym (add-one i))
+drop_next : (all : List Character) (i : ℕ) → i < length all
+    → drop i all ≡ at_index all i ∷ drop (i + 1) all
+drop_next all i lt =
+    drop-cons all i (Terminal, 0) lt ∙ ap (λ n. at_index all i ∷ drop n all) (sym (add-one i))
 
 -- a character of the other end begins a new run
 same_is_self : (a b : End) → is_same a b ≡ true → a ≡ b
@@ -102,18 +102,18 @@ abbrev pub whole_text : List ℕ → End → List ℕ → List Character → Lis
 whole_text text from run left = text ++ characters_text (sent_by from run ++ left)
 
 -- the next character joins the run
-pub run_goes_on : (text whole run more kept : List ℕ) (from : End) (heard : List Character) (i : ℕ)
-    → i < length heard → not (sameb the_type (at_index heard i).0 from) ≡ false
-    → kept ≡ run → more ≡ kept ++ (at_index heard i).1 ∷ []
-    → whole_text text from run (drop i heard) ≡ whole
-    → whole_text text from more (drop (i + 1) heard) ≡ whole
-run_goes_on text whole run more kept from heard i lt same kept_is more_is so_far =
-    let c = at_index heard i in
-    let left = drop (i + 1) heard in
+pub run_goes_on : (text whole run more kept : List ℕ) (from : End) (all : List Character) (i : ℕ)
+    → i < length all → not (sameb the_type (at_index all i).0 from) ≡ false
+    → kept ≡ run → more ≡ kept ++ (at_index all i).1 ∷ []
+    → whole_text text from run (drop i all) ≡ whole
+    → whole_text text from more (drop (i + 1) all) ≡ whole
+run_goes_on text whole run more kept from all i lt same kept_is more_is so_far =
+    let c = at_index all i in
+    let left = drop (i + 1) all in
     let is_of = same_is_self c.0 from (sym (same_ends c.0 from) ∙ not_false _ same) in
     let Rest : List Character → Type 0 = λ cs. whole_text text from run cs ≡ whole in
     let Own : End → Type 0 = λ e. whole_text text from run ((e, c.1) ∷ left) ≡ whole in
-    let own = subst Own is_of (subst Rest (drop_next heard i lt) so_far) in
+    let own = subst Own is_of (subst Rest (drop_next all i lt) so_far) in
     rw (more_is, kept_is) (ap (λ t. text ++ characters_text t) (into_run from run c.1 left) ∙ own)
   where
     not_false : (v : Bool) → not v ≡ false → v ≡ true
@@ -121,19 +121,19 @@ run_goes_on text whole run more kept from heard i lt same kept_is more_is so_far
     not_false false h = absurd (cc)
 
 -- the run is written, and the next character begins a new one
-pub run_changes : (text written whole run more none : List ℕ) (from : End) (heard : List Character)
-    (seen : List ℕ) (i : ℕ) → i < length heard
-    → not (sameb the_type (at_index heard i).0 from) ≡ true → seen ≡ run
+pub run_changes : (text written whole run more none : List ℕ) (from : End) (all : List Character)
+    (seen : List ℕ) (i : ℕ) → i < length all
+    → not (sameb the_type (at_index all i).0 from) ≡ true → seen ≡ run
     → written ≡ text ++ characters_text (sent_by from seen) → none ≡ []
-    → more ≡ none ++ (at_index heard i).1 ∷ [] → whole_text text from run (drop i heard) ≡ whole
-    → whole_text written (at_index heard i).0 more (drop (i + 1) heard) ≡ whole
-run_changes text written whole run more none from heard seen i lt other seen_is written_is none_is
+    → more ≡ none ++ (at_index all i).1 ∷ [] → whole_text text from run (drop i all) ≡ whole
+    → whole_text written (at_index all i).0 more (drop (i + 1) all) ≡ whole
+run_changes text written whole run more none from all seen i lt other seen_is written_is none_is
     more_is so_far =
-    let c = at_index heard i in
-    let left = drop (i + 1) heard in
+    let c = at_index all i in
+    let left = drop (i + 1) all in
     let differ = same_turned from c.0 ∙ sym (same_ends c.0 from) ∙ not_true _ other in
     let Rest : List Character → Type 0 = λ cs. whole_text text from run cs ≡ whole in
-    let here = subst Rest (drop_next heard i lt) so_far in
+    let here = subst Rest (drop_next all i lt) so_far in
     rw (more_is, none_is, written_is, seen_is) (
     append_assoc text (characters_text (sent_by from run)) (characters_text (c ∷ left))
     ∙ ap (λ t. text ++ t) (sym (run_ends from c.0 run c.1 left differ)) ∙ here)

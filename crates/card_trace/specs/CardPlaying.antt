@@ -8,7 +8,7 @@ use Rattle.t0_core.specs.CardHistory.{under_way, IsTakenLast}
 use Rattle.object_card.specs.CardView.{CardView}
 use Rattle.card_trace.specs.declared.card_table.CardTable.{CardTable}
 use Rattle.card_trace.specs.declared.lone_card.LoneCard.{LoneCard}
-use Rattle.card_trace.specs.CardScripts.{Past, heard, RunningEnd, RunningCard, IsLed, TakeInTurn, Built}
+use Rattle.card_trace.specs.CardScripts.{Past, extended, RunningEnd, RunningCard, IsLed, TakeInTurn, Built}
 
 -- what table lines have added
 abbrev pub built : {A : Type 0} → CardTable A → Built
@@ -40,7 +40,7 @@ pub record IsReady (past : Past) (now : AtWork) : Type 0 where
 abbrev pub IsReadyBy : Past → List Course → List Character → AtWork → Type 0
 IsReadyBy past left characters now =
     (taken : List Course) × TakeInTurn left taken now.1.rest
-    × IsReady (heard past characters taken) now
+    × IsReady (extended past characters taken) now
 
 -- whatever led to the old end, these characters then lead to the new one
 abbrev pub LeadOn : AtWork → List Character → AtWork → Type 0

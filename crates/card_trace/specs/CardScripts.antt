@@ -24,13 +24,13 @@ use Rattle.card_trace.specs.ScriptCard.{Part, Adds, Atr, Plan, Act, Take, HandOu
 use Rattle.card_trace.specs.Scripts.{IsAdded, IsNotAdded}
 
 -- What led to a card's end. `events` are all events since the card was built, in the state `first`.
--- The rest is since the end was made or last reset: `stood` is the state then, `came` the
--- characters, and `taken` the plans that TPDUs took.
+-- The rest is since the end was made or last reset: the state then (`start`), the characters, and
+-- the plans that TPDUs took.
 pub record Past : Type 0 where
   pub first : CardState
   pub events : List Event
-  pub stood : CardState
-  pub came : List Character
+  pub start : CardState
+  pub characters : List Character
   pub taken : List Course
 
 -- A card's end that runs: what led to it, the plans of the script that no TPDU has taken yet, the
@@ -47,7 +47,7 @@ pub record RunningEnd : Type 0 where
 pub record IsLed (e : RunningEnd) : Type 0 where
   pub by_all : Leads Does after_reset e.past.first e.past.events e.standing e.prepared e.stage
   pub under_plans :
-      LeadsUnder Does e.past.stood e.past.came e.past.taken e.standing e.prepared e.stage
+      LeadsUnder Does e.past.start e.past.characters e.past.taken e.standing e.prepared e.stage
 
 -- TPDUs take these plans from those that are left: the next ones in order, and after the last the
 -- plan without steps and with the cut 256.
@@ -63,12 +63,12 @@ pub record RunningCard : Type 0 where
   pub end : RunningEnd
 
 -- the past, then these characters, which took these plans
-abbrev pub heard : Past → List Character → List Course → Past
-heard past characters taken = record {
+abbrev pub extended : Past → List Character → List Course → Past
+extended past characters taken = record {
   first = past.first;
   events = past.events ++ passed characters;
-  stood = past.stood;
-  came = past.came ++ characters;
+  start = past.start;
+  characters = past.characters ++ characters;
   taken = past.taken ++ taken;
 }
 
@@ -77,8 +77,8 @@ abbrev pub reset_to : Past → CardState → Past
 reset_to past state = record {
   first = past.first;
   events = past.events ++ history.Reset ∷ [];
-  stood = state;
-  came = [];
+  start = state;
+  characters = [];
   taken = [];
 }
 
@@ -86,7 +86,7 @@ reset_to past state = record {
 pub record GoesOnBy (old : RunningEnd) (characters : List Character) (new : RunningEnd) : Type 0
   where
     pub taken : List Course
-    pub past_is : new.past ≡ heard old.past characters taken
+    pub past_is : new.past ≡ extended old.past characters taken
     pub in_turn : TakeInTurn old.left taken new.left
     pub is_led : IsLed new
 
@@ -149,7 +149,7 @@ RunsLine old Table text new =
 
 -- the past of a card that was just built in this state
 abbrev pub no_past : CardState → Past
-no_past state = record { first = state; events = []; stood = state; came = []; taken = [] }
+no_past state = record { first = state; events = []; start = state; characters = []; taken = [] }
 
 -- the end of a card with these tables that was just made, with all plans of the script
 pub record IsFresh (tables : List Application) (plans : List Course) (e : RunningEnd) : Type 0 where

@@ -107,8 +107,8 @@ Stops asked script old new other = ⊥
 -- the same for a subcommand with its matches, and a fault that is printed
 abbrev pub StopsAt : Option (Text × List Row) → Option (List ℕ) → Option (List ℕ) → Option (List ℕ)
     → (ProgramFault → Type 0) → Type 0
-StopsAt found script old new Told = (asked : Asked) × (request_in found ≡ Some asked)
-    × (f : ProgramFault) × Stops asked script old new f × Told f
+StopsAt found script old new IsPrinted = (asked : Asked) × (request_in found ≡ Some asked)
+    × (f : ProgramFault) × Stops asked script old new f × IsPrinted f
 
 -- the program did what a subcommand with its matches asks for
 abbrev pub Runs : Option (Text × List Row) → Option (List ℕ) → Option (List ℕ) → Option (List ℕ)
@@ -127,7 +127,7 @@ AreCall kinds = (k : ErrorKind) × IsAmong k kinds × IsCall k
 -- Which fault is printed if the program does not answer a call for help or the version, because
 -- that can't be written; or if memory ran out for the words.
 abbrev pub IsUnanswered : Kinds → (ProgramFault → Type 0) → Type 0
-IsUnanswered kinds Told = (AreCall kinds × Told fault.Write) ⊎ Told fault.OutOfMemory
+IsUnanswered kinds IsPrinted = (AreCall kinds × IsPrinted fault.Write) ⊎ IsPrinted fault.OutOfMemory
 
 -- the words have a mistake, and are refused
 abbrev pub AreRefused : Kinds → Type 0

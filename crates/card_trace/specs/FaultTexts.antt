@@ -35,5 +35,5 @@ program_text fault.Write = codes "write fault"
 program_text fault.OutOfMemory = codes "out of memory"
 
 -- if the writer took all, it has the text of the fault and LF, and no more
-abbrev pub Tells : Bool → Option (List ℕ) → Option (List ℕ) → ProgramFault → Type 0
-Tells taken old new f = taken ≡ true → Appends old new (program_text f ++ newline)
+abbrev pub Prints : Bool → Option (List ℕ) → Option (List ℕ) → ProgramFault → Type 0
+Prints taken old new f = taken ≡ true → Appends old new (program_text f ++ newline)

@@ -54,7 +54,7 @@ answer_text reply = codes "= " ++ encode_upper (reply.status.0 ∷ reply.status.
 
 -- the lines of an operation: its characters, and its answer
 abbrev pub operation_text : List Character → Reply → List ℕ
-operation_text heard reply = characters_text heard ++ answer_text reply
+operation_text characters reply = characters_text characters ++ answer_text reply
 
 -- the line of the characters that a card's end hands out
 abbrev pub handed_out_text : List ℕ → List ℕ

@@ -4,7 +4,7 @@ ghost use Rattle.card_terminal.specs.Operations.{operation_of};
 ghost use Rattle.card_trace.specs.Playing.{in_session};
 ghost use Rattle.card_trace.specs.PrintedText.{printed_text};
 ghost use Rattle.card_trace.specs.ScriptFields.{AreOfAgreedCommand};
-ghost use Rattle.card_trace.specs.ScriptPlay.{act_of as act_said};
+ghost use Rattle.card_trace.specs.ScriptPlay.{act_of as play_act};
 ghost use Rattle.card_trace.specs.ScriptTable.{addition_of};
 ghost use Rattle.card_trace.specs.Scripts.{play_script, IsRun, IsSent};
 
@@ -43,7 +43,7 @@ impl<A: Allocator + Copy> Runner for BothEnds<A> {
 
     ghost part_of = { addition_of };
 
-    ghost act_of = { act_said };
+    ghost act_of = { play_act };
 
     ghost table_of = { λ builder. builder };
 

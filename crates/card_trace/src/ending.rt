@@ -2,7 +2,7 @@
 ghost use Rattle.std.specs.Prelude.{◌≡◌, ◌≢◌, ◌≤◌, ◌⊎◌, OnOk, OnErr, IfErr};
 ghost use Rattle.clap.specs.Words.{kind_of};
 ghost use Rattle.card_trace.specs.CommandLine.{IsCall};
-ghost use Rattle.card_trace.specs.FaultTexts.{Tells};
+ghost use Rattle.card_trace.specs.FaultTexts.{Prints};
 
 use crate::program_fault::ProgramFault;
 use clap::Error;
@@ -16,7 +16,7 @@ pub struct Ending {
     pub status: u8,
     /// Whether standard error took the whole text, if there is one. The status does not depend on
     /// it.
-    pub is_told: bool,
+    pub is_printed: bool,
 }
 
 /// Returns status 0 after success. After a fault, prints its text in one line on `faults`, and
@@ -25,17 +25,17 @@ pub fn ending_after<F: Write>(outcome: &Result<(), ProgramFault>, faults: &mut F
     ensures success { OnOk outcome.now (result.status ≡ 0) }
     ensures silent { OnOk outcome.now (F.contents faults.new ≡ F.contents faults.old) }
     ensures fault { OnErr outcome.now (result.status ≡ 1) }
-    ensures tells { IfErr outcome.now
-        (Tells result.is_told (F.contents faults.old) (F.contents faults.new)) }
+    ensures prints { IfErr outcome.now
+        (Prints result.is_printed (F.contents faults.old) (F.contents faults.new)) }
 {
     match outcome {
         Ok(()) => Ending {
             status: 0,
-            is_told: true,
+            is_printed: true,
         },
         Err(fault) => Ending {
             status: 1,
-            is_told: faults.writeln(fault).is_ok(),
+            is_printed: faults.writeln(fault).is_ok(),
         },
     }
 }
@@ -47,13 +47,13 @@ pub fn ending_unparsed<W: Write, F: Write>(error: &Error, output: &mut W, faults
     ensures status { result.status ≤ 2 }
     ensures memory { kind_of error.now ≡ ErrorKind.OutOfMemory →
         (result.status ≡ 1) × (W.contents output.new ≡ W.contents output.old)
-        × Tells result.is_told (F.contents faults.old) (F.contents faults.new)
+        × Prints result.is_printed (F.contents faults.old) (F.contents faults.new)
         ProgramFault.OutOfMemory }
     ensures mistake { ¬ IsCall (kind_of error.now) →
         kind_of error.now ≢ ErrorKind.OutOfMemory → result.status ≡ 2 }
     ensures called { result.status ≡ 0 → IsCall (kind_of error.now) }
     ensures unanswered { result.status ≡ 1 → (kind_of error.now ≡ ErrorKind.OutOfMemory)
-        ⊎ (IsCall (kind_of error.now) × Tells result.is_told (F.contents faults.old)
+        ⊎ (IsCall (kind_of error.now) × Prints result.is_printed (F.contents faults.old)
         (F.contents faults.new) ProgramFault.Write) }
     ensures quiet { result.status ≡ 0 → F.contents faults.new ≡ F.contents faults.old }
     ensures refused { result.status ≡ 2 → ¬ IsCall (kind_of error.now)
@@ -67,7 +67,7 @@ pub fn ending_unparsed<W: Write, F: Write>(error: &Error, output: &mut W, faults
         }
         _ => Ending {
             status: 2,
-            is_told: faults.write_fmt(error).is_ok(),
+            is_printed: faults.write_fmt(error).is_ok(),
         },
     }
 }

@@ -3,7 +3,7 @@ ghost use Rattle.std.specs.Prelude.{◌≡◌, ◌<◌, ℕ, [], ◌∷◌, leng
 ghost use Rattle.t0_core.specs.declared.end.End.TheVariants.{Card};
 ghost use Rattle.t0_core.specs.Character.{sent_by};
 ghost use Rattle.t0_core.specs.CardSide.{listens};
-ghost use Rattle.card_trace.specs.ScriptCard.{part_of as part_said, act_of as act_said};
+ghost use Rattle.card_trace.specs.ScriptCard.{part_of as card_part, act_of as card_act};
 ghost use Rattle.card_trace.specs.CardScripts.{card_script, Takes, HandsOutNext, IsEnough};
 ghost use Rattle.card_trace.specs.CardPlaying.{built, may_hand_out, LeadOn, LeadsTo, StandsFor};
 ghost use Rattle.card_trace.specs.PrintedText.{printed_text};
@@ -42,9 +42,9 @@ impl<A: Allocator + Copy> Runner for LoneCard<A> {
 
     ghost script = { card_script };
 
-    ghost part_of = { part_said };
+    ghost part_of = { card_part };
 
-    ghost act_of = { act_said };
+    ghost act_of = { card_act };
 
     ghost table_of = { built };
 

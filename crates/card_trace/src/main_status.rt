@@ -4,7 +4,7 @@ ghost use Rattle.std.specs.Prelude.{◌≡◌, ◌≢◌, ◌≤◌, [], map, Ok
 ghost use Rattle.hex.specs.Hex.{decode_of};
 ghost use Rattle.clap.specs.Words.{subcommand_of, fault_of};
 ghost use Rattle.card_trace.specs.CommandLine.{program, asked_by, Does, Runs, IsDigitsFault, Stops, StopsAt, AreCall, AreRefused, IsUnanswered};
-ghost use Rattle.card_trace.specs.FaultTexts.{Tells};
+ghost use Rattle.card_trace.specs.FaultTexts.{Prints};
 
 use crate::command_line::{Request, parsed};
 use crate::ending::{Ending, ending_after, ending_unparsed};
@@ -35,9 +35,9 @@ pub fn main_status<R: Read, W: Write, F: Write>(
         Runs (subcommand_of program (map string_bytes words.now)) (R.remaining input.old)
         (W.contents output.old) (W.contents output.new) }
     ensures stops { fault_of program (map string_bytes words.now) ≡ [] → result ≡ 1 →
-        (is_told : Bool) × StopsAt (subcommand_of program (map string_bytes words.now))
+        (is_printed : Bool) × StopsAt (subcommand_of program (map string_bytes words.now))
         (R.remaining input.old) (W.contents output.old) (W.contents output.new)
-        (Tells is_told (F.contents faults.old) (F.contents faults.new)) }
+        (Prints is_printed (F.contents faults.old) (F.contents faults.new)) }
     ensures taken { fault_of program (map string_bytes words.now) ≡ [] → result ≢ 2 }
     ensures called { fault_of program (map string_bytes words.now) ≢ [] → result ≡ 0 →
         AreCall (fault_of program (map string_bytes words.now)) }
@@ -66,13 +66,13 @@ pub fn ended<R: Read, W: Write, F: Write>(
     ensures stops { fault_of program (map string_bytes words.now) ≡ [] → result.status ≡ 1 →
         StopsAt (subcommand_of program (map string_bytes words.now)) (R.remaining input.old)
         (W.contents output.old) (W.contents output.new)
-        (Tells result.is_told (F.contents faults.old) (F.contents faults.new)) }
+        (Prints result.is_printed (F.contents faults.old) (F.contents faults.new)) }
     ensures taken { fault_of program (map string_bytes words.now) ≡ [] → result.status ≢ 2 }
     ensures called { fault_of program (map string_bytes words.now) ≢ [] → result.status ≡ 0 →
         AreCall (fault_of program (map string_bytes words.now)) }
     ensures unanswered { fault_of program (map string_bytes words.now) ≢ [] →
         result.status ≡ 1 → IsUnanswered (fault_of program (map string_bytes words.now))
-        (Tells result.is_told (F.contents faults.old) (F.contents faults.new)) }
+        (Prints result.is_printed (F.contents faults.old) (F.contents faults.new)) }
     ensures refused { result.status ≡ 2 →
         AreRefused (fault_of program (map string_bytes words.now)) }
     ensures quiet { result.status ≡ 0 → F.contents faults.new ≡ F.contents faults.old }
@@ -138,7 +138,7 @@ fn bytes_of(alloc: Global, digits: &str) -> Result<Vec<u8>, ProgramFault>
 /// status 1. Otherwise a word is not UTF-8: prints `NO_UTF_8`, with status 2.
 pub fn ending_without_words<F: Write>(error: &Error, faults: &mut F) -> Ending
     ensures memory { error_kind error.now ≡ ErrorKind.OutOfMemory → (result.status ≡ 1)
-        × Tells result.is_told (F.contents faults.old) (F.contents faults.new)
+        × Prints result.is_printed (F.contents faults.old) (F.contents faults.new)
         ProgramFault.OutOfMemory }
     ensures refused { error_kind error.now ≢ ErrorKind.OutOfMemory → result.status ≡ 2 }
 {
@@ -146,7 +146,7 @@ pub fn ending_without_words<F: Write>(error: &Error, faults: &mut F) -> Ending
         ErrorKind::OutOfMemory => ending_after(&Err(ProgramFault::OutOfMemory), faults),
         _ => Ending {
             status: 2,
-            is_told: faults.write_all(help::NO_UTF_8.as_bytes()).is_ok(),
+            is_printed: faults.write_all(help::NO_UTF_8.as_bytes()).is_ok(),
         },
     }
 }

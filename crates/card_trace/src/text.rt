@@ -22,13 +22,13 @@ use tlv_core::{ObjectTag, Objects};
 /// `; and the status and data, after `= `.
 pub fn operation_text<A: Allocator + Copy, B: Allocator>(
     alloc: A,
-    heard: &[(End, u8)],
+    characters: &[(End, u8)],
     answer: &Answer<B>,
 ) -> Result<Vec<u8, A>, AllocError>
-    ensures { IfOk result (λ text. text.items ≡ text_of_operation heard.now answer.now) }
+    ensures { IfOk result (λ text. text.items ≡ text_of_operation characters.now answer.now) }
 {
     let mut text = Vec::new(alloc);
-    push_characters(alloc, &mut text, heard)?;
+    push_characters(alloc, &mut text, characters)?;
     push_answer(alloc, &mut text, answer)?;
     Ok(text)
 }
@@ -50,13 +50,13 @@ pub fn handed_out_text<A: Allocator + Copy>(
 fn push_characters<A: Allocator + Copy>(
     alloc: A,
     text: &mut Vec<u8, A>,
-    heard: &[(End, u8)],
+    characters: &[(End, u8)],
 ) -> Result<(), AllocError>
-    ensures { OnOk result (text.new.items ≡ text.old.items ++ characters_text heard.now) }
+    ensures { OnOk result (text.new.items ≡ text.old.items ++ characters_text characters.now) }
 {
     let mut from = End::Terminal;
     let mut run = Vec::new(alloc);
-    for character in heard {
+    for character in characters {
         if character.0 != from {
             push_run(alloc, text, from, run.as_slice())?;
             run.clear();

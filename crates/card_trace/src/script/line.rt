@@ -32,9 +32,9 @@ pub fn read_line<R: Runner>(
     section: Section,
     line: &[u8],
 ) -> Result<Option<Line<R::Part, R::Act>>, Refusal>
-    ensures ok { IfOk result (λ said. MatchOption said (words_of line.now ≡ [])
-        (λ said. Says R.script section (words_of line.now)
-        (meaning_of R.script R.part_of R.act_of said))) }
+    ensures ok { IfOk result (λ read. MatchOption read (words_of line.now ≡ [])
+        (λ meant. Says R.script section (words_of line.now)
+        (meaning_of R.script R.part_of R.act_of meant))) }
     ensures refused { IfErr result (λ refusal.
         OnReason refusal (λ _. SaysNothing R.script section line.now)) }
 {
@@ -42,6 +42,6 @@ pub fn read_line<R: Runner>(
         return Ok(None);
     };
     let keyword = Keyword::of(word).ok_or(Reason::UnknownWord)?;
-    let said = R::read(alloc, section, keyword, rest)?;
-    Ok(Some(said))
+    let meant = R::read(alloc, section, keyword, rest)?;
+    Ok(Some(meant))
 }

@@ -5,5 +5,5 @@ use Rattle.card_trace.proofs.text.push_characters.Given as goal
 
 abbrev pub invariant-loop-character : goal.invariant-loop-character
 invariant-loop-character g l =
-    whole_text l.text.items l.from l.run.items (drop l.character-index l.heard)
-    ≡ l.fn.text.items ++ characters_text l.heard
+    whole_text l.text.items l.from l.run.items (drop l.character-index l.characters)
+    ≡ l.fn.text.items ++ characters_text l.characters

@@ -19,6 +19,6 @@ returns-in_err-read_characters-in-Take-clause-refused g c =
     passed_on c.from_residual.result c.in_err-read_characters-in-Take.field-0.0 P Q
     c.from_residual.ensures.1
     (λ _ none act says.
-    let said = take_says act rest (subst (λ k. SaysAct act k rest) c.in-Take.is says) in
-    none said.0 said.1)
+    let meant = take_says act rest (subst (λ k. SaysAct act k rest) c.in-Take.is says) in
+    none meant.0 meant.1)
     c.in_err-read_characters-in-Take.ensures.refused

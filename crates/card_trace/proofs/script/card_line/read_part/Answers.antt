@@ -22,8 +22,8 @@ returns-in_err-read_characters-in-Atr-clause-refused g c =
     c.in_err-read_characters-in-Atr.field-0.0 P Q
     c.from_residual-in_err-read_characters-in-Atr.ensures.1
     (λ _ none part says.
-    let said = atr_says part rest (subst (λ k. SaysPart part k rest) c.in-Atr.is says) in
-    none said.0 said.1)
+    let meant = atr_says part rest (subst (λ k. SaysPart part k rest) c.in-Atr.is says) in
+    none meant.0 meant.1)
     c.in_err-read_characters-in-Atr.ensures.refused
 
 pub returns-in_err-read_plan-in-Plan-clause-refused :
@@ -38,6 +38,6 @@ returns-in_err-read_plan-in-Plan-clause-refused g c =
     c.in_err-read_plan-in-Plan.field-0.0 P Q
     c.from_residual-in_err-read_plan-in-Plan.ensures.1
     (λ _ none part says.
-    let said = plan_says part rest (subst (λ k. SaysPart part k rest) c.in-Plan.is says) in
-    none said.0 (plan_texts rest a b said.0 c.in_ok-steps-in-Plan.ensures said.1))
+    let meant = plan_says part rest (subst (λ k. SaysPart part k rest) c.in-Plan.is says) in
+    none meant.0 (plan_texts rest a b meant.0 c.in_ok-steps-in-Plan.ensures meant.1))
     c.in_err-read_plan-in-Plan.ensures.refused

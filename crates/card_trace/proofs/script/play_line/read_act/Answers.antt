@@ -28,7 +28,7 @@ returns-in_err-read_command-in-Send-clause-refused g c =
     c.in_err-read_command-in-Send.field-0.0 P Q
     c.from_residual-in_err-read_command-in-Send.ensures.1
     (λ _ none act says.
-    let said = send_says act fields (subst (λ k. SaysAct act k fields) c.in-Send.is says) in
-    none said.0 (of_the_word fields text (λ t. IsCommandText t said.0)
-    c.in_ok-one_word-in-Send.ensures said.1))
+    let meant = send_says act fields (subst (λ k. SaysAct act k fields) c.in-Send.is says) in
+    none meant.0 (of_the_word fields text (λ t. IsCommandText t meant.0)
+    c.in_ok-one_word-in-Send.ensures meant.1))
     c.in_err-read_command-in-Send.ensures.refused

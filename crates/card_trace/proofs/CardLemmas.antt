@@ -17,7 +17,7 @@ use Rattle.object_card.specs.CardView.{CardView}
 use Rattle.card_trace.specs.AnswerToReset.{AnswerToReset, at_first}
 use Rattle.card_trace.specs.PrintedText.{reset_text}
 use Rattle.card_trace.specs.ScriptCard.{Act, Reset}
-use Rattle.card_trace.specs.CardScripts.{Past, extended, reset_to, no_past, RunningCard, TakeInTurn, GoesOnBy, IsEnough, RunsLine}
+use Rattle.card_trace.specs.CardScripts.{Past, extended, reset_to, no_past, RunningCard, TakeInTurn, ContinuesBy, IsEnough, RunsLine}
 use Rattle.card_trace.specs.CardPlaying.{AtWork, end_at, IsReady, LeadOn, steps_in, may_hand_out}
 
 -- ---- characters that pass
@@ -320,7 +320,7 @@ LeadsBy Between answer old later new = (past : Past) → IsReady past old →
 
 pub leads_by : (Between : RunningCard → RunningCard → Type 0) (answer : AnswerToReset)
     (old new : AtWork) (characters : List Character) → LeadOn old characters new
-    → ((past more : Past) → GoesOnBy (end_at past old) characters (end_at more new)
+    → ((past more : Past) → ContinuesBy (end_at past old) characters (end_at more new)
     → Between (record { answer = answer; end = end_at past old })
     (record { answer = answer; end = end_at more new }))
     → LeadsBy Between answer old answer new

@@ -70,22 +70,22 @@ quiet-other c waiting position word h = split (bytes_eq word (45 ∷ 45 ∷ []))
     split true e = rw e tt
     split false e = rw e (quiet-long c waiting word (long_of word) h)
 
-positional-goes_on : (c : List Rule) (a : Option Rule) (word : Text) (w : Walk) (h : Held)
+positional-continues : (c : List Rule) (a : Option Rule) (word : Text) (w : Walk) (h : Held)
     → w.stopped ≡ None → (to_positional c a word w h).stopped ≡ None
-positional-goes_on c None word w h e = e
-positional-goes_on c (Some a) word w h e = refl
+positional-continues c None word w h e = e
+positional-continues c (Some a) word w h e = refl
 
-quiet-goes_on : (c : List Rule) (word : Text) (w : Walk) (h : Held) (s : Step) → IsQuiet s
+quiet-continues : (c : List Rule) (word : Text) (w : Walk) (h : Held) (s : Step) → IsQuiet s
     → w.stopped ≡ None → (after_step c word w h s).stopped ≡ None
-quiet-goes_on c word w h (next waiting) q e = e
-quiet-goes_on c word w h (trailing position) q e = e
-quiet-goes_on c word w h (subcommand name) q e = absurd q
-quiet-goes_on c word w h value q e = positional-goes_on c (arg_by_index c w.position) word w h e
+quiet-continues c word w h (next waiting) q e = e
+quiet-continues c word w h (trailing position) q e = e
+quiet-continues c word w h (subcommand name) q e = absurd q
+quiet-continues c word w h value q e = positional-continues c (arg_by_index c w.position) word w h e
 
 -- Where the walk is after a word without a fault: at the top, or in a subcommand other than `help`.
-abbrev Stands : Option (Text × List Text) → Type 0
-Stands None = Unit {0}
-Stands (Some p) = bytes_eq p.0 (codes "help") ≡ false
+abbrev IsPlaced : Option (Text × List Text) → Type 0
+IsPlaced None = Unit {0}
+IsPlaced (Some p) = bytes_eq p.0 (codes "help") ≡ false
 
 abbrev top : Shape
 top = (built program).top
@@ -104,48 +104,48 @@ no_help name h = split (bytes_eq name (codes "help")) refl
 met_stands : (w : Walk) (word : Text) (met : Option Text) → w.stopped ≡ None
     → other_fault top met word w.held ≡ []
     → let m = subcommand_or_other top.rules met w.waiting w.position word w.held in
-    Stands (after_step top.rules word w m.0 m.1).stopped
+    IsPlaced (after_step top.rules word w m.0 m.1).stopped
 met_stands w word (Some name) e h = no_help name h
 met_stands w word None e h =
     let m = subcommand_or_other top.rules None w.waiting w.position word w.held in
-    let P : Option (Text × List Text) → Type 0 = λ s. Stands s in
-    subst P (sym (quiet-goes_on top.rules word w m.0 m.1
+    let P : Option (Text × List Text) → Type 0 = λ s. IsPlaced s in
+    subst P (sym (quiet-continues top.rules word w m.0 m.1
     (quiet-other top.rules w.waiting w.position word w.held) e)) tt
 
 word_stands : (w : Walk) (word : Text) (trails : Bool) → w.stopped ≡ None
     → word_fault top names trails w.waiting word w.held ≡ []
     → let m = word_met top.rules names trails w.waiting w.position word w.held in
-    Stands (after_step top.rules word w m.0 m.1).stopped
+    IsPlaced (after_step top.rules word w m.0 m.1).stopped
 word_stands w word true e h =
-    let P : Option (Text × List Text) → Type 0 = λ s. Stands s in
-    subst P (sym (positional-goes_on top.rules (arg_by_index top.rules w.position) word w w.held e))
-    tt
+    let P : Option (Text × List Text) → Type 0 = λ s. IsPlaced s in
+    let given = arg_by_index top.rules w.position in
+    subst P (sym (positional-continues top.rules given word w w.held e)) tt
 word_stands w word false e h = met_stands w word (subcommand_met names w.waiting word) e h
 
 -- once the walk is in a subcommand, the name stays
 name_stays : (words : List Text) (w : Walk) (p : Text × List Text) → w.stopped ≡ Some p
-    → Stands (Some p)
-    → Stands (fold (walked top.rules names) w words).stopped
+    → IsPlaced (Some p)
+    → IsPlaced (fold (walked top.rules names) w words).stopped
 unfolding walked
-name_stays [] w p e h = let P : Option (Text × List Text) → Type 0 = λ s. Stands s in
+name_stays [] w p e h = let P : Option (Text × List Text) → Type 0 = λ s. IsPlaced s in
     subst P (sym e) h
 name_stays (word ∷ rest) w p e h = name_stays rest (walked top.rules names w word)
     (p.0, p.1 ++ word ∷ [])
     (ap (λ (s : Option (Text × List Text)). (walked_from top.rules names s w word).stopped) e) h
 
 one_word : (w : Walk) (word : Text) → w.stopped ≡ None → turn_fault top names w word ≡ []
-    → Stands (walked top.rules names w word).stopped
+    → IsPlaced (walked top.rules names w word).stopped
 unfolding walked
 one_word w word e h =
     let fault = or_else-nil _ _ (rw e at h) in
     let P : Option (Text × List Text) → Type 0 =
-    λ s. Stands (walked_from top.rules names s w word).stopped in
+    λ s. IsPlaced (walked_from top.rules names s w word).stopped in
     subst P (sym e) (word_stands w word w.is_trailing e fault.0)
 
 walk_stands : (words : List Text) (w : Walk) → w.stopped ≡ None → walk_fault top names w words ≡ []
-    → Stands (fold (walked top.rules names) w words).stopped
+    → IsPlaced (fold (walked top.rules names) w words).stopped
 unfolding walk_fault
-walk_stands [] w e h = let P : Option (Text × List Text) → Type 0 = λ s. Stands s in
+walk_stands [] w e h = let P : Option (Text × List Text) → Type 0 = λ s. IsPlaced s in
     subst P (sym e) tt
 walk_stands (word ∷ rest) w e h =
     let faults = or_else-nil (turn_fault top names w word)
@@ -154,12 +154,13 @@ walk_stands (word ∷ rest) w e h =
     (λ none. walk_stands rest (walked top.rules names w word) none faults.1)
   where
     split : (s : Option (Text × List Text)) → (walked top.rules names w word).stopped ≡ s
-        → Stands (walked top.rules names w word).stopped
+        → IsPlaced (walked top.rules names w word).stopped
         → ((walked top.rules names w word).stopped ≡ None
-        → Stands (fold (walked top.rules names) (walked top.rules names w word) rest).stopped)
-        → Stands (fold (walked top.rules names) (walked top.rules names w word) rest).stopped
-    split None is stands goes_on = goes_on is
-    split (Some p) is stands goes_on = let P : Option (Text × List Text) → Type 0 = λ s. Stands s in
+        → IsPlaced (fold (walked top.rules names) (walked top.rules names w word) rest).stopped)
+        → IsPlaced (fold (walked top.rules names) (walked top.rules names w word) rest).stopped
+    split None is stands continues = continues is
+    split (Some p) is stands continues =
+        let P : Option (Text × List Text) → Type 0 = λ s. IsPlaced s in
         name_stays rest (walked top.rules names w word) p is (subst P is stands)
 
 -- the words have a subcommand, since one is required
@@ -188,7 +189,7 @@ abbrev pub IsNamed : Option (Text × List Row) → Type 0
 IsNamed None = ⊥
 IsNamed (Some p) = (p.0 ≡ codes "play") ⊎ ((p.0 ≡ codes "card") ⊎ (p.0 ≡ codes "objects"))
 
-entered_named : (stop : Option (Text × List Text)) → Stands stop
+entered_named : (stop : Option (Text × List Text)) → IsPlaced stop
     → is_some (entered (built program) stop) ≡ true → IsNamed (entered (built program) stop)
 entered_named None stands met = absurd (cc)
 entered_named (Some p) stands met = by_play (bytes_eq (codes "play") p.0) refl

@@ -20,7 +20,7 @@ indent-more n = ap indent (add-one n) ∙ moved n
 -- and the lines of the whole list.
 pub record Printed (below : ℕ) (whole rest : ObjectList) (before text : List ℕ) : Type 0 where
   pub one_level : rest.level ≡ whole.level
-  pub goes_on : (next : Forest) → Spells next rest.bytes rest.level
+  pub continues : (next : Forest) → Spells next rest.bytes rest.level
       → (all : Forest) × Spells all whole.bytes whole.level
       × (text ++ lines_below below next ≡ before ++ lines_below below all)
 
@@ -48,9 +48,9 @@ pub printed_primitive : (below : ℕ) (whole now after : ObjectList) (o : Object
 printed_primitive below whole now after o before text new h ((padding, begins), same, level) kind
     new_is = record {
       one_level = level ∙ h.one_level;
-      goes_on = λ next spells.
+      continues = λ next spells.
           let Spelled : ℕ → Type 0 = λ n. Spells next after.bytes n in
-          let all = h.goes_on (Primitive o.tag o.value next)
+          let all = h.continues (Primitive o.tag o.value next)
           (padding, o.size, after.bytes, begins, kind, subst Spelled level spells) in
           let line : new ≡ text ++ primitive_line below o = new_is ∙ simp append_assoc refl in (
             all.0,
@@ -71,12 +71,12 @@ pub printed_template : (below : ℕ) (whole now after : ObjectList) (o : Object)
 printed_template below whole now after o children before text new h
     ((padding, begins), same, level) kind inner new_is = record {
       one_level = level ∙ h.one_level;
-      goes_on = λ next spells.
+      continues = λ next spells.
           let Spelled : ℕ → Type 0 = λ n. Spells next after.bytes n in
           let Inner : ℕ → Type 0 = λ n. Spells children o.value n in
           let deeper : Spells children o.value (suc now.level) =
           subst Inner (add-one o.level ∙ ap suc same) inner in
-          let all = h.goes_on (Template o.tag children next) (
+          let all = h.continues (Template o.tag children next) (
             padding,
             o.size,
             o.value,
@@ -104,7 +104,7 @@ pub printed_all : (below : ℕ) (whole now after : ObjectList) (before text : Li
     → (forest : Forest) × Spells forest whole.bytes whole.level
     × (text ≡ before ++ lines_below below forest)
 printed_all below whole now after before text h gives =
-    let all = h.goes_on Empty gives.0 in (all.0, all.1, sym (append-nil text) ∙ all.2)
+    let all = h.continues Empty gives.0 in (all.0, all.1, sym (append-nil text) ∙ all.2)
 
 -- the written line of a primitive, and that of a template before its objects
 pub line_pushed : (below : ℕ) (tag value text a b c d new tag_given value_given : List ℕ) → a ≡ text

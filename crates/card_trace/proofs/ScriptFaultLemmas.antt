@@ -53,9 +53,9 @@ next_number all before others line m number cut is few next =
     next ∙ min-eq_left within ∙ one_more
 
 -- one more line precedes the others
-pub cut_behind : (all before others : List (List ℕ)) (line : List ℕ) → all ≡ before ++ line ∷ others
+pub cut_after : (all before others : List (List ℕ)) (line : List ℕ) → all ≡ before ++ line ∷ others
     → all ≡ (before ++ line ∷ []) ++ others
-cut_behind all before others line cut = cut ∙ sym (append_assoc before (line ∷ []) others)
+cut_after all before others line cut = cut ∙ sym (append_assoc before (line ∷ []) others)
 
 pub few_lines : (all : List (List ℕ)) (items : List ℕ) → all ≡ lines items
     → length items ≤ SCRIPT_LIMIT → length all < 2 ^ 63

@@ -69,13 +69,13 @@ hex_has_no_star text bytes i h found =
     let at = position-Some is_star text i 0 found in
     true≢false (sym at.1 ∙ starless text bytes h i at.0)
 
-star_behind : (digits times : List ℕ)
+star_after : (digits times : List ℕ)
     → ((k : ℕ) → k < length digits → is_star (get_or digits k 0) ≡ false)
     → position_or_len is_star (digits ++ 0x2A ∷ times) ≡ length digits
-star_behind [] times none = refl
-star_behind (d ∷ digits) times none =
+star_after [] times none = refl
+star_after (d ∷ digits) times none =
     rw (none 0 (omega arith))
-    (omega (arith, star_behind digits times (λ k lt. none (suc k) (omega (arith, lt)))))
+    (omega (arith, star_after digits times (λ k lt. none (suc k) (omega (arith, lt)))))
 
 starred : (text digits times : List ℕ) → text ≡ digits ++ codes "*" ++ times → text ≡ digits ++ 0x2A
     ∷ times
@@ -88,8 +88,8 @@ pub cut_at_star : (text digits times bytes : List ℕ) (i : ℕ) → IsHexText d
 cut_at_star text digits times bytes i h e found =
     let shape = starred text digits times e in
     let at = first_place is_star text i found in
-    let behind = star_behind digits times (starless digits bytes h) in
-    let here : i ≡ length digits = sym at.0 ∙ ap (position_or_len is_star) shape ∙ behind in (
+    let at_length = star_after digits times (starless digits bytes h) in
+    let here : i ≡ length digits = sym at.0 ∙ ap (position_or_len is_star) shape ∙ at_length in (
       rw (here, shape) (take-append_seam digits (0x2A ∷ times)),
       rw (here, shape)
           (drop-append-add digits (0x2A ∷ times) 1),
@@ -99,12 +99,12 @@ pub has_star : (text digits times bytes : List ℕ) → IsHexText digits bytes
     → text ≡ digits ++ codes "*" ++ times → position is_star text ≡ None → ⊥
 has_star text digits times bytes h e missing =
     let shape = starred text digits times e in
-    let behind = star_behind digits times (starless digits bytes h) in
+    let at_length = star_after digits times (starless digits bytes h) in
     omega (
       arith,
       no_place is_star text missing,
       ap (position_or_len is_star) shape,
-      behind,
+      at_length,
       ap (λ x. length x) shape,
       length-append digits (0x2A ∷ times),
     )
@@ -241,12 +241,12 @@ star_found : (text digits times bytes : List ℕ) → IsHexText digits bytes →
     → position is_star text ≡ Some (position_or_len is_star text)
 star_found text digits times bytes h e =
     let shape = starred text digits times e in
-    let behind = star_behind digits times (starless digits bytes h) in
+    let at_length = star_after digits times (starless digits bytes h) in
     let lt : position_or_len is_star text < length text =
     omega (
       arith,
       ap (position_or_len is_star) shape,
-      behind,
+      at_length,
       ap (λ x. length x) shape,
       length-append digits (0x2A ∷ times),
     ) in

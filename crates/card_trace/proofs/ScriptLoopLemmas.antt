@@ -10,7 +10,7 @@ use Rattle.card_trace.specs.Script.{Script, State, Building, DoesLine, DoesAll, 
 use Rattle.card_trace.specs.ScriptFaults.{IsRefusedAt, IsLeftAfter, ScriptStops}
 use Rattle.card_trace.specs.LineFaults.{IsFaultOfLine}
 use Rattle.card_trace.proofs.ScriptLineLemmas.{done_both, done_one}
-use Rattle.card_trace.proofs.ScriptFaultLemmas.{of_script, next_number, cut_behind}
+use Rattle.card_trace.proofs.ScriptFaultLemmas.{of_script, next_number, cut_after}
 
 -- The first `number` lines are carried out, and `left` are the others.
 pub record AreCarriedOut (s : Script) (all : List (List ℕ)) (old new : Option (List ℕ))
@@ -47,7 +47,7 @@ one_more s state next all left others line more old mid new m number so_far is f
     let both = length-append so_far.before (line ∷ []) in record {
       before = so_far.before ++ line ∷ [];
       text = so_far.text ++ more;
-      is_cut = cut_behind all so_far.before others line cut;
+      is_cut = cut_after all so_far.before others line cut;
       is_number = counted ∙ sym both;
       appends = Appends-trans old mid new so_far.text more so_far.appends adds;
       does = done_both s (Building s.empty) state next so_far.before (line ∷ []) so_far.text more

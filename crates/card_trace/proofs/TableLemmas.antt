@@ -24,13 +24,13 @@ not_same x y differ = split (same_bytes y x) refl
 abbrev IsMarked : List Entry → Entry → Type 0
 IsMarked all e = is_locked e.tag all ≡ e.locked
 
-marked_behind : (first : Entry) (all entries : List Entry)
+marked_after : (first : Entry) (all entries : List Entry)
     → AllByRecursion (λ tag. first.tag ≢ tag) (map (λ e. e.tag) entries)
     → AllByRecursion (IsMarked all) entries → AllByRecursion (IsMarked (first ∷ all)) entries
-marked_behind first all [] differ marked = tt
-marked_behind first all (e ∷ entries) differ marked = (
+marked_after first all [] differ marked = tt
+marked_after first all (e ∷ entries) differ marked = (
   rw (not_same first.tag e.tag differ.0) marked.0,
-  marked_behind first all entries differ.1
+  marked_after first all entries differ.1
       marked.1,
 )
 
@@ -39,7 +39,7 @@ marks_agree : (entries : List Entry) → AreDistinct (map (λ e. e.tag) entries)
 marks_agree [] distinct = tt
 marks_agree (e ∷ entries) distinct = (
   rw (same_self e.tag) refl,
-  marked_behind e entries entries distinct.0
+  marked_after e entries entries distinct.0
       (marks_agree entries distinct.1),
 )
 
@@ -57,18 +57,18 @@ pub record IsFound (all : List Application) (a : Application) : Type 0 where
   pub lines : marked_lines (Some a.entries) (map (λ e. (e.tag, e.value)) a.entries)
       ≡ flat_map entry_line a.entries
 
-found_behind : (first : Application) (all applications : List Application)
+found_after : (first : Application) (all applications : List Application)
     → AllByRecursion (λ aid. first.aid ≢ aid) (map (λ a. a.aid) applications)
     → AllByRecursion (IsFound all) applications → AllByRecursion
     (IsFound (first ∷ all)) applications
-found_behind first all [] differ found = tt
-found_behind first all (a ∷ applications) differ found = (
+found_after first all [] differ found = tt
+found_after first all (a ∷ applications) differ found = (
   record {
     entries = rw (not_same first.aid a.aid differ.0) found.0.entries;
     lines =
         found.0.lines;
   },
-  found_behind first all applications differ.1 found.1,
+  found_after first all applications differ.1 found.1,
 )
 
 all_found : (applications : List Application) → AllByRecursion IsApplication applications
@@ -81,7 +81,7 @@ all_found (a ∷ applications) sound distinct = (
     lines = lines_agree a.entries a.entries
         (marks_agree a.entries sound.0.distinct_tags);
   },
-  found_behind a applications applications distinct.0 (all_found applications sound.1 distinct.1),
+  found_after a applications applications distinct.0 (all_found applications sound.1 distinct.1),
 )
 
 -- The written text, followed by the text of the applications that are left, is the whole text.
@@ -89,7 +89,7 @@ pub record Listed (all : List Application) (aids : List (List ℕ)) (text : List
   pub left : List Application
   pub aids_are : aids ≡ map (λ a. a.aid) left
   pub found : AllByRecursion (IsFound all) left
-  pub goes_on : text ++ flat_map application_text left ≡ table_text all
+  pub continues : text ++ flat_map application_text left ≡ table_text all
 
 pub listed_at_start : (all : List Application) (aids : List (List ℕ)) (text : List ℕ)
     → AreApplications all → aids ≡ map (λ a. a.aid) all → text ≡ [] → Listed all aids text
@@ -97,7 +97,7 @@ listed_at_start all aids text sound are none = record {
   left = all;
   aids_are = are;
   found = all_found all sound.all_sound sound.distinct_aids;
-  goes_on = rw none refl;
+  continues = rw none refl;
 }
 
 -- the text of an application, in the form in which it was written
@@ -117,13 +117,13 @@ pub listed_next : (all : List Application) (aid : List ℕ) (rest aids : List (L
     ++ marked_lines (Some entries) (map (λ e. (e.tag, e.value)) entries)))
     → Listed all rest new
 listed_next all aid rest aids old new h is written =
-    cases h.left (sym is ∙ h.aids_are) h.found h.goes_on
+    cases h.left (sym is ∙ h.aids_are) h.found h.continues
   where
     cases : (left : List Application) → aid ∷ rest ≡ map (λ a. a.aid) left
         → AllByRecursion (IsFound all) left
         → old ++ flat_map application_text left ≡ table_text all → Listed all rest new
-    cases [] are found goes_on = absurd (cc)
-    cases (a ∷ left) are found goes_on =
+    cases [] are found continues = absurd (cc)
+    cases (a ∷ left) are found continues =
         let aid_is : aid ≡ a.aid = cc in
         let rest_is : rest ≡ map (λ a. a.aid) left = cc in
         let Written : List ℕ → Type 0 = λ x. (entries : List Entry) → entries_in x all
@@ -135,15 +135,15 @@ listed_next all aid rest aids old new h is written =
           left = left;
           aids_are = rest_is;
           found = found.1;
-          goes_on = ap (λ x. x ++ flat_map application_text left) whole
-              ∙ append_assoc old (application_text a) (flat_map application_text left) ∙ goes_on;
+          continues = ap (λ x. x ++ flat_map application_text left) whole
+              ∙ append_assoc old (application_text a) (flat_map application_text left) ∙ continues;
         }
 
 pub listed_all : (all : List Application) (aids : List (List ℕ)) (text : List ℕ)
     → Listed all aids text → aids ≡ [] → text ≡ table_text all
-listed_all all aids text h none = cases h.left (sym none ∙ h.aids_are) h.goes_on
+listed_all all aids text h none = cases h.left (sym none ∙ h.aids_are) h.continues
   where
     cases : (left : List Application) → [] ≡ map (λ a. a.aid) left → text
         ++ flat_map application_text left ≡ table_text all → text ≡ table_text all
-    cases [] are goes_on = sym (append-nil text) ∙ goes_on
-    cases (a ∷ left) are goes_on = absurd (cc)
+    cases [] are continues = sym (append-nil text) ∙ continues
+    cases (a ∷ left) are continues = absurd (cc)

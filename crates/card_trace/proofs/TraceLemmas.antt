@@ -102,12 +102,12 @@ abbrev pub whole_text : List ℕ → End → List ℕ → List Character → Lis
 whole_text text from run left = text ++ characters_text (sent_by from run ++ left)
 
 -- the next character joins the run
-pub run_goes_on : (text whole run more kept : List ℕ) (from : End) (all : List Character) (i : ℕ)
+pub run_continues : (text whole run more kept : List ℕ) (from : End) (all : List Character) (i : ℕ)
     → i < length all → not (sameb the_type (at_index all i).0 from) ≡ false
     → kept ≡ run → more ≡ kept ++ (at_index all i).1 ∷ []
     → whole_text text from run (drop i all) ≡ whole
     → whole_text text from more (drop (i + 1) all) ≡ whole
-run_goes_on text whole run more kept from all i lt same kept_is more_is so_far =
+run_continues text whole run more kept from all i lt same kept_is more_is so_far =
     let c = at_index all i in
     let left = drop (i + 1) all in
     let is_of = same_is_self c.0 from (sym (same_ends c.0 from) ∙ not_false _ same) in

@@ -25,13 +25,13 @@ up_to None characters = characters
 up_to (Some most) characters = take most characters
 
 -- the characters after those
-abbrev pub behind : Option ℕ → List ℕ → List ℕ
-behind None characters = []
-behind (Some most) characters = drop most characters
+abbrev pub rest_after : Option ℕ → List ℕ → List ℕ
+rest_after None characters = []
+rest_after (Some most) characters = drop most characters
 
 -- the answer after these are handed out
 abbrev pub without : Option ℕ → AnswerToReset → AnswerToReset
-without most answer = record { all = answer.all; left = behind most answer.left }
+without most answer = record { all = answer.all; left = rest_after most answer.left }
 
 -- all of the bytes are an answer to reset
 abbrev pub AreOfAnswer : List ℕ → Type 0

@@ -83,7 +83,7 @@ reset_to past state = record {
 }
 
 -- the same card's end, after these characters
-pub record GoesOnBy (old : RunningEnd) (characters : List Character) (new : RunningEnd) : Type 0
+pub record ContinuesBy (old : RunningEnd) (characters : List Character) (new : RunningEnd) : Type 0
   where
     pub taken : List Course
     pub past_is : new.past ≡ extended old.past characters taken
@@ -104,7 +104,7 @@ pub record TakesCharacters (old : RunningEnd) (bytes text : List ℕ) (new : Run
   pub taken : List ℕ
   pub refused : List ℕ
   pub all : bytes ≡ taken ++ refused
-  pub goes_on : GoesOnBy old (sent_by Terminal taken) new
+  pub continues : ContinuesBy old (sent_by Terminal taken) new
   pub prints : ((refused ≡ []) × (text ≡ []))
       ⊎ ((refused ≢ []) × (listens new.stage ≡ false) × (text ≡ not_listening_text))
 
@@ -117,7 +117,7 @@ IsEnough (Some most) n stage = (n ≤ most) × ((listens stage ≡ true) ⊎ (n 
 pub record HandsOut (old : RunningEnd) (most : Option ℕ) (text : List ℕ) (new : RunningEnd)
     : Type 0 where
   pub handed : List ℕ
-  pub goes_on : GoesOnBy old (sent_by Card handed) new
+  pub continues : ContinuesBy old (sent_by Card handed) new
   pub is_enough : IsEnough most (length handed) new.stage
   pub prints : text ≡ handed_out_text handed
 

@@ -10,8 +10,8 @@ abbrev pub in_session : {A : Type 0} → BothEnds A → InSession
 in_session ends = record { card = ends.session.state; plans = ends.plans.items }
 
 -- the state of a player, given what its table and its card stand for
-abbrev pub Stands : {T R : Type 0} (s : Script) → (T → s.Table) → (R → s.Card → Type 0)
+abbrev pub IsAt : {T R : Type 0} (s : Script) → (T → s.Table) → (R → s.Card → Type 0)
     → Player T R → State s → Type 0
-Stands s table_of StandsFor (player.Building table) state = state ≡ Building (table_of table)
-Stands s table_of StandsFor (player.Running runner) state =
+IsAt s table_of StandsFor (player.Building table) state = state ≡ Building (table_of table)
+IsAt s table_of StandsFor (player.Running runner) state =
     (card : s.Card) × StandsFor runner card × (state ≡ Running card)

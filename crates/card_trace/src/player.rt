@@ -2,7 +2,7 @@
 ghost use Rattle.std.specs.Prelude.{◌≡◌, ◌<◌, ℕ, List, [], length, OnOk, IfOk, IfErr, IfSome};
 ghost use Rattle.std.specs.Io.KnownBytes.{Appends};
 ghost use Rattle.card_trace.specs.LineFaults.{IsFaultOfLine};
-ghost use Rattle.card_trace.specs.Playing.{Stands};
+ghost use Rattle.card_trace.specs.Playing.{IsAt};
 ghost use Rattle.card_trace.specs.Script.{State, section_of, RunsOn, DoesLine, RefusesLine, DoesMeaning, Builds, RefusesMeaning, ScriptWrites};
 ghost use Rattle.card_trace.specs.ScriptFaults.{ScriptStops, IsNotBegun};
 ghost use Rattle.card_trace.specs.ScriptReasons.{OnReason};
@@ -71,13 +71,13 @@ fn play<R: Runner, W: Write>(
     writer: &mut W,
 ) -> Result<Player<R::Table, R>, PlayFault>
     ensures played { (state : State R.script) →
-        Stands R.script R.table_of R.StandsFor player state →
+        IsAt R.script R.table_of R.StandsFor player state →
         IfOk result (λ player. (text : List ℕ) × (next : State R.script)
-        × Stands R.script R.table_of R.StandsFor player next
+        × IsAt R.script R.table_of R.StandsFor player next
         × Appends (W.contents writer.old) (W.contents writer.new) text
         × DoesLine R.script state line.now text next) }
     ensures fault { (state : State R.script) →
-        Stands R.script R.table_of R.StandsFor player state →
+        IsAt R.script R.table_of R.StandsFor player state →
         IfErr result (IsFaultOfLine (RefusesLine R.script state line.now) number
         (W.contents writer.old) (W.contents writer.new)) }
 {
@@ -101,7 +101,7 @@ fn play<R: Runner, W: Write>(
 
 /// The section of the next line.
 fn section<R: Runner>(player: &Player<R::Table, R>) -> Section
-    ensures { (state : State R.script) → Stands R.script R.table_of R.StandsFor player.now state →
+    ensures { (state : State R.script) → IsAt R.script R.table_of R.StandsFor player.now state →
         result ≡ section_of R.script state }
 {
     match player {
@@ -120,12 +120,12 @@ fn add<R: Runner>(
     part: R::Part,
 ) -> Result<Player<R::Table, R>, Refusal>
     ensures added { (state : State R.script) →
-        Stands R.script R.table_of R.StandsFor player state →
+        IsAt R.script R.table_of R.StandsFor player state →
         IfOk result (λ player. (next : State R.script)
-        × Stands R.script R.table_of R.StandsFor player next
+        × IsAt R.script R.table_of R.StandsFor player next
         × DoesMeaning R.script state (Builds (R.part_of part)) [] next) }
     ensures refused { (state : State R.script) →
-        Stands R.script R.table_of R.StandsFor player state →
+        IsAt R.script R.table_of R.StandsFor player state →
         section_of R.script state ≡ Section.Building → IfErr result (λ refusal.
         OnReason refusal (RefusesMeaning R.script state (Builds (R.part_of part)))) }
 {
@@ -143,7 +143,7 @@ fn add<R: Runner>(
 /// # Errors
 /// - `AllocError`: memory ran out.
 fn running<R: Runner>(alloc: R::Alloc, player: Player<R::Table, R>) -> Result<R, AllocError>
-    ensures { (state : State R.script) → Stands R.script R.table_of R.StandsFor player state →
+    ensures { (state : State R.script) → IsAt R.script R.table_of R.StandsFor player state →
         IfOk result (λ runner. (card : R.script.Card) × RunsOn R.script state card
         × R.StandsFor runner card) }
 {

@@ -1,5 +1,5 @@
 use Rattle.std.proofs.Common.{◌≡◌, [], refl, sym, subst}
-use Rattle.card_trace.specs.Playing.{Stands}
+use Rattle.card_trace.specs.Playing.{IsAt}
 use Rattle.card_trace.specs.Script.{State, Building, Builds, DoesMeaning}
 use Rattle.card_trace.proofs.player.add.Goals as goal
 
@@ -7,7 +7,7 @@ pub returns-clause-added : goal.returns-clause-added
 returns-clause-added g c = λ state stands.
     let r = g.R.Runner in
     let here : state ≡ Building (r.table_of c.in-Building.table) =
-    subst (λ p. Stands r.script r.table_of r.StandsFor p state) c.in-Building.is stands in
+    subst (λ p. IsAt r.script r.table_of r.StandsFor p state) c.in-Building.is stands in
     let after : State r.script = Building (r.table_of c.add.new.table) in (
       after,
       refl,

@@ -1,6 +1,6 @@
 use Rattle.std.proofs.Common.{sym, ap, ◌∙◌, ◌++◌}
 use Rattle.card_trace.specs.TraceText.{characters_text}
-use Rattle.card_trace.proofs.TraceLemmas.{run_goes_on, run_changes}
+use Rattle.card_trace.proofs.TraceLemmas.{run_continues, run_changes}
 use Rattle.card_trace.proofs.text.push_characters.Goals as goal
 use Rattle.card_trace.proofs.text.push_characters.Goals.{then-ne+in_ok-push_run, else-ne}
 
@@ -18,7 +18,7 @@ loop-character-preserved g c =
           (ap (λ r. r.items) w.run-is ∙ w.clear.ensures.items) c.in_ok-push.ensures.items
           l.invariant)
       | else-ne w ↦
-          rw (w.from-is, w.text-is) (run_goes_on l.text.items whole l.run.items
+          rw (w.from-is, w.text-is) (run_continues l.text.items whole l.run.items
           c.push.new.self.items c.if-ne.run.items l.from all l.character-index
           c.loop-character-test.true (sym c.ne.ensures ∙ w.if-ne.false)
           (ap (λ r. r.items) w.run-is) c.in_ok-push.ensures.items l.invariant)

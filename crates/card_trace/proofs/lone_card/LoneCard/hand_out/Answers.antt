@@ -21,7 +21,7 @@ returns-then-is_over g c =
     (λ past more goes. of_end (c.is_over.ensures.0 c.if-is_over.true)
     (record {
       handed = handed;
-      goes_on = goes;
+      continues = goes;
       is_enough = c.in_ok-characters.ensures.enough;
       prints = prints ∙ ap handed_out_text c.deref.ensures.value;
     }) refl))

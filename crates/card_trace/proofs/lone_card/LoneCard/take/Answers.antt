@@ -26,7 +26,7 @@ returns-then-take_bytes-characters g c =
       taken = take count bytes;
       refused = drop count bytes;
       all = sym (take-append-drop count bytes);
-      goes_on = goes;
+      continues = goes;
       prints = inr (
         some_left count bytes fewer,
         silent_then count (length bytes) _ c.take_bytes.ensures.all fewer,
@@ -52,6 +52,6 @@ returns g c =
       taken = take count bytes;
       refused = [];
       all = sym (append-nil (take count bytes) ∙ whole);
-      goes_on = goes;
+      continues = goes;
       prints = inl (refl, refl);
     }) refl)

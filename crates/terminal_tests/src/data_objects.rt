@@ -107,19 +107,19 @@ fn operation(rt: &(impl Abort + AllocGlobal), line: &str) -> Op {
 /// clause.
 fn answer<A: Allocator>(rt: &(impl Abort + AllocGlobal), out: &Answers<A>, at: usize) -> Vec<u8> {
     let answer = out.get(at).expect(rt, "an answer");
-    let mut said = Vec::new(rt.alloc());
+    let mut row = Vec::new(rt.alloc());
     let status = word(answer.status()).to_be_bytes();
-    said.extend_from_slice(&status).expect(rt, "memory");
-    said.extend_from_slice(answer.data()).expect(rt, "memory");
-    said
+    row.extend_from_slice(&status).expect(rt, "memory");
+    row.extend_from_slice(answer.data()).expect(rt, "memory");
+    row
 }
 
 /// The answers are these, each with its status and data.
 pub fn are_answered<A: Allocator>(rt: &(impl Abort + AllocGlobal), out: &Answers<A>, text: &str) {
     let mut at: usize = 0;
     for line in text.split(';') {
-        let is_said = answer(rt, out, at) == bytes(rt, line);
-        assert!(rt; is_said, "{line}");
+        let is_so = answer(rt, out, at) == bytes(rt, line);
+        assert!(rt; is_so, "{line}");
         at = at.saturating_add(1);
     }
     assert!(rt; out.len() == at, "{text}");

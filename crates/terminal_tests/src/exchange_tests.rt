@@ -26,7 +26,7 @@ fn turn(exchange: &mut Exchange<'_>) -> HostTurn {
     exchange.next()
 }
 
-fn said(exchange: &mut Exchange<'_>, byte: u8) -> Option<LineFault> {
+fn fault_for(exchange: &mut Exchange<'_>, byte: u8) -> Option<LineFault> {
     exchange.take(byte).err()
 }
 
@@ -51,7 +51,7 @@ fn passed<'a>(rt: &(impl Abort + AllocGlobal), of: &'a [u8], trace: &str) -> Exc
 fn answer_to(rt: &(impl Abort + AllocGlobal), of: &[u8], trace: &str) -> Answer {
     let mut exchange = passed(rt, of, trace);
     assert!(rt; matches!(turn(&mut exchange), HostTurn::Done(_)), "{trace}");
-    assert!(rt; said(&mut exchange, 0x90) == Some(LineFault::AfterEnd));
+    assert!(rt; fault_for(&mut exchange, 0x90) == Some(LineFault::AfterEnd));
     answer_of(rt, exchange)
 }
 
@@ -76,7 +76,7 @@ fn driven(
             HostTurn::Sends(byte) => sent.push(byte).expect(rt, "memory"),
             HostTurn::Listens => {
                 let byte = reader.next().expect(rt, "a character");
-                assert!(rt; said(exchange, *byte).is_none());
+                assert!(rt; fault_for(exchange, *byte).is_none());
             }
             HostTurn::Done(_) | HostTurn::Failed => break,
         }
@@ -224,7 +224,7 @@ fn fetches_what_is_announced_of_what_is_wanted(rt: HostRuntime) {
 fn has_failed(rt: &(impl Abort + AllocGlobal), mut exchange: Exchange<'_>) {
     for byte in &[0x41, 0x90, 0x00, 0xCA] {
         assert!(rt; turn(&mut exchange) == HostTurn::Failed);
-        assert!(rt; said(&mut exchange, *byte) == Some(LineFault::AfterEnd));
+        assert!(rt; fault_for(&mut exchange, *byte) == Some(LineFault::AfterEnd));
     }
     assert!(rt; exchange.into_answer().is_none());
 }
@@ -233,7 +233,7 @@ fn has_failed(rt: &(impl Abort + AllocGlobal), mut exchange: Exchange<'_>) {
 fn fails(rt: &(impl Abort + AllocGlobal), of: &[u8], trace: &str, byte: u8, fault: LineFault) {
     let mut exchange = passed(rt, of, trace);
     assert!(rt; turn(&mut exchange) == HostTurn::Listens);
-    assert!(rt; said(&mut exchange, byte) == Some(fault), "{trace}");
+    assert!(rt; fault_for(&mut exchange, byte) == Some(fault), "{trace}");
     has_failed(rt, exchange);
 }
 
@@ -246,7 +246,7 @@ fn no_procedure_byte_ends_it(rt: HostRuntime) {
 /// One character passes. When the terminal sends it, the exchange takes none.
 fn passes(rt: &(impl Abort + AllocGlobal), exchange: &mut Exchange<'_>, character: (End, u8)) {
     if character.0 == End::Terminal {
-        assert!(rt; said(exchange, 0x90) == Some(LineFault::NotListening));
+        assert!(rt; fault_for(exchange, 0x90) == Some(LineFault::NotListening));
     }
     pass(rt, exchange, &[character]);
 }
@@ -303,8 +303,8 @@ fn overfill(rt: &(impl Abort + AllocGlobal), exchange: &mut Exchange<'_>) {
     nearly_fill(rt, exchange);
     let last = "> 00C0000000 < C0 42*256 6101 > 00C0000001 < C0";
     pass_all(rt, exchange, last);
-    assert!(rt; said(exchange, 0x41) == Some(LineFault::TooLong));
-    assert!(rt; said(exchange, 0x90) == Some(LineFault::AfterEnd));
+    assert!(rt; fault_for(exchange, 0x41) == Some(LineFault::TooLong));
+    assert!(rt; fault_for(exchange, 0x90) == Some(LineFault::AfterEnd));
 }
 
 /// An exchange of another command in the same room.
@@ -359,7 +359,7 @@ fn object_is_all_the_data(rt: HostRuntime) {
 }
 
 /// The next TPDU: its P3, the number of bytes to the card, and the most bytes from it.
-fn due(exchange: &Exchange<'_>) -> Option<(u8, usize, u16)> {
+fn next_tpdu(exchange: &Exchange<'_>) -> Option<(u8, usize, u16)> {
     match exchange.tpdu() {
         Some(tpdu) => Some((tpdu.p3, tpdu.content.len(), tpdu.may_come)),
         None => None,
@@ -367,7 +367,7 @@ fn due(exchange: &Exchange<'_>) -> Option<(u8, usize, u16)> {
 }
 
 /// The fault for an answer to a whole TPDU, given as its data and its status.
-fn told(
+fn answer_fault(
     rt: &(impl Abort + AllocGlobal),
     exchange: &mut Exchange<'_>,
     data: &str,
@@ -386,10 +386,17 @@ type Answered<'a> = (
 );
 
 /// The exchange goes through these rows in order.
-fn is_told(rt: &(impl Abort + AllocGlobal), exchange: &mut Exchange<'_>, rows: &[Answered<'_>]) {
+fn answers_tpdus(
+    rt: &(impl Abort + AllocGlobal),
+    exchange: &mut Exchange<'_>,
+    rows: &[Answered<'_>],
+) {
     for (tpdu, data, status, fault) in rows {
-        assert!(rt; due(exchange) == *tpdu, "{data}");
-        assert!(rt; told(rt, exchange, data, *status) == *fault, "{data}");
+        assert!(rt; next_tpdu(exchange) == *tpdu, "{data}");
+        assert!(rt;
+            answer_fault(rt, exchange, data, *status) == *fault,
+            "{data}"
+        );
     }
 }
 
@@ -397,7 +404,7 @@ fn is_told(rt: &(impl Abort + AllocGlobal), exchange: &mut Exchange<'_>, rows: &
 fn driven_by_whole_tpdus(rt: HostRuntime) {
     let mut exchange = begun(&rt, GET);
     let repeated = Some((0x06, 0, 6));
-    is_told(
+    answers_tpdus(
         &rt,
         &mut exchange,
         &[
@@ -420,7 +427,7 @@ fn whole_tpdus_with_data_to_the_card(rt: HostRuntime) {
     let of = bytes(&rt, "00A4040007A000000003101000");
     let mut exchange = begun(&rt, &of);
     let sent = Some((0x07, 7, 0));
-    is_told(
+    answers_tpdus(
         &rt,
         &mut exchange,
         &[
@@ -434,7 +441,7 @@ fn whole_tpdus_with_data_to_the_card(rt: HostRuntime) {
             ),
         ],
     );
-    assert!(rt; turn(&mut exchange) == HostTurn::Failed && due(&exchange).is_none());
+    assert!(rt; turn(&mut exchange) == HostTurn::Failed && next_tpdu(&exchange).is_none());
 }
 
 #[test]
@@ -442,5 +449,5 @@ fn no_answer_in_mid_tpdu(rt: HostRuntime) {
     let mut exchange = begun(&rt, GET);
     let _ = turn(&mut exchange);
     let not_due = Some(AnswerFault::NotDue);
-    is_told(&rt, &mut exchange, &[(None, "", (0x90, 0x00), not_due)]);
+    answers_tpdus(&rt, &mut exchange, &[(None, "", (0x90, 0x00), not_due)]);
 }

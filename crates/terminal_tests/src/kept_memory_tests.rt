@@ -49,7 +49,7 @@ fn send(
 }
 
 /// The terminal takes these data and `9000` as the answer to the current TPDU.
-fn is_told(rt: &(impl Abort + AllocGlobal), terminal: &mut Terminal<&LocalHeap>, data: &str) {
+fn answer_tpdu(rt: &(impl Abort + AllocGlobal), terminal: &mut Terminal<&LocalHeap>, data: &str) {
     let status = Status::new(0x90, 0x00).expect(rt, "a status");
     assert!(rt; terminal.answered(&bytes(rt, data), status).is_ok());
 }
@@ -64,16 +64,16 @@ fn answered(rt: &(impl Abort + AllocGlobal), terminal: &Terminal<&LocalHeap>) ->
 }
 
 /// The data that the current TPDU takes to the card.
-fn due(rt: &(impl Abort + AllocGlobal), terminal: &Terminal<&LocalHeap>) -> Vec<u8> {
+fn tpdu_data(rt: &(impl Abort + AllocGlobal), terminal: &Terminal<&LocalHeap>) -> Vec<u8> {
     let tpdu = terminal.tpdu().expect(rt, "a TPDU");
     Vec::from_slice(rt.alloc(), tpdu.content).expect(rt, "memory")
 }
 
 /// The operation's TPDUs take these data to the card, in turn. Each gets `9000`.
-fn goes(rt: &(impl Abort + AllocGlobal), terminal: &mut Terminal<&LocalHeap>, pieces: &str) {
+fn carries_out(rt: &(impl Abort + AllocGlobal), terminal: &mut Terminal<&LocalHeap>, pieces: &str) {
     for piece in pieces.split(';') {
-        assert!(rt; due(rt, terminal) == bytes(rt, piece), "{pieces}");
-        is_told(rt, terminal, "");
+        assert!(rt; tpdu_data(rt, terminal) == bytes(rt, piece), "{pieces}");
+        answer_tpdu(rt, terminal, "");
     }
     assert!(rt; !terminal.is_going());
 }
@@ -86,7 +86,7 @@ fn has_put<'a>(
 ) -> Terminal<&'a LocalHeap> {
     let mut terminal = Terminal::new_within(heap, LIMIT).expect(rt, "a limit");
     assert!(rt; put(rt, &mut terminal, value).is_none());
-    goes(rt, &mut terminal, value);
+    carries_out(rt, &mut terminal, value);
     terminal
 }
 
@@ -101,14 +101,14 @@ fn the_next_operation_takes_no_memory(rt: HostRuntime) {
     let mut terminal = has_put(&rt, &heap, "41*20");
     assert!(rt; heap.used() == SHORT);
     assert!(rt; select(&rt, &mut terminal).is_none());
-    goes(&rt, &mut terminal, "A0000000031010");
+    carries_out(&rt, &mut terminal, "A0000000031010");
     assert!(rt; get(&rt, &mut terminal).is_none());
     assert!(rt; terminal.take_bytes(&bytes(&rt, "90")).count == 0);
     assert!(rt; get(&rt, &mut terminal) == Some(BeginFault::UnderWay));
-    is_told(&rt, &mut terminal, "5F20034A4F45");
+    answer_tpdu(&rt, &mut terminal, "5F20034A4F45");
     assert!(rt; answered(&rt, &terminal) == bytes(&rt, "5F20034A4F45"));
     assert!(rt; send(&rt, &mut terminal, "80E2000014 42*20").is_none());
-    goes(&rt, &mut terminal, "42*20");
+    carries_out(&rt, &mut terminal, "42*20");
     assert!(rt; heap.used() == SHORT);
 }
 
@@ -121,7 +121,7 @@ fn nor_does_one_after_a_failure(rt: HostRuntime) {
     assert!(rt; terminal.take_bytes(&bytes(&rt, "01")).outcome.is_err());
     assert!(rt; !terminal.is_going());
     assert!(rt; put(&rt, &mut terminal, "43*20").is_none());
-    goes(&rt, &mut terminal, "43*20");
+    carries_out(&rt, &mut terminal, "43*20");
     assert!(rt; heap.used() == SHORT);
 }
 
@@ -140,7 +140,7 @@ fn values_of_many_lengths(rt: HostRuntime) {
         ("47", "47"),
     ] {
         assert!(rt; put(&rt, &mut terminal, value).is_none(), "{value}");
-        goes(&rt, &mut terminal, pieces);
+        carries_out(&rt, &mut terminal, pieces);
     }
 }
 
@@ -151,7 +151,7 @@ fn responses_of_many_lengths(rt: HostRuntime) {
     let mut terminal = Terminal::new_within(&heap, LIMIT).expect(&rt, "a limit");
     for data in ["41*20", "42*256", "43", "", "44*255"] {
         assert!(rt; get(&rt, &mut terminal).is_none(), "{data}");
-        is_told(&rt, &mut terminal, data);
+        answer_tpdu(&rt, &mut terminal, data);
         assert!(rt; answered(&rt, &terminal) == bytes(&rt, data), "{data}");
     }
 }
@@ -163,7 +163,7 @@ fn no_memory_for_a_longer_value(rt: HostRuntime) {
     let heap = heap_of(&rt, SHORT);
     let mut terminal = has_put(&rt, &heap, "41*20");
     assert!(rt; get(&rt, &mut terminal).is_none());
-    is_told(&rt, &mut terminal, "5F20034A4F45");
+    answer_tpdu(&rt, &mut terminal, "5F20034A4F45");
     for value in ["42*21", "42*300"] {
         assert!(rt;
             put(&rt, &mut terminal, value) == Some(BeginFault::OutOfMemory),
@@ -175,7 +175,7 @@ fn no_memory_for_a_longer_value(rt: HostRuntime) {
         );
     }
     assert!(rt; put(&rt, &mut terminal, "43*20").is_none());
-    goes(&rt, &mut terminal, "43*20");
+    carries_out(&rt, &mut terminal, "43*20");
     terminal.reset();
     assert!(rt; heap.used() == 0);
     assert!(rt; put(&rt, &mut terminal, "44*32").is_none());
@@ -190,7 +190,7 @@ fn longer_over(rt: &(impl Abort + AllocGlobal), size: usize) -> Option<BeginFaul
     let fault = put(rt, &mut terminal, "42*300");
     if fault.is_none() {
         assert!(rt; heap.used() == LIMIT + 304);
-        goes(rt, &mut terminal, "42*255; 42*45");
+        carries_out(rt, &mut terminal, "42*255; 42*45");
     }
     fault
 }
@@ -198,10 +198,10 @@ fn longer_over(rt: &(impl Abort + AllocGlobal), size: usize) -> Option<BeginFaul
 /// One growth is for the longer copy, which the heap holds beside the shorter one.
 #[test]
 fn memory_of_a_longer_value(rt: HostRuntime) {
-    let wanting = Some(BeginFault::OutOfMemory);
+    let out_of_memory = Some(BeginFault::OutOfMemory);
     for (size, fault) in [
-        (SHORT, wanting),
-        (SHORT + 288, wanting),
+        (SHORT, out_of_memory),
+        (SHORT + 288, out_of_memory),
         (SHORT + 304, None),
     ] {
         assert!(rt; longer_over(&rt, size) == fault, "{size}");

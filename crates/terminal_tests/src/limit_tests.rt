@@ -128,7 +128,7 @@ fn one_byte_more_is_too_long(rt: HostRuntime) {
 }
 
 /// The fault for a whole answer of `size` bytes with this status.
-fn told<S: Side>(
+fn answer_fault<S: Side>(
     rt: &(impl Abort + AllocGlobal),
     side: &mut S,
     size: usize,
@@ -143,20 +143,20 @@ fn told<S: Side>(
 fn whole_answers<S: Side>(rt: &(impl Abort + AllocGlobal), limit: u8) {
     let limit = usize::from(limit);
     let mut side: S = getting(rt, limit);
-    assert!(rt; told(rt, &mut side, limit, (0x90, 0x00)).is_none());
+    assert!(rt; answer_fault(rt, &mut side, limit, (0x90, 0x00)).is_none());
     is_answered(rt, side, limit);
     let mut side: S = getting(rt, limit);
-    assert!(rt; told(rt, &mut side, limit + 1, (0x90, 0x00)) == Some(AnswerFault::TooLong));
-    assert!(rt; told(rt, &mut side, 0, (0x90, 0x00)) == Some(AnswerFault::NotDue));
+    assert!(rt; answer_fault(rt, &mut side, limit + 1, (0x90, 0x00)) == Some(AnswerFault::TooLong));
+    assert!(rt; answer_fault(rt, &mut side, 0, (0x90, 0x00)) == Some(AnswerFault::NotDue));
 }
 
 /// Many TPDUs fill the room, and the last brings one byte more.
 fn many_whole_answers<S: Side>(rt: &(impl Abort + AllocGlobal), limit: usize) {
     let mut side: S = getting(rt, limit);
     for _ in 0..limit / 256 {
-        assert!(rt; told(rt, &mut side, 256, (0x61, 0x00)).is_none());
+        assert!(rt; answer_fault(rt, &mut side, 256, (0x61, 0x00)).is_none());
     }
-    assert!(rt; told(rt, &mut side, 1, (0x90, 0x00)) == Some(AnswerFault::TooLong));
+    assert!(rt; answer_fault(rt, &mut side, 1, (0x90, 0x00)) == Some(AnswerFault::TooLong));
     assert!(rt; side.hand_out(rt, &mut [0]).stop == Some(HostTurn::Failed));
 }
 
@@ -258,8 +258,8 @@ fn memory_of_a_limited_terminal(rt: HostRuntime) {
         (16_384, 16_400, false),
         (16_384, 16_416, true),
     ] {
-        let wanting = Some(BeginFault::OutOfMemory);
-        let fault = if *begins { None } else { wanting };
+        let out_of_memory = Some(BeginFault::OutOfMemory);
+        let fault = if *begins { None } else { out_of_memory };
         assert!(rt; put_over(&rt, *size, *limit) == fault, "{limit} in {size}");
     }
 }
@@ -271,9 +271,11 @@ fn limit_of_a_terminal_stays(rt: HostRuntime) {
     let mut terminal = Terminal::new_within(rt.alloc(), 2).expect(&rt, "a limit");
     for _ in 0..2 {
         terminal.send(command(&rt, GET)).expect(&rt, "memory");
-        assert!(rt; told(&rt, &mut terminal, 2, (0x90, 0x00)).is_none());
+        assert!(rt; answer_fault(&rt, &mut terminal, 2, (0x90, 0x00)).is_none());
         terminal.send(command(&rt, GET)).expect(&rt, "memory");
-        assert!(rt; told(&rt, &mut terminal, 3, (0x90, 0x00)) == Some(AnswerFault::TooLong));
+        assert!(rt;
+            answer_fault(&rt, &mut terminal, 3, (0x90, 0x00)) == Some(AnswerFault::TooLong)
+        );
         terminal.reset();
     }
 }

@@ -125,7 +125,7 @@ fn a_list_of_thousands(rt: HostRuntime) {
 
 /// Memory for a response runs out before each of the operations in turn, and before none.
 #[test]
-fn memory_is_wanting_before_each(rt: HostRuntime) {
+fn memory_runs_out_before_each(rt: HostRuntime) {
     let mut place: usize = 0;
     for received in (16_368..=18_432).step_by(16) {
         let done = carried_out_over(&rt, received, AMPLE);
@@ -139,7 +139,7 @@ fn memory_is_wanting_before_each(rt: HostRuntime) {
 
 /// Memory for one more answer runs out when the list grows.
 #[test]
-fn memory_is_wanting_for_an_answer(rt: HostRuntime) {
+fn memory_runs_out_for_an_answer(rt: HostRuntime) {
     let mut places: usize = 0;
     let mut last = 0;
     for answers in (0..=2_048).step_by(16) {

@@ -71,8 +71,8 @@ fn is_reset_after(rt: &(impl Abort + AllocGlobal), manner: Manner, fault: LineFa
     let mut session = Session::new(CardEnd::new(TestCard::new(manner)));
     let mut recorder = Recorder::new(rt.alloc());
     assert!(rt; session.card().resets() == 1);
-    let came = faulted(rt, &mut session, &mut recorder);
-    assert!(rt; came == Some(SessionFault::Line(fault)));
+    let ended = faulted(rt, &mut session, &mut recorder);
+    assert!(rt; ended == Some(SessionFault::Line(fault)));
     assert!(rt; session.card().resets() == 2 && recorder.heard().len() == heard);
     session.reset();
     assert!(rt; session.card().resets() == 3);

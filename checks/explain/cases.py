@@ -1,23 +1,25 @@
-"""The cases of `trace_explain`: what it is given, and what it must say.
+"""The cases of `trace_explain`: input, words and expected output.
 
-- checks/explain/cases/NAME.trace with NAME.out, NAME.args and NAME.err, and those in its folder
-  captures/: all that is written.
-- statuses.txt: `HEADER STATUS SENTENCE`, what is said of a status after such a command.
-- titles.txt: `HEADER TITLE`, `HEADER > DATA TITLE` (data of the terminal) or `HEADER < DATA TITLE`
-  (data of the card), where TITLE stands behind `| `: how a command is named.
-- secrets_told.py: traces that have a secret, which must not be told.
-- long_traces.py: traces in which what is to be told comes late.
-- stories.cases: several TPDUs. Behind `in` stand the lines of the trace, behind `with` those of the
-  other one of `--diff`, behind `out` the lines that are written, without the rows of headers,
-  procedure bytes, data and statuses, but with a mask or `--diff`; behind `err` what standard error
-  tells, behind `time` how long it took by the last block, and behind `$` the words. `\\xHH` in a
-  line is that byte. Of a page only what stands below its head is compared.
-- lines.cases: what lines say; times.cases: the times before their signs; bare.cases: commands
-  without data whose card repeats INS; unsigned.cases: lines without signs; logs.cases: logs of
-  whole TPDUs; all in the same words, with all that is written above the last block.
+- checks/explain/cases/NAME.trace with NAME.out, NAME.args and NAME.err, and those in the folder
+  captures/: the whole output.
+- statuses.txt: `HEADER STATUS SENTENCE`, the sentence for a status after such a command.
+- titles.txt: the title of a command, as `HEADER | TITLE`, `HEADER > DATA | TITLE` (data of the
+  terminal) or `HEADER < DATA | TITLE` (data of the card).
+- secrets_told.py: traces with a secret, which the output must not show.
+- long_traces.py: traces in which the interesting part comes late.
+- stories.cases: several TPDUs, in lines that begin with a word:
+  - `in`: a line of the trace; `with`: a line of the second trace for `--diff`; `$`: the words.
+  - `out`: a line of the output. Rows of headers, procedure bytes, data and statuses are left out,
+    except with a mask or `--diff`. Of a page only the part below its head is compared.
+  - `err`: a line on standard error; `time`: the time in the last block.
+  - `\\xHH` in a line is that byte.
+- In the same form, with the whole output above the last block:
+  - lines.cases: the forms of lines; times.cases: times before the signs.
+  - bare.cases: commands without data whose card repeats INS.
+  - unsigned.cases: lines without signs; logs.cases: logs of whole TPDUs.
 
-The last block of text is told nowhere but in cases/: it has to count what stands above it
-(`block_of`). In the eight tables `#` begins a line that is passed over."""
+Only cases/ lists the last block. Elsewhere `block_of` counts what is above it. In the eight tables
+a line that begins with `#` is a comment."""
 
 import re
 from collections import Counter
@@ -32,7 +34,7 @@ HERE = Path(__file__).resolve().parent
 CASES = HERE / "cases"
 TITLE = re.compile(r"#\d+ (.*)  \(line \d+\)$")
 STATUS = re.compile(r"  < status     ([0-9A-F]{4} .*)$")
-# a name is of words in capitals; what SELECT selects may be, too
+# A name consists of words in capitals. What SELECT selects may also be in capitals.
 COMMAND = re.compile(r"#\d+ (INS [0-9A-F]{2}|SELECT|part of a header|[A-Z]+(?:[ /][A-Z]+)*)\b")
 TIME = re.compile(r"^    time       (.*)$", re.MULTILINE)
 COMPLAINTS = ("no dialogue that it reads  (", "no exchange that it reads  (")
@@ -40,7 +42,7 @@ BLOCK = "summary"
 HEX = re.compile(r"\b(?:[0-9A-F]{2})+\b")
 ENDS = '<div class="ends"><span>Terminal</span><span>Card</span></div><div>'
 ODD = re.compile(rb"\\x([0-9A-F]{2})")
-# a sign behind a time or none, and a count before one
+# A sign, after an optional time or count.
 SIGNED = re.compile(
     rb"^((?:\[ *[\d:.]+\] *|\+[\d:.]+ +[mu]?s +|\d+[:.][\d:.]* +)?)"
     rb"(?:>>?|<<?|->|<-|=>|<=|[TR][Xx]:|[TR]X|[TC]:|IFD:?|ICC:?)(?: +|(?=\r?$))",
@@ -48,25 +50,25 @@ SIGNED = re.compile(
 )
 COUNTED = re.compile(rb"^\d+ +[^\d ]", re.M)
 SPEAK_OF_SIGNS = {"--form", "--swap", "--unsigned", "--tpdu"}
-# the ways of instructions that no table has
+# The directions of instructions that no table has.
 WAYS = ["--to-card", "50,82,A8,AE,E2"]
-# what signs alone tell, in which cases
+# Cases in which only the signs show who sent what.
 TOLD_BY_SIGNS = {
-    # where a trace begins within a TPDU
+    # the trace begins inside a TPDU
     "a trace that begins within a dialogue with a character that may be TS: none is lost",
     "what is told before a header is no answer, whatever comes next",
-    # what follows an answer at fault, or the first characters of a PPS request or response
+    # after an invalid answer to reset, or after the first characters of PPS
     "a page of answers and an exchange",
     "answers_at_fault",
     "pps",
-    # an answer that begins with `03` behind a TPDU
+    # an answer to reset that begins with `03` after a TPDU
     "answers_again",
-    # the same bytes, the other way
+    # the same bytes in the other direction
     "two traces whose data go another way, and of which one is cut off",
-    # characters of the card where a header may begin, and a sign with none behind it
+    # characters of the card at the place of a header, and a sign without characters
     "characters of the card behind a reset that begin no answer, in two lines",
     "no TPDU begins with a sign alone, whose line has a time",
-    # digits that are notes
+    # notes that consist of digits
     "digits without a sign are notes behind a line that has one",
     "a sign without characters is one, too",
     "a time before a reset, and before a note",
@@ -76,7 +78,7 @@ ROW = re.compile(r"  [ <>] (header|procedure|data|status) ")
 
 @dataclass
 class Case:
-    """What is given, with which words, and what must be said."""
+    """The input, the words, and the expected output."""
 
     name: str
     given: bytes
@@ -89,7 +91,7 @@ class Case:
     time: str = ""
 
     def fault(self, out, err):
-        """What is wrong with what was said; empty where nothing is."""
+        """What is wrong with the output, or an empty text."""
         if self.secret:
             return self.leak(out, err)
         if err != self.error:
@@ -112,7 +114,7 @@ class Case:
         return f"{self.name}: more than 100 columns: {wide[0]!r}" if wide else ""
 
     def leak(self, out, err):
-        """Where a byte of the secret is told, as digits or as text; empty where none is."""
+        """The line that shows a byte of the secret, as digits or as text, or an empty text."""
         body = out.partition(ENDS)[2] if "--html" in self.words else out
         for line in (body + err).splitlines():
             for digits in HEX.findall(line):
@@ -126,13 +128,13 @@ class Case:
 
 
 def without_block(lines):
-    """The lines above the last block, and its own."""
+    """The lines above the last block, and those of the block."""
     begins = len(lines) - lines[::-1].index(BLOCK) - 1 if BLOCK in lines else len(lines)
     return lines[:begins], lines[begins:]
 
 
 def block_of(lines, time):
-    """The last block behind these lines: what stands in them, counted, and how long it took."""
+    """The last block for these lines: the counts of what they show, and the time."""
     names = [it[1] for line in lines if (it := COMMAND.match(line))]
     commands = Counter(name.replace("RECORDS", "RECORD") for name in names)
     came = [it[1] for line in lines if (it := STATUS.match(line))]
@@ -150,12 +152,12 @@ def block_of(lines, time):
 
 
 def counted(counts, order):
-    """A line for each that is counted."""
+    """A line for each count."""
     return [f"{it}: {counts[it]}" for it in sorted(counts, key=order)]
 
 
 def rank(command):
-    """Commands stand by their names, behind them those without one, and parts of headers last."""
+    """The order of commands: by name, then those without a name, then parts of headers."""
     return command.startswith("part"), command.startswith("INS "), command
 
 
@@ -170,7 +172,7 @@ def titles_in(lines):
 
 
 def statuses_in(lines):
-    """The statuses with their sentences, where a sentence may go on in the next lines."""
+    """The statuses with their sentences. A sentence may continue in the next lines."""
     said = []
     open_row = False
     for line in lines:
@@ -184,12 +186,12 @@ def statuses_in(lines):
 
 
 def page_in(lines):
-    """What stands below the head of a page, up to its end."""
+    """The part of a page from below its head to its end."""
     return lines[lines.index(ENDS) + 1 : lines.index("</main>")]
 
 
 def story_in(lines):
-    """All lines but the rows that stand in other tables."""
+    """All lines except the rows that other tables test."""
     said = []
     within = False
     for line in lines:
@@ -210,13 +212,13 @@ PARTS = {
 
 
 def rows(name):
-    """The lines of a table, without those that are passed over."""
+    """The lines of a table, without comments."""
     lines = (HERE / name).read_text(encoding="utf-8").splitlines()
     return [line for line in lines if line.strip() and not line.startswith("#")]
 
 
 def status_case():
-    """Each status after its command, with a reset behind it, in one trace."""
+    """Each status after its command, with a reset after it, in one trace."""
     given, wanted = [], []
     for line in rows("statuses.txt"):
         header, status, _ = line.split(" ", 2)
@@ -226,7 +228,7 @@ def status_case():
 
 
 def title_case():
-    """Each command, whole, with a reset behind it, in one trace."""
+    """Each whole command, with a reset after it, in one trace."""
     given, wanted = [], []
     for line in rows("titles.txt"):
         before, title = line.split("| ", 1)
@@ -241,7 +243,7 @@ def title_case():
 
 
 def story_cases(name, part):
-    """The cases of a file, of whose output this part stands there."""
+    """The cases of a file. `part` names the part of the output that the file lists."""
     found = []
     for line in rows(name):
         word, _, rest = line.partition(" ")
@@ -272,8 +274,8 @@ def story_cases(name, part):
 
 
 def secret_cases(ways):
-    """Each trace or log with a secret, explained in each of these ways with a mask; a log is not
-    resumed."""
+    """Each trace or log with a secret, in each of these ways with a mask. `--resume` is left out
+    for logs."""
     for name, tags, lines in secrets.traces():
         for words in ways:
             masked = [*words, "--mask", *tags]
@@ -286,7 +288,7 @@ def secret_cases(ways):
 
 
 def link_cases():
-    """So many complaints, and so many statuses, that not all have links on the page."""
+    """A page with more errors, and with more statuses, than it has links for."""
     for count, more in ((1000, ""), (1001, " and 1 more"), (1003, " and 3 more")):
         given = ["> 00CA5F2000", "< 6A88"] * count
         links = [f'<a href="#t{it}">#{it} 6A88</a>' for it in range(1, 1001)]
@@ -307,7 +309,7 @@ def link_cases():
 
 
 def page_block(count, cut_off, statuses, complaints, links):
-    """The last block of a page about so many GET DATA."""
+    """The last block of a page with `count` GET DATA."""
     rows = {
         "TPDUs": f"{count}{cut_off}",
         "commands": f"GET DATA: {count}",
@@ -319,7 +321,7 @@ def page_block(count, cut_off, statuses, complaints, links):
 
 
 def long_cases(traces):
-    """Long traces; where rows are wanted, all lines are compared."""
+    """Long traces. If rows are expected, all lines are compared."""
     for name, words, given, wanted, error in traces:
         other = []
         if "--diff" in words:
@@ -329,7 +331,7 @@ def long_cases(traces):
 
 
 def whole_cases():
-    """The cases of checks/explain/cases, whose output stands there whole."""
+    """The cases of checks/explain/cases, which list the whole output."""
     for trace in sorted(CASES.rglob("*.trace")):
         text = {kind: there(trace.with_suffix(f".{kind}")) for kind in ("out", "args", "err")}
         time = TIME.search(text["out"].rpartition(f"{BLOCK}\n")[2])
@@ -344,7 +346,7 @@ def whole_cases():
 
 
 def unsigned_cases(signed):
-    """The same cases with their signs taken off, but where these alone tell who sent what."""
+    """The same cases without signs, except those in which only signs show who sent what."""
     for case in signed:
         words = {word for word in case.words if word.startswith("--")}
         if case.error or words & SPEAK_OF_SIGNS or case.name in TOLD_BY_SIGNS:
@@ -359,7 +361,7 @@ def unsigned_cases(signed):
 
 
 def there(path):
-    """The text of a file, empty where it is not there."""
+    """The text of a file, or an empty text if it does not exist."""
     return path.read_text(encoding="utf-8") if path.exists() else ""
 
 
@@ -376,7 +378,7 @@ def tables():
 
 
 def rows_and_stories():
-    """The cases of the eight tables, those with signs also without."""
+    """The cases of the eight tables. Those with signs are also tried without."""
     signed = table_cases()
     return [*signed, *unsigned_cases([*signed, *whole_cases()])]
 
@@ -397,7 +399,7 @@ def table_cases():
 
 
 def all_cases():
-    """All cases, the small ones first, those of secrets in one way alone."""
+    """All cases, the small ones first. Those with secrets are tried in one way only."""
     secret = secret_cases([["--resume"]])
     long = long_cases(long_traces.traces())
     return [*rows_and_stories(), *secret, *whole_cases(), *long]

@@ -1,15 +1,15 @@
-"""Traces in which what is to be told comes late: behind 300 TPDUs, 250 lines or 70,000 characters,
-or in hundreds of pieces or parts. For each: its name, the words, its lines (those of both traces
-with `--diff`), the lines that are wanted, with all rows or none, and what standard error tells."""
+"""Traces in which the interesting part comes late: after 300 TPDUs, 250 lines or 70,000 characters,
+or in hundreds of pieces or parts. Each is its name, the words, its lines (of both traces with
+`--diff`), the expected lines, with all rows or none, and the expected standard error."""
 
 HEADER_DUE = "a character of a header"
 PROCEDURE_DUE = "a procedure byte or SW1 of the card"
-# the title in behind_notes has 101 columns with it, those of its line among them
+# With this name the title in behind_notes has 101 columns, with its line number.
 NAME = "00112233445566778899AABBCCDD"
 
 
 def traces():
-    """All but those at limits, which are the longest."""
+    """All traces except those at limits, which are the longest."""
     yield behind_tpdus()
     yield "a chain of 300 pieces", [], *chain_of(300, "80" * 16, 1, 1), ""
     yield "a response in 300 parts", [], *response_of(300, "80" * 16, 1, 1), ""
@@ -20,7 +20,7 @@ def traces():
 
 
 def at_limits():
-    """What comes together, which is told where it has less than 65,536 bytes."""
+    """Values in pieces or parts, which are shown together if they have less than 65,536 bytes."""
     for made in (chain_of, response_of):
         yield f"65,535 bytes: {made.__name__}", [], *made(257, "80" * 255, 1, 1), ""
         given, wanted = made(512, "80" * 128, 1, 1)
@@ -29,7 +29,7 @@ def at_limits():
 
 
 def behind_tpdus():
-    """A chain, a response in parts and a complaint, behind 300 TPDUs."""
+    """A chain, a response in parts and a protocol error, after 300 TPDUs."""
     chain, chain_told = chain_of(2, "41", 301, 601)
     response, response_told = response_of(2, "41", 303, 609)
     given = ["> 00CA5F2000", "< 6A88"] * 300 + chain + response + ["< 55"]
@@ -39,7 +39,7 @@ def behind_tpdus():
 
 
 def behind_nulls(count):
-    """A character behind so many NULLs in one line, with which no dialogue goes on."""
+    """An unexpected byte after `count` NULLs in one line."""
     given = ["> 00CA5F2000", "< " + "60" * count + "55"]
     wanted = ["#1 GET DATA of 5F20  (line 1)", "  > header     00CA5F2000"]
     wanted += [f"  < procedure  {count} NULLs", "    status     cut off"]
@@ -48,7 +48,7 @@ def behind_nulls(count):
 
 
 def behind_notes():
-    """Many notes, of which the last is long, and a title that has no room for its line."""
+    """Many notes, the last one long, and a title without room for its line number."""
     given = ["# before it"] * 250 + ["n" * 70_000, "> 11A402030E", "< A4", f"> {NAME}", "< 9000"]
     wanted = ["| # before it"] * 250 + ["| " + "n" * 96] * 729 + ["| " + "n" * 16]
     wanted += [f"#1 SELECT EF {NAME}, the previous one, class 11, piece 1 of a chain"]
@@ -56,7 +56,7 @@ def behind_notes():
 
 
 def passed_over(count):
-    """A character with which no dialogue goes on, and so many lines that are passed over."""
+    """An unexpected byte, and `count` lines that are skipped after it."""
     given = ["> 00CA5F2000", "< 55", *["< 90"] * count, "> 00CA5F2000", "< 6A88"]
     wanted = ["#1 GET DATA of 5F20  (line 1)", *complaint(2, 1, PROCEDURE_DUE)]
     wanted += [f"| passed over: line 2 from character 1, to line {count + 2}"]
@@ -66,7 +66,7 @@ def passed_over(count):
 
 
 def alike():
-    """Two traces that are alike in 300 TPDUs, and differ in the next one."""
+    """Two traces that are the same in 300 TPDUs, and differ in the next one."""
     given = ["> 00CA5F2000", "< 6A88"] * 300
     box = ["#301 GET DATA of 5F20  (line 601)", "  > header     00CA5F2000"]
     wanted = ["TPDU 301 differs: status"]
@@ -77,7 +77,8 @@ def alike():
 
 
 def chain_of(count, piece, number, line):
-    """A chain of so many of this piece, whose first has this number and line, and what is told."""
+    """A chain of `count` such pieces, and its expected lines. The first piece has this number and
+    line."""
     given, wanted = [], []
     size = len(piece) // 2
     for it in range(count):
@@ -89,7 +90,7 @@ def chain_of(count, piece, number, line):
 
 
 def response_of(count, part, number, line):
-    """The same of a response in so many of this part."""
+    """The same for a response in `count` such parts."""
     given, wanted = [], []
     size = len(part) // 2
     for it in range(count):
@@ -102,14 +103,14 @@ def response_of(count, part, number, line):
 
 
 def together(digits, shares):
-    """The row of bytes that came together, which are no text: 40 in each line."""
+    """The row of the bytes together, which are not text: 40 in each line."""
     lines = [digits[it : it + 80] for it in range(0, len(digits), 80)]
     head = f"    together   {len(digits) // 2} bytes in {shares}:"
     return [head, *(" " * 15 + line for line in lines)]
 
 
 def complaint(line, character, due):
-    """The box of a complaint about 55 of the card."""
+    """The box of a protocol error at byte 55 of the card."""
     return [
         f"no dialogue that it reads  (line {line})",
         f"    place      line {line}, character {character}",
@@ -119,6 +120,6 @@ def complaint(line, character, due):
 
 
 def error(line, character, due):
-    """What standard error tells of it."""
+    """The line on standard error for it."""
     place = f"line {line}, character {character}"
     return f"{place}: no dialogue that it reads: {due} was due, and 55 of the card came\n"

@@ -1,36 +1,36 @@
-"""Traces and logs that have a secret, which no explanation with a mask may tell: reference data,
-and an object `5A`, whole and cut in each place, over several TPDUs, and where no object is heard.
+"""Traces and logs with a secret, which no explanation with a mask may show: reference data, and an
+object `5A`. The object is whole, or cut at each place, over several TPDUs, or not recognisable.
 
-No byte of the secret but `02` stands anywhere else in a trace, nor in what is told of it. Its
-second half reads as an object, so that it is told where the first half is forgotten."""
+No other part of a trace or its explanation has a byte of the secret except `02`. The second half
+of the secret reads as an object, so a program that forgets the first half would show it."""
 
 SECRET = b"QzxvT\x02wK"
 DIGITS = SECRET.hex().upper()
 HALF = DIGITS[8:]
 BYTES = SECRET.replace(b"\x02", b"")
-# the secret in a template, with an object before it and one behind
+# The secret in a template, with an object before it and one after it.
 RECORD = f"70115F200141{'5A08' + DIGITS}500142"
 TAGS = ["5A,57"]
 
 
 def sent(header, digits, status="9000"):
-    """A command with data of the terminal."""
+    """A command with data from the terminal."""
     size = len(digits) // 2
     return [f"> {header}{size:02X}", f"< {header[2:4]}", f"> {digits}", f"< {status}"]
 
 
 def brought(header, digits, status="9000"):
-    """A command with data of the card."""
+    """A command with data from the card."""
     return [f"> {header}{len(digits) // 2:02X}", f"< {header[2:4]}{digits}{status}"]
 
 
 def cuts(digits):
-    """The two parts of digits, cut behind each byte but the last."""
+    """Both parts of the digits, cut after each byte except the last."""
     return [(digits[:i], digits[i:]) for i in range(2, len(digits), 2)]
 
 
 def of_reference_data():
-    """Data that are hidden whatever the tags are."""
+    """Data that are hidden with any tags."""
     for header in ("00200080", "A0200001", "00240001", "002C0001", "00260080", "00280080"):
         yield f"data of {header}", sent(header, DIGITS)
     for header in ("0C200081", "84240002", "A02C0000", "A0260001", "C0280001", "FF210001"):
@@ -52,7 +52,7 @@ def of_reference_data():
 
 
 def of_objects():
-    """Data that hold an object with a tag of the mask."""
+    """Data that contain an object with a tag of the mask."""
     yield "a record", brought("00B2010C", RECORD)
     yield "a record that is asked for again", [
         "> 00B2010C01",
@@ -108,12 +108,12 @@ def of_objects():
 
 
 def pairs(digits):
-    """The bytes of digits with a space behind each."""
+    """The bytes of digits with a space after each."""
     return "".join(f"{digits[i : i + 2]} " for i in range(0, len(digits), 2))
 
 
 def dump(end, digits):
-    """A dump of OpenSC, which has the bytes as text beside them."""
+    """A dump as OpenSC prints it, with the bytes as text on the right."""
     text = bytes.fromhex(digits).decode("latin-1")
     shown = "".join(it if it.isprintable() and it.isascii() else "." for it in text)
     lines = [
@@ -124,7 +124,7 @@ def dump(end, digits):
 
 
 def of_logs():
-    """Logs of whole TPDUs, the tags that are given, and their lines."""
+    """Logs of whole TPDUs: their names, tags and lines."""
     verify = f"0020008008{DIGITS}"
     yield "a command", [], [f"> {verify}", "< 9000"]
     yield "a command with Le", [], [f"> {verify}00", f"< {DIGITS}9000"]
@@ -161,7 +161,7 @@ def of_logs():
 
 
 def traces():
-    """The name of each trace, the tags that are given, and its lines."""
+    """All traces and logs: their names, tags and lines."""
     for name, lines in of_reference_data():
         yield name, [], lines
         yield name, TAGS, lines

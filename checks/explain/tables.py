@@ -1,5 +1,5 @@
-"""Runs a built `trace_explain` on the tables of this folder: `run.py PROGRAM` writes a line
-`passed`, or what is wrong, for each row and each story."""
+"""Runs a built `trace_explain` on the tables of this folder. `tables.py PROGRAM` prints a line
+`passed`, or what is wrong, for each case."""
 
 import subprocess
 import sys
@@ -12,7 +12,7 @@ from cases import tables  # noqa: E402
 
 
 def run_of(program, case, folder):
-    """The run of a program on a case."""
+    """Runs a program on a case."""
     words = [program, *case.words]
     if "--diff" in words:
         place = words.index("--diff") + 1
@@ -23,7 +23,7 @@ def run_of(program, case, folder):
 
 
 def status_of(case):
-    """The statuses that it may end with: of a secret is looked at what is told alone."""
+    """The allowed exit statuses. Cases with a secret test the output alone."""
     if case.secret:
         return 0, 1
     differ = "--diff" in case.words and not "".join(case.wanted).startswith("alike")

@@ -1,7 +1,7 @@
-"""serial_card, with a terminal that is played by hand at the other end of its line.
+"""Tests serial_card with a terminal that these tests play at the other end of its line.
 
-What is expected comes from the rules of the line (ISO/IEC 7816-3) and of the card, and from what
-bindings/c/README.md says of the program."""
+The expected results follow from the rules of the line (ISO/IEC 7816-3) and of the card, and from
+the description of the program in bindings/c/README.md."""
 
 import os
 import signal
@@ -23,13 +23,13 @@ APP = "app A0000000031010\nobject 5F20 4A4F45\n"
 GONE = "the line is gone\n"
 NO_PPS = "a PPS request has come that the card does not answer\n"
 PUT_WORDS = "> 00DA5F2003 < DA > 414E4E < 9000 "
-# the first of a dialogue that tells whether a card still answers
+# The start of a dialogue that shows whether a card still answers.
 ASK_WORDS = "> 00CA5F2000 < 6985 "
 
 
 @dataclass
 class Case:
-    """A dialogue that the other end plays, and what the card says of it after."""
+    """A dialogue that the other end plays, and the card's expected output."""
 
     title: str
     dialogue: str
@@ -40,7 +40,7 @@ class Case:
     heaps: bool = False
     fault: str = GONE
     output: str = ""
-    # no character of the card comes after the dialogue
+    # the card sends no character after the dialogue
     mute: bool = False
     # the rate of the tty after the dialogue
     baud: int = 9600
@@ -49,14 +49,14 @@ class Case:
 
 
 def table(folder, text):
-    """A file of lines."""
+    """Writes the file of a table."""
     path = Path(folder) / "card.table"
     path.write_text(text, encoding="utf-8")
     return path
 
 
 def run(case):
-    """Plays a case; what is wrong with it is an error."""
+    """Plays a case. A wrong result is an error."""
     line = Line()
     with tempfile.TemporaryDirectory() as folder:
         path = table(folder, f"atr {case.answer}\n{APP}")
@@ -79,7 +79,7 @@ def run(case):
 
 
 def sessions():
-    """The same dialogue in each convention, with and without echo, byte by byte and in heaps."""
+    """The same dialogue in each convention, with and without echo, by single bytes and in heaps."""
     dialogue = SELECT_WORDS + GET_WORDS + PUT_WORDS
     for inverse in (False, True):
         ts = "3F" if inverse else "3B"
@@ -91,8 +91,8 @@ def sessions():
 
 
 def pps():
-    """A card takes the rate that it offers, and that of a reset; the rest of a request it leaves
-    out. To one that is none, or asks for another protocol, it says nothing."""
+    """A card takes the rate that it offers, and that of a reset. It omits the rest of a request. It
+    does not answer an invalid request, or one for another protocol."""
     offers, own = "3B1095", 111600
     for title, request, response, baud in (
         ("its own rate", "FF10957A", "FF10957A", own),
@@ -129,7 +129,7 @@ def pps():
 
 
 def plans():
-    """Plans of procedure bytes, one for each TPDU in turn."""
+    """Plans, one for each TPDU in turn."""
     yield Case(
         "plans",
         "< 3B00 > 00A4040007 < 60A4 > A0000000031010 < 610B "
@@ -139,12 +139,12 @@ def plans():
 
 
 def all_cases():
-    """The cases that are a dialogue each."""
+    """The cases that consist of a dialogue."""
     return [case for part in (sessions, pps, plans) for case in part()]
 
 
 def wrong_echo():
-    """A card's echo that is another, and one that does not come."""
+    """A card whose echo is wrong, or missing."""
     for echo, fault in (
         ("55", "another echo has come back than what was sent\n"),
         ("", "no echo has come back\n"),
@@ -163,7 +163,7 @@ def wrong_echo():
 
 
 def is_slow():
-    """A card waits for its terminal as long as that takes, within a TPDU too."""
+    """A card waits for its terminal without a limit, even inside a TPDU."""
     line = Line()
     program = Program("serial_card", ["--slack", "5000", line.name, TABLE])
     try:
@@ -174,7 +174,7 @@ def is_slow():
 
 
 def puts_back():
-    """A signal ends a card, and its tty is as it was."""
+    """A signal ends a card, which restores its tty."""
     line = Line()
     try:
         program = Program("serial_card", ["--slack", "5000", line.name, TABLE])
@@ -188,14 +188,14 @@ def puts_back():
 
 
 class Far:
-    """A card that makes its own line, and the near end of that as a terminal opens it."""
+    """A card that creates its own line. A terminal opens the near end."""
 
     def __init__(self, *words):
         self.program = Program("serial_card", ["--pty", *words])
         self.name = self.program.first_line()
 
     def opened(self, echo=True):
-        """The near end, as the other end by hand; it is to be closed."""
+        """Opens the near end for these tests. The caller closes it."""
         near = Line.__new__(Line)
         near.far, near.near = os.open(self.name, os.O_RDWR | os.O_NOCTTY), -1
         return near, Other(near, echo=False)
@@ -206,8 +206,8 @@ class Far:
 
 
 def opening_is_the_reset():
-    """Each opening of a card's own line is a reset: it answers, and nothing is selected; what was
-    under way is dropped, and what was on the way is not there."""
+    """Each opening of a card's own line is a reset. The card sends its answer, has nothing
+    selected, and drops the dialogue in progress, with all bytes on the line."""
     far = Far("--no-echo", TABLE)
     for dialogue in (
         "< 3B00 " + SELECT_WORDS + "> 00DA5F2003 < DA > 41",
@@ -224,7 +224,7 @@ def opening_is_the_reset():
 
 
 def quick_reopening():
-    """A terminal that closes the line and opens it again at once finds the card reset, also within
+    """A terminal that closes the line and opens it again at once finds the card reset, even inside
     a TPDU."""
     far = Far("--no-echo", TABLE)
     near, other = far.opened()
@@ -240,7 +240,7 @@ def quick_reopening():
 
 
 def mute_and_reopened():
-    """So it is of a card that has not answered a PPS request."""
+    """The same holds for a card that has not answered a PPS request."""
     far = Far("--no-echo", TABLE)
     for _ in range(5):
         near, other = far.opened()
@@ -254,7 +254,7 @@ def mute_and_reopened():
 
 
 def gives_the_echo():
-    """A card's own line gives the terminal its echo, before the card says anything."""
+    """A card's own line returns the terminal's echo before the card's characters."""
     far = Far(TABLE)
     near, other = far.opened()
     play(other, "< 3B00 > 00 < 00 > CA < CA > 5F < 5F > 20 < 20 > 00 < 006985", card=False)
@@ -263,7 +263,7 @@ def gives_the_echo():
 
 
 def is_not_read():
-    """A terminal that reads nothing does not stop the card: it waits for the next one."""
+    """A terminal that reads nothing does not stop the card, which waits for the next terminal."""
     words = ["--no-echo", "--baud", "1000000", "--plan", "n" * 100000, TABLE]
     far = Far(*words)
     near, other = far.opened()
@@ -279,7 +279,7 @@ def is_not_read():
 
 
 def mute_until_reset():
-    """A card that does not answer a PPS request is mute until the next reset, and tells why."""
+    """A card that does not answer a PPS request is mute until the next reset, and prints why."""
     far = Far("--no-echo", TABLE)
     near, other = far.opened()
     play(other, "< 3B00 > FF11FE00", card=False)
@@ -294,8 +294,7 @@ def mute_until_reset():
 
 
 def tables():
-    """Tables that are refused, and answers to reset by which no T=0 is offered, and no T=1 that the
-    card has."""
+    """Invalid tables, and answers to reset that offer neither T=0 nor T=1 with an LRC."""
     none = "the table's answer to reset is none: "
     neither = ("the table's answer to reset does not offer T=0, or T=1 with an LRC, at a rate that"
                " it tells\n")
@@ -319,7 +318,7 @@ def tables():
 
 
 def warns():
-    """A card warns of an answer that our terminal refuses."""
+    """A card warns of an answer to reset that gt_serial refuses."""
     by_blocks = "> 00000500CA5F2000B0 < 0000026985EE "
     for answer, warning, words in (
         ("3B804000", "the card's waiting time is reserved", ASK_WORDS),
@@ -340,7 +339,7 @@ def warns():
 
 
 def closed_descriptors():
-    """What is printed into a closed descriptor does not go to the terminal."""
+    """Text for a closed descriptor does not reach the terminal."""
     line = Line()
     try:
         program = Program("serial_card", ["-v", "--no-echo", line.name, TABLE], before="exec 1>&-")
@@ -355,7 +354,7 @@ def closed_descriptors():
 
 
 def words():
-    """Words of a card that are refused, and what can't be opened."""
+    """Refused words, and files that can't be opened."""
     for given, why in (
         ([], "no tty or no table was provided"),
         (["x"], "no tty or no table was provided"),
@@ -379,7 +378,7 @@ def words():
 
 
 def helps():
-    """A card's help fits a terminal; its version is the header's."""
+    """A card's help fits a terminal. Its version is that of the header."""
     for word in ("-h", "--help"):
         program = Program("serial_card", [word])
         assert program.end() == 0 and program.faults == "", program.faults
@@ -392,7 +391,7 @@ def helps():
 
 
 def tests():
-    """Each test of this part: its title, and a function that is wrong by an error."""
+    """Each test of this part: its title, and a function that raises an error if it fails."""
     yield from ((case.title, lambda case=case: run(case)) for case in all_cases())
     for test in (wrong_echo, is_slow, puts_back, opening_is_the_reset, quick_reopening,
                  mute_and_reopened, gives_the_echo, is_not_read, mute_until_reset, tables, warns,

@@ -1,4 +1,4 @@
-"""Pseudo terminals as lines of smart cards: one end of one, and a wire between two of them."""
+"""Pseudo terminals as lines of smart cards: the far end of a line, and a wire between two lines."""
 
 import os
 import pty
@@ -12,12 +12,12 @@ SECONDS = 20
 
 
 def turned(data):
-    """Bytes of the inverse convention as the direct one reads them, and back."""
+    """Converts bytes between the inverse and the direct convention."""
     return bytes(int(f"{byte:08b}"[::-1], 2) ^ 0xFF for byte in data)
 
 
 class Line:
-    """A pseudo terminal whose near end a program opens by its name; this is the far end."""
+    """The far end of a pseudo terminal. A program opens the near end by its name."""
 
     def __init__(self):
         self.far, self.near = pty.openpty()
@@ -29,11 +29,11 @@ class Line:
         return termios.tcgetattr(self.near)
 
     def is_put_back(self):
-        """Whether the near end is set as it was at first."""
+        """Whether the near end has its first settings again."""
         return self.settings() == self.before
 
     def read(self, most, seconds=SECONDS):
-        """What comes within this time, at most so many bytes; nothing where nothing comes."""
+        """Reads up to `most` bytes. Returns none if nothing comes in this time."""
         ready, _, _ = select.select([self.far], [], [], seconds)
         return os.read(self.far, most) if ready else b""
 
@@ -48,8 +48,8 @@ class Line:
 
 
 class Wire(threading.Thread):
-    """Joins the far ends of two lines. With `echo` each end gets back what it sends. It passes one
-    byte at a time, or with `heaps` what has come within some milliseconds."""
+    """Joins the far ends of two lines. With `echo` each end gets back its own bytes. It passes one
+    byte at a time, or with `heaps` all bytes of some milliseconds."""
 
     def __init__(self, one, other, echo, heaps):
         super().__init__(daemon=True)
@@ -77,10 +77,10 @@ class Wire(threading.Thread):
 
 
 class Other:
-    """The other end of a line, by hand: it takes what the program sends and sends bytes to it.
-    With `echo` it gives back what it takes. Bytes are those that are meant; with `inverse` they
-    stand on the line by the inverse convention. With `heaps` the last echo goes with what is sent
-    next, in one write; else each byte goes alone."""
+    """The other end of a line, played by a test: it takes bytes of the program, and sends bytes.
+    With `echo` it returns what it takes. With `inverse` the line has the bytes in the inverse
+    convention. Each byte is written alone; with `heaps` the bytes of one word go in one write,
+    after the last echo."""
 
     def __init__(self, line, echo=True, inverse=False, heaps=False):
         self.line, self.echo, self.heaps = line, echo, heaps
@@ -100,7 +100,7 @@ class Other:
             self.line.write(part)
 
     def take(self, digits):
-        """Takes just these bytes; else it is an error. The time before each is kept in `gaps`."""
+        """Takes exactly these bytes; others are an error. `gaps` gets the time before each."""
         wanted = bytes.fromhex(digits)
         for place, byte in enumerate(wanted):
             found = self.line.read(1)
@@ -123,8 +123,8 @@ class Other:
 
 
 def play(other, dialogue, card):
-    """Plays one end of a dialogue: words are `<` and the card's bytes, `>` and the terminal's, and
-    `~` and seconds of nothing. `card` says whose part it is."""
+    """Plays one end of a dialogue, that of the card or of the terminal. Its words are `<` and the
+    card's bytes, `>` and the terminal's, and `~` and seconds of a pause."""
     words = dialogue.split()
     for sign, word in zip(words[::2], words[1::2]):
         if sign == "~":
@@ -136,7 +136,7 @@ def play(other, dialogue, card):
 
 
 def trace_of(dialogue):
-    """The trace of a dialogue: what one end sends, up to the other's turn, is a line."""
+    """The trace of a dialogue: all bytes of one end, up to the other's turn, are a line."""
     words = dialogue.split()
     lines = ["reset"]
     for sign, word in zip(words[::2], words[1::2]):

@@ -1,5 +1,5 @@
-"""gt_serial and serial_card against each other, over two lines and a wire between them, and
-over the line that the card makes."""
+"""Tests gt_serial with serial_card, over two lines and a wire between them, and over the line that
+the card creates."""
 
 import signal
 import subprocess
@@ -16,13 +16,13 @@ SLACK = ["--slack", "8000"]
 VALUE = bytes(range(256)) * 2 + b"\xff\xff\x00\x60\x03"
 WORDS = ["select", "A0000000031010", "get", "5F20", "put", "DF01", VALUE.hex(), "get", "DF01",
          "get", "50"]
-# tag, length and value of the long one: 517 bytes
+# The long object, with tag and length, has 517 bytes.
 ANSWERS = (
     "= 9000 6F098407A0000000031010\n= 9000 5F20034A4F45\n= 9000\n"
     f"= 9000 DF01820205{VALUE.hex().upper()}\n= 6A88\n"
 )
 
-# what is behind TS, what the terminal is asked for beside, and the rate then
+# A title, the answer to reset after TS, more options of the terminal, and the rate after that.
 RATES = (
     ("no other rate", "00", [], 9600),
     ("a rate by PPS", "1095", ["--pps"], 111600),
@@ -31,8 +31,8 @@ RATES = (
 
 
 def both(answer, echo, heaps, options):
-    """The two programs over a wire, to the end of both: the terminal, its status, and the rate of
-    the card's tty."""
+    """Runs both programs over a wire, to the end of both. Returns the terminal, its status, and the
+    rate of the card's tty."""
     ends = Line(), Line()
     wire = Wire(*ends, echo=echo, heaps=heaps)
     wire.start()
@@ -60,7 +60,8 @@ def both(answer, echo, heaps, options):
 
 
 def pairs():
-    """Each convention, with and without echo, byte by byte and in heaps, at each kind of rate."""
+    """Each convention, with and without echo, by single bytes and in heaps, at each kind of
+    rate."""
     for inverse in (False, True):
         for echo in (True, False):
             for heaps in (True, False):
@@ -75,7 +76,8 @@ def run(inverse, echo, heaps, rest, options, rate):
 
 
 def own_line(inverse, echo):
-    """A terminal at the line that a card makes, twice; and the traces of both ends are the same."""
+    """Two terminals in turn at the line that a card creates. The traces of both ends are the
+    same."""
     whole = f"< {'3F' if inverse else '3B'}00 " + SELECT_WORDS + GET_WORDS
     answers = "= 9000 6F098407A0000000031010\n", "= 9000 5F20034A4F45\n"
     trace = trace_of(whole)
@@ -95,7 +97,7 @@ def own_line(inverse, echo):
 
 
 def is_explained():
-    """trace_explain reads the trace of a terminal, PPS with it, and finds nothing wrong."""
+    """trace_explain explains a terminal's trace with PPS, and finds no protocol error."""
     if not EXPLAIN.exists():
         raise Skipped("a trace of a serial line, since trace_explain is not built")
     with tempfile.TemporaryDirectory() as folder:
@@ -118,7 +120,7 @@ def is_explained():
 
 
 def comes_back():
-    """A terminal that is killed within a long put, and comes back, finds the value of before."""
+    """A terminal that is killed inside a long put, and started again, finds the old value."""
     far = Far("--no-echo", TABLE)
     words = [*SLACK, "--no-echo", far.name, "select", "A0000000031010"]
     for number in (signal.SIGKILL, signal.SIGTERM):
@@ -135,8 +137,8 @@ def comes_back():
 
 
 def comes_back_soon():
-    """A terminal that is killed while the card sends, and comes back before that has ended, gets an
-    answer to reset, and nothing of what was left."""
+    """A terminal that is killed while the card sends, and started again before that ends, gets an
+    answer to reset, and no byte from before."""
     with tempfile.TemporaryDirectory() as folder:
         path = table(folder, f"{APP}object 50 {'41' * 8000}\n")
         far = Far("--no-echo", "--plan", "", "--plan", "", "--plan", "n" * 5000, path)
@@ -154,7 +156,8 @@ def comes_back_soon():
 
 
 def second_is_harmless():
-    """A second terminal at a card's line tells which process has it, and resets no card."""
+    """A second terminal at a card's line prints which process has it, and does not reset the
+    card."""
     far = Far("--no-echo", "--plan", "n" * 3000, TABLE)
     words = [*SLACK, "--no-echo", far.name, "select", "A0000000031010"]
     first = Program("gt_serial", words)
@@ -166,7 +169,7 @@ def second_is_harmless():
 
 
 def keeps_values():
-    """What one terminal has stored the next one finds, over the line that a card makes."""
+    """A terminal finds what another one has stored before, over the line that a card creates."""
     far = Far(TABLE)
     select = ["select", "A0000000031010"]
     answer = "= 9000 6F098407A0000000031010\n"
@@ -181,7 +184,7 @@ def keeps_values():
 
 
 def tests():
-    """Each test of this part: its title, and a function that is wrong by an error."""
+    """Each test of this part: its title, and a function that raises an error if it fails."""
     for inverse, echo, heaps, title, *rest in pairs():
         yield (f"both ends, inverse {inverse}, echo {echo}, heaps {heaps}, {title}",
                lambda of=(inverse, echo, heaps, *rest): run(*of))

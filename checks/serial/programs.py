@@ -1,4 +1,4 @@
-"""The two programs, as their tests run them."""
+"""Runs gt_serial and serial_card, for the tests of both."""
 
 import os
 import re
@@ -13,24 +13,24 @@ BUILD = Path(os.environ.get("SERIAL_BUILD", TOP / "bindings/c/build/standin"))
 TABLE = TOP / "bindings/c/examples/demo.table"
 SECONDS = 30
 
-# those that run, and whether no more may begin
+# The running programs, and whether no other may begin.
 RUNNING = set()
 IS_OVER = threading.Event()
 
 
 def version():
-    """The version that the header has."""
+    """The version of the header."""
     header = (TOP / "bindings/c/include/galliumtoad.h").read_text(encoding="utf-8")
     return ".".join(re.findall(r"^#define GT_VERSION_(?:MAJOR|MINOR|PATCH) (\d+)$", header, re.M))
 
 
 class Skipped(Exception):
-    """What could not be tried, and why: `WHAT, since REASON`."""
+    """A test that can't be run: `WHAT, since REASON`."""
 
 
 class Program:
-    """A program that runs, over the stand-in for a tty. `before` is what a shell does first:
-    `trap "" HUP` has it pass over a signal, and `exec 1>&-` closes a descriptor. `user` is the
+    """A running program, with the stand-in for a tty. `before` is a shell command that runs first:
+    `trap "" HUP` makes it ignore a signal, and `exec 1>&-` closes a descriptor. `user` is the
     number of another user."""
 
     def __init__(self, name, words, given=b"", environment=(), stdout=subprocess.PIPE, before="",
@@ -57,16 +57,17 @@ class Program:
         self.seconds = 0.0
 
     def first_line(self):
-        """The first line that it prints, once it does."""
+        """Waits for the first line of output."""
         return self.process.stdout.readline().decode().rstrip("\n")
 
     def first_fault(self, seconds):
-        """The first line that it tells on standard error within this time, or nothing."""
+        """The first line on standard error in this time, or nothing."""
         ready, _, _ = select.select([self.process.stderr], [], [], seconds)
         return self.process.stderr.readline().decode() if ready else ""
 
     def end(self):
-        """Its status, once it has ended; `output`, `faults` and `seconds` are of all of it."""
+        """Waits for the end, and returns the status. `output`, `faults` and `seconds` are then
+        those of the whole run."""
         try:
             output, faults = self.process.communicate(timeout=SECONDS)
         except subprocess.TimeoutExpired:
@@ -83,7 +84,8 @@ class Program:
 
 
 def in_time(test):
-    """Runs a test that has to answer within some 10 ms, again if a busy machine was late."""
+    """Runs a test that measures short times. It runs it again if that fails, since a busy machine
+    may be late."""
     for _ in range(5):
         try:
             return test()
@@ -93,7 +95,7 @@ def in_time(test):
 
 
 def end_all():
-    """Ends the programs that tests which went wrong have left, and those that begin after that."""
+    """Ends the programs that failed tests have left, and those that begin after that."""
     IS_OVER.set()
     for process in list(RUNNING):
         process.kill()

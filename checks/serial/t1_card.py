@@ -1,5 +1,5 @@
-"""Lines at T=1 (ISO/IEC 7816-3, clause 11) that damage, lose, double and delay bytes: between both
-programs, or to a stand-in for the card, which is written from the rules alone."""
+"""Lines at T=1 (ISO/IEC 7816-3, clause 11) that damage, lose, double and delay bytes. They are
+between both programs, or lead to a stand-in for the card, which is written from the rules alone."""
 
 import random
 import select
@@ -7,8 +7,8 @@ import threading
 import time
 from functools import reduce
 
-# what the line does with a block: nothing, a byte is changed, lost or sent twice, the block is
-# lost, or stops in the middle, or comes late
+# What the line does with a block: nothing; it changes, loses or doubles a byte; it loses the block,
+# cuts it short, or delays it.
 FATES = ["well", "changed", "short", "doubled", "lost", "stopped", "late"]
 
 
@@ -22,13 +22,13 @@ def block(pcb, info=b""):
 
 
 def is_valid(data):
-    """Whether a card takes it for a block."""
+    """Whether the bytes are a valid block for a card."""
     return len(data) >= 4 and data[0] == 0 and data[2] < 255 and len(data) == data[2] + 4 \
         and not lrc(data)
 
 
 class Objects:
-    """The card of data objects above the end: its commands, and how many it has carried out."""
+    """The card of data objects above the end. `log` has the commands that it has carried out."""
 
     def __init__(self):
         self.values, self.chain, self.left, self.log = {"5F20": b"JOE"}, b"", b"", []
@@ -55,10 +55,9 @@ class Objects:
 
 
 class Card:
-    """The card's end: it answers each block with one block. `ifsc` is the longest field that it
-    takes, `extensions` how often it asks for more time before each response. With `narrow` it is a
-    card by EMV 4.3, Book 1, 9.2.4: its R-blocks name the error, and it falls silent for good when
-    one block has come wrong three times in a row."""
+    """The card's end: it answers each block with one block. It asks for more time `extensions`
+    times before each response. With `narrow` it is a card by EMV 4.3, Book 1, 9.2.4: its R-blocks
+    name the error, and it answers no more than three wrong blocks in a row."""
 
     def __init__(self, objects, extensions=0, narrow=False):
         self.objects, self.extensions, self.narrow, self.wrong = objects, extensions, narrow, 0
@@ -113,9 +112,9 @@ class Card:
 
 
 def carried_out(trace):
-    """The commands that a card has carried out, by its trace of the blocks that came and went: it
-    has carried one out if it answers the last block of that with an I-block, and has taken another
-    block of it if it asks for the next."""
+    """The commands that a card has carried out, from its trace of received and sent blocks. It has
+    carried out a command if it answers the last block of that with an I-block. It has taken an
+    earlier block of it if it asks for the next one."""
     log, fields, due = [], b"", 0
     lines = [line.split() for line in trace.splitlines()[2:]]
     for (_, came), (_, went) in zip(lines[::2], lines[1::2]):
@@ -133,8 +132,8 @@ def carried_out(trace):
 
 
 class Noise:
-    """What a line does with each block. `fates` has one for each, or says at random how often a
-    block comes well."""
+    """What a line does with each block. `fates` lists the blocks that it damages, by number.
+    Without it the choice is random, and `well` is the share of undamaged blocks."""
 
     def __init__(self, seed, fates=None, well=0.8):
         self.random, self.fates, self.well = random.Random(seed), fates, well
@@ -147,7 +146,7 @@ class Noise:
         return "well" if self.random.random() < self.well else self.random.choice(FATES[1:])
 
     def change(self, data, fate):
-        """What comes of a block; a change that leaves it valid is drawn again."""
+        """Damages a block. A change that leaves it valid is drawn again."""
         while True:
             at = self.random.randrange(len(data))
             byte = bytes([data[at] ^ self.random.randrange(1, 256)])
@@ -159,7 +158,7 @@ class Noise:
 
 
 class Noisy(threading.Thread):
-    """A line whose noise goes both ways. `late` is how long a late block takes."""
+    """A line with noise in both directions. `late` is the delay of a late block, in seconds."""
 
     def __init__(self, noise, late):
         super().__init__(daemon=True)
@@ -167,7 +166,7 @@ class Noisy(threading.Thread):
         self.is_over = threading.Event()
 
     def pass_on(self, data):
-        """A block as the line leaves it: late, or as it is, or as the noise makes it."""
+        """Returns the block as the line delivers it: unchanged, late or damaged."""
         fate = self.noise.next()
         if fate == "late":
             time.sleep(self.late)
@@ -179,21 +178,21 @@ class Noisy(threading.Thread):
 
 
 class Wire(Noisy):
-    """Such a line between the far ends of a terminal's and of a card's."""
+    """Such a line between the far ends of a terminal's line and of a card's."""
 
     def __init__(self, terminal, card, noise, late):
         super().__init__(noise, late)
         self.terminal, self.card = terminal, card
-        # what has come of a block from each end
+        # the received part of a block from each end
         self.held = {terminal: b"", card: b""}
 
     def pass_answer(self, size):
-        """The answer to reset, of so many bytes, goes over it well."""
+        """Passes the answer to reset, which has `size` bytes, without noise."""
         for _ in range(size):
             self.terminal.write(self.card.read(1))
 
     def carry(self, sender, receiver):
-        """A block from one end to the other, once it is whole."""
+        """Passes a block from one end to the other, once it is whole."""
         data = self.held[sender] + sender.read(300, 0)
         whole = len(data) > 3 and len(data) >= data[2] + 4
         self.held[sender] = b"" if whole else data
@@ -210,8 +209,8 @@ class Wire(Noisy):
 
 
 class Play(Noisy):
-    """Such a card at the far end of a line. `stops` says after how long it knows that a block has
-    stopped."""
+    """Such a card at the far end of a line. After `stops` seconds without a byte it takes a block
+    as cut short."""
 
     def __init__(self, line, answer, card, noise, late, stops):
         super().__init__(noise, late)
@@ -219,7 +218,7 @@ class Play(Noisy):
         line.write(bytes.fromhex(answer))
 
     def receive(self):
-        """A block of the terminal, all that it has written."""
+        """Receives a block of the terminal, whole or cut short."""
         data = b""
         while not self.is_over.is_set() and not (len(data) > 3 and len(data) >= data[2] + 4):
             ready, _, _ = select.select([self.line.far], [], [], 0.02 if not data else self.stops)

@@ -1,5 +1,5 @@
-"""gt_serial and serial_card at T=1 (ISO/IEC 7816-3, clause 11): each with an other end that is
-played by hand, and with each other over a line that damages, loses, doubles and delays bytes."""
+"""Tests gt_serial and serial_card at T=1 (ISO/IEC 7816-3, clause 11). Each talks to an end that
+these tests play, and both talk over a line that damages, loses, doubles and delays bytes."""
 
 import sys
 import tempfile
@@ -17,7 +17,7 @@ from terminal_cases import Case, look
 SELECT_APDU = "00A4040007A000000003101000"
 NAME = "6F098407A00000000310109000"
 GET_APDU, JOE = "00CA5F2000", "5F20034A4F459000"
-# T=1 first, IFSC 32, LRC; BWI 0 and CWI 3: BWT is 100 ms and 11 etu, and CWT 19 etu
+# T=1 first, IFSC 32, LRC, BWI 0 and CWI 3. At 9,600 baud BWT is 100 ms and 11 etu, and CWT 19 etu.
 QUICK = "3B8081210323"
 BOOK = Path(__file__).resolve().parents[2] / "examples/blocks"
 BWT = 0.1
@@ -28,13 +28,13 @@ OUTCOMES = {"none": "has not carried out the command\n",
 
 
 def block(pcb, info=""):
-    """A block: NAD 00, PCB, LEN, the field and the LRC."""
+    """The digits of a block: NAD 00, PCB, LEN, the field and the LRC."""
     data = bytes([0, int(pcb, 16), len(info) // 2]) + bytes.fromhex(info)
     return data.hex().upper() + f"{reduce(lambda a, b: a ^ b, data):02X}"
 
 
 def talk(*words):
-    """A dialogue: the sign of who sends, and a block's PCB and field."""
+    """A dialogue of blocks. Each is the sign of its sender, and its PCB and field."""
     return "".join(f"{sign} {block(*rest.split(':'))} " if sign in "<>" else f"{sign} {rest} "
                    for sign, rest in zip(words[::2], words[1::2]))
 
@@ -47,7 +47,7 @@ ANSWERS = terminal_cases.SELECTED + terminal_cases.GOT
 
 
 def dialogues():
-    """A terminal with a card at T=1."""
+    """A terminal with a card that these tests play."""
     whole = OPEN + SELECTS + GETS
     for inverse in (False, True):
         for echo in (False, True):
@@ -71,7 +71,8 @@ def dialogues():
 
 
 def faults():
-    """How a terminal gives up: each wait lasts for BWT, and the slack."""
+    """A terminal gives up in each of its ways, or refuses an answer to reset. Each wait lasts for
+    BWT and the slack."""
     first, sent = f"< {QUICK} ", talk(">", f"00:{SELECT_APDU}")
     slack = 300
     for title, dialogue, fault in (
@@ -100,7 +101,8 @@ def faults():
 
 
 
-# a block that breaks a rule of blocks, so it is damaged, or of the dialogue; R(0) asks again
+# A block that breaks a rule of blocks, so that it counts as damaged, or a rule of the dialogue. The
+# terminal asks again by R(0).
 BROKEN = (
     ("another NAD", "01000001"),
     ("LEN FF", "0000FF00"),
@@ -125,7 +127,7 @@ BROKEN = (
 
 
 def breaks():
-    """A card that breaks each rule in turn, and then keeps it; and one that never does."""
+    """A card that breaks each rule in turn, and then keeps it; and cards that never keep one."""
     first, sent = f"< {QUICK} {OPEN}", talk(">", f"00:{SELECT_APDU}")
     select, slack = terminal_cases.SELECT, 500
     for title, bad in BROKEN:
@@ -148,7 +150,7 @@ def breaks():
 
 
 def chapter():
-    """The dialogues of the book: a card that sends what they say gets what they say."""
+    """The dialogues of the book, with the card's part played by these tests."""
     for file in sorted(BOOK.glob("*.talk")):
         lines = [line for line in file.read_text(encoding="utf-8").splitlines() if line[0] != "#"]
         rows = [line.split()[:2] for line in lines if line[0] in "<>~"]
@@ -161,12 +163,12 @@ def chapter():
 
 SELECTED = talk("<", f"00:{NAME}")
 R0 = talk("<", "80")
-# T=0 first and T=1 behind it: with an LRC, and with a CRC
+# T=0 first, then T=1: with LRC, and with CRC.
 BY_PPS, CRC_BY_PPS = "3B80800101", "3B8080410140"
 
 
 def own_part():
-    """What a terminal sends, and what a card has to answer, each from an S(IFS request) on."""
+    """A title, and the blocks of a terminal and a card after an S(IFS request)."""
     sent = talk(">", f"00:{SELECT_APDU}")
     yield "a wrong LRC", sent[:-3] + "FF " + R0 + sent + SELECTED
     yield "a byte behind the block", sent[:-1] + "00 " + R0 + sent + SELECTED
@@ -193,7 +195,7 @@ def own_part():
 
 
 def at_card():
-    """A card with a terminal that is played by hand."""
+    """A card with a terminal that these tests play."""
     whole = OPEN + SELECTS + GETS
     for inverse in (False, True):
         answer = ("3F" if inverse else "3B") + QUICK[2:]
@@ -224,7 +226,7 @@ def at_card():
 
 
 def each_opening():
-    """Each opening of a card's own line is a reset: the card speaks T=0, or T=1 by PPS, anew."""
+    """Each opening of a card's own line is a reset: the card talks T=0, or T=1 after PPS, again."""
     with tempfile.TemporaryDirectory() as folder:
         path = card_cases.table(folder, f"atr {BY_PPS}\n{card_cases.APP}")
         far = card_cases.Far("--no-echo", path)
@@ -240,23 +242,23 @@ def each_opening():
         far.end()
 
 
-# IFSC 254, and the times of QUICK
+# IFSC 254, and the times of QUICK.
 LONG = "3B808131FE03CD"
 
 
 class Talk:
-    """A put of so many bytes and their reading: the words of it, and what is answered."""
+    """A select, a put of `size` bytes and a get of them: the words, and the expected answers."""
 
     def __init__(self, size):
         self.value = bytes(at * 7 % 251 for at in range(size))
         value = self.value.hex().upper()
         self.words = ["select", "A0000000031010", "put", "DF01", value, "get", "DF01"]
         self.answers = f"= 9000 {NAME[:-4]}\n= 9000\n= 9000 DF0182{size:04X}{value}\n"
-        # SELECT, and those of the put and of the get: tag and length have 5 bytes
+        # SELECT, the commands of the put, and those of the get: tag and length have 5 bytes
         self.commands = 1 - -size // 255 - -(size + 5) // 256
 
     def is_begun(self, log):
-        """A card has carried out the first commands of it, each once."""
+        """Checks that the card has carried out the first of these commands, each once."""
         tags = [apdu[:5] for apdu in log]
         pieces = [apdu[5:] for apdu in log if apdu[1] == 0xDA]
         assert len(log) <= self.commands, f"{len(log)} commands"
@@ -267,7 +269,8 @@ class Talk:
 
 
 LONG_TALK, TALK = Talk(3000), Talk(600)
-# how many lines at random: where words pick the tests, or the first fault ends them, these will do
+# The number of random lines, and a smaller number if words select tests or the first fault ends
+# the run.
 SCHEDULES, SOME_SCHEDULES = 2000, 40
 
 
@@ -275,8 +278,8 @@ FAST = ["--no-echo", "--baud", 1000000, "--slack"]
 
 
 def over(talk, noise, slack):
-    """gt_serial with a stand-in behind such a line that keeps EMV's narrower rules, to its end; and
-    the commands that it has carried out."""
+    """Runs gt_serial over a noisy line with the stand-in, which keeps EMV's narrower rules. Returns
+    the program, and the commands that the stand-in has carried out."""
     line = Line()
     objects = t1_card.Objects()
     play = t1_card.Play(line, LONG, t1_card.Card(objects, 1, True), noise, 0, 0.3)
@@ -291,8 +294,8 @@ def over(talk, noise, slack):
 
 
 def between(talk, noise, slack, stops, late=0):
-    """gt_serial with serial_card over such a line, to the end of both; and the commands that the
-    card has carried out. `stops` is how long the card waits for more of a block."""
+    """Runs gt_serial with serial_card over a noisy line. Returns gt_serial, and the commands that
+    the card has carried out. `slack` and `stops` are the slack of both programs in milliseconds."""
     ends = Line(), Line()
     wire = t1_card.Wire(*ends, noise, late)
     try:
@@ -324,8 +327,8 @@ MILD = (
 
 
 def mild(fates, is_narrow):
-    """On a line that is mild enough all operations are answered; also by a card that keeps EMV's
-    narrower rules."""
+    """On a mild line all operations get their answers, even from a card that keeps EMV's narrower
+    rules."""
     noise = t1_card.Noise(1, fates)
     of = LONG_TALK, noise, 800
     program, log = over(*of) if is_narrow else between(*of, 300)
@@ -335,7 +338,7 @@ def mild(fates, is_narrow):
 
 
 def at_random(seed):
-    """On any line the answers are right, or a fault says what is true of its command."""
+    """On any line the answers are right, or a fault makes a true statement about its command."""
     noise = t1_card.Noise(seed, well=(0.97, 0.9, 0.75, 0.5)[seed % 4])
     program, log = between(TALK, noise, 60, 40, 0.08)
     TALK.is_begun(log)
@@ -350,14 +353,14 @@ def at_random(seed):
 
 
 def tests():
-    """Each test of this part: its title, and a function that is wrong by an error."""
+    """Each test of this part: its title, and a function that raises an error if it fails."""
     for case in (*dialogues(), *faults(), *breaks(), *chapter()):
         yield case.title, lambda case=case: terminal_cases.run(case)
     for case in at_card():
         yield case.title, lambda case=case: card_cases.run(case)
     yield "T=1: each opening of a card's line", each_opening
     for title, fates in MILD:
-        # by EMV a card does not survive the fourth
+        # a card by EMV is silent for good after the fourth
         for is_narrow in (False,) if title.startswith("four") else (False, True):
             yield (f"T=1, 3,000 bytes, {title}, EMV {is_narrow}",
                    lambda of=(fates, is_narrow): mild(*of))

@@ -1,7 +1,7 @@
-"""gt_serial, with a card that is played by hand at the other end of its line.
+"""Tests gt_serial with a card that these tests play at the other end of its line.
 
-What is expected comes from the rules of the line (ISO/IEC 7816-3) and of the card, and from what
-bindings/c/README.md says of the program."""
+The expected results follow from the rules of the line (ISO/IEC 7816-3) and of the card, and from
+the description of the program in bindings/c/README.md."""
 
 import fcntl
 import os
@@ -30,13 +30,13 @@ GOT = "= 9000 5F20034A4F45\n"
 DONE = "< 9000 "
 SHORT = ["send", "00200000"]
 SHORT_WORDS = "> 0020000000 "
-# how much later than it should a program may end where the machine is busy
+# How many seconds late a program may end on a busy machine.
 LATE = 4.0
 
 
 @dataclass
 class Case:
-    """A dialogue that the other end plays, and what the program is to say of it."""
+    """A dialogue that the other end plays, and the program's expected output."""
 
     title: str
     dialogue: str
@@ -49,25 +49,25 @@ class Case:
     echo: bool = True
     inverse: bool = False
     heaps: bool = False
-    # in milliseconds; None is what the program takes by itself, 200
+    # in milliseconds; None is the program's default, 200
     slack: int = 600
-    # the least time without slack from the last character on, after which the program ends
+    # the program ends at least this time and the slack after the last character
     waits: float = None
-    # the rate of the tty before the last of the dialogue
+    # the rate of the tty before the last word of the dialogue
     baud: int = None
     # the least time before each of the terminal's characters
     gap: float = 0.0
-    # the other end has to be in time, so it is played again if a busy machine was late
+    # the case measures short times, and is run again if a busy machine was late
     quick: bool = False
 
 
 def rate_of(line):
-    """The rate that a line is set to."""
+    """The rate of a line's settings."""
     return struct.unpack("4I20s2I", fcntl.ioctl(line.near, TCGETS2, bytes(44)))[-1]
 
 
 def run(case):
-    """Plays a case; what is wrong with it is an error."""
+    """Plays a case. A wrong result is an error."""
     line = Line()
     try:
         options = [] if case.slack is None else ["--slack", case.slack]
@@ -75,7 +75,7 @@ def run(case):
         other = Other(line, case.echo, case.inverse, case.heaps)
         *most, sign, last_word = ["", "", *case.dialogue.split()]
         played, baud = "", None
-        # what the card says of itself is there when the line is opened, which is its reset
+        # the answer to reset is on the line when the program opens it, which is the reset
         first = most[:4] if most[2:3] == ["<"] and len(most) > 4 else []
         play(other, " ".join(first), card=True)
         program = Program("gt_serial", [*options, line.name, *case.words], case.given)
@@ -100,7 +100,7 @@ def run(case):
 
 
 def look(program, status, output, fault, wanted, played=""):
-    """Compares what a program has said with what it should say."""
+    """Compares the output and the status of a program with the expected ones."""
     told = f"{program.faults[-2000:]!r}{played}"
     assert program.faults == fault, f"standard error: {told}, and not {fault!r}"
     found = program.output
@@ -110,7 +110,7 @@ def look(program, status, output, fault, wanted, played=""):
 
 
 def sessions():
-    """The same dialogue in each convention, with and without echo, byte by byte and in heaps."""
+    """The same dialogue in each convention, with and without echo, by single bytes and in heaps."""
     put = ["put", "5F20", "414E4E"]
     dialogue = SELECT_WORDS + GET_WORDS + "> 00DA5F2003 < DA > 414E4E " + DONE
     parts = [trace_of("< TS00 " + SELECT_WORDS) + SELECTED, trace_of(GET_WORDS)[6:] + GOT]
@@ -134,13 +134,13 @@ def sessions():
 
 
 def of_session(case):
-    """Options stand before the tty."""
+    """Removes `-v` from the words, since options precede the tty."""
     case.words = [word for word in case.words if word != "-v"]
     return case
 
 
 def statuses():
-    """A status other than 9000 ends it with 1; -k goes on."""
+    """A status other than 9000 ends the program with 1. -k continues."""
     refused = "> 00CA5F2000 < 6985 "
     yield Case("a status", "< 3B00 " + refused, [*GET, *SELECT], "= 6985\n", status=1)
     yield Case("a status, and -k", "< 3B00 " + refused + SELECT_WORDS, [*GET, *SELECT],
@@ -168,7 +168,7 @@ def statuses():
 
 
 def verified():
-    """With --verify each put is read back before the next operation."""
+    """With --verify the program reads each put back before the next operation."""
     put = ["put", "5F20", "414E4E"]
     stored = "< 3B00 > 00DA5F2003 < DA > 414E4E < 9000 > 00CA5F2000 < 6C06 > 00CA5F2006 "
     differs = "operation 1: 5F20 was not stored as sent\n"
@@ -186,7 +186,7 @@ def verified():
 
 
 def answers():
-    """Answers to reset that are none, or that say what this terminal does not do."""
+    """Answers to reset that are invalid, or ask for what this terminal does not do."""
     none = "the answer to reset is none: "
     for title, answer, fault, waits in (
         ("silent from the reset on", "", "the card does not answer to reset", 0.011),
@@ -216,7 +216,7 @@ def answers():
         ("a reserved waiting time in specific mode", "< 3B9095500000",
          "the card's waiting time is reserved", None),
     ):
-        # where no wait is measured a busy machine may be late
+        # without a measured wait a busy machine may be late
         yield Case(title, answer, SHORT, fault=f"{fault}\n", status=1, waits=waits,
                    slack=3000 if waits is None else 600)
     for inverse in (False, True):
@@ -231,8 +231,8 @@ def answers():
 
 
 def meanings():
-    """What an answer to reset says, if no operation is given. The waiting time is 960 * WI * Fi
-    cycles at 3.5712 MHz."""
+    """Without operations the program prints the values of the answer to reset. The waiting time is
+    960 * WI * Fi cycles at 3.5712 MHz."""
     for answer, convention, protocols, mode, rate, guard, wait, historical, fault in (
         ("3B00", "direct", "T=0", "negotiable", "9600 baud, Fi 372, Di 1", "12 etu", "1000 ms",
          "none", ""),
@@ -275,7 +275,7 @@ def meanings():
 
 
 def waiting():
-    """Each wait lasts as long as the rules have it, and the slack; and no longer."""
+    """Each wait lasts as long as the rules say, plus the slack, and no longer."""
     fault = "operation 1: the card is silent\n"
     # 2 * 960 * 372 cycles at 3.5712 MHz are 0.2 s, and with Fi = 512 0.275 s
     quick, slow = "< 3B804002 ", "< 3B90954002 "
@@ -315,13 +315,13 @@ def waiting():
 
 
 def noise():
-    """What is no dialogue."""
+    """Unexpected bytes from the card."""
     yield Case("noise for a procedure byte", "< 3B00 " + SHORT_WORDS + "< 55 ", SHORT,
                fault="operation 1: bad procedure byte\n", status=1)
     yield Case("more data than asked for", "< 3B00 > 00CA5F2001 < CA5F2055 ",
                ["send", "00CA5F2001"], fault="operation 1: bad procedure byte\n", status=1)
     for heaps in (True, False):
-        # what stands behind the fault is not looked at
+        # the program does not read what follows the fault
         yield Case(f"noise among data, heaps {heaps}", "< 3B00 > 00CA5F2001 < CA5F2055 ",
                    ["send", "00CA5F2001"], "reset\n< 3B00\n> 00CA5F2001\n< CA5F20\n",
                    "operation 1: bad procedure byte\n", 1, options=["-v"], heaps=heaps)
@@ -335,8 +335,8 @@ def noise():
 
 
 def early():
-    """Bytes that the card sends before it may: before a header, a PPS request or data have left,
-    with and without an echo."""
+    """Bytes that the card sends too early: before a header, a PPS request or data are sent, with
+    and without an echo."""
     behind = "a byte behind the answer to reset\n"
     fault = "operation {}: unexpected byte\n"
     put = ["put", "5F20", "414E4E"]
@@ -387,7 +387,7 @@ def early():
 
 
 def echoes():
-    """A line that echoes where none is expected: a command of CLA 6X or 9X would answer itself."""
+    """A line with an unexpected echo: a command with CLA 6X or 9X would answer itself."""
     fault = "operation 1: the line echoes\n"
     for command, words in (
         ("9000000000", ["send", "9000000000"]),
@@ -401,7 +401,7 @@ def echoes():
                        f"< {'3F' if inverse else '3B'}00 > {command} < {command}", words,
                        fault=fault, status=1, echo=False, inverse=inverse, heaps=heaps)
     command = ["send", "9000000000"]
-    # an echo in pieces, with 50 ms and more before each
+    # an echo in pieces, 50 ms and more apart
     yield Case("a line that echoes late", "< 3B00 > 9000000000 ~ 0.05 < 90 ~ 0.06 < 0000 ~ 0.06 "
                "< 0000", command, fault=fault, status=1, echo=False, heaps=True, quick=True)
     yield Case("a line that echoes the second header", "< 3B00 > 00CA5F2000 < 6C06 > 00CA5F2006 "
@@ -427,15 +427,15 @@ def echoes():
                "= 9000\n", echo=False, heaps=True)
     yield Case("silent behind the front of its header", "< 3B804002 > 9000000000 < 90", command,
                fault="operation 1: the card is silent\n", status=1, echo=False, waits=0.2)
-    # it waits once, and not again for what is no echo
+    # the program waits once, and not again for an echo
     yield Case("silent after a header, without echo", "< 3B00 " + SHORT_WORDS, SHORT,
                fault="operation 1: the card is silent\n", status=1, echo=False, waits=1.0,
                slack=3200, quick=True)
 
 
 def pps():
-    """What PPS asks for, and what the card makes of it. 9,600 baud are a 372nd of the clock, and
-    with Fi 512 and Di 16 it runs at 111,600."""
+    """PPS requests, and responses of the card. 9,600 baud are a 372nd of the clock, and Fi 512 with
+    Di 16 gives 111,600 baud."""
     answer, request, rest = "< 3B1095 ", "> FF10957A ", SHORT_WORDS + DONE
     own = ["--pps"]
     yield Case("PPS", answer + request + "< FF10957A " + rest, SHORT, "= 9000\n", options=own,
@@ -478,8 +478,8 @@ def pps():
 
 
 def gaps():
-    """The least time between characters: 12 + N etu from one of the terminal's to the next, and 16
-    from one of the card's. At 1,200 baud an etu is 0.83 ms."""
+    """The least time between two characters of the terminal is 12 + N etu, and after one of the
+    card 16 etu. At 1,200 baud an etu is 0.83 ms."""
     slow = ["--baud", "1200"]
     yield Case("extra guard time", "< 3B4014 " + SHORT_WORDS + DONE, SHORT, "= 9000\n",
                options=slow, slack=5000, gap=0.005)
@@ -488,16 +488,16 @@ def gaps():
 
 
 def all_cases():
-    """The cases that are a dialogue each."""
+    """The cases that consist of a dialogue."""
     parts = (sessions, statuses, verified, answers, meanings, waiting, noise, early, echoes, pps,
              gaps)
     return [of_session(case) for part in parts for case in part()]
 
 
 def guard_time():
-    """Each character comes 12 + N etu after the one before, with N = 100 93.3 ms; and as long after
-    where the answer names T=15, as Fi/Di cycles are an etu here. With N = 255, which is the least
-    guard time, nothing near 12 + 255 etu passes."""
+    """Each character follows the one before after 12 + N etu, which is 93.3 ms with N = 100. With
+    T=15 that is the same, since Fi/Di cycles are an etu here. N = 255 means the least guard time,
+    so the pause is much shorter than 12 + 255 etu."""
     found = {}
     for answer in ("3B4064", "3BC064801F0338", "3BD07164801F0359", "3B40FF"):
         line = Line()
@@ -510,14 +510,15 @@ def guard_time():
             found[answer] = other.gaps
         finally:
             line.close()
-    # four times, less what this program is late in seeing the first
+    # four pauses, less the time that this program may take to see the first character
     for answer in ("3B4064", "3BC064801F0338", "3BD07164801F0359"):
         assert 4 * 0.0933 - 0.02 <= sum(found[answer][1:]), f"{answer}: {found[answer]}"
     assert sum(found["3B40FF"][1:]) < 0.5, f"N = 255: {found['3B40FF']}"
 
 
 def puts_back(number):
-    """A signal ends it, and the tty is as it was; before that it was set for the line."""
+    """A signal ends the program, which restores the tty. Before that the tty is set for the
+    line."""
     line = Line()
     try:
         program = Program("gt_serial", ["--slack", "60000", line.name, *SHORT])
@@ -533,11 +534,11 @@ def puts_back(number):
 
 
 def turn_time():
-    """After a character of the card the terminal sends at the earliest 16 etu later, so 6 after it
-    has come whole: 5 ms at 1,200 baud."""
+    """The terminal sends at the earliest 16 etu after the start of the card's character, so 6 etu
+    after its end: 5 ms at 1,200 baud."""
     line = Line()
     try:
-        # the last character of a header has left after 50 ms; a busy machine is late at some turns
+        # a header takes 50 ms; a busy machine is late at some turns, so there are twelve
         words = ["--baud", "1200", "--slack", "5000", line.name, *SHORT * 12]
         program = Program("gt_serial", words)
         other = Other(line)
@@ -549,7 +550,7 @@ def turn_time():
 
 
 def wrong_echo():
-    """An echo that is another, at the first place and at a later one."""
+    """A wrong echo, at the first place and at a later one."""
     for echo in ("55", "00201000"):
         line = Line()
         try:
@@ -563,7 +564,7 @@ def wrong_echo():
 
 
 def passes_over_a_signal():
-    """Who starts it with SIGHUP passed over, as nohup does, is not ended by that."""
+    """SIGHUP does not end a program that is started with it ignored, as by nohup."""
     line = Line()
     try:
         program = Program("gt_serial", ["--slack", "5000", line.name, *SHORT],
@@ -579,7 +580,8 @@ def passes_over_a_signal():
 
 
 def line_gone():
-    """A line that goes while a card is awaited, and one that goes before."""
+    """A line that is closed while the terminal waits for the card, and one that is closed
+    before."""
     for dialogue, fault in (
         ("< 3B00 " + SHORT_WORDS, "operation 1: the line is gone\n"),
         ("< 3B", "the line is gone\n"),
@@ -593,7 +595,7 @@ def line_gone():
 
 
 def nulls_for_ever():
-    """A card that sends nothing but NULLs is given up after the time of --patience."""
+    """The program gives up a card that sends only NULLs after the time of --patience."""
     line = Line()
     try:
         words = ["--patience", "1", "--slack", "2000", line.name, *SHORT]
@@ -612,7 +614,7 @@ def nulls_for_ever():
 
 
 def settings():
-    """What the tty is set to while the terminal talks: raw, 8 bits, 2 stop bits. A pseudo terminal
+    """The settings of the tty while the terminal talks: raw, 8 bits, 2 stop bits. A pseudo terminal
     has no parity."""
     line = Line()
     try:
@@ -629,7 +631,7 @@ def settings():
 
 
 def full_device():
-    """An answer that can't be printed is a fault, and the tty is put back."""
+    """If an answer can't be printed, that is a fault, and the tty is restored."""
     for options in ([], ["-v"]):
         line = Line()
         try:
@@ -644,7 +646,7 @@ def full_device():
 
 
 def full_device_for_an_answer():
-    """Nor can an answer to reset be printed there."""
+    """The same for the values of an answer to reset."""
     line = Line()
     try:
         with open("/dev/full", "wb") as full:
@@ -656,7 +658,7 @@ def full_device_for_an_answer():
 
 
 def nobody_reads():
-    """Where nobody reads what it prints, a signal ends it, and the tty is put back."""
+    """If nobody reads its output, a signal ends the program, which restores the tty."""
     line = Line()
     try:
         reads, writes = os.pipe()
@@ -672,7 +674,7 @@ def nobody_reads():
 
 
 def closed_descriptors():
-    """What is printed into a closed descriptor goes nowhere, and above all not to the card."""
+    """Text for a closed descriptor is lost, and does not reach the card."""
     for closed, options, given, dialogue, fault, status in (
         ("exec 1>&-", [], SHORT, SHORT_WORDS + DONE, "operation 1: write fault\n", 1),
         ("exec 1>&-", ["-v"], SHORT, SHORT_WORDS + DONE, "operation 1: write fault\n", 1),
@@ -696,7 +698,7 @@ def closed_descriptors():
 
 
 def words():
-    """Words that are refused before anything is opened, and ttys that can't be opened."""
+    """Words that are refused before the tty is opened, and ttys that can't be opened."""
     for given, why in (
         ([], "no tty was provided"),
         (["-f", "y", "x", *GET], "operations stand either in words or in FILE"),
@@ -730,7 +732,7 @@ def words():
 
 
 def helps():
-    """Help fits a terminal and names each option; the version is the header's."""
+    """The help fits a terminal and names each option. The version is that of the header."""
     for word in ("-h", "--help"):
         program = Program("gt_serial", [word])
         assert program.end() == 0 and program.faults == "", program.faults
@@ -743,7 +745,7 @@ def helps():
 
 
 def tests():
-    """Each test of this part: its title, and a function that is wrong by an error."""
+    """Each test of this part: its title, and a function that raises an error if it fails."""
     yield from ((case.title, lambda case=case: in_time(lambda: run(case)) if case.quick
                  else run(case)) for case in all_cases())
     yield from (

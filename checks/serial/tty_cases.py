@@ -1,6 +1,6 @@
-"""Both programs at a stand-in for a real tty (bindings/c/tests/standin/tty.c): its settings, its
-other lines and the parity of characters, none of which a pseudo terminal has. It notes each call
-that sets something, and refuses what it is told to."""
+"""Tests gt_serial and serial_card with a stand-in for a real tty (bindings/c/tests/standin/tty.c).
+It has what a pseudo terminal lacks: settings, other lines, and parity. It notes each call that sets
+something, and refuses calls on demand."""
 
 import fcntl
 import os
@@ -19,7 +19,7 @@ from terminal_cases import DONE, LATE, SHORT, SHORT_WORDS, look
 
 SET = "set {} baud, 8 bits, {} parity with marks, 2 stop bits"
 EVEN, ODD = SET.format(9600, "even"), SET.format(9600, "odd")
-# what the pseudo terminal was set to before
+# The settings of the pseudo terminal before a test.
 BEFORE = "set 38400 baud, 8 bits, no parity, 1 stop bit"
 END = ["drop what has not gone", BEFORE]
 RESET = ["rts on", "drop what has come", "rts off"]
@@ -28,7 +28,7 @@ NONE = "the answer to reset is none: "
 
 
 class Tty:
-    """A line whose near end the stand-in makes a tty of, and what it notes."""
+    """A line whose near end is a tty by the stand-in, and the stand-in's notes."""
 
     def __init__(self, folder, refuses=""):
         self.line = Line()
@@ -43,7 +43,7 @@ class Tty:
         }
 
     def switch(self, words):
-        """The lines of the other end that are on, from now on, all at once."""
+        """Sets the input lines that are on, all at once."""
         new = self.inputs.with_suffix(".new")
         new.write_text(words, encoding="utf-8")
         new.replace(self.inputs)
@@ -52,7 +52,7 @@ class Tty:
         return self.log.read_text(encoding="utf-8").splitlines()
 
     def await_note(self, note, times=1, seconds=20):
-        """Waits until this has been noted so often; when that was seen."""
+        """Waits until this was noted `times` times. Returns the time when that was seen."""
         until = time.monotonic() + seconds
         while self.noted().count(note) < times:
             if time.monotonic() > until:
@@ -62,8 +62,8 @@ class Tty:
 
 
 class Marking(Other):
-    """The other end of a tty: of what it sends, FF stands twice, and before a byte with another
-    parity FF 00. With `marks` all have it; `sends_marked` sends some that do."""
+    """The other end of a tty. It writes FF twice, and FF 00 before a byte with wrong parity. With
+    `marks` all bytes have wrong parity; `sends_marked` sends such bytes."""
 
     def __init__(self, line, echo=True, inverse=False):
         super().__init__(line, echo, inverse)
@@ -95,7 +95,7 @@ class Marking(Other):
 
 def terminal(dialogue, noted, fault="", refuses="", options=(), output="= 9000\n", play_it=None,
              reset="rts off", inverse=False, waits=0.0, echo=True, words=SHORT):
-    """A terminal at a tty: the card answers once it is no longer held in reset."""
+    """A terminal at a tty. The card answers after the end of the reset."""
     with tempfile.TemporaryDirectory() as folder:
         tty = Tty(folder, refuses)
         try:
@@ -119,8 +119,8 @@ def terminal(dialogue, noted, fault="", refuses="", options=(), output="= 9000\n
 
 
 def resets():
-    """The line of the reset: it holds the card, what has come till then is dropped, and it lets the
-    card go. Then come the settings for the answer's convention and rate."""
+    """The line of the reset holds the card, received bytes are dropped, and the line releases the
+    card. Then follow the settings for the answer's convention and rate."""
     whole = f"< 3B00 {SHORT_WORDS}{DONE}"
     for options, first, last in (
         ([], "rts on", "rts off"),
@@ -145,7 +145,7 @@ def resets():
 
 
 def second_resets():
-    """A second reset, after an answer that is none; and the fault if that fails too."""
+    """A second reset after an invalid answer, and the fault if that fails too."""
     well, wrong = f"< 3B00 {SHORT_WORDS}{DONE}", NONE + "wrong check byte, at byte 4\n"
     for title, first, second, fault in (
         ("silence", "", well, ""),
@@ -178,7 +178,7 @@ def twice(first, second, fault):
 
 
 def gone_at_reset():
-    """After a line that is gone there is no second reset."""
+    """There is no second reset after the line is gone."""
     with tempfile.TemporaryDirectory() as folder:
         tty = Tty(folder)
         program = Program("gt_serial", ["--slack", "5000", tty.line.name, *SHORT],
@@ -190,7 +190,7 @@ def gone_at_reset():
 
 
 def is_held():
-    """How long the card is held in reset: about 50 ms, and at least 400 cycles."""
+    """The card is held in reset for about 50 ms, and at least 400 cycles."""
     with tempfile.TemporaryDirectory() as folder:
         tty = Tty(folder)
         try:
@@ -207,7 +207,7 @@ def is_held():
 
 
 def rates():
-    """Rates and parities that the answer and PPS lead to."""
+    """The rates and parities that follow from the answer and PPS."""
     reset = [EVEN, *RESET]
     pps = "< 3B1095 > FF10957A < FF10957A "
     yield ("a tty's settings after PPS", lambda: terminal(
@@ -225,7 +225,7 @@ def rates():
 
 
 def refusals():
-    """What a tty refuses, with an error or without."""
+    """Settings and lines that a tty refuses, with or without an error."""
     reset = [EVEN, *RESET]
     form = "the tty does not take 8 bits, even parity and 2 stop bits\n"
     early = [EVEN, *END]
@@ -258,8 +258,8 @@ def refusals():
 
 
 def inverse_odd():
-    """By the inverse convention parity is odd for the tty, from the end of the answer on: till then
-    each character of the card has another parity than the one that is set."""
+    """In the inverse convention the tty has odd parity from the end of the answer on. Until then
+    each character of the card has another parity than the setting."""
     def play_it(other):
         other.marks = True
         other.send("3F02FF00")
@@ -274,7 +274,7 @@ def inverse_odd():
 
 
 def parities():
-    """Characters with a wrong parity."""
+    """Characters with wrong parity."""
     reset = [EVEN, *RESET]
 
     def then_marked(dialogue, digits):
@@ -294,7 +294,7 @@ def parities():
                terminal("", [*reset, *of[3], *END], of[4], output="", inverse=of[2],
                         play_it=then_marked(of[0], of[1])))
 
-    # the first character of a heap is well, and the second is not
+    # in this heap the first character has right parity, and the second does not
     def heap_with_mark(other):
         play(other, "< 3B00 " + SHORT_WORDS, card=True)
         other.line.write(b"\x90\xff\x00\x00")
@@ -302,7 +302,7 @@ def parities():
     yield ("a wrong parity within a heap", lambda: terminal(
         "", [*reset, EVEN, *END], "operation 1: " + PARITY, output="", play_it=heap_with_mark))
 
-    # more than 20 ms lie between the bytes of a mark
+    # the bytes of a mark are more than 20 ms apart
     for title, start, parts in (
         ("the last byte", "< 3B00 " + SHORT_WORDS, (b"\xff\0", b"\x90", b"\0")),
         ("the last byte, in a heap", "< 3B00 " + SHORT_WORDS, (b"\x90\xff\0", b"\0")),
@@ -337,8 +337,8 @@ def parities():
 
 
 def without_echo():
-    """Without an echo a card that sends before the last byte can have left is too early: at 1,200
-    baud a character takes 10 ms. An echo is seen all the same."""
+    """Without an echo a card is too early if it sends before the terminal's last byte can have been
+    sent: at 1,200 baud a character takes 10 ms. An echo is still detected."""
     slow, even = ["--baud", "1200"], SET.format(1200, "even")
     noted = [even, *RESET, even, *END]
     tried = [even, *RESET, SET.format(13950, "even"), even, *END]
@@ -364,7 +364,7 @@ def without_echo():
 
 
 def ff_is_no_mark():
-    """FF in an answer, as a procedure byte and among data, and its echo."""
+    """FF in an answer to reset, as a procedure byte, in data, and as an echo."""
     with tempfile.TemporaryDirectory() as folder:
         tty = Tty(folder)
         try:
@@ -381,7 +381,7 @@ def ff_is_no_mark():
 
 
 def is_locked():
-    """A second program at a tty tells which process has it, and disturbs nothing."""
+    """A second program at a tty prints which process has it, and disturbs nothing."""
     line = Line()
     try:
         words = ["--slack", "5000", line.name, *SHORT]
@@ -394,7 +394,7 @@ def is_locked():
         assert line.settings() == set_to, "the second program has set the tty"
         line.write(b"\x90\x00")
         look(first, first.end(), "= 9000\n", "", 0)
-        # a lock that is not of such a program is seen as well
+        # a lock by another kind of program counts, too
         fcntl.lockf(line.near, fcntl.LOCK_SH)
         third = Program("gt_serial", words)
         look(third, third.end(), "", f"process {os.getpid()} has the tty\n", 1)
@@ -407,9 +407,9 @@ def is_locked():
 
 
 def keeps_others_out():
-    """Only root can open the tty meanwhile; a second program tells then too which process has it.
-    Afterwards others can, also where a signal has ended the program. A pseudo terminal would stay
-    closed after SIGKILL, so that can be opened all the time."""
+    """While the program runs only root can open the tty, and a second program prints which process
+    has it. Afterwards others can open it, even if a signal has ended the program. A pseudo terminal
+    would stay closed after SIGKILL, so it can be opened all the time."""
     with tempfile.TemporaryDirectory() as folder:
         Path(folder).chmod(0o755)
         copy = shutil.copy(BUILD / "gt_serial", folder)
@@ -435,7 +435,7 @@ def keeps_others_out():
                 else:
                     tty.line.write(b"\x90\x00")
                 first.end()
-                # an echo may be left that a signal has kept it from reading
+                # drops an echo that the program could not read before the signal
                 termios.tcflush(tty.line.near, termios.TCIOFLUSH)
                 third = Program(copy, ["--slack", "0", *words[2:]], user=user)
                 look(third, third.end(), "", "the card does not answer to reset\n", 1)
@@ -445,7 +445,7 @@ def keeps_others_out():
 
 
 def card(play_it, options=(), answer="3B00", refuses="", fault=GONE, inverse=False, noted=None):
-    """A card at a tty, with the lines of the other end switched by hand."""
+    """A card at a tty. `play_it` plays the other end, and switches the input lines."""
     with tempfile.TemporaryDirectory() as folder:
         tty = Tty(folder, refuses)
         path = table(folder, f"atr {answer}\n{APP}")
@@ -466,7 +466,7 @@ def pulse(tty, held, released=""):
 
 
 def card_resets():
-    """A card that is reset by a line of its terminal, in any state, and by no other line."""
+    """A line of the terminal resets the card, in either state, and other lines do not."""
     ask = "> 00CA5F2000 < 6985"
 
     def play_it(held, released, others):
@@ -491,7 +491,7 @@ def card_resets():
         (["--reset", "cts", "--held-by", "off"], "", "cts", "cts dsr dcd"),
     ):
         if "off" in option:
-            # it is held as it begins, so that the first pulse is the end of that
+            # the card is held in reset when it starts, so the first pulse ends that
             yield (f"a card that is reset by {' '.join(option)}",
                    lambda of=(held, released, others), option=option: card(
                        held_first(*of, ask), option))
@@ -501,7 +501,7 @@ def card_resets():
 
 
 def held_first(held, released, others, ask):
-    """A card that is held in reset as it begins."""
+    """A card that is held in reset when it starts."""
     def session(tty, other):
         tty.await_note(EVEN)
         other.take_nothing(0.2)
@@ -516,7 +516,7 @@ def held_first(held, released, others, ask):
 
 
 def card_settings():
-    """A card's tty: parity by its convention, and what it refuses."""
+    """A card's tty: parity by the convention, and refused settings."""
     ask = "> 00CA5F2000 < 6985"
 
     def asked(ts):
@@ -576,7 +576,7 @@ def card_settings():
 
 
 def tests():
-    """Each test of this part: its title, and a function that is wrong by an error."""
+    """Each test of this part: its title, and a function that raises an error if it fails."""
     for part in (resets, second_resets, rates, refusals, parities, without_echo, card_resets,
                  card_settings):
         yield from part()

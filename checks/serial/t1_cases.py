@@ -10,8 +10,8 @@ from pathlib import Path
 import card_cases
 import t1_card
 import terminal_cases
-from lines import Line, play, trace_of
-from programs import Program
+from lines import Line, Other, play, trace_of
+from programs import Program, in_time
 from terminal_cases import Case, look
 
 SELECT_APDU = "00A4040007A000000003101000"
@@ -54,20 +54,56 @@ def dialogues():
             yield Case(f"T=1, inverse {inverse}, echo {echo}",
                        f"< {'3F' if inverse else '3B'}{QUICK[2:]} {whole}", WORDS, ANSWERS,
                        echo=echo, inverse=inverse, slack=5000)
-    first = f"< {QUICK} "
+    first, sent = f"< {QUICK} {OPEN}", talk(">", f"00:{SELECT_APDU}")
     for title, words in (
         ("a damaged block", (">", "80", "<", f"00:{NAME}")),
         ("more time", ("<", "C3:02", ">", "E3:02", "<", f"00:{NAME}")),
         ("another IFSC", ("<", "C1:08", ">", "E1:08", "<", f"00:{NAME}")),
         ("a response in two blocks", ("<", f"20:{NAME[:8]}", ">", "90", "<", f"40:{NAME[8:]}")),
     ):
-        sent = talk(">", f"00:{SELECT_APDU}")
         bad = "< 00000200FF " if title == "a damaged block" else ""
-        yield Case(f"T=1: {title}", first + OPEN + sent + bad + talk(*words), terminal_cases.SELECT,
+        yield Case(f"T=1: {title}", first + sent + bad + talk(*words), terminal_cases.SELECT,
                    terminal_cases.SELECTED, echo=False, slack=2000)
+    answer, more = talk("<", f"00:{NAME}"), talk("<", "C3:05", ">", "E3:05")
+    yield Case("T=1: a block with a pause of less than the slack",
+               first + sent + f"{answer[:10]} ~ 0.3 < {answer[10:]}" + GETS, WORDS, ANSWERS,
+               echo=False, slack=2000)
+    yield Case("T=1: an answer after more than one BWT", first + sent + more + f"~ 1.5 {answer}"
+               + GETS, WORDS, ANSWERS, echo=False)
     yield Case("T=1: by PPS", f"< 3B80800101 > FF01FE < FF01FE {OPEN}{SELECTS}",
                terminal_cases.SELECT, terminal_cases.SELECTED, options=["--protocol", "1"],
                slack=5000)
+
+
+def block_waiting_time():
+    """A terminal that gets no block asks again after BWT and the slack, together 0.3 s."""
+    line = Line()
+    try:
+        program = Program("gt_serial", ["--no-echo", line.name, *terminal_cases.SELECT])
+        other = Other(line, echo=False)
+        play(other, f"< {QUICK} " + talk(*[">", "C1:FE"] * 5), card=True)
+        look(program, program.end(), "", CAUSE + OUTCOMES["none"], 1)
+        assert 0.29 <= min(other.gaps[5::5]), f"{other.gaps}"
+        assert max(other.gaps[5::5]) < 0.8, f"{other.gaps}"
+    finally:
+        line.close()
+
+
+def block_guard_time():
+    """A terminal sends a block at the earliest BGT, 22 etu, after the card's last character began,
+    which is 18 ms at 1,200 baud. A busy machine is late at some blocks, so there are eight."""
+    gets = [talk(">", f"{pcb}:{GET_APDU}", "<", f"{pcb}:{JOE}") for pcb in ("40", "00") * 4]
+    line = Line()
+    try:
+        program = Program("gt_serial", ["--no-echo", "--baud", "1200", "--slack", "5000", line.name,
+                                        *terminal_cases.SELECT, *terminal_cases.GET * 8])
+        other = Other(line, echo=False)
+        play(other, f"< {QUICK} {OPEN}{SELECTS}{''.join(gets)}", card=True)
+        look(program, program.end(), terminal_cases.SELECTED + terminal_cases.GOT * 8, "", 0)
+        select, get = 4 + len(SELECT_APDU) // 2, 4 + len(GET_APDU) // 2
+        assert min(other.gaps[5 + select :: get]) >= 0.018, f"{other.gaps}"
+    finally:
+        line.close()
 
 
 def faults():
@@ -355,10 +391,12 @@ def at_random(seed):
 def tests():
     """Each test of this part: its title, and a function that raises an error if it fails."""
     for case in (*dialogues(), *faults(), *breaks(), *chapter()):
-        yield case.title, lambda case=case: terminal_cases.run(case)
+        yield case.title, lambda case=case: terminal_cases.tried(case)
     for case in at_card():
         yield case.title, lambda case=case: card_cases.run(case)
     yield "T=1: each opening of a card's line", each_opening
+    yield "T=1: the block waiting time", lambda: in_time(block_waiting_time)
+    yield "T=1: the block guard time", block_guard_time
     for title, fates in MILD:
         # a card by EMV is silent for good after the fourth
         for is_narrow in (False,) if title.startswith("four") else (False, True):

@@ -1,6 +1,6 @@
 -- The pairs of command and response of one exchange, and the data that they bring (ISO/IEC 7816-4,
--- 5.1 and GET RESPONSE). So a reader talks that has a card at T=1 or without contacts, or fetches by
--- itself. When a terminal sends another command is this project's profile.
+-- 5.1 and GET RESPONSE). The reader has a card at T=1 or without contacts, or fetches by itself.
+-- When a terminal sends another command is this project's profile.
 use Rattle.std.specs.Prelude.{◌≡◌, ℕ, ◌+◌, ◌≤◌, ◌<◌, List, [], ◌∷◌, ◌++◌, length, Option, Some, None, Bool, true, false, not, ◌&&◌, ◌==◌, if◌then◌else◌}
 use Rattle.std.specs.List.{flat_map}
 use Rattle.apdu_core.specs.declared.header.Header.{Header}

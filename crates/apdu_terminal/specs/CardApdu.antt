@@ -91,8 +91,8 @@ abbrev pub HasCome : {State : Type 0} → (State → ℕ → Tpdu → State → 
 HasCome Does c old new ex = HasHad (GoesAs Does) (tpdu_command c) (le_of c) old new ex
 
 -- The state of a card that gives no response to a whole command. It did not finish a TPDU of a
--- command that is not agreed with it, and is reset after the TPDUs before. Or a GET RESPONSE brought
--- no data, and the card announced more.
+-- command that is not agreed with it, and is reset after the TPDUs before. Or a GET RESPONSE
+-- brought no data, and the card announced more.
 abbrev pub HasFailed : {C : Type 0} (card : Ghosts C) → Command → card.State → ApduFault
     → card.State → Type 0
 HasFailed card c old why.UnderWay new = ⊥

@@ -1,13 +1,27 @@
 //! Both ends of whole commands (ISO/IEC 7816-4, 5.1): for cards at T=1 or without contacts, and for
 //! readers that fetch by themselves.
 //!
-//! - `ApduExchange` is the terminal's side of one command; `ApduTerminal` that of operations,
-//!   without a borrow.
-//! - `apdu` and `respond` are a card's side, over its TPDUs.
-//! - `run` joins both for a list of operations.
+//! An [`ApduTerminal`] carries out operations, without a borrow. [`write_command`] writes its
+//! commands. An [`ApduExchange`] is one command with all that follows it, and [`Stage`] its stage.
+//! [`apdu`] carries a command out at a card that takes TPDUs, and [`respond`] at a card of data
+//! objects. [`run`] joins both ends for a list of operations. [`ApduFault`] is the card's error.
+//! The body of a terminal's loop:
 //!
-//! Proved is that each operation is the one of a card that answers in one step (`operations.rt`).
-//! README says more, with the rules in docs/RULES.md.
+//! ```rust
+//! // crates/library_use/src/apdus.rt
+//! let Some(command) = terminal.apdu() else {
+//!     break;
+//! };
+//! let count = write_command(&command, &mut bytes)?;
+//! let sent = Command::read(bytes.get(..count)?).ok()?;
+//! let response = respond(alloc, card, sent).ok()?;
+//! let (data, status) = (response.data(), response.status()?);
+//! terminal.responded(data, status).ok()?;
+//! ```
+//!
+//! Proved: each operation by whole commands has the answer and the tables of a card that carries it
+//! out in one step. The README lists the contracts; `laws`, `terminal_laws` and `stop_laws` hold
+//! laws for proofs in the crates above.
 #![tactic(auto)]
 
 mod apdu_fault;

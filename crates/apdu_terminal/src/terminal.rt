@@ -98,8 +98,8 @@ impl<A: Allocator + Copy> ApduTerminal<A> {
         self.send(get_command(tag))
     }
 
-    /// Begins to store the value, which is copied, under this tag. The errors are those of `select`.
-    /// The value is sent in pieces, up to the first whose status is not `9000`.
+    /// Begins to store a copy of the value under this tag. It is sent in pieces, up to the first
+    /// whose status is not `9000`. The errors are those of `select`.
     pub fn put(&mut self, tag: ObjectTag, value: &[u8]) -> Result<(), BeginFault>
         ensures begins { IsBeginning (AreCommandsOf (Put tag value.now)) self.old.operation result
             self.new.operation }
@@ -180,8 +180,8 @@ impl<A: Allocator + Copy> ApduTerminal<A> {
         }
     }
 
-    /// Takes the response to the command that `apdu` returns: its data and its status. After a piece
-    /// of a put with the status `9000`, `apdu` returns the next piece, if one follows.
+    /// Takes the response to the command that `apdu` returns: its data and its status. After a
+    /// piece of a put with the status `9000`, `apdu` returns the next piece, if one follows.
     ///
     /// # Errors
     /// In this order (profile):

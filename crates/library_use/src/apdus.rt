@@ -20,9 +20,8 @@ pub fn select(alloc: Global, card: &mut CardEnd<ObjectCard>, aid: &Aid) -> Optio
         let count = write_command(&command, &mut bytes)?;
         let sent = Command::read(bytes.get(..count)?).ok()?;
         let response = respond(alloc, card, sent).ok()?;
-        terminal
-            .responded(response.data(), response.status()?)
-            .ok()?;
+        let (data, status) = (response.data(), response.status()?);
+        terminal.responded(data, status).ok()?;
     }
     terminal.into_answer()
 }

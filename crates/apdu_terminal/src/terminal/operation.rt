@@ -50,8 +50,8 @@ impl<A: Allocator + Copy> Model for ApduOperation<A> {
 }
 
 impl<A: Allocator + Copy> ApduOperation<A> {
-    /// Begins an operation. This takes all its memory: room for `limit` bytes of a response, and for
-    /// a copy of the data. Returns `AllocError` if memory ran out.
+    /// Begins an operation. This takes all its memory: room for `limit` bytes of a response, and
+    /// for a copy of the data. Returns `AllocError` if memory ran out.
     pub fn start(alloc: A, limit: usize, unsent: Unsent<'_>) -> Result<ApduOperation<A>, AllocError>
         requires { limit ≤ response_limit }
         ensures begins { IfOk result (λ o. Begins unsent.entry o) }
@@ -78,8 +78,8 @@ impl<A: Allocator + Copy> ApduOperation<A> {
         })
     }
 
-    /// Begins another operation in place of this one, as `start`, in the same memory. Takes more only
-    /// for longer data than any before. If memory ran out, returns `AllocError` and changes
+    /// Begins another operation in place of this one, as `start`, in the same memory. Takes more
+    /// only for longer data than any before. If memory ran out, returns `AllocError` and changes
     /// nothing.
     pub fn again(&mut self, unsent: Unsent<'_>) -> Result<(), AllocError>
         ensures begins { MatchResult result (λ _. Begins unsent.entry self.new)
@@ -133,7 +133,7 @@ impl<A: Allocator + Copy> ApduOperation<A> {
         taken
     }
 
-    /// Begins the exchange of the next piece of a put, if the last piece got `9000` and one follows.
+    /// Begins the exchange of the next piece of a put, if the last got `9000` and one follows.
     fn go_on(&mut self)
         ensures { GoesOver self.old self.new }
     {

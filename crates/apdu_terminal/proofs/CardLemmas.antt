@@ -1,4 +1,4 @@
--- A whole command at a card's end: its bytes as a TPDU, and one TPDU more.
+-- A whole command at a card's end: its bytes as a TPDU, one more TPDU, and the whole command.
 use Rattle.std.proofs.Common.{◌≡◌, ℕ, ◌+◌, ◌*◌, ◌%◌, ◌<◌, ◌≤◌, List, [], ◌∷◌, ◌++◌, length, take, refl, sym, subst, ◌∙◌, ap, arith, inl, inr, ◌⊎◌, true, false, Bool, Option, Some, None, Ok, Err, Result, length-append, append-nil, if◌then◌else◌}
 use Rattle.std.specs.Prelude.{unwrap_or, MatchResult, IfErr, nat_lt, nat_le}
 use Rattle.std.proofs.Math.Seq.{take-append_seam}
@@ -11,8 +11,7 @@ use Rattle.t0_core.specs.declared.tpdu_card.TpduCard.{Ghosts}
 use Rattle.t0_core.specs.declared.tpdu_fault.TpduFault.{TpduFault}
 use Rattle.t0_core.specs.declared.tpdu_fault.TpduFault.TheVariants as tpdu
 use Rattle.t0_core.specs.declared.answer_fault.AnswerFault.{AnswerFault}
-use Rattle.t0_core.specs.declared.answer_fault.AnswerFault.TheVariants.{NotDue, Stalled, TooLong}
-use Rattle.t0_core.specs.declared.direction.Direction.{Direction}
+use Rattle.t0_core.specs.declared.answer_fault.AnswerFault.TheVariants.{Stalled, TooLong}
 use Rattle.t0_core.specs.declared.direction.Direction.TheVariants.{ToCard, FromCard}
 use Rattle.t0_core.specs.HostAnswer.{fails_with}
 use Rattle.t0_core.specs.Dialogue.{Body, foreseen, to_move}
@@ -27,10 +26,7 @@ use Rattle.t0_core.specs.CardTpdu.{rests, CarriesOut, HasGone, Answers, Fails, I
 use Rattle.object_card.specs.Agreed.{IsAgreed}
 use Rattle.card_terminal.specs.declared.wanted.Wanted.{Wanted}
 use Rattle.card_terminal.specs.declared.wanted.Wanted.TheVariants.{Bytes}
-use Rattle.card_terminal.specs.ExchangeSide.{response_limit}
-use Rattle.card_terminal.specs.Gathered.{wanted_by}
-use Rattle.object_card.specs.State.{CardState, IsCardState}
-use Rattle.object_card.specs.CardMeaning as meaning
+use Rattle.object_card.specs.State.{CardState}
 use Rattle.object_card.specs.DataCard.{StandsFor}
 use Rattle.card_terminal.specs.declared.attempt.Attempt.{Attempt}
 use Rattle.card_terminal.specs.declared.attempt.Next.TheVariants as next
@@ -40,10 +36,10 @@ use Rattle.apdu_terminal.specs.declared.apdu_fault.ApduFault.{ApduFault}
 use Rattle.apdu_terminal.specs.declared.apdu_fault.ApduFault.TheVariants as why
 use Rattle.apdu_terminal.specs.Apdus.{Pair, first_place, may_bring, GoesThrough, all_content, StallsAt}
 use Rattle.apdu_terminal.specs.ApduSide.{ApduExchangeOf, IsSound, ComesTo, place_of, command_of, excess, due_of, is_going, to_go, response_fault, answered_by}
-use Rattle.apdu_terminal.specs.CardApdu.{p3_of, tpdu_command, le_of, IsTpduOf, GoesAs, HasCome, HasFailed, HasResponse, Responds, RespondsToAll, HasHad}
+use Rattle.apdu_terminal.specs.CardApdu.{p3_of, tpdu_command, le_of, IsTpduOf, GoesAs, HasCome, HasFailed, HasResponse, Responds, HasHad}
 use Rattle.apdu_terminal.proofs.LedLemmas.{IsTaken, is_taken, is_going_true, at_stage, asked_number, asks_with, more_room}
-use Rattle.apdu_terminal.proofs.PlaceLemmas.{through, Fits, fits_first, fits_on, never_too_long, GoesAlone, alone_first, alone_on, Agrees, agrees_on, agrees_as_tpdu, agrees_first, total_within}
-use Rattle.apdu_terminal.proofs.StallLemmas.{never_stalls, never_overflows, card_never_stalls}
+use Rattle.apdu_terminal.proofs.PlaceLemmas.{through, Fits, fits_first, fits_on, never_too_long, GoesAlone, alone_first, alone_on, Agrees, agrees_on, agrees_as_tpdu, total_within}
+use Rattle.apdu_terminal.proofs.StallLemmas.{card_never_stalls}
 use Rattle.apdu_terminal.proofs.TalkLemmas.{own_goes, turns_both}
 use Rattle.apdu_terminal.proofs.RestLemmas.{count_told}
 
@@ -116,7 +112,7 @@ asked_at h (b ∷ bs) None sizes which =
 asked_at h (b ∷ bs) (Some n) sizes (inl none) = absurd (cc)
 asked_at h (b ∷ bs) (Some n) sizes (inr none) = absurd (cc)
 
--- A command that is carried out as a TPDU, where none is in progress.
+-- the card's end carries a command out as a TPDU if no TPDU is in progress
 gone_as : {C : Type 0} (card : Ghosts C) (c : Command) (bytes : List ℕ) (old new : EndOf C)
     (before plans : Cursor) (room room' : Room) (result : Result StatusWord TpduFault)
     → HasSizes c.content c.le → (c.content ≡ []) ⊎ (c.le ≡ None) → bytes ≡ command_bytes c
@@ -137,10 +133,9 @@ gone_as card c bytes old new before plans room room' result sizes which are none
     let both : Some asked ≡ Some here =
     sym asks ∙ ap asked_in are ∙ asked_at c.header c.content c.le sizes which in
     let same : asked ≡ here = cc in
-    subst (λ k. HasGone card here old k room result new plans room') none
-    (subst (λ x. HasGone card x old before room result new plans room') same gone)
+    subst (λ k. HasGone card here old k room result new plans room') none (rw same at gone)
 
--- the card's own meaning, if it is answered; else it is reset, and the command was not agreed
+-- the card does what it means, or is reset, and the command was not agreed
 abbrev pub TpduGoes : {C : Type 0} (card : Ghosts C) → Command → EndOf C
     → Result StatusWord TpduFault → EndOf C → List ℕ → Type 0
 TpduGoes card c old result new content = MatchResult result
@@ -155,7 +150,7 @@ pub may_be_few : (content : List ℕ) (le : Option ℕ) → HasSizes content le 
 may_be_few content None sizes = omega arith
 may_be_few content (Some n) sizes = sizes.le_in_range.1
 
--- data to the card are all given, where they are agreed
+-- if they are agreed, all data to the card are given
 given_all : (R S : ℕ → Type 0) (c : Command) (b : Body) → IsAgreed R S c
     → b.p3 ≡ p3_of c.content c.le → b.direction ≡ ToCard
     → PermitsData R S c.header.ins b.direction → length b.moved < to_move b
@@ -170,11 +165,10 @@ given_all R S c b agreed p3 to may due past =
         → b.p3 ≡ p3_of content le → length content ≤ length b.moved → to_move b ≤ b.p3 → ⊥
     by [] None agreed p3 past most = omega (arith, due, most, p3)
     by [] (Some n) agreed p3 past most =
-        let P : Direction → Type 0 = λ d. PermitsData R S c.header.ins d in
-        agreed.0 (subst P to may)
+        agreed.0 (rw to at may)
     by (x ∷ xs) le agreed p3 past most = omega (arith, due, most, p3, past)
 
--- those from the card all may come
+-- and there is room for all data from the card
 all_may_come : (R S : ℕ → Type 0) (c : Command) (b : Body) → HasSizes c.content c.le
     → IsAgreed R S c → b.p3 ≡ p3_of c.content c.le → b.direction ≡ FromCard
     → PermitsData R S c.header.ins b.direction → length b.moved < to_move b
@@ -185,7 +179,7 @@ all_may_come R S c b sizes agreed p3 from may due past =
     (all_moves-within b.segments (foreseen b.direction b.p3)))
   where
     sends : S c.header.ins
-    sends = let P : Direction → Type 0 = λ d. PermitsData R S c.header.ins d in subst P from may
+    sends = rw from at may
 
     by : (content : List ℕ) (le : Option ℕ) → HasSizes content le
         → IsAgreed R S (record { header = c.header; content = content; le = le })
@@ -203,7 +197,7 @@ all_may_come R S c b sizes agreed p3 from may due past =
     by (x ∷ xs) None sizes agreed p3 past most = agreed sends
     by (x ∷ xs) (Some n) sizes agreed p3 past most = agreed.0 sends
 
--- where it is agreed, the card does not get stuck in it
+-- the card does not stop in an agreed command
 no_cause : {C : Type 0} (card : Ghosts C) (first : card.State) (plan : Course) (c : Command)
     (room : Room) (b : Body) (e : EndOf C) (fault : TpduFault) → HasSizes c.content c.le
     → 256 ≤ room.limit
@@ -257,8 +251,7 @@ tpdu_goes {C} card c bytes old new before plans room room' result sizes which ar
               received_is = sym gathers;
               status_is = is.status_is;
             },
-            subst (λ n. card.Does (card.standing old.card) n (tpdu_of d) (card.standing new.card))
-                cut is.does,
+            rw cut at is.does,
           ),
           omega (arith, ap length gathers, is.fits),
         )
@@ -266,14 +259,13 @@ tpdu_goes {C} card c bytes old new before plans room room' result sizes which ar
       reset,
       no_cause card (card.standing old.card) (plan_kept plans) c room' b stuck fault sizes
           (omega (arith, large, limit))
-          (subst (λ bs. IsStuck card (card.standing old.card) (plan_kept plans) here bs room' b
-          stuck) empty is) cause,
+          (rw empty at is) cause,
     )
 
 pub taken_of : (n : ℕ) (bytes rest : List ℕ) → n ≡ length bytes → take n (bytes ++ rest) ≡ bytes
 taken_of n bytes rest is = ap (λ k. take k (bytes ++ rest)) is ∙ take-append_seam bytes rest
 
--- ---- one TPDU more
+-- ---- one more TPDU
 
 pub due_when : (v : Bool) (c due : Command) → (if v then Some c else None) ≡ Some due
     → (v ≡ true) × (c ≡ due)
@@ -283,7 +275,7 @@ due_when false c due e = absurd (cc)
 pub is_due : (ex : ApduExchangeOf) (due : Command) → due_of ex ≡ Some due → command_of ex ≡ due
 is_due ex due e = (due_when (is_going ex.stage) (command_of ex) due e).1
 
--- where a command is due, its pairs have led to its place
+-- if there is a next command, the pairs have led to its place
 pub at_place : (c : Command) (wanted : Wanted) (pairs : List Pair) (ex : ApduExchangeOf)
     (due : Command) → due_of ex ≡ Some due → ComesTo c wanted pairs ex
     → GoesThrough (first_place c wanted) pairs (place_of ex)
@@ -293,30 +285,26 @@ at_place c wanted pairs ex due is led =
     let at = at_stage c wanted pairs ex Going (is_going_true ex.stage going) led in
     (at.through, at.gathered, same)
 
--- it goes as a TPDU
+-- it can be sent as a TPDU
 pub goes_alone : {State : Type 0} (Does : State → ℕ → Tpdu → State → Type 0) (c : Command)
     (first now : State) (ex : ApduExchangeOf) (due : Command) → due_of ex ≡ Some due
     → HasCome Does c first now ex → (due.content ≡ []) ⊎ (due.le ≡ None)
 goes_alone Does c first now ex due is (pairs, comes, goes) =
     let (way, bytes, same) = at_place (tpdu_command c) (le_of c) pairs ex due is comes in
-    let P : Command → Type 0 = λ x. (x.content ≡ []) ⊎ (x.le ≡ None) in
-    subst P same (through GoesAlone alone_on (first_place (tpdu_command c) (le_of c))
-    (place_of ex) 0 pairs (alone_first c) way)
+    subst (λ (x : Command). (x.content ≡ []) ⊎ (x.le ≡ None)) same
+    (through GoesAlone alone_on (first_place (tpdu_command c) (le_of c)) (place_of ex) 0 pairs
+    (alone_first c) way)
 
--- the pair of the command that is due
+-- the pair of the next command
 pub pair_is : {State : Type 0} (One : State → Pair → State → Type 0) (mid last : State)
     (old : ApduExchangeOf) (content came : List ℕ) (status : StatusWord) (due : Command)
     → due_of old ≡ Some due → content ≡ came
     → One mid (record { command = due; content = came; status = status }) last
     → One mid (answered_by old content status) last
 pair_is One mid last old content came status due is same one =
-    let P : Command → Type 0 =
-    λ x. One mid (record { command = x; content = content; status = status }) last in
-    let Q : List ℕ → Type 0 =
-    λ x. One mid (record { command = due; content = x; status = status }) last in
-    subst P (sym (is_due old due is)) (subst Q (sym same) one)
+    rw (is_due old due is, same) one
 
--- it is one more
+-- the card has carried out one more pair
 pub one_had : {State : Type 0} (One : State → Pair → State → Type 0) (c : Command)
     (wanted : Wanted) (first mid last : State) (old new : ApduExchangeOf) (p : Pair)
     → One mid p last
@@ -328,7 +316,7 @@ one_had One c wanted first mid last old new p is led (pairs, comes, goes) = (
   turns_both One first mid last pairs (p ∷ []) goes (last, is, refl),
 )
 
--- or the card is reset
+-- or it is reset
 pub one_failed : {C : Type 0} (card : Ghosts C) (c : Command) (first mid last : card.State)
     (ex : ApduExchangeOf) (fault : TpduFault) (due : Command) → due_of ex ≡ Some due
     → last ≡ card.after_reset mid → (IsAgreed card.MayReceive card.MaySend due → ⊥)
@@ -343,7 +331,7 @@ one_failed card c first mid last ex fault due is reset refused (pairs, comes, go
       (pairs, place_of ex, mid, way, goes, reset),
     )
 
--- a response that was asked for has room, and is no fault
+-- a response no longer than asked for fits, and is no fault
 pub fits_room : {State : Type 0} (Does : State → ℕ → Tpdu → State → Type 0) (c : Command)
     (first now : State) (ex : ApduExchangeOf) (came : ℕ) (due : Command)
     → due_of ex ≡ Some due → came ≤ may_bring due.le → may_bring c.le ≤ ex.gather.limit
@@ -424,11 +412,11 @@ begins_so Does at c first wanted le most ex is le_is most_is wanted_is led =
     let w : wanted ≡ le_of c =
     wanted_is ∙ ap Bytes (most_is ∙ ap (λ x. unwrap_or x 0) le_is ∙ unwrapped c.le) in (
       [],
-      subst (λ x. ComesTo (tpdu_command c) x [] ex) w (subst (λ x. ComesTo x wanted [] ex) is led),
+      rw w at (rw is at led),
       refl,
     )
 
--- the response of the card is the pair of the command that is due
+-- the card's response is that of the next command
 pub response_is : {State : Type 0} (Own : State → ℕ → Tpdu → State → Type 0) (mid last : State)
     (old done : ApduExchangeOf) (content : List ℕ) (told : StatusWord) (due : Command)
     → due_of old ≡ Some due → HasResponse Own mid due last done
@@ -437,14 +425,12 @@ pub response_is : {State : Type 0} (Own : State → ℕ → Tpdu → State → T
 response_is Own mid last old done content told due is (status, over, responds) ended bytes_are =
     let both : Done told ≡ Done status = sym ended ∙ over in
     let one : told ≡ status = cc in
-    let R : StatusWord → Type 0 = λ x. Responds Own mid
-    (record { command = due; content = done.gather.bytes; status = x }) last in
     pair_is (Responds Own) mid last old content done.gather.bytes told due is bytes_are
-    (subst R (sym one) responds)
+    (rw one responds)
 
 -- ---- an exchange with a card of data objects
 
--- it carries out each command that is agreed with it
+-- the card carries out each command that is agreed with it
 pub never_left : {C A : Type 0} (card : Ghosts C) (state_of : card.State → CardState) (c : Command)
     (old new : card.State) (r : Result A ApduFault)
     → StandsFor card.Does card.after_reset state_of → IsAgreed card.MayReceive card.MaySend c
@@ -458,18 +444,6 @@ never_left card state_of c old new (Err (why.Response fault)) means agreed faile
     let (stalled, (pairs, stalls, goes)) = failed in
     card_never_stalls (tpdu_command c) (le_of c) pairs (state_of old) (state_of new) stalls
     (own_goes card.Does card.after_reset state_of old new pairs means goes)
-
--- what is known of the command that is due
-pub due_agreed : {State : Type 0} (R S : ℕ → Type 0) (Own : State → ℕ → Tpdu → State → Type 0)
-    (c : Command) (first now : State) (ex : ApduExchangeOf) (due : Command)
-    → due_of ex ≡ Some due → IsAgreed R S c
-    → HasHad (Responds Own) c (wanted_by c.le) first now ex
-    → IsAgreed R S due
-due_agreed R S Own c first now ex due is agreed (pairs, comes, goes) =
-    let (way, bytes, same) = at_place c (wanted_by c.le) pairs ex due is comes in
-    let a = through (Agrees R S) (agrees_on R S) (first_place c (wanted_by c.le)) (place_of ex) 0
-    pairs (agrees_first R S c agreed) way in
-    subst (λ x. IsAgreed R S x) same a.agreed
 
 -- the card responds with no more than Le asks for
 pub responds_within : {State : Type 0} (Own : State → ℕ → Tpdu → State → Type 0) (old new : State)
@@ -486,28 +460,16 @@ pub fault_fails : (ex : ApduExchangeOf) (came : ℕ) (f : AnswerFault) → is_go
     → came ≤ may_bring ex.le → response_fault ex came ≡ Some f → fails_with f ≡ true
 fault_fails ex came f going few fault =
     by (nat_le (length ex.gather.bytes + came) ex.gather.limit)
-    (subst (λ v. (if v then (if nat_lt (may_bring ex.le) came then Some (excess ex.le)
-    else (if nat_le (length ex.gather.bytes + came) ex.gather.limit then None else Some TooLong))
-    else Some NotDue) ≡ Some f) going fault) (le-ltb (may_bring ex.le) came few)
+    (rw going at fault) (le-ltb (may_bring ex.le) came few)
   where
     by : (v : Bool) → (if nat_lt (may_bring ex.le) came then Some (excess ex.le)
         else (if v then None else Some TooLong)) ≡ Some f
         → nat_lt (may_bring ex.le) came ≡ false → fails_with f ≡ true
     by true e few =
         let no : None ≡ Some f =
-        subst (λ w. (if w then Some (excess ex.le) else None) ≡ Some f) few e in absurd (cc)
+        rw few at e in absurd (cc)
     by false e few =
         let long : Some TooLong ≡ Some f =
-        subst (λ w. (if w then Some (excess ex.le) else Some TooLong) ≡ Some f) few e in
+        rw few at e in
         let same : TooLong ≡ f = cc in
         ap fails_with (sym same)
-
--- and never fails
-pub never_fails : (c : Command) (wanted : Wanted) (pairs : List Pair) (old new : CardState)
-    (ex : ApduExchangeOf) → IsCardState old → ex.gather.limit ≡ response_limit
-    → ex.stage ≡ Failed → ComesTo c wanted pairs ex → RespondsToAll meaning.Does old pairs new → ⊥
-never_fails c wanted pairs old new ex sound room failed led goes =
-    elim (at_stage c wanted pairs ex Failed failed led) [
-      | inl stalls ↦ never_stalls c wanted pairs old new stalls goes
-      | inr long ↦ never_overflows c wanted pairs old new ex.gather.limit room sound long goes
-    ]

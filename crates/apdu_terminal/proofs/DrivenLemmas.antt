@@ -1,5 +1,6 @@
--- An operation that a terminal goes through with a card of data objects, by its responses.
-use Rattle.std.proofs.Common.{◌≡◌, ℕ, ◌≤◌, List, [], ◌∷◌, ◌++◌, length, Option, Some, None, Result, Ok, Err, true, false, inl, inr, refl, sym, ap, subst, ◌∙◌, if◌then◌else◌}
+-- An operation between a terminal and a card of data objects: the terminal takes each response,
+-- and no operation fails.
+use Rattle.std.proofs.Common.{◌≡◌, ℕ, ◌≤◌, List, [], ◌∷◌, ◌++◌, length, Option, Some, None, Result, Ok, Err, true, false, inl, inr, refl, sym, subst, ap, ◌∙◌, if◌then◌else◌}
 use Rattle.std.specs.Prelude.{IsOk, is_some}
 use Rattle.std.specs.List.{AllByRecursion}
 use Rattle.apdu_core.specs.StatusWord.{StatusWord}
@@ -9,6 +10,7 @@ use Rattle.t0_core.specs.declared.answer_fault.AnswerFault.{AnswerFault}
 use Rattle.t0_core.specs.HostAnswer.{fails_with}
 use Rattle.object_card.specs.Agreed.{IsAgreed}
 use Rattle.object_card.specs.State.{CardState, IsCardState}
+use Rattle.object_card.specs.CardMeaning.{Does}
 use Rattle.object_card.specs.DataCard.{StandsFor}
 use Rattle.object_card.specs.OneStep.{Operation, Select, Get, Put, Reply}
 use Rattle.object_card.specs.CarryingOut.{put_header}
@@ -22,85 +24,113 @@ use Rattle.card_terminal.specs.Gathered.{wanted_by}
 use Rattle.card_terminal.specs.Talk.{AreCommandsOf}
 use Rattle.apdu_terminal.specs.declared.stage.Stage.{Stage}
 use Rattle.apdu_terminal.specs.declared.stage.Stage.TheVariants.{Going, Done, Failed}
-use Rattle.apdu_terminal.specs.Apdus.{Pair, may_bring}
-use Rattle.apdu_terminal.specs.ApduSide.{ApduExchangeOf, answer_at, answered_by, command_of, is_going}
-use Rattle.apdu_terminal.specs.ApduOperations.{ApduOperationOf, AreApdusUpTo, HasResponded, HasRoomFor, IsTakingResponse, LeadsThrough, LeadsTo, has_failed_at, operation_answer, operation_due}
+use Rattle.apdu_terminal.specs.Apdus.{Pair, first_place, may_bring}
+use Rattle.apdu_terminal.specs.ApduSide.{ApduExchangeOf, answer_at, answered_by, command_of, due_of, is_going, place_of}
+use Rattle.apdu_terminal.specs.ApduOperations.{ApduOperationOf, AreApdusUpTo, HasResponded, HasRoomFor, IsTakingResponse, LeadsTo, has_failed_at, operation_answer, operation_due}
 use Rattle.apdu_terminal.specs.ApduTalk.{IsApduTalkOf, AreApdusOf, talk_pairs}
-use Rattle.apdu_terminal.specs.CardApdu.{HasHad, HasResponse, Responds, RespondsToAll}
-use Rattle.apdu_terminal.proofs.CardLemmas.{due_agreed, due_when, fault_fails, never_fails, response_is, responds_within}
-use Rattle.apdu_terminal.proofs.StallLemmas.{sound_after}
+use Rattle.apdu_terminal.specs.CardApdu.{HasResponse, Responds, RespondsToAll}
+use Rattle.apdu_terminal.proofs.CardLemmas.{at_place, due_when, fault_fails, response_is, responds_within}
+use Rattle.apdu_terminal.proofs.LedLemmas.{at_stage}
+use Rattle.apdu_terminal.proofs.PlaceLemmas.{Agrees, agrees_first, agrees_on, through}
+use Rattle.apdu_terminal.proofs.StallLemmas.{never_overflows, never_stalls, sound_after}
 use Rattle.apdu_terminal.proofs.TalkLemmas.{own_responds, turns_apart, turns_both}
 
--- the commands of an operation are agreed with the card
+-- the commands of an operation are agreed with a card of data objects
 pub commands_agreed : (R S : ℕ → Type 0) → KeepsTo R S → (o : Operation)
     (commands : List Command) → AreCommandsOf o commands
     → AllByRecursion (λ c. IsAgreed R S c) commands
 commands_agreed R S keeps (Select aid) commands (is_aid, are) =
-    subst (λ cs. AllByRecursion (λ c. IsAgreed R S c) cs) (sym are)
-    (agreed_select R S keeps aid is_aid, tt)
+    rw are (agreed_select R S keeps aid is_aid, tt)
 commands_agreed R S keeps (Get tag) commands (p1, p2, names, are) =
-    subst (λ cs. AllByRecursion (λ c. IsAgreed R S c) cs) (sym are)
-    ((to_terminal GetData refl, to_terminal GetResponse refl), tt)
+    rw are ((to_terminal GetData refl, to_terminal GetResponse refl), tt)
   where
     to_terminal : (i : Instruction) → takes_data i ≡ false → R (ins_of i) → ⊥
     to_terminal i gives takes =
         one_way (ins_of i) ((keeps.receives (ins_of i)).0 takes) (i, refl, gives)
 commands_agreed R S keeps (Put tag value) commands (p1, p2, pieces, names, are_pieces, are) =
-    subst (λ cs. AllByRecursion (λ c. IsAgreed R S c) cs) (sym are)
-    (agreed_pieces R S keeps (put_header p1 p2) refl pieces)
+    rw are (agreed_pieces R S keeps (put_header p1 p2) refl pieces)
 
 current_is : (P : Command → Type 0) (commands : List Command) (gone : List (List Pair))
     (c : Command) (left : List Command) → AllByRecursion P commands
     → AreApdusUpTo commands gone (c ∷ left) → P c
 current_is P commands [] c left all taken =
-    (subst (λ cs. AllByRecursion P cs) (sym taken) all).0
+    (rw (sym taken) at all).0
 current_is P [] (g ∷ gone) c left all taken = absurd taken
 current_is P (d ∷ commands) (g ∷ gone) c left all taken =
     current_is P commands gone c left all.1 taken.2
 
--- the card has responded to the commands before the current one, and to what has gone of that
-here_had : {State : Type 0} (Own : State → ℕ → Tpdu → State → Type 0) (first now : State)
-    (commands : List Command) (pairs : List Pair) (o : ApduOperationOf)
-    → (l : LeadsThrough commands pairs o) → RespondsToAll Own first pairs now
-    → (mid : State) × RespondsToAll Own first (talk_pairs l.gone) mid
-    × HasHad (Responds Own) l.current (wanted_by l.current.le) mid now o.exchange
-here_had Own first now commands pairs o l goes =
-    let P : List Pair → Type 0 = λ ps. RespondsToAll Own first ps now in
-    let (mid, before, after) = turns_apart (Responds Own) first now (talk_pairs l.gone) l.here
-    (subst P l.pairs_are goes) in
-    (mid, before, (l.here, l.led, after))
-
--- the next command is agreed with the card too
-pub due_is_agreed : {State : Type 0} (R S : ℕ → Type 0) (Own : State → ℕ → Tpdu → State → Type 0)
-    (first now : State) (commands : List Command) (t : Option ApduOperationOf) (due : Command)
-    → operation_due t ≡ Some due → AllByRecursion (λ c. IsAgreed R S c) commands
-    → HasResponded Own commands first now t → IsAgreed R S due
-due_is_agreed R S Own first now commands None due is all (pairs, leads, goes) = absurd leads
-due_is_agreed R S Own first now commands (Some o) due is all (pairs, (l, settled), goes) =
-    let (mid, before, has) = here_had Own first now commands pairs o l goes in
-    due_agreed R S Own l.current mid now o.exchange due is
-    (current_is (λ c. IsAgreed R S c) commands l.gone l.current l.left all l.taken) has
+-- the next command is agreed with the card, as all commands of the operation are
+pub due_is_agreed : (R S : ℕ → Type 0) (commands : List Command) (pairs : List Pair)
+    (t : Option ApduOperationOf) (due : Command) → operation_due t ≡ Some due
+    → AllByRecursion (λ c. IsAgreed R S c) commands → LeadsTo commands pairs t → IsAgreed R S due
+due_is_agreed R S commands pairs None due is all leads = absurd leads
+due_is_agreed R S commands pairs (Some o) due is all (l, settled) =
+    let start = first_place l.current (wanted_by l.current.le) in
+    let agreed = current_is (λ c. IsAgreed R S c) commands l.gone l.current l.left all l.taken in
+    let (way, bytes, same) =
+    at_place l.current (wanted_by l.current.le) l.here o.exchange due is l.led in
+    let at_due = through (Agrees R S) (agrees_on R S) start (place_of o.exchange) 0 l.here
+    (agrees_first R S l.current agreed) way in
+    subst (λ c. IsAgreed R S c) same at_due.agreed
 
 -- with a card of data objects no operation fails
-pub never_fails_at : {State : Type 0} (Own : State → ℕ → Tpdu → State → Type 0)
-    (reset : State → State) (state_of : State → CardState) (first now : State)
-    (seen : CardState) (limit : ℕ) (commands : List Command) (t : Option ApduOperationOf)
-    → StandsFor Own reset state_of → state_of first ≡ seen → IsCardState seen
-    → limit ≡ response_limit → HasRoomFor limit t → HasResponded Own commands first now t
-    → has_failed_at t → ⊥
-never_fails_at Own reset state_of first now seen limit commands None means was sound is room has
-    failed =
-    failed
-never_fails_at Own reset state_of first now seen limit commands (Some o) means was sound is room
-    (pairs, (l, settled), goes) failed =
-    let (mid, before, (here, comes, after)) = here_had Own first now commands pairs o l goes in
-    never_fails l.current (wanted_by l.current.le) here (state_of mid) (state_of now) o.exchange
-    (sound_after (state_of first) (state_of mid) (talk_pairs l.gone)
-    (subst IsCardState (sym was) sound)
-    (own_responds Own reset state_of first mid (talk_pairs l.gone) means before)) (room ∙ is) failed
-    comes (own_responds Own reset state_of mid now here means after)
+pub none_fails : (old new : CardState) (commands : List Command) (pairs : List Pair)
+    (o : ApduOperationOf) → IsCardState old → LeadsTo commands pairs (Some o)
+    → o.exchange.gather.limit ≡ response_limit → RespondsToAll Does old pairs new
+    → o.exchange.stage ≡ Failed → ⊥
+none_fails old new commands pairs o sound (l, settled) room goes failed =
+    let wanted = wanted_by l.current.le in
+    let (mid, before, here) = turns_apart (Responds Does) old new (talk_pairs l.gone) l.here
+    (rw l.pairs_are at goes) in
+    elim (at_stage l.current wanted l.here o.exchange Failed failed l.led) [
+      | inl stalls ↦ never_stalls l.current wanted l.here mid new stalls here
+      | inr long ↦ never_overflows l.current wanted l.here mid new o.exchange.gather.limit room
+          (sound_after old mid (talk_pairs l.gone) sound before) long here
+    ]
 
--- the response of the card to the command that is due
+-- the terminal takes each response that is no longer than asked for
+takes : (old new : CardState) (commands : List Command) (pairs : List Pair)
+    (o : ApduOperationOf) (due : Command) (content : List ℕ) (status : StatusWord)
+    (result : Result (Unit {0}) AnswerFault) (then_at : Option ApduOperationOf)
+    → IsCardState old → LeadsTo commands pairs (Some o) → due_of o.exchange ≡ Some due
+    → length content ≤ may_bring o.exchange.le
+    → RespondsToAll Does old (pairs ++ answered_by o.exchange content status ∷ []) new
+    → IsTakingResponse (Some o) content status result then_at
+    → HasRoomFor response_limit then_at → IsOk result
+takes old new commands pairs o due content status (Ok u) then_at sound leads is few all step room =
+    refl
+takes old new commands pairs o due content status (Err f) then_at sound leads is few all step
+    room =
+    absurd (by then_at (step.failed fails) room (step.led commands pairs leads fails))
+  where
+    fails : fails_with f ≡ true
+    fails = elim step.fault [
+      | inl is_fault ↦ fault_fails o.exchange (length content) f
+          (due_when (is_going o.exchange.stage) (command_of o.exchange) due is).0 few is_fault
+      | inr stalled ↦ ap fails_with stalled.0
+    ]
+
+    by : (n : Option ApduOperationOf) → has_failed_at n → HasRoomFor response_limit n
+        → LeadsTo commands (pairs ++ answered_by o.exchange content status ∷ []) n → ⊥
+    by None failed room leads = failed
+    by (Some n) failed room leads = none_fails old new commands _ n sound leads room all failed
+
+pub is_taken : (old mid new : CardState) (commands : List Command) (pairs : List Pair)
+    (o : ApduOperationOf) (due : Command) (content : List ℕ) (status : StatusWord)
+    (result : Result (Unit {0}) AnswerFault) (then_at : Option ApduOperationOf)
+    → IsCardState old → LeadsTo commands pairs (Some o) → due_of o.exchange ≡ Some due
+    → RespondsToAll Does old pairs mid
+    → Responds Does mid (answered_by o.exchange content status) new
+    → IsTakingResponse (Some o) content status result then_at
+    → HasRoomFor response_limit then_at → IsOk result
+is_taken old mid new commands pairs o due content status result then_at sound leads is goes
+    responds step room =
+    takes old new commands pairs o due content status result then_at sound leads is
+    (responds_within Does mid new (answered_by o.exchange content status) responds)
+    (turns_both (Responds Does) old mid new pairs (answered_by o.exchange content status ∷ []) goes
+    (new, responds, refl)) step room
+
+-- the response of the card to the next command
 pub record IsResponse {State : Type 0} (Own : State → ℕ → Tpdu → State → Type 0)
     (mid last : State) (due : Command) (done : ApduExchangeOf) (content : List ℕ)
     (told : StatusWord) : Type 0 where
@@ -108,26 +138,7 @@ pub record IsResponse {State : Type 0} (Own : State → ℕ → Tpdu → State �
   pub ended : done.stage ≡ Done told
   pub bytes : content ≡ done.gather.bytes
 
-response_on : {State : Type 0} (Own : State → ℕ → Tpdu → State → Type 0) (mid last : State)
-    (o : ApduOperationOf) (due : Command) (done : ApduExchangeOf) (content : List ℕ)
-    (told : StatusWord) → operation_due (Some o) ≡ Some due
-    → IsResponse Own mid last due done content told
-    → Responds Own mid (answered_by o.exchange content told) last
-response_on Own mid last o due done content told is r =
-    response_is Own mid last o.exchange done content told due is r.over r.ended r.bytes
-
-one_more : {State : Type 0} (Own : State → ℕ → Tpdu → State → Type 0) (first mid last : State)
-    (commands : List Command) (pairs : List Pair) (p : Pair) (new : Option ApduOperationOf)
-    → RespondsToAll Own first pairs mid → Responds Own mid p last
-    → LeadsTo commands (pairs ++ p ∷ []) new → HasResponded Own commands first last new
-one_more Own first mid last commands pairs p new goes responds leads = (
-  pairs ++ p ∷ [],
-  leads,
-  turns_both (Responds Own) first mid last pairs (p ∷ []) goes
-      (last, responds, refl),
-)
-
--- It is taken, and leads on.
+-- The terminal takes it, and it leads on.
 pub taken_on : {State : Type 0} (Own : State → ℕ → Tpdu → State → Type 0)
     (reset : State → State) (state_of : State → CardState) (first mid last : State)
     (seen : CardState) (limit : ℕ) (commands : List Command) (t new : Option ApduOperationOf)
@@ -140,43 +151,51 @@ pub taken_on : {State : Type 0} (Own : State → ℕ → Tpdu → State → Type
 taken_on Own reset state_of first mid last seen limit commands None new due done content told r
     means was sound is room at response step (pairs, leads, goes) =
     absurd leads
-taken_on Own reset state_of first mid last seen limit commands (Some o) new due done content told
-    (Ok u) means was sound is room at response step (pairs, leads, goes) = (
-      refl,
-      one_more Own first mid last commands pairs (answered_by o.exchange content told) new goes
-          (response_on Own mid last o due done content told at response)
-          (step.led commands pairs leads),
-    )
-taken_on Own reset state_of first mid last seen limit commands (Some o) new due done content told
-    (Err f) means was sound is room at response step (pairs, leads, goes) =
-    let responds = response_on Own mid last o due done content told at response in
-    let few : length content ≤ may_bring o.exchange.le = responds_within Own mid last _ responds in
-    let going = (due_when (is_going o.exchange.stage) (command_of o.exchange) due at).0 in
-    let fails : fails_with f ≡ true = elim step.fault [
-      | inl fault ↦ fault_fails o.exchange (length content) f going few fault
-      | inr (stalled, none) ↦ ap fails_with stalled
-    ] in
-    absurd (never_fails_at Own reset state_of first last seen limit commands new means was sound is
-    room (one_more Own first mid last commands pairs (answered_by o.exchange content told) new goes
-    responds (step.led commands pairs leads fails)) (step.failed fails))
+taken_on {State} Own reset state_of first mid last seen limit commands (Some o) new due done content
+    told r means was sound is room at response step (pairs, leads, goes) =
+    by r step (takes (state_of first) (state_of last) commands pairs o due content told r new
+    (rw was sound) leads at (responds_within Own mid last p responds)
+    (own_responds Own reset state_of first last (pairs ++ p ∷ []) means all) step (rw is at room))
+  where
+    p : Pair
+    p = answered_by o.exchange content told
 
--- when no command is due it is over
-pub over_then : {State : Type 0} (Own : State → ℕ → Tpdu → State → Type 0) (first now : State)
-    (commands : List Command) (t : Option ApduOperationOf) → None ≡ operation_due t
-    → HasResponded Own commands first now t → (has_failed_at t → ⊥)
-    → is_some (operation_answer t) ≡ true
-over_then Own first now commands None none (pairs, leads, goes) fine = absurd leads
-over_then Own first now commands (Some o) none has fine = by o.exchange.stage refl
+    responds : Responds Own mid p last
+    responds = response_is Own mid last o.exchange done content told due at response.over
+        response.ended response.bytes
+
+    all : RespondsToAll Own first (pairs ++ p ∷ []) last
+    all = turns_both (Responds Own) first mid last pairs (p ∷ []) goes (last, responds, refl)
+
+    by : (r : Result (Unit {0}) AnswerFault) → IsTakingResponse (Some o) content told r new
+        → IsOk r → IsOk r × HasResponded Own commands first last new
+    by (Ok u) step ok = (ok, (pairs ++ p ∷ [], step.led commands pairs leads, all))
+    by (Err f) step ok = absurd (cc)
+
+-- an operation without a next command has ended
+pub over_then : {State : Type 0} (Own : State → ℕ → Tpdu → State → Type 0)
+    (reset : State → State) (state_of : State → CardState) (first now : State)
+    (seen : CardState) (limit : ℕ) (commands : List Command) (t : Option ApduOperationOf)
+    → StandsFor Own reset state_of → state_of first ≡ seen → IsCardState seen
+    → limit ≡ response_limit → HasRoomFor limit t → None ≡ operation_due t
+    → HasResponded Own commands first now t → is_some (operation_answer t) ≡ true
+over_then Own reset state_of first now seen limit commands None means was sound is room none
+    (pairs, leads, goes) =
+    absurd leads
+over_then Own reset state_of first now seen limit commands (Some o) means was sound is room none
+    (pairs, leads, goes) = by o.exchange.stage refl
   where
     by : (s : Stage) → o.exchange.stage ≡ s
         → is_some (answer_at o.exchange.stage o.exchange.gather.bytes) ≡ true
-    by Going is =
+    by Going e =
         let no : None ≡ Some (command_of o.exchange) =
-        none ∙ ap (λ s. if is_going s then Some (command_of o.exchange) else None) is in absurd (cc)
-    by (Done status) is = ap (λ s. is_some (answer_at s o.exchange.gather.bytes)) is
-    by Failed is = absurd (fine is)
+        none ∙ ap (λ s. if is_going s then Some (command_of o.exchange) else None) e in absurd (cc)
+    by (Done status) e = ap (λ s. is_some (answer_at s o.exchange.gather.bytes)) e
+    by Failed e = absurd (none_fails (state_of first) (state_of now) commands pairs o
+        (rw was sound) leads (room ∙ is)
+        (own_responds Own reset state_of first now pairs means goes) e)
 
--- what has come is a talk of the operation
+-- the pairs of an operation are a talk of it
 pub is_talk : {State : Type 0} (Own : State → ℕ → Tpdu → State → Type 0) (first now : State)
     (commands : List Command) (pairs : List Pair) (o : Operation) (answer : Reply)
     → AreCommandsOf o commands → RespondsToAll Own first pairs now
@@ -187,5 +206,5 @@ pub is_talk : {State : Type 0} (Own : State → ℕ → Tpdu → State → Type 
 is_talk Own first now commands pairs o answer are goes (exchanges, are_apdus, same) = (
   exchanges,
   (commands, are, are_apdus),
-  subst (λ ps. RespondsToAll Own first ps now) same goes,
+  rw same at goes,
 )

@@ -1,6 +1,6 @@
--- A SELECT and a GET DATA over a transport of whole commands: what the first TPDU begins, and what
--- is read after it, by the reader and by the terminal.
-use Rattle.std.proofs.Common.{◌≡◌, ℕ, ◌-◌, ◌≤◌, List, [], ◌∷◌, ◌++◌, length, take, drop, refl, sym, subst, ◌∙◌, ap, arith, inl, inr, ◌⊎◌, true, Option, Some, None, append-nil, append_assoc}
+-- SELECT and GET DATA by whole commands: what the first TPDU begins, and what GET RESPONSE reads
+-- after it, at the card and at the terminal.
+use Rattle.std.proofs.Common.{◌≡◌, ℕ, ◌-◌, ◌≤◌, List, [], ◌∷◌, ◌++◌, length, take, drop, refl, sym, ◌∙◌, ap, arith, inl, inr, ◌⊎◌, true, Option, Some, None, append-nil, append_assoc}
 use Rattle.std.specs.Prelude.{is_some}
 use Rattle.std.proofs.lemmas.Bool.{le-leb}
 use Rattle.std.proofs.lemmas.List.{take-append-drop}
@@ -24,13 +24,13 @@ use Rattle.card_terminal.specs.declared.wanted.Wanted.TheVariants.{Bytes, Everyt
 use Rattle.card_terminal.specs.Gathered.{less, fetched_after}
 use Rattle.card_terminal.specs.Talk.{select_command, get_command}
 use Rattle.apdu_terminal.specs.Apdus.{Pair, Place, first_place, asking, may_bring, Goes, Ends, follow, repeated, Suits, all_content, Brings}
-use Rattle.apdu_terminal.specs.CardApdu.{p3_of, tpdu_command, le_of_tpdu, IsTpduOf, InTurn, GoesAs, GoesBy, Responds, RespondsToAll}
+use Rattle.apdu_terminal.specs.CardApdu.{p3_of, tpdu_command, le_of_tpdu, IsTpduOf, InTurn, GoesAs, Responds, RespondsToAll}
 use Rattle.apdu_terminal.proofs.PlaceLemmas.{Whole, at_end, further, brings_whole}
 use Rattle.apdu_terminal.proofs.RestLemmas.{Reading, one_read, one_response, goes_by_fetch, told_by, waits_for, all_read, none_announced, ends_told, count_told}
 use Rattle.object_card.specs.OperationLaws.{select_is_taken, IsHeld, one_held, some_bytes, get_refused, get_corrected, get_given, get_step}
 
--- what an operation has come to after some of its TPDUs: it is answered without data; or a response
--- has begun, with word of what is left
+-- the state of an operation after some of its pairs: it has a status without data; or a response
+-- has begun, and the status announces the rest
 pub data FirstOf (old : CardState) (operation : Operation) (content : List ℕ) (status : StatusWord)
     (mid : CardState) : Type 0 where
   answered : (after : CardState) → Answers old operation (reply status) after
@@ -45,8 +45,7 @@ same_first : (old : CardState) (operation : Operation) (a b : List ℕ) (s t : S
     (m n : CardState) → a ≡ b → s ≡ t → m ≡ n → FirstOf old operation a s m
     → FirstOf old operation b t n
 same_first old operation a b s t m n ab st mn first =
-    subst (λ x. FirstOf old operation b t x) mn (subst (λ x. FirstOf old operation b x m) st
-    (subst (λ x. FirstOf old operation x s m) ab first))
+    rw (sym ab, sym st, sym mn) first
 
 -- a whole exchange by its first pair
 abbrev pub WholeBy : Place → Pair → List Pair → StatusWord → Type 0
@@ -62,7 +61,7 @@ whole_by at pairs status (at_end here p suits ends) =
 whole_by at pairs status (further here next p rest last suits goes whole) =
     (p, rest, refl, suits, inr (next, goes, whole))
 
--- nothing is fetched where nothing is announced
+-- nothing is fetched if nothing is announced
 no_fetch : (at next : Place) (came : ℕ) (status : StatusWord) → announces status ≡ None
     → corrects status ≡ None → follow at came status ≡ Goes next → ⊥
 no_fetch at next came status none once goes =
@@ -70,7 +69,7 @@ no_fetch at next came status none once goes =
     let (m, told, few, some) = told_by (less at.left came) status f.n f.told in
     let no_more : None ≡ Some m = sym none ∙ told in absurd (cc)
 
--- what has begun is read to the end of the exchange
+-- the exchange reads a response that has begun to its end
 pub goes_on : (One : CardState → Pair → CardState → Type 0) → Reading One
     → (old mid new : CardState) (operation : Operation) (at : Place) (p : Pair)
     (rest : List Pair) (status : StatusWord) (content : List ℕ)
@@ -78,8 +77,7 @@ pub goes_on : (One : CardState → Pair → CardState → Type 0) → Reading On
     → InTurn One mid rest new → FirstOf old operation (content ++ all_content rest) status new
 goes_on One reading old mid new operation at p rest status content first
     (inl (none, is, ends)) goes =
-    let P : List Pair → Type 0 = λ ps. InTurn One mid ps new in
-    let stays : new ≡ mid = subst P none goes in
+    let stays : new ≡ mid = rw none at goes in
     same_first old operation content (content ++ all_content rest) p.status status mid new
     (sym (append-nil content) ∙ ap (λ ps. content ++ all_content ps) (sym none)) (sym is)
     (sym stays) first
@@ -109,32 +107,25 @@ pub goes_through : (One : CardState → Pair → CardState → Type 0) → Readi
     → InTurn One old pairs new → FirstOf old operation content status new
 goes_through One reading old new operation at pairs content status whole gathered each goes =
     let (p, rest, are, suits, by) = whole_by at pairs status whole in
-    let P : List Pair → Type 0 = λ ps. InTurn One old ps new in
-    let (mid, is, others) = subst P are goes in
+    let (mid, is, others) = rw are at goes in
     same_first old operation (p.content ++ all_content rest) content status status new new
     (sym (gathered ∙ ap all_content are)) refl refl
     (goes_on One reading old mid new operation at p rest status p.content
     (each p mid suits is) by others)
 
--- where no more is announced, it is carried out
+-- if nothing more is announced, the operation is carried out
 carried : (old new : CardState) (operation : Operation) (content : List ℕ) (status : StatusWord)
     → FirstOf old operation content status new → fetched_after Everything status ≡ None
     → IsCarriedOut old operation status content new
 carried old new operation content status (answered after answers none once empty same idle) ends =
-    let P : List ℕ → Type 0 =
-    λ bs. Answers old operation (record { status = status; content = bs }) after in
-    (after, subst P (sym empty) answers, same, idle)
+    (after, rw empty answers, same, idle)
 carried old new operation content status (begun whole after answers both told same idle) ends =
     let nothing : waiting new.pending ≡ [] = none_announced (waiting new.pending)
     (ap (λ s. fetched_after Everything s) (sym told) ∙ ends) in
     let fine : ok ≡ status = sym (told ∙ ap (λ bs. announcing bs 256) nothing) in
     let all : whole ≡ content =
     sym both ∙ ap (λ bs. content ++ bs) nothing ∙ append-nil content in
-    let P : List ℕ → Type 0 =
-    λ bs. Answers old operation (record { status = status; content = bs }) after in
-    let Q : StatusWord → Type 0 =
-    λ s. Answers old operation (record { status = s; content = whole }) after in
-    (after, subst P all (subst Q fine answers), same, idle)
+    (after, rw (sym all, sym fine) answers, same, idle)
 
 -- ---- SELECT
 
@@ -158,11 +149,9 @@ select_first old mid aid p t idle is due of does =
     of.p3_is ∙ ap (λ (c : Command). p3_of c.content c.le) due
     ∙ p3_some aid (le_of_tpdu aid (Some 256)) some in
     let which : (t.sent ≡ []) ⊎ (t.sent ≡ aid) =
-    subst (λ (c : Command). (t.sent ≡ []) ⊎ (t.sent ≡ c.content)) due of.all_or_none in
+    rw due at of.all_or_none in
     let taken : refusal old t.header t.p3 ≡ None =
-    subst (λ n. refusal old t.header n ≡ None) (sym p3)
-    (subst (λ h. refusal old h (length aid) ≡ None) (sym header)
-    (select_is_taken old aid idle is)) in
+    rw (p3, header) (select_is_taken old aid idle is) in
     elim (select_step old mid 256 t does (ap (λ h. is_select h) header)) [
       | select_refused refused none_sent none new_is ↦ let no : None ≡ Some t.status =
           sym taken ∙ refused in absurd (cc)
@@ -185,15 +174,14 @@ select_first old mid aid p t idle is due of does =
           let moved : t.sent ≡ aid = all_sent aid t.sent some (sym p3 ∙ counts) which in
           let told : p.status ≡ (0x6A, 0x82) = sym of.status_is ∙ status in
           answered old
-          (subst (λ s. Answers old (Select aid) (reply s) old) (sym told)
-          (finds_no_application aid
+          (rw told (finds_no_application aid
           (ap (λ x. entries_in x old.applications) (sym moved) ∙ missed)))
           (ap announces told) (ap corrects told) (sym of.received_is ∙ none)
           (sym (ap (λ s. s.applications) new_is), sym (ap (λ s. s.selected) new_is))
           (ap (λ s. is_idle s.pending) new_is)
     ]
 
--- a whole SELECT, as the card responds
+-- the card's response to a SELECT
 pub select_responds : (old mid : CardState) (aid : List ℕ) (p : Pair) → is_idle old.pending ≡ true
     → IsAid aid → p.command ≡ select_command aid → Responds Does old p mid
     → FirstOf old (Select aid) p.content p.status mid
@@ -206,7 +194,7 @@ select_responds old mid aid p idle is due (inner, brings, goes) =
 
 -- ---- GET DATA
 
--- a card with the same tables comes to the same
+-- the same from a card with the same tables
 first_alike : (a b mid : CardState) (operation : Operation) (content : List ℕ)
     (status : StatusWord) → SameTables a b → FirstOf a operation content status mid
     → FirstOf b operation content status mid
@@ -225,7 +213,7 @@ get_refuses : (old mid : CardState) (tag : List ℕ) (p : Pair) (t : Tpdu) → I
     → corrects t.status ≡ None → t.received ≡ [] → SameTables old mid
     → is_idle mid.pending ≡ true → FirstOf old (Get tag) p.content p.status mid
 get_refuses old mid tag p t of answers none once nothing same idle =
-    answered old (subst (λ s. Answers old (Get tag) (reply s) old) of.status_is answers)
+    answered old (rw of.status_is at answers)
     (ap announces (sym of.status_is) ∙ none) (ap corrects (sym of.status_is) ∙ once)
     (sym of.received_is ∙ nothing) same idle
 
@@ -244,7 +232,7 @@ get_gives old mid tag value p t of held brought status same pending =
     (sym of.status_is ∙ status ∙ ap (λ bs. announcing bs 256) (sym waits)) same
     (ap is_idle pending ∙ rest_is_idle rest)
 
--- a GET DATA that is told its count is repeated
+-- a GET DATA is repeated after a 6CXX
 is_repeated : (h : Header) (came n : ℕ) (status : StatusWord) → corrects status ≡ Some n → came ≡ 0
     → n ≤ 256
     → follow (first_place (asking h 256) (Bytes 256)) came status
@@ -252,7 +240,7 @@ is_repeated : (h : Header) (came n : ℕ) (status : StatusWord) → corrects sta
 is_repeated h came n status told none few =
     rw (told, le-leb n (256 - came) (omega (arith, none, few))) refl
 
--- with the count that it was told it brings all
+-- with that count it brings all
 get_again : (old mid : CardState) (tag value : List ℕ) (p1 p2 n : ℕ) (p : Pair) (t : Tpdu)
     (before : CardState) → is_idle old.pending ≡ true → NamesTag tag p1 p2
     → p.command ≡ asking (get_header p1 p2) n → n ≡ length (object_bytes tag value) → n ≤ 256
@@ -280,7 +268,7 @@ get_again old mid tag value p1 p2 n p t before idle names due all few held_befor
           get_gives old mid tag other p t of held brought status same pending
     ]
 
--- a whole GET DATA, as the card responds
+-- the card's response to a GET DATA
 pub get_responds : (old mid : CardState) (tag : List ℕ) (p1 p2 : ℕ) (p : Pair)
     → is_idle old.pending ≡ true → NamesTag tag p1 p2 → p.command ≡ get_command p1 p2
     → Responds Does old p mid → FirstOf old (Get tag) p.content p.status mid
@@ -290,11 +278,9 @@ get_responds old mid tag p1 p2 p idle names due (inner, brings, goes) =
     let same_at : first_place (tpdu_command p.command) (Bytes (may_bring p.command.le)) ≡ at =
     ap (λ (c : Command). first_place (tpdu_command c) (Bytes (may_bring c.le))) due in
     let whole : Whole at inner p.status =
-    subst (λ x. Whole x inner p.status) same_at
-    (brings_whole _ _ inner p.content p.status brings) in
+    rw same_at at (brings_whole _ _ inner p.content p.status brings) in
     let (q, rest, are, suits, by) = whole_by at inner p.status whole in
-    let P : List Pair → Type 0 = λ ps. GoesBy Does old ps mid in
-    let (next, (t, of, does), others) = subst P are goes in
+    let (next, (t, of, does), others) = rw are at goes in
     let content : q.content ++ all_content rest ≡ p.content =
     sym (brings.gathered_is ∙ ap all_content are) in
     let header : t.header ≡ h = of.header_is ∙ ap (λ (c : Command). c.header) suits.is_due in

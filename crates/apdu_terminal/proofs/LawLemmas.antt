@@ -1,5 +1,5 @@
--- An exchange has one course: what has come settles what is due, and whether it is over.
-use Rattle.std.proofs.Common.{◌≡◌, ℕ, ◌+◌, ◌*◌, ◌≤◌, List, [], ◌∷◌, ◌++◌, length, refl, sym, subst, ◌∙◌, ap, arith, Bool, true, false, not, ◌&&◌, ◌==◌, Some, length-append, append-nil, append_assoc, ◌⊎◌, inl, inr}
+-- The pairs of an exchange settle its next command, and whether it has ended. Their number.
+use Rattle.std.proofs.Common.{◌≡◌, ℕ, ◌+◌, ◌*◌, ◌≤◌, List, [], ◌∷◌, ◌++◌, length, refl, sym, ◌∙◌, ap, arith, Bool, true, false, not, ◌&&◌, ◌==◌, Some, length-append, append-nil, append_assoc, ◌⊎◌, inl, inr}
 use Rattle.std.proofs.lemmas.Bool.{eqb-false}
 use Rattle.std.proofs.lemmas.Grind.{flat_map-append}
 use Rattle.apdu_core.specs.StatusWord.{StatusWord}
@@ -18,17 +18,15 @@ ends_or_goes : (at next : Place) (p q : Pair) → q ≡ p
     → follow at (length q.content) q.status ≡ Ends
     → follow at (length p.content) p.status ≡ Goes next → ⊥
 ends_or_goes at next p q same ends goes =
-    let Q : Pair → Type 0 = λ x. follow at (length x.content) x.status ≡ Ends in
-    let both : Goes next ≡ Ends = sym goes ∙ subst Q same ends in absurd (cc)
+    let both : Goes next ≡ Ends = sym goes ∙ (rw same at ends) in absurd (cc)
 
 one_next : (at a b : Place) (p q : Pair) → q ≡ p
     → follow at (length q.content) q.status ≡ Goes a
     → follow at (length p.content) p.status ≡ Goes b → a ≡ b
 one_next at a b p q same one other =
-    let Q : Pair → Type 0 = λ x. follow at (length x.content) x.status ≡ Goes a in
-    same_next (follow at (length p.content) p.status) a b (subst Q same one) other
+    same_next (follow at (length p.content) p.status) a b (rw same at one) other
 
--- two whole exchanges at the front of one row are one
+-- two whole exchanges that begin one list of pairs are the same
 pub record AreOne (xs ys a b : List Pair) (s t : StatusWord) : Type 0 where
   pub pairs : xs ≡ ys
   pub rest : a ≡ b
@@ -53,9 +51,8 @@ one_course at _ _ a b _ _ (further here next p pairs s suits goes course)
     (further there other q others t suits_q goes_q course_q) e =
     let same : q ≡ p = cc in
     let more : pairs ++ a ≡ others ++ b = cc in
-    let P : Place → Type 0 = λ x. Whole x others t in
     let is = one_course next pairs others a b s t course
-    (subst P (one_next at other next p q same goes_q goes) course_q) more in
+    (rw (one_next at other next p q same goes_q goes) at course_q) more in
     record {
       pairs = ap (λ x. x ∷ pairs) (sym same) ∙ ap (λ ps. q ∷ ps) is.pairs;
       rest = is.rest;
@@ -69,7 +66,7 @@ one_exchange c wanted xs ys a b bx by s t one other e =
     one_course (first_place c wanted) xs ys a b s t (brings_whole c wanted xs bx s one)
     (brings_whole c wanted ys by t other) e
 
--- a whole exchange at the front of a row that goes on to a place has more to come from there
+-- a list that leads to a place, and begins with a whole exchange, continues with its next pair
 pub record HasMore (mid : Place) (came u t rest : List Pair) (s : StatusWord) : Type 0 where
   pub p : Pair
   pub more : List Pair
@@ -82,7 +79,7 @@ more_from : (at : Place) (came : List Pair) (mid : Place) (u t rest : List Pair)
     → Whole at u s → GoesThrough at came mid → u ++ t ≡ came ++ rest
     → HasMore mid came u t rest s
 more_from at [] mid u t rest s whole through e =
-    by u s (subst (λ x. Whole x u s) (sym through) whole) e
+    by u s (rw (sym through) at whole) e
   where
     by : (u : List Pair) (s : StatusWord) → Whole mid u s → u ++ t ≡ rest
         → HasMore mid [] u t rest s
@@ -109,9 +106,8 @@ more_from at (q ∷ came) mid _ t rest _ (further here other p pairs s suits goe
     (next, suits_q, goes_q, through) e =
     let same : p ≡ q = cc in
     let others : pairs ++ t ≡ came ++ rest = cc in
-    let P : Place → Type 0 = λ x. Whole x pairs s in
     let is = more_from next came mid pairs t rest s
-    (subst P (one_next at other next q p same goes goes_q) course) through others in
+    (rw (one_next at other next q p same goes goes_q) at course) through others in
     record {
       p = is.p;
       more = is.more;
@@ -121,7 +117,7 @@ more_from at (q ∷ came) mid _ t rest _ (further here other p pairs s suits goe
       never = is.never;
     }
 
--- a failed exchange is at no pair of a whole one
+-- the pairs of a failed exchange are not those of a whole one
 fails_within : (c : Command) (wanted : Wanted) (here u t rest before : List Pair) (last : Pair)
     (at : Place) (bytes : List ℕ) (s : StatusWord) → Brings c wanted u bytes s
     → u ++ t ≡ here ++ rest → here ≡ before ++ last ∷ []
@@ -132,9 +128,8 @@ fails_within c wanted here u t rest before last at bytes s b e are through =
     let more = more_from (first_place c wanted) before at u t (last ∷ rest) s
     (brings_whole c wanted u bytes s b) through
     (e ∙ ap (λ ps. ps ++ rest) are ∙ append_assoc before (last ∷ []) rest) in
-    let same : last ≡ more.p = first_of _ _ _ _ more.rest_is in
-    let Q : Pair → Type 0 = λ x. follow at (length x.content) x.status ≡ Stalls in (
-      λ stalls. more.never (subst Q same stalls),
+    let same : last ≡ more.p = first_of _ _ _ _ more.rest_is in (
+      λ stalls. more.never (rw same at stalls),
       (
         more.more,
         more.whole ∙ ap (λ x. before ++ x ∷ more.more) (sym same)
@@ -146,8 +141,8 @@ fails_within c wanted here u t rest before last at bytes s b e are through =
     first_of : (a b : Pair) (xs ys : List Pair) → a ∷ xs ≡ b ∷ ys → a ≡ b
     first_of a b xs ys e = cc
 
--- Where what led to an exchange goes on to the pairs of a whole one, for whose data there is room,
--- it is at a pair of that, or at its end.
+-- If the pairs so far begin a list with a whole exchange, and there is room for its data, the
+-- exchange is before a pair of the whole one, or at its end.
 pub within : (c : Command) (wanted : Wanted) (here : List Pair) (ex : ApduExchangeOf)
     (u t rest : List Pair) (bytes : List ℕ) (s : StatusWord) → ComesTo c wanted here ex
     → Brings c wanted u bytes s → length (all_content u) ≤ ex.gather.limit
@@ -180,7 +175,7 @@ within c wanted here ex u t rest bytes s (to_fault failed long) b room e =
       length-append (all_content here) (all_content more),
     ))
 
--- the next command is due
+-- the next command is that of the whole exchange
 pub next_due : (c : Command) (wanted : Wanted) (came rest : List Pair) (p : Pair)
     (ex : ApduExchangeOf) (gathered : List ℕ) (status : StatusWord) → ComesTo c wanted came ex
     → Brings c wanted (came ++ p ∷ rest) gathered status → length gathered ≤ ex.gather.limit
@@ -193,7 +188,7 @@ next_due c wanted came rest p ex gathered status led b room =
       | inr (is, done, bytes) ↦ absurd (cc)
     ]
 
--- where they are all, it is over
+-- after all pairs of a whole one it has ended
 pub over_at_end : (c : Command) (wanted : Wanted) (pairs : List Pair)
     (ex : ApduExchangeOf) (gathered : List ℕ) (status : StatusWord) → ComesTo c wanted pairs ex
     → Brings c wanted pairs gathered status → length gathered ≤ ex.gather.limit
@@ -205,9 +200,9 @@ over_at_end c wanted pairs ex gathered status led b room =
       | inr (is, done, bytes) ↦ (done, bytes)
     ]
 
--- ---- how many there are
+-- ---- how many pairs there are
 
--- the most pairs from a place on that bring so many bytes
+-- the most pairs from a place that bring `left` bytes
 abbrev most_from : Bool → Bool → ℕ → ℕ → ℕ
 most_from true false brought left = 2 * (brought + left) + 2
 most_from true true brought left = 2 * (brought + left) + 1
@@ -263,10 +258,9 @@ few_from at pairs status (further here next p others last suits goes course) =
     let same : length (all_content (p ∷ others))
     ≡ length p.content + length (all_content others) =
     length-append p.content (all_content others) in
-    subst (λ k. length (p ∷ others) ≤ most_from at.fetches at.repeats at.brought k) (sym same)
-    (omega (arith, few_from next others status course, step))
+    rw same (omega (arith, few_from next others status course, step))
 
--- An exchange that brings so many bytes has at most twice two more commands.
+-- An exchange that brings r bytes has at most 2(r + 2) pairs.
 pub few_commands : (c : Command) (wanted : Wanted) (pairs : List Pair) (gathered : List ℕ)
     (status : StatusWord) → Brings c wanted pairs gathered status
     → length pairs ≤ 2 * (length gathered + 2)
@@ -278,7 +272,7 @@ few_commands c wanted pairs gathered status b =
       ap length b.gathered_is,
     )
 
--- An exchange holds what came, or has failed for one of two reasons.
+-- An exchange holds the received data, or has failed for one of two reasons.
 pub holds_what_came : (c : Command) (wanted : Wanted) (pairs : List Pair) (ex : ApduExchangeOf)
     → ComesTo c wanted pairs ex → (ex.gather.bytes ≡ all_content pairs)
     ⊎ ((ex.stage ≡ Failed)

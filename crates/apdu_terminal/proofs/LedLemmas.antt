@@ -1,5 +1,5 @@
--- A response that is taken takes what led to an exchange further: what its attempt says is what the
--- definitions say of its place.
+-- With a response the pairs that led to an exchange lead on: `Attempt` decides as the definitions
+-- of places do.
 use Rattle.std.proofs.Common.{◌≡◌, ℕ, ◌+◌, ◌-◌, ◌≤◌, List, length, refl, sym, ◌∙◌, ap, arith, true, false, not, ◌&&◌, ◌==◌, Bool, Option, Some, None, if◌then◌else◌, eq-eqb, inl, inr, [], ◌∷◌, ◌++◌, subst, ◌⊎◌, length-append}
 use Rattle.std.proofs.lemmas.Bool.{ne_eqb, ltb-false, leb-true}
 use Rattle.std.proofs.lemmas.Bool.Decides.{eqb_tells}
@@ -26,7 +26,7 @@ less_less : (w : Wanted) (a b : ℕ) → less (less w a) b ≡ less w (a + b)
 less_less (Bytes n) a b = ap Bytes (omega arith)
 less_less Everything a b = refl
 
--- the place at which an attempt stands where so much is gathered
+-- the place of an attempt, with `gathered` bytes
 abbrev place_at : Attempt → ℕ → Wanted → ℕ → Place
 place_at a n wanted gathered = record {
   due = asking a.header n;
@@ -124,15 +124,13 @@ follows_as ex came status sound =
 
 -- ---- pairs
 
--- one pair more
+-- one more pair
 pub goes_last : (at : Place) (pairs : List Pair) (mid : Place) (p : Pair) (next : Place)
     → GoesThrough at pairs mid → Suits mid p
     → follow mid (length p.content) p.status ≡ Goes next
     → GoesThrough at (pairs ++ p ∷ []) next
 goes_last at [] mid p next through suits goes =
-    let P : Place → Type 0 = λ x. Suits x p in
-    let Q : Place → Type 0 = λ x. follow x (length p.content) p.status ≡ Goes next in
-    (next, subst P through suits, subst Q through goes, refl)
+    (next, rw through at suits, rw through at goes, refl)
 goes_last at (q ∷ pairs) mid p next (n, is, follows, rest) suits goes =
     (n, is, follows, goes_last n pairs mid p next rest suits goes)
 
@@ -143,7 +141,7 @@ one_more_content pairs p = flat_map_last (λ (q : Pair). q.content) pairs p
 one_more_pair : (pairs : List Pair) (p : Pair) → length (pairs ++ p ∷ []) ≡ length pairs + 1
 one_more_pair pairs p = omega (arith, length-append pairs (p ∷ []))
 
--- one command more
+-- one more command
 asked_when : (v : Bool) (a : Attempt) (gathered n m : ℕ) (b : Attempt)
     → (if v then next.Stalls else next.Asks (fetch a gathered) n) ≡ next.Asks b m
     → b.number ≡ a.number + 1
@@ -159,7 +157,7 @@ asked_number a gathered None None b n e = absurd (cc)
 asked_number a gathered None (Some m) b n e =
     asked_when (a.fetches && gathered == a.before) a gathered m n b e
 
--- what is known where a response is taken
+-- what is known of a response that is no fault
 pub record IsTaken (ex : ApduExchangeOf) (came : ℕ) : Type 0 where
   pub going : ex.stage ≡ Going
   pub asked_for : came ≤ may_bring ex.le
@@ -189,7 +187,7 @@ is_taken ex came none =
       fits = leb-true (length ex.gather.bytes + came) ex.gather.limit is.2;
     }
 
--- where it goes on
+-- the exchange continues
 pub record IsAt (c : Command) (wanted : Wanted) (pairs : List Pair) (ex : ApduExchangeOf)
     : Type 0 where
   pub through : GoesThrough (first_place c wanted) pairs (place_of ex)
@@ -197,7 +195,7 @@ pub record IsAt (c : Command) (wanted : Wanted) (pairs : List Pair) (ex : ApduEx
   pub wanted_is : ex.wanted ≡ wanted
   pub number : ex.attempt.number ≡ length pairs + 1
 
--- what pairs that led to an exchange are, by its stage
+-- what the pairs that led to an exchange are, by its stage
 abbrev pub Means : Command → Wanted → List Pair → ApduExchangeOf → Stage → Type 0
 Means c wanted pairs ex Going = IsAt c wanted pairs ex
 Means c wanted pairs ex (Done status) = Brings c wanted pairs ex.gather.bytes status
@@ -210,15 +208,15 @@ at_stage c wanted pairs ex s at led = subst (Means c wanted pairs ex) at (by led
   where
     by : ComesTo c wanted pairs ex → Means c wanted pairs ex ex.stage
     by (to_place is through gathered wanted_is number) =
-        subst (Means c wanted pairs ex) (sym is) (record {
+        rw is (record {
           through = through;
           gathered = gathered;
           wanted_is = wanted_is;
           number = number;
         })
-    by (to_end status is brings number) = subst (Means c wanted pairs ex) (sym is) brings
-    by (to_stall is stalls) = subst (Means c wanted pairs ex) (sym is) (inl stalls)
-    by (to_fault is long) = subst (Means c wanted pairs ex) (sym is) (inr long)
+    by (to_end status is brings number) = rw is brings
+    by (to_stall is stalls) = rw is (inl stalls)
+    by (to_fault is long) = rw is (inr long)
 
 -- the exchange with more gathered
 abbrev pub more_room : Room → List ℕ → Room
@@ -250,7 +248,7 @@ after_of ex gather status (next.Asks a n) = asks_with ex gather a n
 after_of ex gather status next.Stalls = ended_as ex gather Failed
 after_of ex gather status next.Ends = ended_as ex gather (Done status)
 
--- what follows, as the attempt says it
+-- what follows by its attempt
 abbrev pub next_of : ApduExchangeOf → ℕ → StatusWord → Next
 next_of ex gathered status = following ex.attempt gathered (less ex.wanted gathered) status
 
@@ -324,7 +322,7 @@ led_on c wanted pairs ex content status gather gathered v sound taken room many 
         })
         (omega (arith, at.number, one_more_pair pairs p))
 
--- for an exchange that is seen as another value
+-- the same for an exchange by its view
 pub seen_led : (c : Command) (wanted : Wanted) (pairs : List Pair) (inside seen : ApduExchangeOf)
     (content : List ℕ) (status : StatusWord) (gather : Room) (gathered : ℕ) (left : Wanted)
     (v : Next) → inside ≡ seen → IsSound inside → response_fault seen (length content) ≡ None
@@ -335,11 +333,6 @@ pub seen_led : (c : Command) (wanted : Wanted) (pairs : List Pair) (inside seen 
     (after_of inside gather status v)
 seen_led c wanted pairs inside seen content status gather gathered left v same sound none room
     many left_is is led =
-    let P : ApduExchangeOf → Type 0 = λ x. ComesTo c wanted pairs x in
-    let Q : ApduExchangeOf → Type 0 = λ x.
-    ComesTo c wanted (pairs ++ answered_by x content status ∷ []) (after_of inside gather status v)
-    in
-    subst Q same (led_on c wanted pairs inside content status gather gathered v sound
+    rw (sym same) (led_on c wanted pairs inside content status gather gathered v sound
     (is_taken inside (length content) (ap (λ x. response_fault x (length content)) same ∙ none))
-    room many (is ∙ ap (λ w. following inside.attempt gathered w status) left_is)
-    (subst P (sym same) led))
+    room many (is ∙ ap (λ w. following inside.attempt gathered w status) left_is) (rw same led))

@@ -1,5 +1,5 @@
--- An operation has one course: what has come settles what is due, and whether it is over.
-use Rattle.std.proofs.Common.{◌≡◌, List, [], ◌∷◌, ◌++◌, inl, inr, sym, subst, ◌∙◌, ap, append-nil, append_assoc, Some}
+-- The pairs of an operation settle its next command, and whether it has ended.
+use Rattle.std.proofs.Common.{◌≡◌, List, [], ◌∷◌, ◌++◌, inl, inr, sym, ◌∙◌, ap, append-nil, append_assoc, Some}
 use Rattle.apdu_core.specs.StatusWord.{ok}
 use Rattle.apdu_core.specs.CommandBytes.{Command}
 use Rattle.object_card.specs.OneStep.{Reply}
@@ -12,9 +12,9 @@ use Rattle.apdu_terminal.specs.ApduOperations.{ApduOperationOf, AreApdusUpTo, Ha
 use Rattle.apdu_terminal.proofs.LawLemmas.{one_exchange, within}
 use Rattle.apdu_terminal.proofs.OperationLemmas.{none_left}
 
--- ---- where an operation stands among the exchanges of a whole one
+-- ---- the place of an operation in whole exchanges
 
--- the next pair of a whole one is due, or it is at its end
+-- before the next pair of a whole one, or at its end
 data Stands (ex : ApduExchangeOf) (rest : List Pair) (answer : Reply) : Type 0 where
   due : (p : Pair) (more : List Pair) → rest ≡ p ∷ more → due_of ex ≡ Some p.command
       → Stands ex rest answer
@@ -63,7 +63,7 @@ from_front : (commands : List Command) (gone : List (List Pair)) (c : Command)
     → talk_pairs us ≡ (talk_pairs gone ++ here) ++ rest → Stands o.exchange rest answer
 from_front commands [] c left here rest o us answer led settled taken are room e =
     in_current c left here rest o us answer led settled
-    (subst (λ cs. AreApdusOf cs us answer) (sym taken) are) room e
+    (rw taken are) room e
 from_front [] (g ∷ gone) c left here rest o us answer led settled taken are room e =
     absurd taken
 from_front (d ∷ commands) (g ∷ gone) c left here rest o [] answer led settled taken are room e =

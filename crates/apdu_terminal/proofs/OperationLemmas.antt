@@ -1,4 +1,4 @@
--- What led to an operation at a terminal leads on with each response.
+-- With each response the pairs that led to an operation at a terminal lead on.
 use Rattle.std.proofs.Common.{◌≡◌, ◌≢◌, ◌≤◌, ◌+◌, ◌-◌, ◌==◌, ℕ, List, [], ◌∷◌, ◌++◌, length, take, drop, ◌⊎◌, inl, inr, refl, sym, subst, ◌∙◌, ap, append-nil, append_assoc, length-append, arith, Option, Some, None, true, false, Bool}
 use Rattle.std.specs.Prelude.{not, Result, Ok, Err, IfSome}
 use Rattle.std.specs.List.{AllByRecursion, slice_range}
@@ -57,9 +57,7 @@ first_begins c left p1 p2 rest o begins are_left = (
     current = c;
     left = left;
     taken = refl;
-    are_left = subst (λ n. AreLeft n o.p2 o.rest left) (sym begins.p1_is)
-        (subst (λ n. AreLeft p1 n o.rest left) (sym begins.p2_is)
-        (subst (λ bs. AreLeft p1 p2 bs left) (sym begins.rest_is) are_left));
+    are_left = rw (begins.p1_is, begins.p2_is, begins.rest_is) are_left;
     here = [];
     led = begins.led;
     pairs_are = refl;
@@ -72,9 +70,7 @@ pub one_begins : (c : Command) (p1 p2 : ℕ) (rest : List ℕ) (o : ApduOperatio
     (new : Option ApduOperationOf) → rest ≡ [] → new ≡ Some o → BeginsWith c p1 p2 rest o
     → LeadsTo (c ∷ []) [] new
 one_begins c p1 p2 rest o new none is begins =
-    subst (λ (n : Option ApduOperationOf). LeadsTo (c ∷ []) [] n) (sym is)
-    (first_begins c [] p1 p2 rest o begins
-    (subst (λ bs. AreLeft p1 p2 bs []) (sym none) refl))
+    rw is (first_begins c [] p1 p2 rest o begins (rw none refl))
 
 -- of a put
 pub put_begins : (tag value rest : List ℕ) (p1 p2 : ℕ) (header : Header)
@@ -87,25 +83,22 @@ put_begins tag value rest p1 p2 header pieces list others c o new header_is name
     rest_is is begins =
     let chain = chain_of header p1 p2 pieces list others c header_is same steps in
     let left : AreLeft p1 p2 rest others =
-    subst (λ bs. AreLeft p1 p2 bs others) (sym rest_is)
-    (left_after p1 p2 value pieces c others are chain) in (
+    rw rest_is (left_after p1 p2 value pieces c others are chain) in (
       c ∷ others,
       (p1, p2, pieces, names, are, sym chain),
-      subst (λ (n : Option ApduOperationOf). LeadsTo (c ∷ others) [] n) (sym is)
-          (first_begins c others p1 p2 rest o begins left),
+      rw is (first_begins c others p1 p2 rest o begins left),
     )
 
--- of what is to be sent at a terminal of TPDUs
+-- of an unsent operation at a terminal of TPDUs
 pub unsent_begins : (t : Option OperationOf) (u : Unsent) (o : ApduOperationOf)
     (commands : List Command) (came : List Character) → IsUnsent t (Some u) → Begins u o
     → AllByRecursion IsCommand commands → tpdus.LeadsTo commands came t
     → LeadsTo commands [] (Some o)
 unsent_begins t u o commands came unsent begins are leads =
     let (left, is, are_left) = unsent.led commands came are leads unsent.known in
-    subst (λ cs. LeadsTo cs [] (Some o)) (sym is)
-    (first_begins u.first left u.p1 u.p2 u.rest.now o begins are_left)
+    rw is (first_begins u.first left u.p1 u.p2 u.rest.now o begins are_left)
 
--- ---- a command is over
+-- ---- a command has ended
 
 taken_more : (commands : List Command) (gone : List (List Pair)) (c : Command)
     (left : List Command) (pairs : List Pair) (brought : List ℕ)
@@ -136,7 +129,7 @@ pub one_more_exchange : (gone : List (List Pair)) (pairs : List Pair)
     → talk_pairs (gone ++ pairs ∷ []) ≡ talk_pairs gone ++ pairs
 one_more_exchange gone pairs = flat_map_last (λ ps. ps) gone pairs
 
--- a command is over with 9000, and the next begins
+-- with 9000, and the next begins
 to_next : (commands : List Command) (pairs : List Pair) (o new : ApduOperationOf)
     → GoesToNext o new → LeadsThrough commands pairs o → LeadsThrough commands pairs new
 to_next commands pairs o new next l =
@@ -144,7 +137,7 @@ to_next commands pairs o new next l =
     l.led in
     let (c, after, left_is, led, are_left) = next.next l.left l.are_left in
     let taken : AreApdusUpTo commands l.gone (l.current ∷ c ∷ after) =
-    subst (λ cs. AreApdusUpTo commands l.gone (l.current ∷ cs)) left_is l.taken in
+    rw left_is at l.taken in
     record {
       gone = l.gone ++ l.here ∷ [];
       current = c;
@@ -161,7 +154,7 @@ to_next commands pairs o new next l =
 goes_over : (commands : List Command) (pairs : List Pair) (o new : ApduOperationOf)
     → GoesOver o new → LeadsThrough commands pairs o → LeadsThrough commands pairs new
 goes_over commands pairs o new (inl same) l =
-    subst (λ x. LeadsThrough commands pairs x) (sym same.1) l
+    rw same.1 l
 goes_over commands pairs o new (inr next) l = to_next commands pairs o new next l
 
 pub none_left : (p1 p2 : ℕ) (rest : List ℕ) (left : List Command) → rest ≡ []
@@ -169,11 +162,11 @@ pub none_left : (p1 p2 : ℕ) (rest : List ℕ) (left : List Command) → rest �
 none_left p1 p2 [] left none are = are
 none_left p1 p2 (b ∷ bs) left none are = absurd (cc)
 
--- where no more is to be put, no command follows
+-- if nothing more is to be put, no command follows
 nothing_next : (o new : ApduOperationOf) → GoesToNext o new → o.rest ≡ [] → ⊥
 nothing_next o new next none =
     let are : AreLeft o.p1 o.p2 o.rest [] =
-    subst (λ bs. AreLeft o.p1 o.p2 bs []) (sym none) refl in
+    rw none refl in
     let (c, after, is, led, left) = next.next [] are in absurd (cc)
 
 -- ---- a response
@@ -186,7 +179,7 @@ stays o new ex settled (inr next) is =
     (settled (ap (λ (x : ApduExchangeOf). x.stage) (sym is) ∙ next.done)))
 
 pub settles : (o new : ApduOperationOf) → GoesOver o new → IsSettled new
-settles o new (inl same) = subst (λ x. IsSettled x) (sym same.1) same.0
+settles o new (inl same) = rw same.1 same.0
 settles o new (inr next) = λ done. absurd (not_done new.exchange.stage ok next.going done)
 
 fails : (o new : ApduOperationOf) (ex : ApduExchangeOf) → GoesOver (with_exchange o ex) new
@@ -199,10 +192,10 @@ fails o new ex (inr next) failed =
 few_over : (o new : ApduOperationOf) (ex : ApduExchangeOf) → HasFew ex
     → GoesOver (with_exchange o ex) new → HasFew new.exchange
 few_over o new ex few (inl same) =
-    subst (λ (x : ApduOperationOf). HasFew x.exchange) (sym same.1) few
+    rw same.1 few
 few_over o new ex few (inr next) = next.few
 
--- the command that is due, with this response
+-- the next command, with this response
 abbrev pub took : ApduOperationOf → List ℕ → StatusWord → List Pair
 took o content status = answered_by o.exchange content status ∷ []
 
@@ -262,17 +255,15 @@ idle_responds content status = record {
     never : false ≡ true → ⊥
     never e = cc
 
--- as the call sees it
+-- the same by the call's views
 pub responding_as : (seen old now new : Option ApduOperationOf) (content : List ℕ)
     (status : StatusWord) (r result : Result (Unit {0}) AnswerFault) → old ≡ seen
     → result ≡ r → now ≡ new → IsTakingResponse old content status r new
     → IsTakingResponse seen content status result now
 responding_as seen old now new content status r result was is after step =
-    subst (λ x. IsTakingResponse x content status result now) was
-    (subst (λ x. IsTakingResponse old content status x now) (sym is)
-    (subst (λ x. IsTakingResponse old content status r x) (sym after) step))
+    rw (sym was, is, after) step
 
--- a response at an exchange that is kept without its data
+-- a response to an exchange that is kept without its data
 pub responds_over : (self of_it after : ApduExchangeOf) (content bytes : List ℕ)
     (status : StatusWord) (result : Result (Unit {0}) AnswerFault) (old new : ApduExchangeOf)
     (empty : Bool) → old ≡ over_data self content → after ≡ of_it
@@ -283,8 +274,7 @@ pub responds_over : (self of_it after : ApduExchangeOf) (content bytes : List �
 responds_over self of_it after content bytes status result old new empty was now same keeps none
     step =
     subst (λ x. IsResponding x bytes status result (over_data after
-    (kept_data (not empty) content))) was
-    (subst (λ x. IsResponding old bytes status result x) (sym is) step)
+    (kept_data (not empty) content))) was (rw is step)
   where
     data_are : (bs : List ℕ) → new.content ≡ bs → (e : Bool) → e ≡ (length bs == 0)
         → kept_data (not e) content ≡ new.content
@@ -316,8 +306,7 @@ answers o answer settled is = record {
   led = λ commands pairs l.
       let at : IfSome (answer_of o.exchange) (λ a. IsTalk commands pairs a) =
       by commands pairs l.0 o.exchange.stage refl in
-      subst (λ (x : Option (StatusWord × List ℕ)). IfSome x (λ a. IsTalk commands pairs a))
-      (sym is) at;
+      rw is at;
 }
   where
     ends : (left : List Command) (status : StatusWord) → AreLeft o.p1 o.p2 o.rest left
@@ -344,14 +333,14 @@ answers o answer settled is = record {
 
 pub answer_as : (old seen : Option ApduOperationOf) (answer : Option (StatusWord × List ℕ))
     → old ≡ seen → IsOperationAnswer old answer → IsOperationAnswer seen answer
-answer_as old seen answer same is = subst (λ t. IsOperationAnswer t answer) same is
+answer_as old seen answer same is = rw same at is
 
 -- ---- the data within those of the operation
 
 pub settled_at : (old : Option ApduOperationOf) (o : ApduOperationOf)
     → IfSome old (λ x. IsSettled x) → old ≡ Some o → IsSettled o
 settled_at old o settled is =
-    subst (λ (x : Option ApduOperationOf). IfSome x (λ y. IsSettled y)) is settled
+    rw is at settled
 
 pub part_of : (items content : List ℕ) (from until : ℕ) (ex : ApduExchangeOf)
     → IsFrontOf items from until content → IsSound (over_data ex content)
@@ -359,7 +348,7 @@ pub part_of : (items content : List ℕ) (from until : ℕ) (ex : ApduExchangeOf
 part_of items content from until ex front sound = record {
   begin = front.begin;
   within = front.within;
-  sound = subst (λ (bs : List ℕ). IsSound (over_data ex bs)) (sym front.slice) sound;
+  sound = rw front.slice sound;
 }
 
 pub begins_with : (first : Command) (rest items : List ℕ) (ex : ApduExchangeOf)
@@ -378,8 +367,7 @@ begins_with first rest items ex until p1 p2 whole is going led =
     ap (λ k. take k items) size ∙ ap (λ z. take (length first.content) z) whole
     ∙ take-append_seam first.content rest in
     record {
-      led = subst (λ (bs : List ℕ). ComesTo first (wanted_by first.le) [] (over_data ex bs))
-          (sym slice) led;
+      led = rw slice led;
       going = going;
       p1_is = refl;
       p2_is = refl;
@@ -426,12 +414,12 @@ pub next_begins : (old : ApduOperationOf) (ex new : ApduExchangeOf) (items seen 
 next_begins old ex new items seen until p1 p2 size header pieces list others c view done more
     same_items header_is are same steps front is going led kept =
     let are_now : IsPieces (drop until items) pieces =
-    subst (λ z. IsPieces z pieces) (rest_seen items seen until same_items) are in
+    rw (rest_seen items seen until same_items) at are in
     let chain = chain_of header p1 p2 pieces list others c header_is same steps in
     let after_is : drop (length c.content) (drop until items) ≡ drop (until + size) items =
     drop-drop (length c.content) until items ∙ ap (λ n. drop (until + n) items) (sym is) in
-    let led_now = subst (λ (bs : List ℕ). ComesTo c (wanted_by c.le) [] (over_data new bs))
-    (sym front.slice) led in
+    let led_now : ComesTo c (wanted_by c.le) []
+    (over_data new (slice_range items until (until + size))) = rw front.slice led in
     record {
       done = done;
       next = λ left are_left. (
@@ -442,8 +430,7 @@ next_begins old ex new items seen until p1 p2 size header pieces list others c v
             (subst (λ (o : ApduOperationOf). AreLeft o.p1 o.p2 o.rest left) (sym view) are_left)
             ∙ chain,
         led_now,
-        subst (λ z. AreLeft p1 p2 z others) after_is
-            (left_after p1 p2 (drop until items) pieces c others are_now chain),
+        rw after_is at (left_after p1 p2 (drop until items) pieces c others are_now chain),
       );
       shrinks = omega (
         arith,

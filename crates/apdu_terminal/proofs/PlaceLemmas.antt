@@ -1,6 +1,5 @@
--- Places one after another: what follows a response, and what holds of each place that an exchange
--- comes to.
-use Rattle.std.proofs.Common.{◌≡◌, ℕ, ◌+◌, ◌-◌, ◌≤◌, min, List, [], ◌∷◌, ◌++◌, length, refl, sym, subst, ◌∙◌, ap, arith, inl, inr, ◌⊎◌, true, false, not, ◌&&◌, ◌==◌, Bool, Option, Some, None, if◌then◌else◌, length-append, nat_le}
+-- The places of an exchange: what follows a response, and what holds of each place.
+use Rattle.std.proofs.Common.{◌≡◌, ℕ, ◌+◌, ◌-◌, ◌≤◌, min, List, [], ◌∷◌, ◌++◌, length, refl, sym, ◌∙◌, ap, arith, inl, inr, ◌⊎◌, true, false, not, ◌&&◌, ◌==◌, Bool, Option, Some, None, if◌then◌else◌, length-append, nat_le}
 use Rattle.std.proofs.lemmas.Bool.{leb-true, le-leb}
 use Rattle.apdu_core.specs.StatusWord.{StatusWord, announces, corrects}
 use Rattle.apdu_core.specs.CommandBytes.{Command}
@@ -31,7 +30,7 @@ is_correction true left (Some k) n is = by (wants_at_least k left) refl is
     by : (v : Bool) → wants_at_least k left ≡ v → (if v then Some k else None) ≡ Some n
         → (true ≡ true) × (wants_at_least n left ≡ true) × (Some k ≡ Some n)
     by true e is =
-        let same : k ≡ n = cc in (refl, subst (λ x. wants_at_least x left ≡ true) same e, is)
+        let same : k ≡ n = cc in (refl, rw same at e, is)
     by false e is = absurd (cc)
 is_correction false left (Some k) n is = absurd (cc)
 
@@ -73,8 +72,7 @@ whole_of : (at : Place) (before : List Pair) (mid : Place) (last : Pair) → Goe
     → Suits mid last → follow mid (length last.content) last.status ≡ Ends
     → Whole at (before ++ last ∷ []) last.status
 whole_of at [] mid last through suits ends =
-    let P : Place → Type 0 = λ x. Whole x (last ∷ []) last.status in
-    subst P through (at_end mid last suits ends)
+    rw through at (at_end mid last suits ends)
 whole_of at (p ∷ before) mid last (next, is, follows, rest) suits ends =
     further at next p (before ++ last ∷ []) last.status is follows
     (whole_of next before mid last rest suits ends)
@@ -83,12 +81,10 @@ pub brings_whole : (c : Command) (wanted : Wanted) (pairs : List Pair) (gathered
     (status : StatusWord) → Brings c wanted pairs gathered status
     → Whole (first_place c wanted) pairs status
 brings_whole c wanted pairs gathered status b =
-    let P : List Pair → Type 0 = λ ps. Whole (first_place c wanted) ps status in
-    let Q : StatusWord → Type 0 = λ s. Whole (first_place c wanted) (b.before ++ b.last ∷ []) s in
-    subst P (sym b.pairs_are) (subst Q (sym b.status_is)
-    (whole_of (first_place c wanted) b.before b.at b.last b.through b.suits b.ends))
+    rw (b.pairs_are, b.status_is)
+    (whole_of (first_place c wanted) b.before b.at b.last b.through b.suits b.ends)
 
--- What a response keeps holds wherever pairs lead.
+-- What each response keeps holds after all pairs.
 pub through : (P : ℕ → Place → Type 0)
     → ((at next : Place) (total came : ℕ) (status : StatusWord) → P total at
     → came ≤ may_bring at.due.le → Comes at came status next → P (total + came) next)
@@ -96,20 +92,19 @@ pub through : (P : ℕ → Place → Type 0)
     → P (total + length (all_content pairs)) last
 through P step at last total [] holds is =
     let none : total ≡ total + 0 = omega arith in
-    subst (λ x. P (total + 0) x) (sym is) (subst (λ n. P n at) none holds)
+    rw is (rw none at holds)
 through P step at last total (p ∷ pairs) holds (next, suits, goes, rest) =
     let came : ℕ = length p.content in
     let all : (total + came) + length (all_content pairs)
     ≡ total + length (all_content (p ∷ pairs)) =
     omega (arith, length-append p.content (all_content pairs)) in
-    subst (λ n. P n last) all
-    (through P step next last (total + came) pairs
+    rw all at (through P step next last (total + came) pairs
     (step at next total came p.status holds suits.asked_for
     (comes at next came p.status goes)) rest)
 
 -- ---- how much may come
 
--- No more comes than is wanted.
+-- No more comes than was wanted.
 pub record Fits (most total : ℕ) (at : Place) : Type 0 where
   pub left : ℕ
   pub left_is : at.left ≡ Bytes left
@@ -148,8 +143,7 @@ fits_on most at next total came status fits few (again n may wants told is) =
     record {
       left = fits.left - came;
       left_is = ap (λ (x : Place). x.left) is ∙ left;
-      asks = subst (λ (x : Place). may_bring x.due.le ≤ fits.left - came) (sym is)
-          (leb-true n (fits.left - came) (sym (ap (wants_at_least n) left) ∙ wants));
+      asks = rw is (leb-true n (fits.left - came) (sym (ap (wants_at_least n) left) ∙ wants));
       within = omega (arith, fits.within, few, fits.asks);
     }
 fits_on most at next total came status fits few (fetch n told some is) =
@@ -160,7 +154,7 @@ fits_on most at next total came status fits few (fetch n told some is) =
     record {
       left = fits.left - came;
       left_is = ap (λ (x : Place). x.left) is ∙ left;
-      asks = subst (λ (x : Place). may_bring x.due.le ≤ fits.left - came) (sym is) of_left.1;
+      asks = rw is of_left.1;
       within = omega (arith, fits.within, few, fits.asks);
     }
 
@@ -193,7 +187,7 @@ never_too_long c pairs limit room long =
 
 -- ---- which commands come
 
--- a command goes as a TPDU: it is of case 1, 2 or 3
+-- a command can be sent as a TPDU: it is of case 1, 2 or 3
 abbrev pub GoesAlone : ℕ → Place → Type 0
 GoesAlone total at = (at.due.content ≡ []) ⊎ (at.due.le ≡ None)
 
@@ -289,8 +283,7 @@ pub agrees_on : (R S : ℕ → Type 0) (at next : Place) (total came : ℕ) (sta
     → Agrees R S total at → came ≤ may_bring at.due.le → Comes at came status next
     → Agrees R S (total + came) next
 agrees_on R S at next total came status agrees few (again n may wants told is) = record {
-  agreed = subst (λ (x : Place). IsAgreed R S x.due) (sym is)
-      (of_case_2 R S at.due n (first_true _ (not at.repeats) may) agrees.agreed);
+  agreed = rw is (of_case_2 R S at.due n (first_true _ (not at.repeats) may) agrees.agreed);
   later = λ some. agrees.later (wanted_before at.left came
       (ap (λ (x : Place). wants_some x.left) (sym is) ∙ some));
 }
@@ -299,6 +292,6 @@ agrees_on R S at next total came status agrees few (fetch n told some is) =
     agrees.later (wanted_before at.left came
     (was_wanted (less at.left came) (announces status) n told)) in
     record {
-      agreed = subst (λ (x : Place). IsAgreed R S x.due) (sym is) (none, none);
+      agreed = rw is (none, none);
       later = λ wants. none;
     }

@@ -1,6 +1,6 @@
--- What a card of data objects has left of a response comes by GET RESPONSE, if a reader fetches
--- it, or the terminal.
-use Rattle.std.proofs.Common.{◌≡◌, ℕ, ◌+◌, ◌%◌, ◌≤◌, min, List, [], ◌∷◌, ◌++◌, length, take, drop, refl, sym, subst, ◌∙◌, ap, arith, true, false, not, ◌&&◌, ◌==◌, Bool, Option, Some, None, append-nil, append_assoc, length-append, length-drop, if◌then◌else◌}
+-- GET RESPONSE reads the rest of a response of a card of data objects, whether a reader fetches it
+-- or the terminal.
+use Rattle.std.proofs.Common.{◌≡◌, ℕ, ◌+◌, ◌%◌, ◌≤◌, min, List, [], ◌∷◌, ◌++◌, length, take, drop, refl, sym, ◌∙◌, ap, arith, true, false, not, ◌&&◌, ◌==◌, Bool, Option, Some, None, append-nil, append_assoc, length-append, length-drop, if◌then◌else◌}
 use Rattle.std.specs.Prelude.{nat_le}
 use Rattle.std.proofs.lemmas.Bool.{eqb-true, eqb-false, leb-true}
 use Rattle.std.proofs.lemmas.List.{take-append-drop}
@@ -21,7 +21,7 @@ use Rattle.apdu_terminal.specs.Apdus as spec
 use Rattle.apdu_terminal.proofs.PlaceLemmas.{Whole, at_end, further, brings_whole, Comes, again, fetch, comes}
 use Rattle.apdu_terminal.specs.CardApdu.{p3_of, InTurn, GoesAs, Responds, tpdu_command}
 
--- ---- where no count is told by 6CXX
+-- ---- after a status that is not 6CXX
 
 -- more is fetched
 pub record IsFetchOf (at : Place) (came : ℕ) (status : StatusWord) (next : Place) : Type 0 where
@@ -62,7 +62,7 @@ ends_without_fetch at came status ends =
     by None (Some n) is e =
         absurd (ends_when (at.fetches && (at.brought + came == 0)) (spec.fetched at came n) e)
 
--- a fetch is of what is announced, and of some
+-- a fetch is of at least one byte, and no more than announced
 pub told_by : (left : Wanted) (status : StatusWord) (n : ℕ) → fetched_after left status ≡ Some n
     → (m : ℕ) × (announces status ≡ Some m) × (n ≤ m) × (1 ≤ m → 1 ≤ n)
 told_by left status n is = by (announces status) refl is
@@ -85,7 +85,7 @@ told_by left status n is = by (announces status) refl is
     by None told is = absurd (cc)
     by (Some m) told is = let few = of_some left m is in (m, told, few.0, few.1)
 
--- a count of 1 to 256, told in a byte
+-- a count of 1 to 256, in one byte
 pub count_told : (n : ℕ) → 1 ≤ n → n ≤ 256 → count (n % 256) ≡ n
 count_told n low high = split (n % 256 == 0) refl
   where
@@ -102,7 +102,7 @@ counts_no_more n low = split (n % 256 == 0) refl
 
 -- ---- what is left of a response
 
--- These bytes are the first of what waits; what then waits is the rest, and the status tells it.
+-- These bytes are the first of those that wait. The rest then waits, and the status announces it.
 pub record Reads (old new : CardState) (content : List ℕ) (status : StatusWord) : Type 0 where
   pub whole : content ++ waiting new.pending ≡ waiting old.pending
   pub some : 1 ≤ length content
@@ -113,7 +113,7 @@ pub record Reads (old new : CardState) (content : List ℕ) (status : StatusWord
 pub in_range : IsCut 256
 in_range = (omega arith, omega arith)
 
--- where some of it is announced, so much waits
+-- what is announced waits
 pub waits_for : (rest : List ℕ) (left : Wanted) (n : ℕ)
     → fetched_after left (announcing rest 256) ≡ Some n
     → (1 ≤ n) × (n ≤ length rest)
@@ -175,7 +175,7 @@ pub told_none : (old new : CardState) (content : List ℕ) (status : StatusWord)
 told_none old new content status r =
     ap corrects r.status_is ∙ no_correction (waiting new.pending) 256
 
--- where more is fetched after it, so much waits
+-- what is fetched next waits
 next_waits : (old new : CardState) (content : List ℕ) (status : StatusWord) (left : Wanted) (n : ℕ)
     → Reads old new content status → fetched_after left status ≡ Some n
     → (1 ≤ n) × (n ≤ length (waiting new.pending))
@@ -190,10 +190,7 @@ pub all_read : (One : CardState → Pair → CardState → Type 0) → Reading O
     → InTurn One old pairs new → Reads old new (all_content pairs) status
 all_read One reading at pairs status k old new (at_end here p suits ends) due low few
     (mid, goes, stays) =
-    let Q : CardState → Type 0 = λ s. Reads old s p.content p.status in
-    let P : List ℕ → Type 0 = λ bs. Reads old new bs p.status in
-    subst P (sym (append-nil p.content)) (subst Q (sym stays)
-    (reading k p old mid low few (suits.is_due ∙ due) goes))
+    rw (append-nil p.content, stays) (reading k p old mid low few (suits.is_due ∙ due) goes)
 all_read One reading at pairs status k old new (further here next p others last suits goes whole)
     due low few (mid, is, rest) =
     let r = reading k p old mid low few (suits.is_due ∙ due) is in
@@ -206,8 +203,7 @@ all_read One reading at pairs status k old new (further here next p others last 
 -- as a whole command
 pub one_response : Reading (Responds Does)
 one_response k p old new low few due (inner, brings, goes) =
-    let P : List ℕ → Type 0 = λ bs. Reads old new bs p.status in
-    subst P (sym brings.gathered_is)
+    rw brings.gathered_is
     (all_read (GoesAs Does) one_read (first_place (tpdu_command p.command) (Bytes _)) inner p.status
     k old new (brings_whole _ _ inner p.content p.status brings) (ap tpdu_command due) low few
     goes)
@@ -217,7 +213,7 @@ pub none_announced : (rest : List ℕ)
 none_announced [] e = refl
 none_announced (b ∷ rest) e = absurd (cc)
 
--- who wants everything ends where nothing is announced
+-- if everything is wanted, the exchange ends only if nothing is announced
 pub ends_told : (at : Place) (pairs : List Pair) (status : StatusWord) → Whole at pairs status
     → at.left ≡ Everything → fetched_after Everything status ≡ None
 ends_told at pairs status (at_end here p suits ends) left =

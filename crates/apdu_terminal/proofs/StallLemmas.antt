@@ -1,6 +1,6 @@
--- No exchange of whole commands with a card of data objects fails: each GET RESPONSE brings some,
+-- No exchange of whole commands with a card of data objects fails: each GET RESPONSE brings data,
 -- and all data fit.
-use Rattle.std.proofs.Common.{◌≡◌, ℕ, ◌+◌, ◌≤◌, List, [], ◌∷◌, ◌++◌, length, refl, sym, subst, ◌∙◌, ap, arith, Bool, true, false, ◌&&◌, ◌==◌, if◌then◌else◌, Option, Some, None, length-append, append-nil}
+use Rattle.std.proofs.Common.{◌≡◌, ℕ, ◌+◌, ◌≤◌, List, [], ◌∷◌, ◌++◌, length, refl, sym, ◌∙◌, ap, arith, Bool, true, false, ◌&&◌, ◌==◌, if◌then◌else◌, Option, Some, None, length-append, append-nil}
 use Rattle.std.proofs.lemmas.Bool.{eqb-true, true≢false}
 use Rattle.apdu_core.specs.StatusWord.{StatusWord, announces, corrects}
 use Rattle.apdu_core.specs.CommandBytes.{Command}
@@ -18,9 +18,8 @@ use Rattle.apdu_terminal.specs.CardApdu.{le_of, tpdu_command, InTurn, GoesAs, Go
 use Rattle.apdu_terminal.proofs.PlaceLemmas.{Comes, again, fetch, comes}
 use Rattle.apdu_terminal.proofs.RestLemmas.{Reading, in_range, one_read, one_response, told_by, told_none}
 
--- What pairs leave that have brought so many bytes. What the status announces waits. Where it
--- tells a count, they have brought none. With what waits they are no more than a response, where
--- the card was sound.
+-- The state after pairs that have brought `brought` bytes. What the status announces waits. After a
+-- 6CXX they have brought none. If the card was sound, they are with what waits at most a response.
 record Leaves (Sound : Type 0) (brought : ℕ) (status : StatusWord) (s : CardState) : Type 0 where
   announced : (n : ℕ) → announces status ≡ Some n
       → (1 ≤ n) × (n ≤ length (waiting s.pending))
@@ -47,8 +46,8 @@ tpdus Sound = (
   },
 )
 
--- Before a command of an exchange, `total` bytes have come. A fetch is of what waits; before the
--- first nothing has come.
+-- The state before a command of an exchange, after `total` bytes of data. A fetch is of what waits;
+-- before the first fetch there are no data.
 record Sits (Sound : Type 0) (total : ℕ) (at : Place) (s : CardState) : Type 0 where
   sound : Sound → IsCardState s
   first : at.fetches ≡ false → total ≡ 0
@@ -56,7 +55,7 @@ record Sits (Sound : Type 0) (total : ℕ) (at : Place) (s : CardState) : Type 0
       × (n ≤ length (waiting s.pending))
       × (Sound → total + length (waiting s.pending) ≤ VALUE_LIMIT + HEAD_LIMIT)
 
--- a fetch brings some, and is told no count
+-- a fetch brings data, and its status is not 6CXX
 abbrev FetchesSome : Place → List ℕ → StatusWord → Type 0
 FetchesSome at content status =
     at.fetches ≡ true → (1 ≤ length content) × (corrects status ≡ None)
@@ -102,7 +101,7 @@ after_pair Sound One takes total at p s new sits suits is = by at.fetches refl
           λ t. (r.some, none),
         )
 
--- before the next
+-- the state before the next command
 next_sits : (Sound : Type 0) (total : ℕ) (at next : Place) (content : List ℕ)
     (status : StatusWord) (new : CardState) → Leaves Sound (total + length content) status new
     → FetchesSome at content status → follow at (length content) status ≡ Goes next
@@ -141,25 +140,18 @@ last_after : (Sound : Type 0) (One : CardState → Pair → CardState → Type 0
     → Leaves Sound (total + length (all_content (before ++ last ∷ []))) last.status new
     × FetchesSome mid last.content last.status
 last_after Sound One takes total at mid [] last s new sits is suits (next, goes, stays) =
-    let S : Place → Type 0 = λ x. Suits x last in
-    let (l, some) = after_pair Sound One takes total at last s next sits (subst S is suits) goes in
-    let P : ℕ → Type 0 = λ n. Leaves Sound (total + n) last.status new in
-    let Q : CardState → Type 0 = λ x. Leaves Sound (total + length last.content) last.status x in
-    let F : Place → Type 0 = λ x. FetchesSome x last.content last.status in (
-      subst P (sym (ap length (append-nil last.content))) (subst Q (sym stays) l),
-      subst F (sym is) some,
-    )
+    let (l, some) = after_pair Sound One takes total at last s next sits (rw is at suits) goes in
+    (rw (append-nil last.content, stays) l, rw is some)
 last_after Sound One takes total at mid (p ∷ before) last s new sits (next, suits_p, goes, rest)
     suits (then_so, is, others) =
     let (l, some) = after_pair Sound One takes total at p s then_so sits suits_p is in
     let (all, last_some) = last_after Sound One takes (total + length p.content) next mid before
     last then_so new (next_sits Sound total at next p.content p.status then_so l some goes) rest
     suits others in
-    let P : ℕ → Type 0 = λ n. Leaves Sound n last.status new in
     let sum : (total + length p.content) + length (all_content (before ++ last ∷ []))
     ≡ total + length (all_content (p ∷ (before ++ last ∷ []))) =
     omega (arith, length-append p.content (all_content (before ++ last ∷ []))) in
-    (subst P sum all, last_some)
+    (rw sum at all, last_some)
 
 begins : (Sound : Type 0) (c : Command) (wanted : Wanted) (s : CardState)
     → (Sound → IsCardState s) → Sits Sound 0 (first_place c wanted) s
@@ -175,16 +167,12 @@ commands Sound = (one_response, leaves)
     leaves : (p : Pair) (s new : CardState) → (Sound → IsCardState s) → Responds Does s p new
         → Leaves Sound (length p.content) p.status new
     leaves p s new sound (inner, b, goes) =
-        let P : List Pair → Type 0 = λ ps. GoesBy Does s ps new in
         let (l, some) = last_after Sound (GoesAs Does) (tpdus Sound) 0
         (first_place (tpdu_command p.command) (le_of p.command)) b.at b.before b.last s new
-        (begins Sound _ _ s sound) b.through b.suits (subst P b.pairs_are goes) in
-        let Q : ℕ → Type 0 = λ n. Leaves Sound n p.status new in
-        let R : StatusWord → Type 0 = λ x.
-        Leaves Sound (0 + length (all_content (b.before ++ b.last ∷ []))) x new in
+        (begins Sound _ _ s sound) b.through b.suits (rw b.pairs_are at goes) in
         let all : 0 + length (all_content (b.before ++ b.last ∷ [])) ≡ length p.content =
         omega (arith, ap length (b.gathered_is ∙ ap all_content b.pairs_are)) in
-        subst Q all (subst R (sym b.status_is) l)
+        rw (sym all, b.status_is) l
 
 stall_when : (fetches : Bool) (k : ℕ) (next : Place)
     → (if fetches && (k == 0) then Stalls else Goes next) ≡ Stalls → (fetches ≡ true) × (k ≡ 0)
@@ -207,9 +195,8 @@ stalls_never : (One : CardState → Pair → CardState → Type 0) → Takes ⊥
     (wanted : Wanted) (pairs : List Pair) (old new : CardState) → StallsAt c wanted pairs
     → InTurn One old pairs new → ⊥
 stalls_never One takes c wanted pairs old new st goes =
-    let P : List Pair → Type 0 = λ ps. InTurn One old ps new in
     let (l, some) = last_after ⊥ One takes 0 (first_place c wanted) st.at st.before st.last old new
-    (begins ⊥ c wanted old (λ z. absurd z)) st.through st.suits (subst P st.pairs_are goes) in
+    (begins ⊥ c wanted old (λ z. absurd z)) st.through st.suits (rw st.pairs_are at goes) in
     let (fetches, none) = stalls_when st.at (length st.last.content) _ _ st.stalls in
     omega (arith, none, (some fetches).0)
 
@@ -227,11 +214,10 @@ pub never_overflows : (c : Command) (wanted : Wanted) (pairs : List Pair) (old n
     (limit : ℕ) → limit ≡ response_limit → IsCardState old → IsTooLong c wanted pairs limit
     → RespondsToAll Does old pairs new → ⊥
 never_overflows c wanted pairs old new limit is sound long goes =
-    let P : List Pair → Type 0 = λ ps. RespondsToAll Does old ps new in
     let (l, some) = last_after (IsCardState old) (Responds Does) (commands (IsCardState old)) 0
     (first_place c wanted) long.at long.before long.last old new
     (begins (IsCardState old) c wanted old (λ z. z)) long.through long.suits
-    (subst P long.pairs_are goes) in
+    (rw long.pairs_are at goes) in
     omega (
       arith,
       long.long,
@@ -240,10 +226,10 @@ never_overflows c wanted pairs old new limit is sound long goes =
       l.within sound,
     )
 
--- after its responses a sound card is sound
+-- a sound card stays sound
 pub sound_after : (old new : CardState) (pairs : List Pair) → IsCardState old
     → RespondsToAll Does old pairs new → IsCardState new
-sound_after old new [] sound goes = subst IsCardState (sym goes) sound
+sound_after old new [] sound goes = rw goes sound
 sound_after old new (p ∷ pairs) sound (mid, is, rest) =
     sound_after mid new pairs
     (((commands (IsCardState old)).1 p old mid (λ z. z) is).sound sound) rest

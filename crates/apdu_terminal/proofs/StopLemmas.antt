@@ -1,44 +1,37 @@
--- What stands if an operation stops on the way, and that a card of data objects fails none.
-use Rattle.std.proofs.Common.{◌≡◌, ℕ, ◌==◌, ◌≤◌, List, [], ◌∷◌, ◌++◌, length, refl, sym, subst, ◌∙◌, ap, inl, inr, ◌⊎◌, Bool, not, true, false, arith, Option, Some, None, Ok, Err, Result, append-nil, append_assoc}
-use Rattle.std.specs.Prelude.{IsOk}
+-- How far an operation is carried out if it stops before its end.
+use Rattle.std.proofs.Common.{◌≡◌, ℕ, ◌==◌, ◌≤◌, List, [], ◌∷◌, ◌++◌, length, refl, sym, subst, ◌∙◌, ap, inl, inr, ◌⊎◌, true, false, arith, Some, append-nil}
 use Rattle.std.proofs.lemmas.Bool.{true≢false}
 use Rattle.apdu_core.specs.declared.header.Header.{Header}
 use Rattle.apdu_core.specs.StatusWord.{StatusWord, ok}
 use Rattle.apdu_core.specs.CommandBytes.{Command}
 use Rattle.apdu_core.specs.Chaining.{link, with_more, chain_commands}
-use Rattle.t0_core.specs.declared.answer_fault.AnswerFault.{AnswerFault}
-use Rattle.t0_core.specs.HostAnswer.{fails_with}
 use Rattle.t0_core.specs.Meaning.{Tpdu}
 use Rattle.tlv_core.specs.Address.{NamesTag}
-use Rattle.object_card.specs.declared.instructions.Instruction.TheVariants as instruction
 use Rattle.object_card.specs.Agreed.{IsAgreed}
 use Rattle.object_card.specs.CardMeaning.{Does, refuses, selects_application, misses_application, sends, chains, puts_value}
-use Rattle.object_card.specs.CarryingOut.{select_header, get_header, put_header, get_response, IsAnswered}
-use Rattle.object_card.specs.InstructionLaws.{one_way}
+use Rattle.object_card.specs.CarryingOut.{put_header, get_response, IsAnswered}
 use Rattle.object_card.specs.Instructions.{MayReceive, MaySend}
 use Rattle.object_card.specs.OneStep.{Operation, Select, Get, Put, Reply, reply, SameTables}
 use Rattle.object_card.specs.Refusals.{is_select, is_put, is_get_response}
-use Rattle.object_card.specs.State.{CardState, IsCardState, is_idle}
+use Rattle.object_card.specs.State.{CardState, is_idle}
 use Rattle.object_card.specs.StepLaws.{put_step, put_refused, is_chained, is_ended}
 use Rattle.object_card.specs.Tables.{IsAid}
-use Rattle.card_terminal.specs.AgreedLaws.{agreed_select, keeps_to}
-use Rattle.card_terminal.specs.ExchangeSide.{response_limit}
+use Rattle.card_terminal.specs.AgreedLaws.{keeps_to}
 use Rattle.card_terminal.specs.Gathered.{wanted_by}
 use Rattle.card_terminal.specs.declared.wanted.Wanted.TheVariants.{Bytes, Everything}
-use Rattle.card_terminal.specs.Talk.{select_command, get_command, AreCommandsOf}
-use Rattle.apdu_terminal.specs.Apdus.{Pair, Place, first_place, Goes, Ends, follow, GoesThrough, GathersApdus, may_bring}
-use Rattle.apdu_terminal.specs.ApduOperations.{ApduOperationOf, AreApdusUpTo, HasRoomFor, IsTakingResponse, LeadsTo, has_failed_at}
-use Rattle.apdu_terminal.specs.ApduSide.{answered_by, command_of, due_of, is_going, place_of}
+use Rattle.card_terminal.specs.Talk.{select_command, get_command}
+use Rattle.apdu_terminal.specs.Apdus.{Pair, Place, first_place, Goes, Ends, GoesThrough, GathersApdus}
+use Rattle.apdu_terminal.specs.ApduOperations.{AreApdusUpTo}
+use Rattle.apdu_terminal.specs.ApduSide.{place_of}
 use Rattle.apdu_terminal.specs.ApduStops.{IsDone, IsLeftAfter, IsLeftBefore, IsUnderWay}
-use Rattle.apdu_terminal.specs.ApduTalk.{AreApdusOf, talk_pairs}
-use Rattle.apdu_terminal.specs.CardApdu.{GoesAs, GoesBy, InTurn, Responds, RespondsToAll, le_of, tpdu_command}
-use Rattle.apdu_terminal.specs.declared.stage.Stage.TheVariants.{Failed}
-use Rattle.apdu_terminal.proofs.CardLemmas.{at_place, due_agreed, due_when, fault_fails, never_fails, responds_within}
+use Rattle.apdu_terminal.specs.ApduTalk.{talk_pairs}
+use Rattle.apdu_terminal.specs.CardApdu.{GoesAs, InTurn, Responds, RespondsToAll, le_of, tpdu_command}
+use Rattle.apdu_terminal.proofs.CardLemmas.{at_place, responds_within}
+use Rattle.apdu_terminal.proofs.DrivenLemmas.{commands_agreed, due_is_agreed as next_is_agreed}
 use Rattle.apdu_terminal.proofs.FirstLemmas.{FirstOf, answered, begun, get_responds, select_responds}
 use Rattle.apdu_terminal.proofs.OperationLemmas.{one_more_exchange, taken_to_end}
-use Rattle.apdu_terminal.proofs.PlaceLemmas.{Agrees, Comes, again, agrees_first, agrees_on, fetch, comes, through}
-use Rattle.apdu_terminal.proofs.StallLemmas.{sound_after}
-use Rattle.apdu_terminal.proofs.TalkLemmas.{answered_by as answers_piece, ends_alone, talk_is_one_step, turns_apart, turns_both}
+use Rattle.apdu_terminal.proofs.PlaceLemmas.{Comes, again, fetch, comes}
+use Rattle.apdu_terminal.proofs.TalkLemmas.{answered_by as answers_piece, ends_alone, talk_is_one_step, turns_apart}
 
 -- ---- what changes no table
 
@@ -68,14 +61,14 @@ Keeping One = (p : Pair) (old new : CardState) → IsQuiet p.command.header → 
     → SameTables old new
 
 one_keeps : Keeping (GoesAs Does)
-one_keeps p old new q (t, is, does) = keeps old new 256 t does (subst IsQuiet (sym is.header_is) q)
+one_keeps p old new q (t, is, does) = keeps old new 256 t does (rw is.header_is q)
 
 quiet_on : (at next : Place) (came : ℕ) (status : StatusWord) → IsQuiet at.due.header
     → Comes at came status next → IsQuiet next.due.header
 quiet_on at next came status q (again n may wants told is) =
-    subst (λ (x : Place). IsQuiet x.due.header) (sym is) q
+    rw is q
 quiet_on at next came status q (fetch n told some is) =
-    subst (λ (x : Place). IsQuiet x.due.header) (sym is) (refl, refl)
+    rw is (refl, refl)
 
 through_keeps : (One : CardState → Pair → CardState → Type 0) → Keeping One → (at last : Place)
     (pairs : List Pair) (old new : CardState) → IsQuiet at.due.header
@@ -83,12 +76,12 @@ through_keeps : (One : CardState → Pair → CardState → Type 0) → Keeping 
     → SameTables old new × IsQuiet last.due.header
 through_keeps One keep at last [] old new q is goes = (
   stands_still old new goes,
-  subst (λ (x : Place). IsQuiet x.due.header) (sym is) q,
+  rw is q,
 )
 through_keeps One keep at last (p ∷ pairs) old new q (next, suits, follows, rest)
     (mid, is, others) =
     let a = keep p old mid
-    (subst (λ (c : Command). IsQuiet c.header) (sym suits.is_due) q) is in
+    (rw suits.is_due q) is in
     let b = through_keeps One keep next last pairs mid new
     (quiet_on at next (length p.content) p.status q
     (comes at next (length p.content) p.status follows)) rest others in
@@ -97,16 +90,15 @@ through_keeps One keep at last (p ∷ pairs) old new q (next, suits, follows, re
 response_keeps : Keeping (Responds Does)
 response_keeps p old new q (inner, b, goes) =
     let at : Place = first_place (tpdu_command p.command) (le_of p.command) in
-    let P : List Pair → Type 0 = λ ps. GoesBy Does old ps new in
     let (mid, first, (last, is, stays)) =
-    turns_apart (GoesAs Does) old new b.before (b.last ∷ []) (subst P b.pairs_are goes) in
+    turns_apart (GoesAs Does) old new b.before (b.last ∷ []) (rw b.pairs_are at goes) in
     let (same, quiet) = through_keeps (GoesAs Does) one_keeps at b.at b.before old mid q b.through
     first in
     let then_so = one_keeps b.last mid last
-    (subst (λ (c : Command). IsQuiet c.header) (sym b.suits.is_due) quiet) is in
+    (rw b.suits.is_due quiet) is in
     same_on old last new (same_on old mid last same then_so) (stands_still last new stays)
 
--- ---- what is done
+-- ---- an operation that is carried out
 
 done_first : (old mid : CardState) (operation : Operation) (content : List ℕ)
     (status : StatusWord) → FirstOf old operation content status mid → IsDone old operation mid
@@ -120,7 +112,7 @@ done_on : (old mid new : CardState) (operation : Operation) → IsDone old opera
 done_on old mid new operation (answer, after, answers, same) on =
     (answer, after, answers, same_on after mid new same on)
 
--- only a GET RESPONSE comes after a SELECT
+-- only GET RESPONSE follows a SELECT
 after_select : (aid : List ℕ) (next : Place) (came : ℕ) (status : StatusWord) → IsAid aid
     → Comes (first_place (select_command aid) Everything) came status next
     → next.due.header ≡ get_response
@@ -140,7 +132,7 @@ fetches_on at last (p ∷ pairs) e (next, suits, follows, rest) =
     by (fetch n told some is) = ap (λ (x : Place). x.due.header) is
 
 quiet_fetch : (h : Header) → h ≡ get_response → IsQuiet h
-quiet_fetch h e = subst IsQuiet (sym e) (refl, refl)
+quiet_fetch h e = rw e (refl, refl)
 
 select_at : (old mid : CardState) (aid : List ℕ) (here : List Pair) (at : Place)
     → is_idle old.pending ≡ true → IsAid aid
@@ -172,7 +164,7 @@ get_at old mid tag p1 p2 [] at idle names way goes =
     let e = ap (λ (x : Place). x.due) way in (
       inl (goes, e),
       stands_still old mid goes,
-      subst (λ (c : Command). IsQuiet c.header) (sym e) (refl, refl),
+      rw e (refl, refl),
     )
 get_at old mid tag p1 p2 (p ∷ here) at idle names (next, suits, follows, rest)
     (then_at, one, others) =
@@ -183,7 +175,7 @@ get_at old mid tag p1 p2 (p ∷ here) at idle names (next, suits, follows, rest)
     let (same, quiet) = through_keeps (Responds Does) response_keeps next at here then_at mid q rest
     others in
     let before = response_keeps p old then_at
-    (subst (λ (c : Command). IsQuiet c.header) (sym suits.is_due) (refl, refl)) one in (
+    (rw suits.is_due (refl, refl)) one in (
       inr (done_on old then_at mid (Get tag)
           (done_first old then_at (Get tag) p.content p.status f) same),
       same_on old then_at mid before same,
@@ -205,7 +197,7 @@ piece_keeps p1 p2 piece old new status (cut, t, carries, told, does) =
           absurd (omega (arith, no))
     ]
 
--- a command of a chain: the last, or one that more follow
+-- a command of a chain: the last, or one that another follows
 abbrev IsLink : Header → Command → List Command → Type 0
 IsLink h c left = (piece : List ℕ) × (((c ≡ link h piece) × (left ≡ []))
     ⊎ (c ≡ link (with_more h) piece))
@@ -263,7 +255,7 @@ one_gathers h piece p old new is responds =
       through = refl;
       suits = record {
         is_due = is;
-        asked_for = subst (λ (c : Command). length p.content ≤ may_bring c.le) is few;
+        asked_for = rw is at few;
       };
       ends = ends_alone h piece (length p.content) p.status;
       status_is = refl;
@@ -274,8 +266,7 @@ put_due : (h : Header) (c : Command) (piece : List ℕ) (due : Command) (here : 
     (at : Place) → c ≡ link h piece → GoesThrough (first_place c (wanted_by c.le)) here at
     → at.due ≡ due → (here ≡ []) × (due ≡ link h piece)
 put_due h c piece due here at is way same =
-    let W : Command → Type 0 = λ d. GoesThrough (first_place d (wanted_by d.le)) here at in
-    let a = alone_at h piece here at (subst W is way) in
+    let a = alone_at h piece here at (rw is at way) in
     (a.0, sym same ∙ a.1)
 
 -- ---- an operation under way
@@ -291,7 +282,7 @@ one_command c (d ∷ []) (g ∷ []) current left are taken =
     let none : current ∷ left ≡ [] = taken.2 in absurd (cc)
 one_command c (d ∷ []) (g ∷ n ∷ gone) current left are taken = absurd taken.2
 
--- where the exchange of the command in progress stands
+-- after these pairs of an exchange this is its next command
 abbrev At : Command → Command → List Pair → Type 0
 At c due here = (at : Place) × GoesThrough (first_place c (wanted_by c.le)) here at × (at.due ≡ due)
 
@@ -310,16 +301,13 @@ alone_under_way operation pairs due c u are =
     let l = u.led.0 in
     let (none, is) = one_command c u.commands l.gone l.current l.left are l.taken in
     let here : l.here ≡ pairs = sym (l.pairs_are ∙ ap (λ g. talk_pairs g ++ l.here) none) in
-    subst (λ ps. At c due ps) here
-    (subst (λ d. At d due l.here) is (stands_at operation pairs due u))
+    rw (sym here, sym is) (stands_at operation pairs due u)
 
-no_fetch : (h : Header) (v : Bool) → is_get_response h ≡ v → is_get_response h ≡ not v → ⊥
-no_fetch h true e f = true≢false (sym e ∙ f)
-no_fetch h false e f = true≢false (sym f ∙ e)
+first_class : {c d : Command} → c ≡ d → (c.header.cla == 0x10) ≡ (d.header.cla == 0x10)
+first_class is = ap (λ (x : Command). x.header.cla == 0x10) is
 
-class_is : (h : Header) (cla : ℕ) (v w : Bool) → h.cla ≡ cla → (cla == 0x10) ≡ v
-    → (h.cla == 0x10) ≡ w → v ≡ w
-class_is h cla v w is of told = sym of ∙ ap (λ n. n == 0x10) (sym is) ∙ told
+fetches : {c d : Command} → c ≡ d → is_get_response c.header ≡ is_get_response d.header
+fetches is = ap (λ (x : Command). is_get_response x.header) is
 
 pub stops_before : (old new : CardState) (operation : Operation) (pairs : List Pair)
     (due : Command) → is_idle old.pending ≡ true → IsUnderWay operation pairs due
@@ -328,14 +316,12 @@ stops_before old new (Select aid) pairs due idle u goes =
     let (at, way, same) = alone_under_way (Select aid) pairs due (select_command aid) u u.are.1 in
     elim (select_at old new aid pairs at idle u.are.0 way goes) [
       | inl first ↦ record {
-        carried_out = λ e. absurd (no_fetch due.header false
-            (ap (λ (c : Command). is_get_response c.header) (sym same ∙ first.1)) e);
+        carried_out = λ e. absurd (true≢false (sym e ∙ fetches (sym same ∙ first.1)));
         kept = λ e. stands_still old new first.0;
       }
       | inr done ↦ record {
         carried_out = λ e. done.0;
-        kept = λ e. absurd (no_fetch due.header true
-            (ap is_get_response (ap (λ (c : Command). c.header) (sym same) ∙ done.1)) e);
+        kept = λ e. absurd (true≢false (sym (fetches (sym same) ∙ ap is_get_response done.1) ∙ e));
       }
     ]
 stops_before old new (Get tag) pairs due idle u goes =
@@ -344,8 +330,7 @@ stops_before old new (Get tag) pairs due idle u goes =
     let (which, kept, quiet) = get_at old new tag p1 p2 pairs at idle names way goes in
     record {
       carried_out = λ e. elim which [
-        | inl first ↦ absurd (no_fetch due.header false
-            (ap (λ (c : Command). is_get_response c.header) (sym same ∙ first.1)) e)
+        | inl first ↦ absurd (true≢false (sym e ∙ fetches (sym same ∙ first.1)))
         | inr done ↦ done
       ];
       kept = λ e. kept;
@@ -355,10 +340,10 @@ stops_before old new (Put tag value) pairs due idle u goes =
     let l = u.led.0 in
     let h = put_header p1 p2 in
     let taken : AreApdusUpTo (chain_commands h pieces) l.gone (l.current ∷ l.left) =
-    subst (λ cs. AreApdusUpTo cs l.gone (l.current ∷ l.left)) are l.taken in
+    rw are at l.taken in
     let (at, way, same) = stands_at (Put tag value) pairs due u in
     let (mid, first, rest) = turns_apart (Responds Does) old new (talk_pairs l.gone) l.here
-    (subst (λ ps. RespondsToAll Does old ps new) l.pairs_are goes) in
+    (rw l.pairs_are at goes) in
     let so_far = put_keeps p1 p2 pieces l.gone l.current l.left old mid taken first in
     let (piece, which) = put_link h pieces l.gone l.current l.left taken in
     let by : (g : Header) → is_get_response g ≡ false → l.current ≡ link g piece
@@ -366,13 +351,12 @@ stops_before old new (Put tag value) pairs due idle u goes =
     let (none, due_is) = put_due g l.current piece due l.here at is way same in
     let stays : new ≡ mid = subst (λ ps. RespondsToAll Does mid ps new) none rest in
     record {
-      carried_out = λ e. absurd (no_fetch due.header false
-          (ap (λ (c : Command). is_get_response c.header) due_is ∙ no) e);
+      carried_out = λ e. absurd (true≢false (sym e ∙ fetches due_is ∙ no));
       kept = λ e. same_on old mid new so_far (stands_still mid new stays);
     } in
     elim which [ inl last ↦ by h refl last.0 | inr is ↦ by (with_more h) refl is ]
 
--- with its response
+-- the same with the response
 pub stops_after : (old new : CardState) (operation : Operation) (pairs : List Pair) (p : Pair)
     → is_idle old.pending ≡ true → IsUnderWay operation pairs p.command
     → RespondsToAll Does old (pairs ++ p ∷ []) new
@@ -391,12 +375,9 @@ stops_after old new operation pairs p idle u all =
         elim (select_at old mid aid pairs at idle u.are.0 way goes) [
           | inl first ↦
               let due : p.command ≡ select_command aid = sym same ∙ first.1 in
-              let f = select_responds old new aid p idle u.are.0 due
-              (subst (λ s. Responds Does s p new) first.0 responds) in
+              let f = select_responds old new aid p idle u.are.0 due (rw first.0 at responds) in
               record {
-                kept = λ e. absurd (let no : false ≡ true =
-                    class_is p.command.header 0x00 false true
-                    (ap (λ (c : Command). c.header.cla) due) refl e in cc);
+                kept = λ e. absurd (true≢false (sym e ∙ first_class due));
                 carried_out = λ e. done_first old new (Select aid) p.content p.status f;
                 still = λ e. done_first old new (Select aid) p.content p.status f;
               }
@@ -404,9 +385,7 @@ stops_after old new operation pairs p idle u all =
               let h : p.command.header ≡ get_response =
               ap (λ (c : Command). c.header) (sym same) ∙ done.1 in
               record {
-                kept = λ e. absurd (let no : false ≡ true =
-                    class_is p.command.header 0x00 false true
-                    (ap (λ (h : Header). h.cla) h) refl e in cc);
+                kept = λ e. absurd (true≢false (sym e ∙ ap (λ (h : Header). h.cla == 0x10) h));
                 carried_out = λ e. done_on old mid new (Select aid) done.0
                     (response_keeps p mid new (quiet_fetch p.command.header h) responds);
                 still = λ e. done_on old mid new (Select aid) done.0
@@ -418,11 +397,11 @@ stops_after old new operation pairs p idle u all =
         let (at, way, same) = alone_under_way (Get tag) pairs p.command (get_command p1 p2) u are in
         let (which, kept, quiet) = get_at old mid tag p1 p2 pairs at idle names way goes in
         let on = response_keeps p mid new
-        (subst (λ (c : Command). IsQuiet c.header) same quiet) responds in
+        (rw same at quiet) responds in
         let is_done : IsDone old (Get tag) new = elim which [
           | inl first ↦ done_first old new (Get tag) p.content p.status
               (get_responds old new tag p1 p2 p idle names (sym same ∙ first.1)
-              (subst (λ s. Responds Does s p new) first.0 responds))
+              (rw first.0 at responds))
           | inr done ↦ done_on old mid new (Get tag) done on
         ] in
         record {
@@ -435,15 +414,14 @@ stops_after old new operation pairs p idle u all =
         let l = u.led.0 in
         let h = put_header p1 p2 in
         let taken : AreApdusUpTo (chain_commands h pieces) l.gone (l.current ∷ l.left) =
-        subst (λ cs. AreApdusUpTo cs l.gone (l.current ∷ l.left)) are l.taken in
+        rw are at l.taken in
         let (at, way, same) = stands_at (Put tag value) pairs p.command u in
         let (piece, which) = put_link h pieces l.gone l.current l.left taken in
         elim which [
           | inl last ↦
               let (none, due) = put_due h l.current piece p.command l.here at last.0 way same in
               let gathers : GathersApdus l.current (p ∷ []) p.content p.status =
-              subst (λ c. GathersApdus c (p ∷ []) p.content p.status) (sym last.0)
-              (one_gathers h piece p mid new due responds) in
+              rw last.0 (one_gathers h piece p mid new due responds) in
               let answer : Reply = record { status = p.status; content = p.content } in
               let exchanges : List (List Pair) = l.gone ++ (p ∷ []) ∷ [] in
               let ends = taken_to_end u.commands l.gone l.current l.left (p ∷ []) answer l.taken
@@ -452,12 +430,9 @@ stops_after old new operation pairs p idle u all =
               ap (λ ps. ps ++ p ∷ []) (l.pairs_are ∙ ap (λ ps. talk_pairs l.gone ++ ps) none
               ∙ append-nil (talk_pairs l.gone)) ∙ sym (one_more_exchange l.gone (p ∷ [])) in
               let step = talk_is_one_step old new (Put tag value) exchanges answer idle
-              (u.commands, u.are, ends)
-              (subst (λ ps. RespondsToAll Does old ps new) pairs_are all) in
+              (u.commands, u.are, ends) (rw pairs_are at all) in
               record {
-                kept = λ e. absurd (let no : false ≡ true =
-                    class_is p.command.header 0x00 false true
-                    (ap (λ (c : Command). c.header.cla) due) refl e in cc);
+                kept = λ e. absurd (true≢false (sym e ∙ first_class due));
                 carried_out = λ e. (answer, step.0, step.1, step.2);
                 still = λ e. (answer, step.0, step.1, step.2);
               }
@@ -466,7 +441,7 @@ stops_after old new operation pairs p idle u all =
               let (none, due) = put_due g l.current piece p.command l.here at more way same in
               let (before, first, rest) =
               turns_apart (Responds Does) old mid (talk_pairs l.gone) l.here
-              (subst (λ ps. RespondsToAll Does old ps mid) l.pairs_are goes) in
+              (rw l.pairs_are at goes) in
               let stays : mid ≡ before =
               subst (λ ps. RespondsToAll Does before ps mid) none rest in
               let (is, nothing) = answers_piece g piece (p ∷ []) p.content p.status mid new
@@ -477,89 +452,16 @@ stops_after old new operation pairs p idle u all =
                     (put_keeps p1 p2 pieces l.gone l.current l.left old before taken first)
                     (stands_still before mid stays))
                     (piece_keeps p1 p2 piece mid new p.status is);
-                carried_out = λ e. absurd (let no : true ≡ false =
-                    class_is p.command.header 0x10 true false
-                    (ap (λ (c : Command). c.header.cla) due) refl e in cc);
-                still = λ e. absurd (no_fetch p.command.header false
-                    (ap (λ (c : Command). is_get_response c.header) due) e);
+                carried_out = λ e. absurd (true≢false (sym (first_class due) ∙ e));
+                still = λ e. absurd (true≢false (sym e ∙ fetches due));
               }
         ]
 
 -- ---- each command is agreed
 
-abbrev Agreed : Command → Type 0
-Agreed c = IsAgreed MayReceive MaySend c
-
-agreed_link : (h : Header) (piece : List ℕ) → h.ins ≡ 0xDA → Agreed (link h piece)
-agreed_link h [] is = λ s. one_way 0xDA (instruction.PutData, refl, refl) (subst MaySend is s)
-agreed_link h (b ∷ bs) is =
-    λ s. one_way 0xDA (instruction.PutData, refl, refl) (subst MaySend is s)
-
-agreed_at : (c due : Command) (here : List Pair) → Agreed c → At c due here → Agreed due
-agreed_at c due here agreed (at, way, same) =
-    let a = through (Agrees MayReceive MaySend) (agrees_on MayReceive MaySend)
-    (first_place c (wanted_by c.le)) at 0 here (agrees_first MayReceive MaySend c agreed) way in
-    subst Agreed same a.agreed
-
 pub due_is_agreed : (operation : Operation) (pairs : List Pair) (due : Command)
-    → IsUnderWay operation pairs due → Agreed due
-due_is_agreed (Select aid) pairs due u =
-    agreed_at (select_command aid) due pairs (agreed_select MayReceive MaySend
-    (keeps_to MayReceive MaySend (λ ins. (λ m. m, λ m. m)) (λ ins. (λ m. m, λ m. m))) aid u.are.0)
-    (alone_under_way (Select aid) pairs due (select_command aid) u u.are.1)
-due_is_agreed (Get tag) pairs due u =
-    let (p1, p2, names, are) = u.are in
-    agreed_at (get_command p1 p2) due pairs (
-      λ r. one_way 0xCA r (instruction.GetData, refl, refl),
-      λ r. one_way 0xC0 r (instruction.GetResponse, refl, refl),
-    ) (alone_under_way (Get tag) pairs due (get_command p1 p2) u are)
-due_is_agreed (Put tag value) pairs due u =
-    let (p1, p2, pieces, names, of, are) = u.are in
-    let l = u.led.0 in
-    let (piece, which) = put_link (put_header p1 p2) pieces l.gone l.current l.left
-    (subst (λ cs. AreApdusUpTo cs l.gone (l.current ∷ l.left)) are l.taken) in
-    agreed_at l.current due l.here (elim which [
-      | inl last ↦ subst Agreed (sym last.0) (agreed_link (put_header p1 p2) piece refl)
-      | inr is ↦ subst Agreed (sym is) (agreed_link (with_more (put_header p1 p2)) piece refl)
-    ]) (stands_at (Put tag value) pairs due u)
-
--- ---- a card of data objects fails none
-
-pub none_fails : (old new : CardState) (commands : List Command) (pairs : List Pair)
-    (o : ApduOperationOf) → IsCardState old → LeadsTo commands pairs (Some o)
-    → o.exchange.gather.limit ≡ response_limit → RespondsToAll Does old pairs new
-    → o.exchange.stage ≡ Failed → ⊥
-none_fails old new commands pairs o sound (l, settled) room goes failed =
-    let (mid, first, here) = turns_apart (Responds Does) old new (talk_pairs l.gone) l.here
-    (subst (λ ps. RespondsToAll Does old ps new) l.pairs_are goes) in
-    never_fails l.current (wanted_by l.current.le) l.here mid new o.exchange
-    (sound_after old mid (talk_pairs l.gone) sound first) room failed l.led here
-
-pub is_taken : (old mid new : CardState) (commands : List Command) (pairs : List Pair)
-    (o : ApduOperationOf) (due : Command) (content : List ℕ) (status : StatusWord)
-    (result : Result (Unit {0}) AnswerFault) (then_at : Option ApduOperationOf)
-    → IsCardState old → LeadsTo commands pairs (Some o) → due_of o.exchange ≡ Some due
-    → RespondsToAll Does old pairs mid
-    → Responds Does mid (answered_by o.exchange content status) new
-    → IsTakingResponse (Some o) content status result then_at
-    → HasRoomFor response_limit then_at → IsOk result
-is_taken old mid new commands pairs o due content status (Ok u) then_at sound leads is goes responds
-    step room = refl
-is_taken old mid new commands pairs o due content status (Err f) then_at sound leads is goes
-    responds step room =
-    let few = responds_within Does mid new (answered_by o.exchange content status) responds in
-    let fails : fails_with f ≡ true = elim step.fault [
-      | inl is_fault ↦ fault_fails o.exchange (length content) f
-          (due_when (is_going o.exchange.stage) (command_of o.exchange) due is).0 few is_fault
-      | inr stalled ↦ ap fails_with stalled.0
-    ] in
-    absurd (by then_at (step.failed fails) room (step.led commands pairs leads fails))
-  where
-    all : RespondsToAll Does old (pairs ++ answered_by o.exchange content status ∷ []) new
-    all = turns_both (Responds Does) old mid new pairs
-        (answered_by o.exchange content status ∷ []) goes (new, responds, refl)
-
-    by : (n : Option ApduOperationOf) → has_failed_at n → HasRoomFor response_limit n
-        → LeadsTo commands (pairs ++ answered_by o.exchange content status ∷ []) n → ⊥
-    by None failed room leads = failed
-    by (Some n) failed room leads = none_fails old new commands _ n sound leads room all failed
+    → IsUnderWay operation pairs due → IsAgreed MayReceive MaySend due
+due_is_agreed operation pairs due u =
+    next_is_agreed MayReceive MaySend u.commands pairs (Some u.at) due u.due_is
+    (commands_agreed MayReceive MaySend (keeps_to MayReceive MaySend (λ ins. (λ m. m, λ m. m))
+    (λ ins. (λ m. m, λ m. m))) operation u.commands u.are) u.led

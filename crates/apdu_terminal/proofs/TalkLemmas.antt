@@ -1,5 +1,4 @@
--- The commands of a put over a transport of whole commands are the put in one step; and so each
--- operation is.
+-- A put by whole commands is the put in one step, and so is each operation; operations in turn.
 use Rattle.std.proofs.Common.{◌≡◌, ℕ, ◌-◌, ◌≤◌, List, [], ◌∷◌, ◌++◌, length, Option, Some, None, true, false, ◌⊎◌, inl, inr, refl, sym, ap, subst, ◌∙◌, arith, append-nil, not, ◌&&◌}
 use Rattle.std.specs.List.{flat_map}
 use Rattle.apdu_core.specs.declared.header.Header.{Header}
@@ -24,7 +23,7 @@ use Rattle.card_terminal.specs.RunLaws.{HaveReplies, replies_come}
 use Rattle.card_terminal.specs.Running.{new_answers, carried_out}
 use Rattle.card_terminal.specs.TalkLaws.{chains_end, talks_more, all_alike}
 use Rattle.t0_core.specs.DialogueLaws.{flat_map_last}
-use Rattle.apdu_terminal.specs.Apdus.{Pair, first_place, is_case_2, may_bring, correction, Goes, Ends, follow, follow_by, all_content, Brings, GathersApdus}
+use Rattle.apdu_terminal.specs.Apdus.{Pair, first_place, is_case_2, correction, Goes, Ends, follow, follow_by, all_content, Brings, GathersApdus}
 use Rattle.apdu_terminal.specs.CardApdu.{p3_of, tpdu_command, InTurn, GoesAs, GoesBy, Responds, RespondsToAll}
 use Rattle.apdu_terminal.specs.ApduTalk.{AreApdusOf, IsApduTalkOf, talk_pairs, AreApduTalksOf}
 use Rattle.apdu_terminal.proofs.PlaceLemmas.{brings_whole}
@@ -102,26 +101,19 @@ without_le : (h : Header) (piece : List ℕ) → tpdu_command (link h piece) ≡
 without_le h [] = refl
 without_le h (b ∷ bs) = refl
 
--- so it is answered as a TPDU
+-- so the card carries it out as one TPDU
 pub answered_by : (h : Header) (piece : List ℕ) (pairs : List Pair) (content : List ℕ)
     (status : StatusWord) (old new : CardState)
     → GathersApdus (link h piece) pairs content status → RespondsToAll Does old pairs new
     → IsAnswered old (link h piece) status new × (content ≡ [])
 answered_by h piece pairs content status old new g goes =
     let (p, is) = alone h piece pairs content status g in
-    let P : List Pair → Type 0 = λ ps. RespondsToAll Does old ps new in
-    let (mid, (inner, brings, by), stays) = subst P is.pairs_are goes in
-    let C : Command → Type 0 =
-    λ (c : Command). Brings (tpdu_command c) (Bytes (may_bring c.le)) inner p.content p.status in
+    let (mid, (inner, brings, by), stays) = rw is.pairs_are at goes in
     let inside : Brings (link h piece) (Bytes 0) inner p.content p.status =
-    subst (λ c. Brings c (Bytes 0) inner p.content p.status) (without_le h piece)
-    (subst C is.is_it brings) in
+    rw (sym (without_le h piece)) (rw is.is_it at brings) in
     let (q, alone_q) = alone h piece inner p.content p.status inside in
-    let Q : List Pair → Type 0 = λ ps. GoesBy Does old ps mid in
-    let (next, (t, of, does), last) = subst Q alone_q.pairs_are by in
-    let front = front_of t.sent piece
-    (subst (λ (c : Command). (t.sent ≡ []) ⊎ (t.sent ≡ c.content)) alone_q.is_it
-    of.all_or_none) in
+    let (next, (t, of, does), last) = rw alone_q.pairs_are at by in
+    let front = front_of t.sent piece (rw alone_q.is_it at of.all_or_none) in
     let carries : Carries h piece t = record {
       header_is = of.header_is ∙ ap (λ (c : Command). c.header) alone_q.is_it;
       counts = of.p3_is ∙ ap (λ (c : Command). p3_of c.content c.le) alone_q.is_it
@@ -152,7 +144,7 @@ pub turns_both : {State : Type 0} (One : State → Pair → State → Type 0) (o
     (xs ys : List Pair) → InTurn One old xs mid → InTurn One mid ys new
     → InTurn One old (xs ++ ys) new
 turns_both {State} One old mid new [] ys first second =
-    let P : State → Type 0 = λ s. InTurn One s ys new in subst P first second
+    rw first at second
 turns_both One old mid new (x ∷ xs) ys (next, is, rest) second =
     (next, is, turns_both One next mid new xs ys rest second)
 
@@ -186,10 +178,10 @@ one_exchange : (old new : CardState) (operation : Operation) (answer : Reply) (c
     → IsCarriedOut old operation answer.status answer.content new
 one_exchange old new operation answer c [] are each goes = absurd are
 one_exchange old new operation answer c (pairs ∷ []) are each goes =
-    each pairs are.0 (subst (λ ps. RespondsToAll Does old ps new) (append-nil pairs) goes)
+    each pairs are.0 (rw (append-nil pairs) at goes)
 one_exchange old new operation answer c (pairs ∷ next ∷ exchanges) are each goes = absurd are.2
 
--- Each operation over whole commands is that operation in one step.
+-- Each operation by whole commands is that operation in one step.
 pub talk_is_one_step : (old new : CardState) (operation : Operation)
     (exchanges : List (List Pair)) (answer : Reply) → is_idle old.pending ≡ true
     → IsApduTalkOf operation exchanges answer → RespondsToAll Does old (talk_pairs exchanges) new
@@ -197,15 +189,13 @@ pub talk_is_one_step : (old new : CardState) (operation : Operation)
     × (is_idle new.pending ≡ true)
 talk_is_one_step old new (Select aid) exchanges answer idle (commands, (is_aid, commands_are), are)
     goes =
-    one_exchange old new (Select aid) answer (select_command aid) exchanges
-    (subst (λ cs. AreApdusOf cs exchanges answer) commands_are are)
+    one_exchange old new (Select aid) answer (select_command aid) exchanges (rw commands_are at are)
     (λ pairs gathers responds.
     select_is_answered old new aid pairs answer.content answer.status idle is_aid gathers responds)
     goes
 talk_is_one_step old new (Get tag) exchanges answer idle
     (commands, (p1, p2, names, commands_are), are) goes =
-    one_exchange old new (Get tag) answer (get_command p1 p2) exchanges
-    (subst (λ cs. AreApdusOf cs exchanges answer) commands_are are)
+    one_exchange old new (Get tag) answer (get_command p1 p2) exchanges (rw commands_are at are)
     (λ pairs gathers responds.
     get_is_answered old new tag p1 p2 pairs answer.content answer.status idle names gathers
     responds)
@@ -213,7 +203,7 @@ talk_is_one_step old new (Get tag) exchanges answer idle
 talk_is_one_step old new (Put tag value) exchanges answer idle
     (commands, (p1, p2, pieces, names, are_pieces, commands_are), are) goes =
     let (ends, none) = chain_ends (put_header p1 p2) pieces exchanges answer old new
-    (subst (λ cs. AreApdusOf cs exchanges answer) commands_are are) goes in
+    (rw commands_are at are) goes in
     let (after, answers, same, rests) = chain_is_put tag p1 p2 names old new value pieces
     answer.status idle are_pieces ends in (
       after,
@@ -264,7 +254,7 @@ talks_are_single_steps old new (o ∷ operations) (t ∷ talks) (r ∷ replies) 
     )
 talks_are_single_steps old new _ _ _ idle are goes = absurd are
 
--- what has come of operations in turn, from state to state
+-- operations in turn have these answers, and lead from state to state
 abbrev pub HaveCome : {State : Type 0} → (State → ℕ → Tpdu → State → Type 0) → State → State
     → List Operation → List Reply → Type 0
 HaveCome Own from to done replies = (talks : List (List (List Pair)))
@@ -279,12 +269,12 @@ pub one_more_comes : {State : Type 0} (Own : State → ℕ → Tpdu → State �
 one_more_comes Own from mid to done replies o r (talks, are, goes) (exchanges, is, then_so) = (
   talks ++ exchanges ∷ [],
   talks_more GathersApdus done talks replies o exchanges r are is,
-  subst (λ ps. RespondsToAll Own from ps to) (sym (flat_map_last talk_pairs talks exchanges))
+  rw (flat_map_last talk_pairs talks exchanges)
       (turns_both (Responds Own) from mid to (flat_map talk_pairs talks) (talk_pairs exchanges) goes
       then_so),
 )
 
--- it is so where nothing has changed
+-- the same if nothing has changed
 pub still_at : {C A : Type 0} (card : Ghosts C) (from : card.State) (e e' : EndOf C)
     (ops : List (Op A)) (before : List Reply) (n : ℕ) (given given' : List Reply)
     → HaveReplies (λ done replies. HaveCome card.Does from (card.standing e.card) done replies) ops
@@ -292,11 +282,9 @@ pub still_at : {C A : Type 0} (card : Ghosts C) (from : card.State) (e e' : EndO
     → HaveReplies (λ done replies. HaveCome card.Does from (card.standing e'.card) done replies) ops
     before n given'
 still_at {C} card from e e' ops before n given given' have same same_given =
-    let P : EndOf C → List Reply → Type 0 = λ x g. HaveReplies
-    (λ done replies. HaveCome card.Does from (card.standing x.card) done replies) ops before n g in
-    subst (λ x. P x given') (sym same) (subst (λ g. P e g) (sym same_given) have)
+    rw (same, same_given) have
 
--- operations that have come are single steps of any card of data objects
+-- they are single steps of any card of data objects
 pub steps_so_far : {State A : Type 0} (Own : State → ℕ → Tpdu → State → Type 0)
     (reset : State → State) (state_of : State → CardState) (from to : State)
     (old new : CardState) (ops : List (Op A)) (before : List Reply) (n : ℕ) (given : List Reply)
@@ -310,7 +298,5 @@ steps_so_far Own reset state_of from to old new ops before n given means was now
     let (talks, are, goes) =
     replies_come (λ done replies. HaveCome Own from to done replies) ops before n given have in
     let pairs = flat_map talk_pairs talks in
-    let P : CardState → Type 0 = λ s. RespondsToAll Does s pairs (state_of to) in
-    let Q : CardState → Type 0 = λ s. RespondsToAll Does old pairs s in
     talks_are_single_steps old new (carried_out ops replies) talks replies idle are
-    (subst Q now (subst P was (own_responds Own reset state_of from to pairs means goes)))
+    (rw (sym was, sym now) (own_responds Own reset state_of from to pairs means goes))

@@ -6,7 +6,7 @@ use Rattle.apdu_terminal.specs.ApduSide.{has_failed, to_go}
 use Rattle.apdu_terminal.specs.CardApdu.{HasCome}
 use Rattle.apdu_terminal.proofs.card_apdu.converse.Given as goal
 
--- What led to the exchange leads to it still, by TPDUs of the card's.
+-- The card has carried out the pairs that led to the exchange, as TPDUs.
 abbrev pub invariant-talk : goal.invariant-talk
 invariant-talk g l =
     let card = g.C.TpduCard in

@@ -1,6 +1,6 @@
 use Rattle.std.proofs.Common.{[], refl, sym, ap, ◌∙◌}
 use Rattle.t0_core.specs.Room.{Room}
-use Rattle.apdu_terminal.proofs.DrivenLemmas.{due_is_agreed, never_fails_at, over_then, taken_on}
+use Rattle.apdu_terminal.proofs.DrivenLemmas.{due_is_agreed, over_then, taken_on}
 use Rattle.apdu_terminal.proofs.operations.go_through.Goals as goal
 
 pub talk-init : goal.talk-init
@@ -17,8 +17,9 @@ pub answered-response-requires-clause-agreed : goal.answered-response-requires-c
 answered-response-requires-clause-agreed g c =
     let card = g.C.TpduCard in
     let (commands, agreed, leads) = c.requires.begun in
-    due_is_agreed card.MayReceive card.MaySend card.Does _ _ commands c.talk.terminal.operation
-    c.in-Some.due (sym c.in-Some.ensures) agreed (c.talk.invariant.had commands agreed leads)
+    let (pairs, led, goes) = c.talk.invariant.had commands agreed leads in
+    due_is_agreed card.MayReceive card.MaySend commands pairs c.talk.terminal.operation
+    c.in-Some.due (sym c.in-Some.ensures) agreed led
 
 pub unreachable-requires : goal.unreachable-requires
 unreachable-requires g c =
@@ -75,8 +76,7 @@ returns-clause-over g c =
     let card = g.C.TpduCard in
     let m = g.met.C.DataCard.means in
     let (commands, agreed, leads) = c.requires.begun in
-    let had = c.talk.invariant.had commands agreed leads in
-    over_then card.Does _ _ commands c.talk.terminal.operation c.in_default.ensures had
-    (never_fails_at card.Does card.after_reset m.0 _ _ _ _ commands c.talk.terminal.operation m.2
+    over_then card.Does card.after_reset m.0 _ _ _ _ commands c.talk.terminal.operation m.2
     (m.1 c.args.end.now.card) c.talk.invariant.sound
-    (c.talk.invariant.limit.stays ∙ c.requires.limit.0) c.talk.invariant.limit.is_room had)
+    (c.talk.invariant.limit.stays ∙ c.requires.limit.0) c.talk.invariant.limit.is_room
+    c.in_default.ensures (c.talk.invariant.had commands agreed leads)

@@ -7,7 +7,7 @@ use Rattle.object_card.specs.State.{IsCardState}
 use Rattle.apdu_terminal.specs.ApduOperations.{HasResponded, KeepsLimit, LeadsTo, may_follow}
 use Rattle.apdu_terminal.proofs.operations.go_through.Given as goal
 
--- The card, which was sound, has responded to all that led to the operation.
+-- The card was sound, and has responded to the commands that led to the operation.
 abbrev pub invariant-talk : goal.invariant-talk
 invariant-talk g l =
     let card = g.C.TpduCard in

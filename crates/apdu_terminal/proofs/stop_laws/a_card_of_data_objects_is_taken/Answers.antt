@@ -1,5 +1,5 @@
+use Rattle.apdu_terminal.proofs.DrivenLemmas.{is_taken, none_fails}
 use Rattle.apdu_terminal.proofs.StallLemmas.{sound_after}
-use Rattle.apdu_terminal.proofs.StopLemmas.{is_taken, none_fails}
 use Rattle.apdu_terminal.proofs.stop_laws.a_card_of_data_objects_is_taken.Goals as goal
 
 pub returns-clause-taken : goal.returns-clause-taken

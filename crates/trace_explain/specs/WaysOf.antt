@@ -13,24 +13,17 @@ is_among ins (one ∷ others) = (ins == one) || is_among ins others
 abbrev pub interindustry_from_card : List ℕ
 interindustry_from_card = 0x70 ∷ 0x84 ∷ 0xB0 ∷ 0xB2 ∷ 0xC0 ∷ 0xCA ∷ []
 
--- And those whose data, if there are any, the terminal sends: on files as a whole, queries and a
--- card's life; of security; on what files hold, where with an odd INS it says which part.
-abbrev pub of_files : List ℕ
-of_files = 0x04 ∷ 0x10 ∷ 0x12 ∷ 0x14 ∷ 0x44 ∷ 0xA4 ∷ 0xC2 ∷ 0xC3 ∷ 0xE0 ∷ 0xE4 ∷ 0xE6 ∷ 0xE8
-    ∷ 0xFE ∷ []
-
-abbrev pub of_security : List ℕ
-of_security = 0x20 ∷ 0x21 ∷ 0x22 ∷ 0x24 ∷ 0x26 ∷ 0x28 ∷ 0x2A ∷ 0x2C ∷ 0x46 ∷ 0x82 ∷ 0x86 ∷ 0x87
-    ∷ 0x88 ∷ []
-
-abbrev pub of_data : List ℕ
-of_data = 0x0C ∷ 0x0E ∷ 0x0F ∷ 0xA0 ∷ 0xA1 ∷ 0xA2 ∷ 0xB1 ∷ 0xB3 ∷ 0xCB ∷ 0xD0 ∷ 0xD1 ∷ 0xD2 ∷ 0xD6
-    ∷ 0xD7 ∷ 0xDA ∷ 0xDB ∷ 0xDC ∷ 0xDD ∷ 0xE2 ∷ []
+-- And those whose data the terminal sends, if there are any. One with an odd INS that reads sends
+-- which part it wants.
+abbrev pub interindustry_to_card : List ℕ
+interindustry_to_card = 0x04 ∷ 0x0C ∷ 0x0E ∷ 0x0F ∷ 0x10 ∷ 0x12 ∷ 0x14 ∷ 0x20 ∷ 0x21 ∷ 0x22
+    ∷ 0x24 ∷ 0x26 ∷ 0x28 ∷ 0x2A ∷ 0x2C ∷ 0x44 ∷ 0x46 ∷ 0x82 ∷ 0x86 ∷ 0x87 ∷ 0x88 ∷ 0xA0 ∷ 0xA1
+    ∷ 0xA2 ∷ 0xA4 ∷ 0xB1 ∷ 0xB3 ∷ 0xC2 ∷ 0xC3 ∷ 0xCB ∷ 0xD0 ∷ 0xD1 ∷ 0xD2 ∷ 0xD6 ∷ 0xD7 ∷ 0xDA
+    ∷ 0xDB ∷ 0xDC ∷ 0xDD ∷ 0xE0 ∷ 0xE2 ∷ 0xE4 ∷ 0xE6 ∷ 0xE8 ∷ 0xFE ∷ []
 
 abbrev pub interindustry : ℕ → Option Direction
 interindustry ins = if is_among ins interindustry_from_card then Some FromCard
-    else if is_among ins of_files || is_among ins of_security || is_among ins of_data
-    then Some ToCard else None
+    else if is_among ins interindustry_to_card then Some ToCard else None
 
 -- Of the own classes of EMV (4.3, Book 3, 6.5): CARD BLOCK, APPLICATION UNBLOCK and BLOCK, PIN
 -- CHANGE/UNBLOCK, GET PROCESSING OPTIONS, GENERATE AC.
@@ -54,6 +47,11 @@ abbrev pub own_way : ℕ → ℕ → Option Direction
 own_way cla ins = if nat_lt cla 0x80 then interindustry ins
     else if nat_lt cla 0x90 then payment ins
     else if cla == 0xA0 then sim ins else None
+
+-- the way of a row of the program's table
+abbrev pub way_in : {N P : Type 0} → Option (N × Direction × P) → Option Direction
+way_in None = None
+way_in (Some row) = Some row.1
 
 -- the first of two that is known
 abbrev pub or_else : Option Direction → Option Direction → Option Direction

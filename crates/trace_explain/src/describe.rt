@@ -2,7 +2,6 @@
 pub mod clock;
 pub mod command_name;
 pub mod complaint;
-pub mod instructions;
 pub mod mask;
 pub mod meaning;
 pub mod outline;

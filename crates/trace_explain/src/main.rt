@@ -10,6 +10,7 @@ mod explain_fault;
 mod explainer;
 mod follow;
 mod help;
+mod instructions;
 mod main_status;
 mod read;
 mod resuming;

@@ -1,17 +1,17 @@
 //! Commands by their names, with what their P1-P2 say.
 
-use crate::describe::instructions::{Parts, instruction};
 use crate::describe::parts;
+use crate::instructions::{Parts, instruction};
 use crate::write::sheet::Sheet;
 use apdu_core::Header;
 
 /// Adds the name of a command with this header and these data of the terminal, with its parts, and
 /// its class where that says more.
 pub fn push_command(text: &mut Sheet, header: Header, sent: &[u8]) {
-    match instruction(header) {
-        Some((_, name, parts)) => {
+    match instruction(header.cla, header.ins) {
+        Some((name, _, parts)) => {
             text.push_str(name);
-            push_parts(text, *parts, header, sent);
+            push_parts(text, parts, header, sent);
         }
         None => {
             let ins = header.ins;

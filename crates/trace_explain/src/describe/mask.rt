@@ -6,10 +6,10 @@ ghost use Rattle.t0_core.specs.declared.direction.Direction.TheVariants.{ToCard}
 ghost use Rattle.trace_explain.specs.Secrets.{Names, Shows, ShowsTagged, ShowsValue, is_name, may_be_cut, whole_or_nothing};
 ghost use Rattle.trace_explain.specs.Told.{IsOfCommand};
 
-use crate::describe::instructions::is_secret;
 use crate::follow::links::{Links, Whole};
 use crate::follow::story::header_of;
 use crate::follow::tpdu::Tpdu;
+use crate::instructions::is_secret;
 use crate::write::ascii::push_hex_lines;
 use crate::write::sheet::Sheet;
 use apdu_core::Header;

@@ -1,9 +1,9 @@
 //! What is said of a status word (ISO/IEC 7816-4, 5.1.3).
 
-use crate::describe::instructions::counts_tries;
 use crate::describe::phrases::unit_of;
 use crate::describe::statuses::{of_first, of_sim, of_word};
-use crate::follow::response::{SIM_CLASS, waiting};
+use crate::follow::response::waiting;
+use crate::instructions::{SIM_CLASS, counts_tries};
 use crate::write::sheet::Sheet;
 use apdu_core::{Header, Status};
 

@@ -1,15 +1,13 @@
 //! A response that comes in parts (ISO/IEC 7816-3, clause 12).
 
 use crate::follow::links::Link;
+use crate::instructions::SIM_CLASS;
 use apdu_core::{Header, Status, count};
 use std::alloc::{AllocError, Global};
 
 /// The least bytes of a response that is not told as a whole (this project's profile): a hostile
 /// trace can't make the program hold more.
 pub const UNTOLD_SIZE: usize = 65_536;
-
-/// The class of a SIM card.
-pub const SIM_CLASS: u8 = 0xA0;
 
 /// How many bytes of the response wait after this status of a command: `count(XX)` of `61XX`, and
 /// of `9FXX` in the class of a SIM card (3GPP TS 51.011, 9.4.1).

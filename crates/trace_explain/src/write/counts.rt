@@ -1,9 +1,9 @@
 //! What is counted over a whole trace, and told in its last block.
 
 use crate::describe::clock::Clock;
-use crate::describe::instructions::instruction;
 use crate::follow::story::{header_of, status_of};
 use crate::follow::tpdu::Tpdu;
+use crate::instructions::instruction;
 use crate::write::layout::Side;
 use crate::write::page::Page;
 use crate::write::sheet::Sheet;
@@ -87,8 +87,8 @@ impl Counts {
             self.parts = self.parts.saturating_add(1);
             return Ok(());
         };
-        match instruction(header) {
-            Some((_, name, _)) => count(&mut self.named, *name),
+        match instruction(header.cla, header.ins) {
+            Some((name, ..)) => count(&mut self.named, name),
             None => count(&mut self.unnamed, header.ins),
         }
     }

@@ -7,7 +7,6 @@ ghost use Rattle.trace_explain.specs.Told.{told_by};
 ghost use Rattle.trace_explain.specs.Written.{hidden, line_text, number_text};
 
 use crate::describe::clock::Clock;
-use crate::describe::instructions::may_have_objects;
 use crate::describe::mask::{Mask, Origin, Shown};
 use crate::describe::meaning::{is_well, push_meaning};
 use crate::describe::outline::{Outline, name_of};
@@ -15,6 +14,7 @@ use crate::describe::phrases;
 use crate::follow::links::{Link, Links, Whole};
 use crate::follow::story::Story;
 use crate::follow::tpdu::{Tpdu, are_status};
+use crate::instructions::may_have_objects;
 use crate::write::ascii::push_digits;
 use crate::write::layout::{Anchor, Head, Kind, Side};
 use crate::write::output::Output;

@@ -1,0 +1,204 @@
+//! The instructions that the program knows: one table for names, ways of data, P1-P2 and secrets.
+
+ghost use Rattle.std.specs.Prelude.{◌≡◌};
+ghost use Rattle.trace_explain.specs.Secrets.{is_secret};
+ghost use Rattle.trace_explain.specs.WaysOf.{by_standard, everywhere, interindustry, own_way, payment, sim, way_in};
+
+use crate::instructions::Parts::{
+    Channel, Cryptogram, Object, Others, Place, Records, Reference, Selected,
+};
+use apdu_core::Header;
+use t0_core::Direction;
+use t0_core::Direction::{FromCard, ToCard};
+
+/// The class of a SIM card.
+pub const SIM_CLASS: u8 = 0xA0;
+
+/// What P1 and P2 of a command say (ISO/IEC 7816-4, 7).
+#[derive(Clone, Copy)]
+pub enum Parts {
+    /// What is selected, and which of several.
+    Selected,
+    /// The tag of an object.
+    Object,
+    /// The offset of bytes in a file.
+    Place,
+    /// Which records.
+    Records,
+    /// The reference of data that both ends know.
+    Reference,
+    /// What is done with a channel.
+    Channel,
+    /// Which cryptogram is asked for.
+    Cryptogram,
+    /// Nothing that the program knows.
+    Others,
+}
+
+/// What an instruction is called, which way its data go if it has any, and what P1 and P2 say.
+pub type Instruction = (&'static str, Direction, Parts);
+
+/// Returns the instruction of a class; `None` if the program does not know it.
+pub fn instruction(cla: u8, ins: u8) -> Option<Instruction>
+    ensures { way_in result ≡ by_standard cla ins }
+{
+    match of_class(cla, ins) {
+        None => everywhere(ins),
+        own => own,
+    }
+}
+
+/// Returns an instruction of the class's own standard.
+fn of_class(cla: u8, ins: u8) -> Option<Instruction>
+    ensures { way_in result ≡ own_way cla ins }
+{
+    match cla {
+        0x00..=0x7F => interindustry(ins),
+        0x80..=0x8F => payment(ins),
+        SIM_CLASS => sim(ins),
+        _ => None,
+    }
+}
+
+/// The instructions of ISO/IEC 7816-4 (7, and table 4 for those of its other parts). One with an
+/// odd INS that reads sends which part it wants.
+fn interindustry(ins: u8) -> Option<Instruction>
+    ensures { way_in result ≡ interindustry ins }
+{
+    Some(match ins {
+        0x04 => ("DEACTIVATE FILE", ToCard, Others),
+        0x0C => ("ERASE RECORD", ToCard, Records),
+        0x0E => ("ERASE BINARY", ToCard, Place),
+        0x0F => ("ERASE BINARY", ToCard, Others),
+        0x10 => ("PERFORM SCQL OPERATION", ToCard, Others),
+        0x12 => ("PERFORM TRANSACTION OPERATION", ToCard, Others),
+        0x14 => ("PERFORM USER OPERATION", ToCard, Others),
+        0x20 => ("VERIFY", ToCard, Reference),
+        0x21 => ("VERIFY", ToCard, Reference),
+        0x22 => ("MANAGE SECURITY ENVIRONMENT", ToCard, Others),
+        0x24 => ("CHANGE REFERENCE DATA", ToCard, Reference),
+        0x26 => ("DISABLE VERIFICATION REQUIREMENT", ToCard, Reference),
+        0x28 => ("ENABLE VERIFICATION REQUIREMENT", ToCard, Reference),
+        0x2A => ("PERFORM SECURITY OPERATION", ToCard, Others),
+        0x2C => ("RESET RETRY COUNTER", ToCard, Reference),
+        0x44 => ("ACTIVATE FILE", ToCard, Others),
+        0x46 => ("GENERATE ASYMMETRIC KEY PAIR", ToCard, Others),
+        0x70 => ("MANAGE CHANNEL", FromCard, Channel),
+        0x82 => ("EXTERNAL AUTHENTICATE", ToCard, Reference),
+        0x84 => ("GET CHALLENGE", FromCard, Others),
+        0x86 => ("GENERAL AUTHENTICATE", ToCard, Reference),
+        0x87 => ("GENERAL AUTHENTICATE", ToCard, Others),
+        0x88 => ("INTERNAL AUTHENTICATE", ToCard, Reference),
+        0xA0 => ("SEARCH BINARY", ToCard, Others),
+        0xA1 => ("SEARCH BINARY", ToCard, Others),
+        0xA2 => ("SEARCH RECORD", ToCard, Others),
+        0xA4 => ("SELECT", ToCard, Selected),
+        0xB0 => ("READ BINARY", FromCard, Place),
+        0xB1 => ("READ BINARY", ToCard, Others),
+        0xB2 => ("READ RECORD", FromCard, Records),
+        0xB3 => ("READ RECORD", ToCard, Others),
+        0xC0 => ("GET RESPONSE", FromCard, Others),
+        0xC2 => ("ENVELOPE", ToCard, Others),
+        0xC3 => ("ENVELOPE", ToCard, Others),
+        0xCA => ("GET DATA", FromCard, Object),
+        0xCB => ("GET DATA", ToCard, Others),
+        0xD0 => ("WRITE BINARY", ToCard, Place),
+        0xD1 => ("WRITE BINARY", ToCard, Others),
+        0xD2 => ("WRITE RECORD", ToCard, Records),
+        0xD6 => ("UPDATE BINARY", ToCard, Place),
+        0xD7 => ("UPDATE BINARY", ToCard, Others),
+        0xDA => ("PUT DATA", ToCard, Object),
+        0xDB => ("PUT DATA", ToCard, Others),
+        0xDC => ("UPDATE RECORD", ToCard, Records),
+        0xDD => ("UPDATE RECORD", ToCard, Others),
+        0xE0 => ("CREATE FILE", ToCard, Others),
+        0xE2 => ("APPEND RECORD", ToCard, Records),
+        0xE4 => ("DELETE FILE", ToCard, Others),
+        0xE6 => ("TERMINATE DF", ToCard, Others),
+        0xE8 => ("TERMINATE EF", ToCard, Others),
+        0xFE => ("TERMINATE CARD USAGE", ToCard, Others),
+        _ => return None,
+    })
+}
+
+/// The instructions of EMV's own classes `80` to `8F` (EMV 4.3, Book 3, 6.3.2).
+fn payment(ins: u8) -> Option<Instruction>
+    ensures { way_in result ≡ payment ins }
+{
+    Some(match ins {
+        0x16 => ("CARD BLOCK", ToCard, Others),
+        0x18 => ("APPLICATION UNBLOCK", ToCard, Others),
+        0x1E => ("APPLICATION BLOCK", ToCard, Others),
+        0x24 => ("PIN CHANGE/UNBLOCK", ToCard, Others),
+        0xA8 => ("GET PROCESSING OPTIONS", ToCard, Others),
+        0xAE => ("GENERATE AC", ToCard, Cryptogram),
+        _ => return None,
+    })
+}
+
+/// The instructions of a SIM card's class `A0` (3GPP TS 51.011, 9.2).
+fn sim(ins: u8) -> Option<Instruction>
+    ensures { way_in result ≡ sim ins }
+{
+    Some(match ins {
+        0x04 => ("INVALIDATE", ToCard, Others),
+        0x10 => ("TERMINAL PROFILE", ToCard, Others),
+        0x12 => ("FETCH", FromCard, Others),
+        0x14 => ("TERMINAL RESPONSE", ToCard, Others),
+        0x20 => ("VERIFY CHV", ToCard, Others),
+        0x24 => ("CHANGE CHV", ToCard, Others),
+        0x26 => ("DISABLE CHV", ToCard, Others),
+        0x28 => ("ENABLE CHV", ToCard, Others),
+        0x2C => ("UNBLOCK CHV", ToCard, Others),
+        0x32 => ("INCREASE", ToCard, Others),
+        0x44 => ("REHABILITATE", ToCard, Others),
+        0x88 => ("RUN GSM ALGORITHM", ToCard, Others),
+        0xA2 => ("SEEK", ToCard, Others),
+        0xB0 => ("READ BINARY", FromCard, Place),
+        0xB2 => ("READ RECORD", FromCard, Records),
+        0xC2 => ("ENVELOPE", ToCard, Others),
+        0xD6 => ("UPDATE BINARY", ToCard, Place),
+        0xDC => ("UPDATE RECORD", ToCard, Records),
+        0xF2 => ("STATUS", FromCard, Others),
+        0xFA => ("SLEEP", ToCard, Others),
+        _ => return None,
+    })
+}
+
+/// The instructions of ISO/IEC 7816-4 that the program takes for the same in each class (profile).
+fn everywhere(ins: u8) -> Option<Instruction>
+    ensures { way_in result ≡ everywhere ins }
+{
+    Some(match ins {
+        0xA4 => ("SELECT", ToCard, Selected),
+        0xC0 => ("GET RESPONSE", FromCard, Others),
+        0xCA => ("GET DATA", FromCard, Object),
+        0xDA => ("PUT DATA", ToCard, Object),
+        _ => return None,
+    })
+}
+
+/// Whether the class is one of ISO/IEC 7816-4: bit 8 of CLA is 0.
+pub fn is_interindustry(header: Header) -> bool {
+    header.cla & 0x80 == 0
+}
+
+/// Whether the data of a command are secret, or may be: VERIFY, CHANGE REFERENCE DATA, DISABLE and
+/// ENABLE VERIFICATION REQUIREMENT, RESET RETRY COUNTER, in any class.
+pub fn is_secret(ins: u8) -> bool
+    ensures { result ≡ is_secret ins }
+{
+    matches!(ins, 0x20 | 0x21 | 0x24 | 0x25 | 0x26 | 0x28 | 0x2C | 0x2D)
+}
+
+/// Whether `63CX` counts the tries that are left after such a command: those of reference data, and
+/// EXTERNAL AUTHENTICATE.
+pub fn counts_tries(header: Header) -> bool {
+    is_interindustry(header) && (is_secret(header.ins) || header.ins == 0x82)
+}
+
+/// Whether data of the terminal may be objects: not a name or a path, nor reference data, unless
+/// bit 1 of INS says that they are objects (ISO/IEC 7816-4, 5.4.2, 7.1.1 and 7.5.6 to 7.5.10).
+pub fn may_have_objects(ins: u8) -> bool {
+    ins != 0xA4 && (ins & 1 == 1 || !is_secret(ins))
+}

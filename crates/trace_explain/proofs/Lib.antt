@@ -3,7 +3,6 @@ pub mod OpeningLemmas
 pub mod ExplainedLemmas
 pub mod TakenLemmas
 pub mod TraceLemmas
-pub mod DigitLemmas
 pub mod BareLemmas
 pub mod LogLemmas
 pub mod ExchangeLemmas

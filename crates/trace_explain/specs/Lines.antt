@@ -59,22 +59,21 @@ byte_of None low = None
 byte_of (Some high) None = None
 byte_of (Some high) (Some low) = Some (high * 16 + low)
 
-abbrev pub with_byte : Option ℕ → Option (List ℕ) → Option (List ℕ)
-with_byte None bytes = None
-with_byte (Some byte) None = None
-with_byte (Some byte) (Some bytes) = Some (byte ∷ bytes)
+-- the bytes that digits say: two digits for each, with any number of spaces before and behind them;
+-- these bytes came before, and the first digit of one more, or none
+abbrev pub bytes_from : List ℕ → Option ℕ → List ℕ → Option (List ℕ)
+bytes_from bytes None [] = Some bytes
+bytes_from bytes (Some high) [] = None
+bytes_from bytes None (b ∷ rest) =
+    if b == 32 then bytes_from bytes None rest else bytes_from bytes (Some b) rest
+bytes_from bytes (Some high) (b ∷ rest) =
+    elim (byte_of (hex_digit_value high) (hex_digit_value b)) [
+      | None ↦ None
+      | Some byte ↦ bytes_from (bytes ++ byte ∷ []) None rest
+    ]
 
-abbrev pub first_byte : List ℕ → Option ℕ
-first_byte [] = None
-first_byte (b ∷ []) = None
-first_byte (b ∷ c ∷ rest) = byte_of (hex_digit_value b) (hex_digit_value c)
-
--- the bytes that digits say: two digits for each, with any number of spaces before and behind them
 abbrev pub bytes_in : List ℕ → Option (List ℕ)
-bytes_in [] = Some []
-bytes_in (b ∷ []) = if b == 32 then Some [] else None
-bytes_in (b ∷ c ∷ rest) = if b == 32 then bytes_in (c ∷ rest)
-    else with_byte (first_byte (b ∷ c ∷ rest)) (bytes_in rest)
+bytes_in digits = bytes_from [] None digits
 
 -- why digits say no bytes: they are none, or have something else among them
 abbrev pub AreBadDigits : BadLine → List ℕ → Type 0

@@ -14,8 +14,8 @@ use Rattle.t0_core.specs.TapSide.{TapStandsAt, IsRead, IsReadFront, tap_fault_at
 use Rattle.t0_core.specs.History.{Event, Item, Whole, Cut_off, events_of, passed}
 use Rattle.t0_core.specs.TapHistory.{IsOverheard}
 use Rattle.trace_explain.specs.declared.follow.listener.Listener.{Listener}
-use Rattle.trace_explain.specs.declared.follow.refusal.Refusal.{Refusal}
-use Rattle.trace_explain.specs.declared.follow.refusal.Refusal.TheVariants.{NoDialogue, OutOfMemory}
+use Rattle.trace_explain.specs.declared.follow.listener.Refusal.{Refusal}
+use Rattle.trace_explain.specs.declared.follow.listener.Refusal.TheVariants.{NoDialogue, OutOfMemory}
 use Rattle.trace_explain.specs.Told.{Told, told_by, Tells, TellsFront}
 
 -- this much is told of a dialogue of which these characters came before a reset

@@ -1,6 +1,5 @@
 //! What is said of a TPDU, in words, and what of its data is shown.
 pub mod clock;
-pub mod command_name;
 pub mod complaint;
 pub mod mask;
 pub mod meaning;

@@ -5,7 +5,6 @@ pub mod links;
 pub mod listener;
 pub mod opening;
 pub mod preface;
-pub mod refusal;
 pub mod response;
 pub mod story;
 pub mod tally;

@@ -1,5 +1,6 @@
-//! What P1 and P2 say of a command, in words.
+//! Commands by their names, with what their P1-P2 say.
 
+use crate::instructions::{Parts, instruction};
 use crate::write::sheet::Sheet;
 use apdu_core::Header;
 use tlv_core::ObjectTag;
@@ -13,15 +14,49 @@ const SHORT: u8 = 0x80;
 /// The short file identifier that names none.
 const NO_FILE: u8 = 0x1F;
 
+/// Adds the name of a command with this header and these data of the terminal, with its parts, and
+/// its class where that says more.
+pub fn push_command(text: &mut Sheet, header: Header, sent: &[u8]) {
+    match instruction(header.cla, header.ins) {
+        Some((name, _, parts)) => {
+            text.push_str(name);
+            push_parts(text, parts, header, sent);
+        }
+        None => {
+            let ins = header.ins;
+            write!(text, "INS {ins:02X}");
+            push_parameters(text, header);
+        }
+    }
+    match header.cla {
+        0x00 | 0x10 => {}
+        cla => write!(text, ", class {cla:02X}"),
+    }
+}
+
+/// Adds what P1 and P2 say.
+fn push_parts(text: &mut Sheet, parts: Parts, header: Header, sent: &[u8]) {
+    match parts {
+        Parts::Selected => push_selected(text, header, sent),
+        Parts::Object => push_object(text, header),
+        Parts::Place => push_place(text, header),
+        Parts::Records => push_records(text, header),
+        Parts::Reference => push_reference(text, header),
+        Parts::Channel => push_channel(text, header),
+        Parts::Cryptogram => push_cryptogram(text, header),
+        Parts::Others => push_others(text, header),
+    }
+}
+
 /// Adds P1 and P2 as they are.
-pub fn push_parameters(text: &mut Sheet, header: Header) {
+fn push_parameters(text: &mut Sheet, header: Header) {
     let p1 = header.p1;
     let p2 = header.p2;
     write!(text, " with P1-P2 {p1:02X}{p2:02X}");
 }
 
 /// Adds P1 and P2, where they are not `0000`.
-pub fn push_others(text: &mut Sheet, header: Header) {
+fn push_others(text: &mut Sheet, header: Header) {
     if header.p1 == 0 && header.p2 == 0 {
         return;
     }
@@ -29,7 +64,7 @@ pub fn push_others(text: &mut Sheet, header: Header) {
 }
 
 /// Adds the tag of the object that P1-P2 name, or P1 and P2 if they name none.
-pub fn push_object(text: &mut Sheet, header: Header) {
+fn push_object(text: &mut Sheet, header: Header) {
     match ObjectTag::from_p1p2(header.p1, header.p2) {
         Some(tag) => {
             text.push_str(" of ");
@@ -41,7 +76,7 @@ pub fn push_object(text: &mut Sheet, header: Header) {
 
 /// Adds what SELECT selects: P1 says what its data name, bits 2-1 of P2 which of several
 /// (ISO/IEC 7816-4, 7.1.1).
-pub fn push_selected(text: &mut Sheet, header: Header, name: &[u8]) {
+fn push_selected(text: &mut Sheet, header: Header, name: &[u8]) {
     let (what, unnamed) = match header.p1 {
         0x00 => ("file ", "file"),
         0x01 => ("child DF ", "child DF"),
@@ -77,7 +112,7 @@ pub fn push_selected(text: &mut Sheet, header: Header, name: &[u8]) {
 
 /// Adds where the bytes stand: P1-P2 are the offset, or P1 has a short file identifier and P2 is
 /// the offset (ISO/IEC 7816-4, 7.2.2).
-pub fn push_place(text: &mut Sheet, header: Header) {
+fn push_place(text: &mut Sheet, header: Header) {
     let Header { p1, p2, .. } = header;
     if p1 & SHORT == 0 {
         let offset = u16::from_be_bytes([p1, p2]);
@@ -92,7 +127,7 @@ pub fn push_place(text: &mut Sheet, header: Header) {
 
 /// Adds which records: P1 is a number or an identifier, bits 3-1 of P2 say which and bits 8-4 are a
 /// short file identifier (ISO/IEC 7816-4, 7.3.2).
-pub fn push_records(text: &mut Sheet, header: Header) {
+fn push_records(text: &mut Sheet, header: Header) {
     let Header { ins, p1, p2, .. } = header;
     let file = p2 >> 3;
     if file == NO_FILE {
@@ -130,7 +165,7 @@ fn occurrence(which: u8) -> &'static str {
 
 /// Adds the reference in P2: bit 8 says whether it is the application's own, bits 5-1 are a number
 /// (ISO/IEC 7816-4, 7.5.1).
-pub fn push_reference(text: &mut Sheet, header: Header) {
+fn push_reference(text: &mut Sheet, header: Header) {
     let p2 = header.p2;
     let number = p2 & 0x1F;
     let kind = if p2 & 0x80 == 0 { "global" } else { "specific" };
@@ -143,7 +178,7 @@ pub fn push_reference(text: &mut Sheet, header: Header) {
 }
 
 /// Adds what MANAGE CHANNEL does (ISO/IEC 7816-4, 7.1.2).
-pub fn push_channel(text: &mut Sheet, header: Header) {
+fn push_channel(text: &mut Sheet, header: Header) {
     let Header { p1, p2, .. } = header;
     match (p1, p2) {
         (0x00, 0x00) => text.push_str(", opens one"),
@@ -156,7 +191,7 @@ pub fn push_channel(text: &mut Sheet, header: Header) {
 
 /// Adds which cryptogram GENERATE AC asks for, by bits 8-7 of P1, and whether it is to be signed,
 /// by bit 5 (EMV 4.3, Book 3, 6.5.5).
-pub fn push_cryptogram(text: &mut Sheet, header: Header) {
+fn push_cryptogram(text: &mut Sheet, header: Header) {
     let signed = match header.p1 & 0x3F {
         0x00 => "",
         0x10 => ", signed",

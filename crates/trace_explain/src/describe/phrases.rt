@@ -5,8 +5,8 @@ ghost use Rattle.std.specs.Fmt.{decimal};
 ghost use Rattle.trace_explain.specs.Boxes.{size_words, whole_words};
 ghost use Rattle.trace_explain.specs.Sheets.{Adds};
 
-use crate::describe::command_name::push_command;
 use crate::describe::outline::Outline;
+use crate::describe::parts::push_command;
 use crate::follow::links::{Link, Links, Whole};
 use crate::follow::tally::Tally;
 use crate::write::sheet::Sheet;

@@ -19,8 +19,10 @@ const PROPRIETARY: u8 = 0x80;
 pub struct ChainHeard {
     pending: Option<Header>,
     pieces: u64,
-    is_whole: bool,
-    value: Vec<u8>,
+    /// Whether each piece was heard whole.
+    pub is_whole: bool,
+    /// The bytes of the pieces: the first of them, if they are `VALUE_LIMIT` or more.
+    pub value: Vec<u8>,
 }
 
 impl ChainHeard {
@@ -39,11 +41,6 @@ impl ChainHeard {
         self.pending.is_some()
     }
 
-    /// The bytes of the pieces; only the first of them where they are `VALUE_LIMIT` or more.
-    pub fn value(&self) -> &[u8] {
-        self.value.as_slice()
-    }
-
     /// Drops the chain.
     pub fn drop_all(&mut self) {
         self.pending = None;
@@ -55,11 +52,6 @@ impl ChainHeard {
     /// Some of what came was not heard, so that pieces of the chain may lack.
     pub fn lose_some(&mut self) {
         self.is_whole = false;
-    }
-
-    /// Whether each piece of the chain was heard whole.
-    pub fn is_whole(&self) -> bool {
-        self.is_whole
     }
 
     /// Whether a command with this header goes on with the chain that is pending.

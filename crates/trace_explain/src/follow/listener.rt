@@ -7,11 +7,30 @@ ghost use Rattle.t0_core.specs.TapSide.{due_at};
 ghost use Rattle.trace_explain.specs.Told.{Told, told_by, told_of, untold, is_last};
 ghost use Rattle.trace_explain.specs.Noted.{AreStatus, HasNoted, IsRefused, as_ended, ended_by, is_bare};
 
-use crate::follow::refusal::Refusal;
 use crate::follow::tpdu::Tpdu;
 use std::alloc::{AllocError, Global};
 use std::mem;
-use t0_core::{Due, End, Heard, Tap};
+use t0_core::{Due, End, Heard, Tap, TapFault};
+
+/// Why a character was not taken.
+#[derive(Clone, Copy)]
+pub enum Refusal {
+    /// No dialogue goes on with it.
+    NoDialogue(TapFault),
+    /// Memory was wanting.
+    OutOfMemory,
+}
+
+impl From<AllocError> for Refusal {
+    ghost use Rattle.std.specs.Prelude.{◌≡◌};
+    ghost use Rattle.trace_explain.specs.declared.follow.listener.Refusal.TheVariants.{OutOfMemory};
+
+    ghost from_gives = { λ _ refusal. refusal ≡ OutOfMemory };
+
+    fn from(_error: AllocError) -> Refusal {
+        Refusal::OutOfMemory
+    }
+}
 
 /// A tap, and what it has heard of the TPDU under way.
 #[derive(Drop)]
@@ -23,6 +42,7 @@ pub struct Listener {
 
 impl Listener {
     /// It has heard nothing yet.
+    #[tactic(auto, using(crate::proofs::NotedLemmas::heard_nothing))]
     pub fn new(alloc: Global) -> Listener
         ensures { HasNoted [] [] result }
     {

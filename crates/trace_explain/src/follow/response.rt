@@ -33,9 +33,11 @@ enum Asked {
 #[derive(Drop)]
 pub struct ResponseHeard {
     asked: Asked,
-    asker: Option<Header>,
+    /// The command that asked for it.
+    pub asker: Option<Header>,
     parts: u64,
-    bytes: Vec<u8>,
+    /// The bytes of its parts: the first of them, if they are `UNTOLD_SIZE` or more.
+    pub bytes: Vec<u8>,
 }
 
 impl ResponseHeard {
@@ -53,11 +55,6 @@ impl ResponseHeard {
     pub fn begin(&mut self, header: Header) {
         self.drop_all();
         self.asker = Some(header);
-    }
-
-    /// The command that it is of.
-    pub fn asker(&self) -> Option<Header> {
-        self.asker
     }
 
     /// Whether some of its data have come.
@@ -111,10 +108,5 @@ impl ResponseHeard {
             (0x90, 0x00) | (0x62 | 0x63, _) => self.parts,
             _ => 0,
         }
-    }
-
-    /// The bytes of all parts; only the first of them where they are `UNTOLD_SIZE` or more.
-    pub fn bytes(&self) -> &[u8] {
-        self.bytes.as_slice()
     }
 }

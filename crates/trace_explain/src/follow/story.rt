@@ -90,7 +90,7 @@ impl Story {
     {
         let is_asked = self.response.link_of(header, le) != Link::None;
         let asker = match header.ins {
-            0xC0 if is_asked => self.response.asker(),
+            0xC0 if is_asked => self.response.asker,
             _ => Some(header),
         };
         let answer_goes_on = is_asked && self.response.has_come();
@@ -118,12 +118,10 @@ impl Story {
     fn come_together(&self, piece: Link, parts: u64) -> Whole {
         match piece {
             Link::LastPiece(pieces)
-                if self.chain.is_whole() && self.chain.value().len() < VALUE_LIMIT => {
+                if self.chain.is_whole && self.chain.value.len() < VALUE_LIMIT => {
                 Whole::Value(pieces)
             }
-            _ if parts > 1 && self.response.bytes().len() < UNTOLD_SIZE => {
-                Whole::Response(parts)
-            }
+            _ if parts > 1 && self.response.bytes.len() < UNTOLD_SIZE => { Whole::Response(parts) }
             _ => Whole::None,
         }
     }
@@ -151,8 +149,8 @@ impl Story {
     pub fn whole(&self, whole: Whole) -> &[u8] {
         match whole {
             Whole::None => &[],
-            Whole::Response(_) => self.response.bytes(),
-            Whole::Value(_) => self.chain.value(),
+            Whole::Response(_) => self.response.bytes.as_slice(),
+            Whole::Value(_) => self.chain.value.as_slice(),
         }
     }
 

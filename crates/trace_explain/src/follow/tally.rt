@@ -29,23 +29,12 @@ impl Tally {
     pub fn with(self, step: Step) -> Tally
         ensures { result ≡ counted self step }
     {
-        let Tally { nulls, ones, alls } = self;
+        let mut more = self;
         match step {
-            Step::Null => Tally {
-                nulls: nulls.saturating_add(1),
-                ones,
-                alls,
-            },
-            Step::One => Tally {
-                nulls,
-                ones: ones.saturating_add(1),
-                alls,
-            },
-            Step::All => Tally {
-                nulls,
-                ones,
-                alls: alls.saturating_add(1),
-            },
+            Step::Null => more.nulls = more.nulls.saturating_add(1),
+            Step::One => more.ones = more.ones.saturating_add(1),
+            Step::All => more.alls = more.alls.saturating_add(1),
         }
+        more
     }
 }

@@ -1,31 +1,36 @@
-//! Characters as hexadecimal digits, with spaces between them.
+//! Bytes as hexadecimal digits, with spaces between them.
 ghost use Rattle.std.specs.Prelude.{◌≡◌, ◌++◌, ◌∷◌, [], IfOk, IfErr, OnOk};
 ghost use Rattle.hex.specs.Hex.{hex_digit_value};
-ghost use Rattle.trace_explain.specs.Lines.{AreBadDigits, bytes_in, first_byte, is_digits};
+ghost use Rattle.trace_explain.specs.Lines.{AreBadDigits, byte_of, bytes_in, is_digits};
 
 use crate::read::trace_line::BadLine;
 use std::alloc::{AllocError, Global};
 
-/// The bytes that digits say: two digits for each, in either case, with any number of spaces
+/// Returns the bytes that digits say: two digits each, in either case, with any number of spaces
 /// before and behind them. `Hex` for anything else.
 pub fn bytes_of(alloc: Global, digits: &[u8]) -> Result<Vec<u8>, BadLine>
     ensures says { IfOk result (λ bytes. bytes_in digits.now ≡ Some bytes.items) }
     ensures refused { IfErr result (λ why. AreBadDigits why digits.now) }
 {
     let mut bytes = Vec::new(alloc);
-    let mut place = 0;
-    'pairs: while place < digits.len() {
-        if digits[place] == b' ' {
-            place += 1;
-        } else {
-            let Some(byte) = first_byte(&digits[place..]) else {
-                return Err(BadLine::Hex);
-            };
-            push(&mut bytes, byte)?;
-            place += 2;
+    let mut first = None;
+    for &digit in digits {
+        match first {
+            None if digit == b' ' => {}
+            None => first = Some(digit),
+            Some(high) => {
+                let Some(byte) = byte_of(high, digit) else {
+                    return Err(BadLine::Hex);
+                };
+                push(&mut bytes, byte)?;
+                first = None;
+            }
         }
     }
-    Ok(bytes)
+    match first {
+        None => Ok(bytes),
+        Some(_) => Err(BadLine::Hex),
+    }
 }
 
 /// Appends a byte.
@@ -35,14 +40,11 @@ pub fn push(bytes: &mut Vec<u8>, byte: u8) -> Result<(), AllocError>
     bytes.push(byte).map_err(AllocError::from)
 }
 
-/// The byte of the first two digits, if there are two.
-fn first_byte(digits: &[u8]) -> Option<u8>
-    ensures { result ≡ first_byte digits.now }
+/// Returns the byte of two digits; `None` if one of them is no digit.
+pub fn byte_of(high: u8, low: u8) -> Option<u8>
+    ensures { result ≡ byte_of (hex_digit_value high) (hex_digit_value low) }
 {
-    match digits {
-        [high, low, ..] => Some(value_of(*high)? * 16 + value_of(*low)?),
-        _ => None,
-    }
+    Some(value_of(high)? * 16 + value_of(low)?)
 }
 
 /// Whether these are digits, with nothing else but spaces behind the first one.

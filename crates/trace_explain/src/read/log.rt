@@ -97,6 +97,7 @@ impl Log {
     }
 
     /// Takes a line before which the answer that was open has ended.
+    #[tactic(auto, using(crate::proofs::LogLemmas::both_took))]
     fn take_behind_answer(&mut self, line: &[u8], logged: &mut Vec<Logged>) -> Result<(), BadLine>
         ensures takes { OnOk result ((said : LogLine) × SaysLog line.now said
             × Took (behind_answer (log_at self.old) said) logged.old.items logged.new.items

@@ -3,7 +3,7 @@ ghost use Rattle.std.specs.Prelude.{◌≡◌};
 ghost use Rattle.trace_explain.specs.WaysOf.{way_of};
 
 use crate::instructions::instruction;
-use crate::read::digits::value_of;
+use crate::read::digits::byte_of;
 use std::fmt;
 use t0_core::Direction;
 
@@ -71,7 +71,7 @@ impl fmt::Display for BadWays {
 /// The instruction that two digits are.
 fn ins_of(word: &[u8]) -> Option<u8> {
     match word {
-        [high, low] => Some(value_of(*high)? * 16 + value_of(*low)?),
+        [high, low] => byte_of(*high, *low),
         _ => None,
     }
 }

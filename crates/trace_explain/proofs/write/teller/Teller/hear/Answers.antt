@@ -1,7 +1,7 @@
 use Rattle.std.proofs.Common.{◌++◌, ◌∷◌, [], Option, subst, sym}
 use Rattle.t0_core.specs.History.{Passed}
 use Rattle.trace_explain.specs.declared.follow.listener.Listener.{Listener}
-use Rattle.trace_explain.specs.declared.follow.refusal.Refusal.{Refusal}
+use Rattle.trace_explain.specs.declared.follow.listener.Refusal.{Refusal}
 use Rattle.trace_explain.specs.declared.follow.tpdu.Tpdu.{Tpdu}
 use Rattle.trace_explain.specs.Noted.{HasNoted, IsRefused, NoneGoesOn}
 use Rattle.trace_explain.specs.Told.{told_by, told_of}

@@ -93,9 +93,7 @@ module _ (s : Settings) where
   waiting Opening t a w h = h
   waiting Sending t a w h = h
   waiting Receiving t a w h = h
-  waiting Aborting t a w h = absurd w
-  waiting Over t a w h = absurd w
-  waiting (GivenUp cause) t a w h = absurd w
+  waiting _ t a w h = absurd w
 
   abbrev on : Phase → Terminal → Terminal
   on p t = record t { phase = p }
@@ -203,11 +201,7 @@ module _ (s : Settings) where
   renumbered t a number h = record { within = h.within; in_phase = again t.phase h.in_phase } where
     again : (p : Phase) → InPhase p t a → InPhase p (record t { number = number }) a
     again Opening x = x
-    again Sending x = x
-    again Receiving x = x
-    again Aborting x = x
-    again Over x = x
-    again (GivenUp cause) x = x
+    again _ x = x
 
   answered_next : (t : Terminal) (a : Account) (n more : Bool) (rest f : List ℕ) → Within t
       → Active 0 t a
@@ -295,17 +289,11 @@ module _ (s : Settings) where
       → without_step Sending (Some (Request control)) a
       ≡ without_step p (Some (Request control)) a
   asked_same Opening (Wtx multiple) a w = refl
-  asked_same Opening (Ifs size) a w = refl
-  asked_same Opening Abort a w = refl
-  asked_same Opening Resynch a w = refl
-  asked_same Sending control a w = refl
   asked_same Receiving (Wtx multiple) a w = refl
-  asked_same Receiving (Ifs size) a w = refl
-  asked_same Receiving Abort a w = refl
-  asked_same Receiving Resynch a w = refl
   asked_same Aborting control a w = absurd w
   asked_same Over control a w = absurd w
   asked_same (GivenUp cause) control a w = absurd w
+  asked_same _ control a w = refl
 
   asked_next : (p : Phase) (t : Terminal) (a : Account) (control : Control) → Waits p → Within t
       → Active 0 t a → Next (Some (Request control)) (on p t) (asked control (on p t)) a
@@ -326,17 +314,7 @@ module _ (s : Settings) where
   opening_next t a (Some (Request control)) within h = asked_next Opening t a control tt within h
   opening_next t a (Some (Response (Ifs size))) within h =
       let x = opened t a (size == longest) within h in (true, x.0, x.1)
-  opening_next t a None within h =
-      let x = spent Opening t a Asks tt within h in (true, x.0, x.1)
-  opening_next t a (Some (I n more f)) within h =
-      let x = spent Opening t a Asks tt within h in (true, x.0, x.1)
-  opening_next t a (Some (R n)) within h =
-      let x = spent Opening t a Asks tt within h in (true, x.0, x.1)
-  opening_next t a (Some (Response (Wtx multiple))) within h =
-      let x = spent Opening t a Asks tt within h in (true, x.0, x.1)
-  opening_next t a (Some (Response Abort)) within h =
-      let x = spent Opening t a Asks tt within h in (true, x.0, x.1)
-  opening_next t a (Some (Response Resynch)) within h =
+  opening_next t a _ within h =
       let x = spent Opening t a Asks tt within h in (true, x.0, x.1)
 
   sending_next : (t : Terminal) (a : Account) (b : Option Block) → Within t → Active 0 t a
@@ -350,9 +328,7 @@ module _ (s : Settings) where
       either _ (on Sending t) _ _ a (same n t.number) (true, x.0, x.1)
       (acknowledged_next t a n t.rest within h)
   sending_next t a (Some (Request control)) within h = asked_next Sending t a control tt within h
-  sending_next t a (Some (Response control)) within h =
-      let x = spent Sending t a Asks tt within h in (true, x.0, x.1)
-  sending_next t a None within h =
+  sending_next t a _ within h =
       let x = spent Sending t a Asks tt within h in (true, x.0, x.1)
 
   receiving_next : (t : Terminal) (a : Account) (b : Option Block) → Within t → Active 0 t a
@@ -363,11 +339,7 @@ module _ (s : Settings) where
       either _ (on Receiving t) _ _ a (same n t.due) (false, y.0, y.1) (true, x.0, x.1)
   receiving_next t a (Some (Request control)) within h =
       asked_next Receiving t a control tt within h
-  receiving_next t a (Some (R n)) within h =
-      let x = spent Receiving t a Asks tt within h in (true, x.0, x.1)
-  receiving_next t a (Some (Response control)) within h =
-      let x = spent Receiving t a Asks tt within h in (true, x.0, x.1)
-  receiving_next t a None within h =
+  receiving_next t a _ within h =
       let x = spent Receiving t a Asks tt within h in (true, x.0, x.1)
 
   aborted_next : (t : Terminal) (a : Account) (b : Option Block) → Within t → Active 1 t a
@@ -428,11 +400,7 @@ module _ (s : Settings) where
   event : (e : Event) (p : Phase) (t : Terminal) (a : Account) → Stands (on p t) a
       → Stands (happens e (on p t)) (account e (on p t) a)
   event (Begins command) Over t a h = begun (on Over t) command h.within
-  event (Begins command) Opening t a h = h
-  event (Begins command) Sending t a h = h
-  event (Begins command) Receiving t a h = h
-  event (Begins command) Aborting t a h = h
-  event (Begins command) (GivenUp cause) t a h = h
+  event (Begins command) _ t a h = h
   event (Takes bytes) p t a h = reception p t a (block_of bytes) h
   event Misses p t a h = reception p t a None h
   event Resets p t a h = subst (λ x. Stands (fresh x) nothing) (sym h.within.0) reset
@@ -454,10 +422,8 @@ module _ (s : Settings) where
       → cause_in p ≡ reason s a
   cause_is (GivenUp cause) t a w h = sym h
   cause_is Over t a w h = sym h
-  cause_is Opening t a w h = none 0 t a w h (omega arith)
-  cause_is Sending t a w h = none 0 t a w h (omega arith)
-  cause_is Receiving t a w h = none 0 t a w h (omega arith)
   cause_is Aborting t a w h = none 1 t a w h (omega arith)
+  cause_is _ t a w h = none 0 t a w h (omega arith)
 
 pub each_fault_has_its_reason : (settings : Settings) (events : List Event)
     → IsAccounted settings (after (fresh settings) events)

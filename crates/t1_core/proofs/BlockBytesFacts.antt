@@ -5,8 +5,8 @@ use Rattle.std.proofs.lemmas.Option.{same_Some}
 use Rattle.std.proofs.Math.Seq.{take-append_seam, get_or-append_seam}
 use Rattle.t1_core.specs.declared.pcb.Pcb.{Pcb}
 use Rattle.t1_core.specs.declared.pcb.Pcb.TheVariants.{Information, Ready, Supervisory}
-use Rattle.t1_core.specs.declared.pcb.Reason.TheVariants.{NoError, Edc, Other}
-use Rattle.t1_core.specs.declared.pcb.Subject.TheVariants.{Resynch, Ifs, Abort, Wtx}
+use Rattle.t1_core.specs.declared.pcb.Reason.TheVariants.{NoError}
+use Rattle.t1_core.specs.declared.pcb.Subject.TheVariants.{Resynch}
 use Rattle.t1_core.specs.PcbBytes.{pcb_byte, pcb_of}
 use Rattle.t1_core.specs.declared.control.Control.{Control}
 use Rattle.t1_core.specs.declared.control.Control.TheVariants as control
@@ -16,23 +16,12 @@ use Rattle.t1_core.specs.BlockBytes.{lrc, before_lrc, spelled, parts_of, block_i
 -- of all PCBs
 pub pcb_again : (p : Pcb) → pcb_of (pcb_byte p) ≡ Some p
 pcb_again (Information true true) = refl
-pcb_again (Information true false) = refl
 pcb_again (Information false true) = refl
-pcb_again (Information false false) = refl
 pcb_again (Ready true NoError) = refl
-pcb_again (Ready true Edc) = refl
-pcb_again (Ready true Other) = refl
 pcb_again (Ready false NoError) = refl
-pcb_again (Ready false Edc) = refl
-pcb_again (Ready false Other) = refl
 pcb_again (Supervisory true Resynch) = refl
-pcb_again (Supervisory true Ifs) = refl
-pcb_again (Supervisory true Abort) = refl
-pcb_again (Supervisory true Wtx) = refl
 pcb_again (Supervisory false Resynch) = refl
-pcb_again (Supervisory false Ifs) = refl
-pcb_again (Supervisory false Abort) = refl
-pcb_again (Supervisory false Wtx) = refl
+pcb_again _ = refl
 
 -- where each test holds
 reads : (bytes info : List ℕ) (p : Pcb) (len : ℕ) → slice_index bytes 2 ≡ len → length bytes ≡
@@ -67,9 +56,7 @@ reads_spelled p info few =
 -- a block is read as it is written
 controls : (c : Control) → control_of (subject_of c) (field_of c) ≡ Some c
 controls control.Resynch = refl
-controls (control.Ifs size) = refl
-controls control.Abort = refl
-controls (control.Wtx multiple) = refl
+controls _ = refl
 
 block_again : (b : Block) → is_filled b ≡ true → block_in (Some (pcb_for b, info_of b)) ≡ Some b
 block_again (I number true []) filled = absurd (cc)
@@ -87,23 +74,18 @@ reads_written b bytes few filled is =
 -- what is read has a field inside a chain
 controlled_is_filled : (response : Bool) (c : Option Control) (b : Block)
     → controlled response c ≡ Some b → is_filled b ≡ true
-controlled_is_filled true (Some c) b e = subst (λ x. is_filled x ≡ true) (same_Some _ _ e) refl
-controlled_is_filled false (Some c) b e = subst (λ x. is_filled x ≡ true) (same_Some _ _ e) refl
 controlled_is_filled response None b e = absurd (cc)
+controlled_is_filled true (Some c) b e = subst (λ x. is_filled x ≡ true) (same_Some _ _ e) refl
+controlled_is_filled _ _ b e = subst (λ x. is_filled x ≡ true) (same_Some _ _ e) refl
 
 block_is_filled : (parts : Option (Pcb × List ℕ)) (b : Block) → block_in parts ≡ Some b
     → is_filled b ≡ true
 block_is_filled None b e = absurd (cc)
 block_is_filled (Some (Information number true, [])) b e = absurd (cc)
-block_is_filled (Some (Information number true, x ∷ field)) b e =
-    subst (λ x. is_filled x ≡ true) (same_Some _ _ e) refl
-block_is_filled (Some (Information number false, field)) b e =
-    subst (λ x. is_filled x ≡ true) (same_Some _ _ e) refl
-block_is_filled (Some (Ready number reason, [])) b e =
-    subst (λ x. is_filled x ≡ true) (same_Some _ _ e) refl
 block_is_filled (Some (Ready number reason, x ∷ field)) b e = absurd (cc)
 block_is_filled (Some (Supervisory response what, field)) b e =
     controlled_is_filled response (control_of what field) b e
+block_is_filled _ b e = subst (λ x. is_filled x ≡ true) (same_Some _ _ e) refl
 
 pub read_is_filled : (bytes : List ℕ) (b : Block) → block_of bytes ≡ Some b → is_filled b ≡ true
 read_is_filled bytes b e = block_is_filled (parts_of bytes) b e

@@ -31,19 +31,6 @@ abbrev one_if_not : Bool → ℕ
 one_if_not true = 0
 one_if_not false = 1
 
--- N(S) and N(R) of the terminal
-abbrev numbers : Place → Bool × Bool
-numbers (Opens k rest tries extensions asks) = (k.number, k.due)
-numbers (Behind k collected rest answering tries extensions asks) = (k.number, k.due)
-numbers (Taken k collected b bytes tries extensions) = (k.number, k.due)
-numbers (Waits k rest n size granted tries extensions) = (k.number, k.due)
-numbers (Grows k rest size granted tries extensions) = (k.number, k.due)
-numbers (Answering k rest tries extensions) = (k.number, k.due)
-numbers (Between k got b bytes tries extensions) = (k.number, k.due)
-numbers (Repeating k got rest tries extensions) = (k.number, k.due)
-numbers (Given_up w cause) = (w.terminal.number, w.terminal.due)
-numbers (Finished w) = (w.terminal.number, w.terminal.due)
-
 -- the place once the terminal has asked again
 abbrev asking : Place → Place
 asking (Behind k collected rest answering tries extensions asks) =
@@ -53,6 +40,10 @@ asking (Grows k rest size granted tries extensions) = Grows k rest size false tr
 asking p = p
 
 module _ (m : Meaning) (before : List (List ℕ)) (f : ℕ) where
+  -- N(S) and N(R) of the terminal
+  abbrev numbers : Place → Bool × Bool
+  numbers p = let t = (world_of m before p).terminal in (t.number, t.due)
+
   -- `long` is the length of the response in progress
   pub record Quiet (left tries most : ℕ) (settings : Settings) (long : ℕ) : Type 0 where
     pub tries_left : most ≤ tries
@@ -138,8 +129,7 @@ module _ (m : Meaning) (before : List (List ℕ)) (f : ℕ) where
       uses_calm TriesSpent tries left _ _ (let q = h.tries_left in omega (arith, q))
       (λ i e. let q = h.tries_left in let l = h.left_le in quiet left i (2 * left) h
       (omega (arith, e, q)) (omega (arith, l)))
-  misses_calm out (Given_up w cause) left h = h
-  misses_calm out (Finished w) left h = tt
+  misses_calm _ _ left h = h
 
   -- a place from which nobody has moved
   uses_stays : (cause : Cause) (n : ℕ) (w : World) (again : ℕ → Place) (old : Bool × Bool)
@@ -149,24 +139,15 @@ module _ (m : Meaning) (before : List (List ℕ)) (f : ℕ) where
   uses_stays cause (suc n) w again old e h = h n
 
   misses_stays : (out : Out) (p : Place) → numbers (misses m before out p) ≡ numbers p
-  misses_stays out (Opens k rest tries extensions asks) =
-      uses_stays TriesSpent tries _ _ _ refl (λ i. refl)
-  misses_stays out (Behind k collected rest answering tries extensions asks) =
-      uses_stays TriesSpent tries _ _ _ refl (λ i. refl)
-  misses_stays out (Taken k collected b bytes tries extensions) =
-      uses_stays TriesSpent tries _ _ _ refl (λ i. refl)
-  misses_stays out (Waits k rest n size granted tries extensions) =
-      uses_stays TriesSpent tries _ _ _ refl (λ i. refl)
-  misses_stays out (Grows k rest size granted tries extensions) =
-      uses_stays TriesSpent tries _ _ _ refl (λ i. refl)
-  misses_stays out (Answering k rest tries extensions) =
-      uses_stays TriesSpent tries _ _ _ refl (λ i. refl)
-  misses_stays out (Between k got b bytes tries extensions) =
-      uses_stays TriesSpent tries _ _ _ refl (λ i. refl)
-  misses_stays out (Repeating k got rest tries extensions) =
-      uses_stays TriesSpent tries _ _ _ refl (λ i. refl)
-  misses_stays out (Given_up w cause) = refl
-  misses_stays out (Finished w) = refl
+  misses_stays out (Opens k rest zero extensions asks) = refl
+  misses_stays out (Behind k collected rest answering zero extensions asks) = refl
+  misses_stays out (Taken k collected b bytes zero extensions) = refl
+  misses_stays out (Waits k rest n size granted zero extensions) = refl
+  misses_stays out (Grows k rest size granted zero extensions) = refl
+  misses_stays out (Answering k rest zero extensions) = refl
+  misses_stays out (Between k got b bytes zero extensions) = refl
+  misses_stays out (Repeating k got rest zero extensions) = refl
+  misses_stays _ _ = refl
 
   missed : (out : Out) (p : Place) (left : ℕ) → Calm (left + 1) p → Goes left (numbers p)
       (misses m before out p)
@@ -182,28 +163,17 @@ module _ (m : Meaning) (before : List (List ℕ)) (f : ℕ) where
 
   starts_stays : (k : Kept) (rest : List ℕ) (n : ℕ) (size : Option ℕ) (tries extensions : ℕ)
       → numbers (starts k rest n size tries extensions) ≡ (k.number, k.due)
-  starts_stays k rest (suc n) size tries extensions = refl
   starts_stays k rest zero (Some size) tries extensions = refl
-  starts_stays k rest zero None tries extensions = refl
+  starts_stays _ _ _ _ _ _ = refl
 
   heard_stays : (p : Place) → numbers (heard m before p) ≡ numbers p
-  heard_stays (Opens k rest tries extensions asks) = refl
-  heard_stays (Behind k collected [] answering tries extensions true) = refl
-  heard_stays (Behind k collected (b ∷ bytes) answering tries extensions true) = refl
-  heard_stays (Behind k collected [] answering tries extensions false) = starts_stays _ _ _ _
-      tries extensions
+  heard_stays (Behind k collected [] answering tries extensions false) =
+      starts_stays _ _ _ _ tries extensions
   heard_stays (Behind k collected (b ∷ bytes) answering tries extensions false) = refl
-  heard_stays (Taken k collected b bytes tries extensions) = refl
-  heard_stays (Waits k rest n size true tries extensions) = starts_stays k rest n size tries
-      extensions
-  heard_stays (Waits k rest n size false tries extensions) = refl
+  heard_stays (Waits k rest n size true tries extensions) =
+      starts_stays k rest n size tries extensions
   heard_stays (Grows k rest size true tries extensions) = refl
-  heard_stays (Grows k rest size false tries extensions) = refl
-  heard_stays (Answering k rest tries extensions) = refl
-  heard_stays (Between k got b bytes tries extensions) = refl
-  heard_stays (Repeating k got rest tries extensions) = refl
-  heard_stays (Given_up w cause) = refl
-  heard_stays (Finished w) = refl
+  heard_stays _ = refl
 
   parts_fit : (n : ℕ) (bytes : List ℕ) (most : ℕ) → length bytes ≤ most
       → length (take n bytes) + length (drop n bytes) ≤ most
@@ -213,9 +183,6 @@ module _ (m : Meaning) (before : List (List ℕ)) (f : ℕ) where
       omega (arith, le, e, w)
 
   heard_calm : (p : Place) (left : ℕ) → Calm left p → Calm left (asking (heard m before p))
-  heard_calm (Opens k rest tries extensions asks) left h = h
-  heard_calm (Behind k collected [] answering tries extensions true) left h = h
-  heard_calm (Behind k collected (b ∷ bytes) answering tries extensions true) left h = h
   heard_calm (Behind k collected [] answering tries extensions false) left h =
       let done : List (List ℕ) = before ++ (k.done ++ (collected ++ k.field) ∷ []) in
       let q = h.0.tries_left in let l = h.0.left_le in let x = h.1 in
@@ -232,13 +199,9 @@ module _ (m : Meaning) (before : List (List ℕ)) (f : ℕ) where
         quiet left tries (2 * left) h.0 (omega (arith, q)) h.0.left_le,
         h.1,
       )
-  heard_calm (Taken k collected b bytes tries extensions) left h = h
   heard_calm (Waits k rest n size true tries extensions) left h =
       let x = h.1 in starts_calm k rest n size tries extensions left h.0 (omega (arith, x)) h.2
-  heard_calm (Waits k rest n size false tries extensions) left h = h
   heard_calm (Grows k rest size true tries extensions) left h = h.0
-  heard_calm (Grows k rest size false tries extensions) left h = h
-  heard_calm (Answering k rest tries extensions) left h = h
   heard_calm (Between k got b bytes tries extensions) left h =
       let e = h.fits in
       let p = parts_fit k.ifsd (b ∷ bytes) (length (b ∷ bytes)) (omega arith) in
@@ -248,32 +211,18 @@ module _ (m : Meaning) (before : List (List ℕ)) (f : ℕ) where
         enough = h.enough;
         fits = omega (arith, e, p);
       }
-  heard_calm (Repeating k got rest tries extensions) left h = h
-  heard_calm (Given_up w cause) left h = h
-  heard_calm (Finished w) left h = h
+  heard_calm _ left h = h
 
   -- to have asked again is the worse place
   unasked : (p : Place) (left : ℕ) → Calm left (asking p) → Calm left p
-  unasked (Opens k rest tries extensions asks) left h = h
-  unasked (Behind k collected rest answering tries extensions true) left h = h
   unasked (Behind k collected rest answering tries extensions false) left h =
-      let q = h.0.tries_left in (
-        quiet left tries (2 * left + 0) h.0 (omega (arith, q))
-            h.0.left_le,
-        h.1,
-      )
-  unasked (Taken k collected b bytes tries extensions) left h = h
-  unasked (Waits k rest n size true tries extensions) left h = let x = h.1 in
-      (h.0, omega (arith, x), h.2)
-  unasked (Waits k rest n size false tries extensions) left h = h
-  unasked (Grows k rest size true tries extensions) left h = let x = h.1 in
-      (h.0, omega (arith, x), h.2)
-  unasked (Grows k rest size false tries extensions) left h = h
-  unasked (Answering k rest tries extensions) left h = h
-  unasked (Between k got b bytes tries extensions) left h = h
-  unasked (Repeating k got rest tries extensions) left h = h
-  unasked (Given_up w cause) left h = h
-  unasked (Finished w) left h = h
+      let q = h.0.tries_left in
+      (quiet left tries (2 * left + 0) h.0 (omega (arith, q)) h.0.left_le, h.1)
+  unasked (Waits k rest n size true tries extensions) left h =
+      let x = h.1 in (h.0, omega (arith, x), h.2)
+  unasked (Grows k rest size true tries extensions) left h =
+      let x = h.1 in (h.0, omega (arith, x), h.2)
+  unasked _ left h = h
 
   -- and it is borne with a block more
   asked : (p : Place) (left : ℕ) → Calm (left + 1) p → Calm left (asking p)
@@ -301,8 +250,7 @@ module _ (m : Meaning) (before : List (List ℕ)) (f : ℕ) where
   asked (Repeating k got rest tries extensions) left h =
       let q = h.tries_left in let l = h.left_le in quiet left tries (2 * left) h
       (omega (arith, q)) (omega (arith, l))
-  asked (Given_up w cause) left h = h
-  asked (Finished w) left h = tt
+  asked _ left h = h
 
   -- the card's block arrives
 
@@ -432,29 +380,19 @@ module _ (m : Meaning) (before : List (List ℕ)) (f : ℕ) where
   arrived_goes : (up : Fate) (out : Out) (p : Place) (left : ℕ) → IsHeard m before p
       → Calm (left + 1) p → Goes left (numbers p) (arrived m before out up p)
   arrived_goes Delivers out p left a h = comes_goes out p left a (asked p left h)
-  arrived_goes Damages out p left a h = missed out p left h
-  arrived_goes Loses out p left a h = missed out p left h
+  arrived_goes _ out p left a h = missed out p left h
 
   garbled_goes : (up : Fate) (p : Place) (left : ℕ) → Calm (left + 1) p → Goes left (numbers p)
       (garbled m before up p)
-  garbled_goes up (Opens k rest tries extensions asks) left h = missed _
-      (Opens k rest tries extensions asks) left h
-  garbled_goes up (Behind k collected rest answering tries extensions asks) left h = arrived_goes
-      up _ _ left tt h
-  garbled_goes up (Taken k collected b bytes tries extensions) left h = arrived_goes up _ _ left
-      tt h
-  garbled_goes up (Waits k rest n size granted tries extensions) left h = arrived_goes up _ _
-      left tt h
-  garbled_goes up (Grows k rest size granted tries extensions) left h = arrived_goes up _ _ left
-      tt h
-  garbled_goes up (Answering k rest tries extensions) left h = missed _
-      (Answering k rest tries extensions) left h
-  garbled_goes up (Between k got b bytes tries extensions) left h = missed _
-      (Between k got b bytes tries extensions) left h
-  garbled_goes up (Repeating k got rest tries extensions) left h = missed _
-      (Repeating k got rest tries extensions) left h
-  garbled_goes up (Given_up w cause) left h = absurd h
-  garbled_goes up (Finished w) left h = arrived_goes up _ _ left tt h
+  garbled_goes up (Behind k collected rest answering tries extensions asks) left h =
+      arrived_goes up _ _ left tt h
+  garbled_goes up (Taken k collected b bytes tries extensions) left h =
+      arrived_goes up _ _ left tt h
+  garbled_goes up (Waits k rest n size granted tries extensions) left h =
+      arrived_goes up _ _ left tt h
+  garbled_goes up (Grows k rest size granted tries extensions) left h =
+      arrived_goes up _ _ left tt h
+  garbled_goes up p left h = missed (out_at p) p left h
 
   -- so many of both blocks do not arrive
   step_goes : (down up : Fate) (p : Place) (left : ℕ) → Calm (left + (bad_of down + bad_of up)) p
@@ -463,37 +401,17 @@ module _ (m : Meaning) (before : List (List ℕ)) (f : ℕ) where
       let h0 : Calm left p = subst (λ l. Calm l p) (omega arith) h in
       heard_goes p (heard m before p) left (heard_stays p) _
       (comes_goes (out_at p) (heard m before p) left (is_heard m before p) (heard_calm p left h0))
-  step_goes Delivers Damages p left h =
-      heard_goes p (heard m before p) left (heard_stays p) _
-      (missed (out_at p) (heard m before p) left (unasked _ (left + 1) (heard_calm p (left + 1) h)))
-  step_goes Delivers Loses p left h =
+  step_goes Delivers _ p left h =
       heard_goes p (heard m before p) left (heard_stays p) _
       (missed (out_at p) (heard m before p) left (unasked _ (left + 1) (heard_calm p (left + 1) h)))
   step_goes Damages Delivers p left h = garbled_goes Delivers p left h
-  step_goes Damages Damages p left h =
-      garbled_goes Damages p left (weaker p (left + 1) (subst (λ l. Calm l p) (omega arith) h))
-  step_goes Damages Loses p left h =
-      garbled_goes Loses p left (weaker p (left + 1) (subst (λ l. Calm l p) (omega arith) h))
+  step_goes Damages up p left h =
+      garbled_goes up p left (weaker p (left + 1) (subst (λ l. Calm l p) (omega arith) h))
   step_goes Loses Delivers p left h = missed (out_at p) p left h
-  step_goes Loses Damages p left h =
-      missed (out_at p) p left (weaker p (left + 1) (subst (λ l. Calm l p) (omega arith) h))
-  step_goes Loses Loses p left h =
+  step_goes Loses _ p left h =
       missed (out_at p) p left (weaker p (left + 1) (subst (λ l. Calm l p) (omega arith) h))
 
   -- every world
-
-  numbers_are : (p : Place) → let t = (world_of m before p).terminal in pair t.number t.due ≡
-      numbers p
-  numbers_are (Opens k rest tries extensions asks) = refl
-  numbers_are (Behind k collected rest answering tries extensions asks) = refl
-  numbers_are (Taken k collected b bytes tries extensions) = refl
-  numbers_are (Waits k rest n size granted tries extensions) = refl
-  numbers_are (Grows k rest size granted tries extensions) = refl
-  numbers_are (Answering k rest tries extensions) = refl
-  numbers_are (Between k got b bytes tries extensions) = refl
-  numbers_are (Repeating k got rest tries extensions) = refl
-  numbers_are (Given_up w cause) = refl
-  numbers_are (Finished w) = refl
 
   abbrev pub IsCalm : ℕ → World → Type 0
   IsCalm left w = (p : Place) × (w ≡ world_of m before p) × Calm left p
@@ -512,10 +430,9 @@ module _ (m : Meaning) (before : List (List ℕ)) (f : ℕ) where
       subst (λ v. GoesOn left (world_of m before p) v) (sym e)
       (elim (step_goes x.down x.up p left h) [
         | inl g ↦
-            let same = numbers_are q ∙ g.0 ∙ sym (numbers_are p) in
-            inl ((ap (λ n. n.0) same, ap (λ n. n.1) same), (q, refl, g.1))
+            inl ((ap (λ n. n.0) g.0, ap (λ n. n.1) g.0), (q, refl, g.1))
         | inr g ↦
-            inr (λ s. g.0 (sym (numbers_are q) ∙ both s.0 s.1 ∙ numbers_are p), (q, refl, g.1))
+            inr (λ s. g.0 (both s.0 s.1), (q, refl, g.1))
       ])
 
   one_more : (x : Fates) (left : ℕ) (w : World) → bad x ≤ left → IsCalm left w → GoesOn
@@ -526,17 +443,8 @@ module _ (m : Meaning) (before : List (List ℕ)) (f : ℕ) where
 
   not_given_up : (p : Place) (left : ℕ) (cause : Cause) → Calm left p →
       (world_of m before p).terminal.phase ≡ GivenUp cause → ⊥
-  not_given_up (Opens k rest tries extensions asks) left cause h e = absurd (cc)
-  not_given_up (Behind k collected rest answering tries extensions asks) left cause h e = absurd
-      (cc)
-  not_given_up (Taken k collected b bytes tries extensions) left cause h e = absurd (cc)
-  not_given_up (Waits k rest n size granted tries extensions) left cause h e = absurd (cc)
-  not_given_up (Grows k rest size granted tries extensions) left cause h e = absurd (cc)
-  not_given_up (Answering k rest tries extensions) left cause h e = absurd (cc)
-  not_given_up (Between k got b bytes tries extensions) left cause h e = absurd (cc)
-  not_given_up (Repeating k got rest tries extensions) left cause h e = absurd (cc)
   not_given_up (Given_up w c) left cause h e = h
-  not_given_up (Finished w) left cause h e = absurd (cc)
+  not_given_up _ left cause h e = absurd (cc)
 
   stays_calm : (fates : List Fates) (left : ℕ) (w : World) (cause : Cause) → IsCalm left w →
       IsMild m f left w fates

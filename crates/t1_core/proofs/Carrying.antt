@@ -23,7 +23,7 @@ use Rattle.t1_core.proofs.Calm.{never_given_up}
 use Rattle.t1_core.proofs.Holding.{Holds, all_stand, at_most_once, first_stands, step_holds}
 use Rattle.t1_core.proofs.Logs.{before_it, commands_with, does_with, entry_short, log_with, own_meaning, responses_are, short_with}
 use Rattle.t1_core.proofs.Measure.{active_or, ahead, behind, measure, more_blocks, response, some_left, step_less, stops, weight}
-use Rattle.t1_core.proofs.Places.{Kept, Place, Opens, Behind, Taken, Waits, Grows, Answering, Between, Repeating, Given_up, Finished, IsActive, is_step, step, world_of}
+use Rattle.t1_core.proofs.Places.{Kept, Place, Opens, Behind, Taken, Waits, Grows, Answering, Between, Repeating, IsActive, is_step, step, world_of}
 
 -- ---- phases
 
@@ -122,84 +122,65 @@ module _ (m : Meaning) (before commands : List (List ℕ))
       zero_times : 0 * k.settings.extensions ≡ 0
       zero_times = omega arith
 
-  -- with no command behind the one in progress, by what stands in the world
+  -- with no command behind the one in progress
+  sending_most : (k : Kept) (command rest : List ℕ) (tries extensions : ℕ) → k.todo ≡ []
+      → weight m before commands k
+      (ahead m before commands k command (more_blocks k.size (length rest))) tries extensions
+      ≤ (length rest + 0 + most_bytes + 4) * (k.settings.tries + 1) + tries + extensions
+  sending_most k command rest tries extensions none =
+      let ran = before ++ (k.done ++ command ∷ []) in
+      let z = none_ahead (size_after (m.asks ran).size k.size) ran k.todo none in
+      weighs k (ahead m before commands k command (more_blocks k.size (length rest)))
+      (length rest + 0 + most_bytes + 4) tries extensions none
+      (omega (
+        arith,
+        z,
+        few_more k.size (length rest),
+        few_blocks longest (length (m.does ran)),
+        short ran,
+      ))
+
+  responding_most : (k : Kept) (size blocks : ℕ) (rest : List ℕ) (tries extensions : ℕ)
+      → k.todo ≡ [] → blocks ≤ response m before commands k rest
+      → weight m before commands k (behind m before commands k size blocks) tries extensions
+      ≤ (0 + length rest + most_bytes + 4) * (k.settings.tries + 1) + tries + extensions
+  responding_most k size blocks rest tries extensions none le =
+      let z = none_ahead size (before ++ k.done) k.todo none in
+      weighs k (behind m before commands k size blocks) (0 + length rest + most_bytes + 4) tries
+      extensions none (omega (arith, z, le, few_more k.ifsd (length rest)))
+
   measured : (p : Place) → (world_of m before p).todo ≡ []
       → measure m before commands p
       ≤ most_at (world_of m before p).terminal (world_of m before p).card
   measured (Opens k rest tries extensions asks) none =
-      let ran = before ++ (k.done ++ (k.field ++ rest) ∷ []) in
-      let z = none_ahead (size_after (m.asks ran).size k.size) ran k.todo none in
-      let x : ℕ = ahead m before commands k (k.field ++ rest) (more_blocks k.size (length rest)) in
-      let w = weighs k x (length rest + 0 + most_bytes + 4) tries extensions none
-      (omega (
-        arith,
-        z,
-        few_more k.size (length rest),
-        few_blocks longest (length (m.does ran)),
-        short ran,
-      )) in
-      omega (arith, w)
+      let w = sending_most k (k.field ++ rest) rest tries extensions none in omega (arith, w)
   measured (Behind k collected rest answering tries extensions asks) none =
-      let ran = before ++ (k.done ++ (collected ++ (k.field ++ rest)) ∷ []) in
-      let z = none_ahead (size_after (m.asks ran).size k.size) ran k.todo none in
-      let x : ℕ = ahead m before commands k (collected ++ (k.field ++ rest))
-      (more_blocks k.size (length rest)) in
-      let w = weighs k x (length rest + 0 + most_bytes + 4) tries extensions none
-      (omega (
-        arith,
-        z,
-        few_more k.size (length rest),
-        few_blocks longest (length (m.does ran)),
-        short ran,
-      )) in
+      let w = sending_most k (collected ++ (k.field ++ rest)) rest tries extensions none in
       omega (arith, w)
   measured (Taken k collected b bytes tries extensions) none =
-      let ran = before ++ (k.done ++ (collected ++ (b ∷ bytes)) ∷ []) in
-      let z = none_ahead (size_after (m.asks ran).size k.size) ran k.todo none in
-      let x : ℕ = ahead m before commands k (collected ++ (b ∷ bytes))
-      (more_blocks k.size (length (b ∷ bytes))) in
-      let w = weighs k x (length (b ∷ bytes) + 0 + most_bytes + 4) tries extensions none
-      (omega (
-        arith,
-        z,
-        few_more k.size (length (b ∷ bytes)),
-        few_blocks longest (length (m.does ran)),
-        short ran,
-      )) in
+      let w = sending_most k (collected ++ (b ∷ bytes)) (b ∷ bytes) tries extensions none in
       omega (arith, w)
   measured (Waits k rest n size granted tries extensions) none =
-      let z = none_ahead (size_after size k.size) (before ++ k.done) k.todo none in
-      let x : ℕ = behind m before commands k (size_after size k.size)
-      (response m before commands k rest) in
-      let w = weighs k x (0 + length rest + most_bytes + 4) tries extensions none
-      (omega (arith, z, few_more k.ifsd (length rest))) in
+      let w = responding_most k (size_after size k.size) (response m before commands k rest) rest
+      tries extensions none (omega arith) in
       omega (arith, w)
   measured (Grows k rest size granted tries extensions) none =
-      let z = none_ahead size (before ++ k.done) k.todo none in
-      let x : ℕ = behind m before commands k size (response m before commands k rest) in
-      let w = weighs k x (0 + length rest + most_bytes + 4) tries extensions none
-      (omega (arith, z, few_more k.ifsd (length rest))) in
+      let w = responding_most k size (response m before commands k rest) rest tries extensions none
+      (omega arith) in
       omega (arith, w)
   measured (Answering k rest tries extensions) none =
-      let z = none_ahead k.size (before ++ k.done) k.todo none in
-      let x : ℕ = behind m before commands k k.size (response m before commands k rest) in
-      let w = weighs k x (0 + length rest + most_bytes + 4) tries extensions none
-      (omega (arith, z, few_more k.ifsd (length rest))) in
+      let w = responding_most k k.size (response m before commands k rest) rest tries extensions
+      none (omega arith) in
       omega (arith, w)
   measured (Between k got b bytes tries extensions) none =
-      let z = none_ahead k.size (before ++ k.done) k.todo none in
-      let x : ℕ = behind m before commands k k.size (more_blocks k.ifsd (length (b ∷ bytes))) in
-      let w = weighs k x (0 + length (b ∷ bytes) + most_bytes + 4) tries extensions none
-      (omega (arith, z, few_more k.ifsd (length (b ∷ bytes)))) in
+      let w = responding_most k k.size (more_blocks k.ifsd (length (b ∷ bytes))) (b ∷ bytes) tries
+      extensions none (omega arith) in
       omega (arith, w)
   measured (Repeating k got rest tries extensions) none =
-      let z = none_ahead k.size (before ++ k.done) k.todo none in
-      let x : ℕ = behind m before commands k k.size (response m before commands k rest) in
-      let w = weighs k x (0 + length rest + most_bytes + 4) tries extensions none
-      (omega (arith, z, few_more k.ifsd (length rest))) in
+      let w = responding_most k k.size (response m before commands k rest) rest tries extensions
+      none (omega arith) in
       omega (arith, w)
-  measured (Given_up w cause) none = omega arith
-  measured (Finished w) none = omega arith
+  measured _ none = omega arith
 
 all_more : (m : Meaning) (size : ℕ) (ran commands cs : List (List ℕ))
     → all_blocks m size ran commands ≤ all_blocks m size ran (commands ++ cs)

@@ -111,16 +111,13 @@ module _ (t : Terminal) (sized : 0 < t.size) where
       either _ _ (size == longest)
       (let two : room t.phase ≡ 2 = ap room e in ((refl, sized), inr (omega (arith, two))))
       (spends Asks)
-  opens_spends (Wtx multiple) e = spends Asks
-  opens_spends Abort e = spends Asks
-  opens_spends Resynch e = spends Asks
+  opens_spends _ e = spends Asks
 
   opening_spends : (b : Block) → t.phase ≡ Opening → Takes t (takes_opening b t)
-  opening_spends (I n more f) e = spends Asks
-  opening_spends (R n) e = spends Asks
   opening_spends (Request control) e =
       asked_spends control (let two : room t.phase ≡ 2 = ap room e in omega (arith, two))
   opening_spends (Response control) e = opens_spends control e
+  opening_spends _ e = spends Asks
 
   sending_spends : (b : Block) → is_filled b ≡ true → t.phase ≡ Sending
       → Takes t (takes_sending b t)
@@ -132,7 +129,7 @@ module _ (t : Terminal) (sized : 0 < t.size) where
       either _ _ (same n t.number) (spends Own) (acknowledged_spends t.rest refl)
   sending_spends (Request control) filled e =
       asked_spends control (let one : room t.phase ≡ 1 = ap room e in omega (arith, one))
-  sending_spends (Response control) filled e = spends Asks
+  sending_spends _ filled e = spends Asks
 
   receiving_spends : (b : Block) → is_filled b ≡ true → t.phase ≡ Receiving
       → Takes t (takes_receiving b t)
@@ -140,10 +137,9 @@ module _ (t : Terminal) (sized : 0 < t.size) where
       either _ _ (same n t.due)
       (gathers_spends n more f filled
       (let one : room t.phase ≡ 1 = ap room e in omega (arith, one))) (spends Asks)
-  receiving_spends (R n) filled e = spends Asks
   receiving_spends (Request control) filled e =
       asked_spends control (let one : room t.phase ≡ 1 = ap room e in omega (arith, one))
-  receiving_spends (Response control) filled e = spends Asks
+  receiving_spends _ filled e = spends Asks
 
   abbrev AreFilled : Option Block → Type 0
   AreFilled None = Unit {0}
@@ -151,24 +147,20 @@ module _ (t : Terminal) (sized : 0 < t.size) where
 
   takes_spends : (b : Option Block) (p : Phase) → AreFilled b → t.phase ≡ p
       → Takes t (takes_in p b t)
-  takes_spends None Opening filled e = spends Asks
-  takes_spends (Some b) Opening filled e = opening_spends b e
-  takes_spends None Sending filled e = spends Asks
-  takes_spends (Some b) Sending filled e = sending_spends b filled e
-  takes_spends None Receiving filled e = spends Asks
-  takes_spends (Some b) Receiving filled e = receiving_spends b filled e
   takes_spends b Aborting filled e = ((refl, sized), inl refl)
   takes_spends b Over filled e = ((refl, sized), inl (ap has_stopped e))
   takes_spends b (GivenUp cause) filled e = ((refl, sized), inl (ap has_stopped e))
+  takes_spends (Some b) Opening filled e = opening_spends b e
+  takes_spends (Some b) Sending filled e = sending_spends b filled e
+  takes_spends (Some b) Receiving filled e = receiving_spends b filled e
+  takes_spends None _ filled e = spends Asks
 
 stays_stopped : (t : Terminal) (b : Option Block) (p : Phase) → t.phase ≡ p → has_stopped p ≡ true
     → has_stopped (takes_in p b t).phase ≡ true
 stays_stopped t b Over e h = ap has_stopped e
 stays_stopped t b (GivenUp cause) e h = ap has_stopped e
 stays_stopped t b Aborting e h = refl
-stays_stopped t b Opening e h = absurd (cc)
-stays_stopped t b Sending e h = absurd (cc)
-stays_stopped t b Receiving e h = absurd (cc)
+stays_stopped t b _ e h = absurd (cc)
 
 -- the block of a reception
 abbrev block : Option (List ℕ) → Option Block
@@ -208,11 +200,7 @@ ends (Some bytes ∷ xs) t sized few =
 
 room_le : (p : Phase) → room p ≤ 2
 room_le Opening = omega arith
-room_le Sending = omega arith
-room_le Receiving = omega arith
-room_le Aborting = omega arith
-room_le Over = omega arith
-room_le (GivenUp cause) = omega arith
+room_le _ = omega arith
 
 pub no_livelock : (t : Terminal) (xs : List (Option (List ℕ))) → 0 < t.size
     → most_receptions t < length xs → has_stopped (meets_all t xs).phase ≡ true

@@ -1,5 +1,5 @@
 -- What holds wherever both ends stand: the commands done, in progress and to do are all commands.
-use Rattle.std.proofs.Common.{◌≡◌, refl, sym, ap, subst, ◌∙◌, ℕ, zero, suc, ◌+◌, ◌≤◌, Bool, true, false, List, [], ◌∷◌, ◌++◌, length, take, drop, Option, Some, None, append_assoc, append-nil, length-append, arith}
+use Rattle.std.proofs.Common.{◌≡◌, refl, sym, ap, subst, ◌∙◌, ℕ, zero, suc, ◌+◌, ◌≤◌, Bool, true, false, List, [], ◌∷◌, ◌++◌, length, take, drop, Option, Some, append_assoc, append-nil, length-append, arith}
 use Rattle.std.proofs.lemmas.List.{take-append-drop}
 use Rattle.t1_core.specs.declared.line.Fate.{Fate}
 use Rattle.t1_core.specs.declared.line.Fate.TheVariants.{Delivers, Damages, Loses}
@@ -8,11 +8,10 @@ use Rattle.t1_core.specs.declared.settings.Settings.{Settings}
 use Rattle.t1_core.specs.declared.terminal.Cause.{Cause}
 use Rattle.t1_core.specs.declared.terminal.Cause.TheVariants.{TriesSpent, ExtensionsSpent}
 use Rattle.t1_core.specs.declared.terminal.Out.{Out}
-use Rattle.t1_core.specs.declared.terminal.Out.TheVariants.{Asks}
-use Rattle.t1_core.specs.declared.terminal.Phase.TheVariants.{Over, GivenUp}
+use Rattle.t1_core.specs.declared.terminal.Outcome.{Outcome}
 use Rattle.t1_core.specs.Block.{is_size, other}
 use Rattle.t1_core.specs.CardSide.{Meaning, first_ifsd, card_after}
-use Rattle.t1_core.specs.TerminalSide.{longest, outcome_with, outcome_of, fresh}
+use Rattle.t1_core.specs.TerminalSide.{longest, has_stopped, outcome_with, outcome_of, fresh}
 use Rattle.t1_core.specs.World.{World, responses, IsRight, IsTrue, IsAtMostOnce, next_command, exchange, run, start}
 use Rattle.t1_core.proofs.Places.{Kept, Place, Opens, Behind, Taken, Waits, Grows, Answering, Between, Repeating, Given_up, Finished, uses, proceeds, starts, out_at, world_of, runs, heard, misses, comes, comes_first, comes_next, is_long, IsHeard, is_heard, grows, flips, arrived, garbled, step, is_step}
 
@@ -134,35 +133,31 @@ module _ (m : Meaning) (before commands : List (List ℕ)) where
   responding_told (b ∷ got) done answers e = e
 
   -- a fault says what is true
-  sending_ends : (w : World) (k : Kept) (command rest : List ℕ) (opened : Bool) → Sends k command
-      → w.card.ran ≡ before ++ k.done → w.answers ≡ k.answers → outcome_of w.terminal ≡
-      outcome_with opened rest []
+  ends_with : (w : World) (done answers : List (List ℕ)) (outcome : Outcome)
+      → IsRight m.does before commands done answers → IsTrue outcome done answers
+      → w.card.ran ≡ before ++ done → w.answers ≡ answers → outcome_of w.terminal ≡ outcome
       → Ends w
-  sending_ends w k command rest opened h ran answers outcome = record {
-    done = k.done;
+  ends_with w done answers outcome right told ran same is = record {
+    done = done;
     ran_is = ran;
-    right = subst (λ a. IsRight m.does before commands k.done a) (sym answers)
-        (sending_right k command h);
-    told =
-        subst (λ a. IsTrue (outcome_of w.terminal) k.done a) (sym answers)
-        (subst (λ o. IsTrue o k.done k.answers) (sym outcome)
-        (sending_told opened rest k.done k.answers (sending_many k command h)));
+    right = subst (λ a. IsRight m.does before commands done a) (sym same) right;
+    told = subst (λ a. IsTrue (outcome_of w.terminal) done a) (sym same)
+        (subst (λ o. IsTrue o done answers) (sym is) told);
   }
 
+  sending_ends : (w : World) (k : Kept) (command rest : List ℕ) (opened : Bool)
+      → Sends k command → w.card.ran ≡ before ++ k.done → w.answers ≡ k.answers
+      → outcome_of w.terminal ≡ outcome_with opened rest [] → Ends w
+  sending_ends w k command rest opened h =
+      ends_with w k.done k.answers (outcome_with opened rest []) (sending_right k command h)
+      (sending_told opened rest k.done k.answers (sending_many k command h))
+
   responding_ends : (w : World) (k : Kept) (response got : List ℕ) → Responds k response
-      → w.card.ran ≡ before ++ k.done → w.answers ≡ k.answers → outcome_of w.terminal ≡
-      outcome_with true [] got
-      → Ends w
-  responding_ends w k response got h ran answers outcome = record {
-    done = k.done;
-    ran_is = ran;
-    right = subst (λ a. IsRight m.does before commands k.done a) (sym answers)
-        (responding_right k response h);
-    told =
-        subst (λ a. IsTrue (outcome_of w.terminal) k.done a) (sym answers)
-        (subst (λ o. IsTrue o k.done k.answers) (sym outcome)
-        (responding_told got k.done k.answers (responding_many k response h)));
-  }
+      → w.card.ran ≡ before ++ k.done → w.answers ≡ k.answers
+      → outcome_of w.terminal ≡ outcome_with true [] got → Ends w
+  responding_ends w k response got h =
+      ends_with w k.done k.answers (outcome_with true [] got) (responding_right k response h)
+      (responding_told got k.done k.answers (responding_many k response h))
 
   -- one step
 
@@ -174,9 +169,8 @@ module _ (m : Meaning) (before commands : List (List ℕ)) where
   starts_hold : (k : Kept) (rest : List ℕ) (n : ℕ) (size : Option ℕ) (tries extensions : ℕ) →
       Responds k (k.last ++ rest)
       → Holds (starts k rest n size tries extensions)
-  starts_hold k rest (suc n) size tries extensions h = h
   starts_hold k rest zero (Some size) tries extensions h = (h, λ e. absurd (cc))
-  starts_hold k rest zero None tries extensions h = h
+  starts_hold _ _ _ _ _ _ h = h
 
   proceeds_hold : (k : Kept) (todo : List (List ℕ)) (w : World) → Sizes k → k.done ++ todo ≡
       commands → k.answers ≡ answers_of k.done
@@ -194,9 +188,6 @@ module _ (m : Meaning) (before commands : List (List ℕ)) where
   }
 
   pub heard_holds : (p : Place) → Holds p → Holds (heard m before p)
-  heard_holds (Opens k rest tries extensions asks) h = h
-  heard_holds (Behind k collected [] answering tries extensions true) h = h
-  heard_holds (Behind k collected (b ∷ bytes) answering tries extensions true) h = h
   heard_holds (Behind k collected [] answering tries extensions false) h =
       let done : List (List ℕ) = k.done ++ (collected ++ k.field) ∷ [] in
       starts_hold (runs m before k done) (drop k.ifsd (m.does (before ++ done)))
@@ -216,22 +207,16 @@ module _ (m : Meaning) (before commands : List (List ℕ)) where
     answers = h.answers;
     sizes = h.sizes;
   }
-  heard_holds (Taken k collected b bytes tries extensions) h = h
   heard_holds (Waits k rest n size true tries extensions) h = starts_hold k rest n size tries
       extensions h
-  heard_holds (Waits k rest n size false tries extensions) h = h
   heard_holds (Grows k rest size true tries extensions) h = h.0
-  heard_holds (Grows k rest size false tries extensions) h = h
-  heard_holds (Answering k rest tries extensions) h = h
   heard_holds (Between k got b bytes tries extensions) h = record {
     whole = h.whole;
     answers = ap (λ r. k.answers ++ (got ++ r) ∷ []) (take-append-drop k.ifsd (b ∷ bytes)) ∙
         h.answers;
     sizes = h.sizes;
   }
-  heard_holds (Repeating k got rest tries extensions) h = h
-  heard_holds (Given_up w cause) h = h
-  heard_holds (Finished w) h = h
+  heard_holds _ h = h
 
   misses_hold : (out : Out) (p : Place) → Holds p → Holds (misses m before out p)
   misses_hold out (Opens k rest tries extensions asks) h =
@@ -252,8 +237,7 @@ module _ (m : Meaning) (before commands : List (List ℕ)) where
       uses_hold TriesSpent tries _ _ (responding_ends _ k _ got h refl refl refl) (λ i. h)
   misses_hold out (Repeating k got rest tries extensions) h =
       uses_hold TriesSpent tries _ _ (responding_ends _ k _ got h refl refl refl) (λ i. h)
-  misses_hold out (Given_up w cause) h = h
-  misses_hold out (Finished w) h = h
+  misses_hold _ _ h = h
 
   some_size : (size : ℕ) → is_size size ≡ true → 1 ≤ size
   some_size zero e = absurd (cc)
@@ -320,31 +304,20 @@ module _ (m : Meaning) (before commands : List (List ℕ)) where
   comes_hold out (Between k got b bytes tries extensions) a h = absurd a
   comes_hold out (Repeating k got rest tries extensions) a h =
       next_hold (is_long m before k got) out k got rest tries extensions h
-  comes_hold out (Given_up w cause) a h = h
-  comes_hold out (Finished w) a h = h
+  comes_hold _ _ a h = h
 
   arrived_holds : (out : Out) (up : Fate) (p : Place) → IsHeard m before p → Holds p
       → Holds (arrived m before out up p)
   arrived_holds out Delivers p a h = comes_hold out p a h
-  arrived_holds out Damages p a h = misses_hold out p h
-  arrived_holds out Loses p a h = misses_hold out p h
+  arrived_holds out _ p a h = misses_hold out p h
 
   garbled_holds : (up : Fate) (p : Place) → Holds p → Holds (garbled m before up p)
-  garbled_holds up (Opens k rest tries extensions asks) h = misses_hold _
-      (Opens k rest tries extensions asks) h
-  garbled_holds up (Behind k collected rest answering tries extensions asks) h = arrived_holds _
-      up _ tt h
+  garbled_holds up (Behind k collected rest answering tries extensions asks) h =
+      arrived_holds _ up _ tt h
   garbled_holds up (Taken k collected b bytes tries extensions) h = arrived_holds _ up _ tt h
   garbled_holds up (Waits k rest n size granted tries extensions) h = arrived_holds _ up _ tt h
   garbled_holds up (Grows k rest size granted tries extensions) h = arrived_holds _ up _ tt h
-  garbled_holds up (Answering k rest tries extensions) h = misses_hold Asks
-      (Answering k rest tries extensions) h
-  garbled_holds up (Between k got b bytes tries extensions) h = misses_hold Asks
-      (Between k got b bytes tries extensions) h
-  garbled_holds up (Repeating k got rest tries extensions) h = misses_hold Asks
-      (Repeating k got rest tries extensions) h
-  garbled_holds up (Given_up w cause) h = arrived_holds _ up _ tt h
-  garbled_holds up (Finished w) h = arrived_holds _ up _ tt h
+  garbled_holds up p h = misses_hold (out_at p) p h
 
   pub step_holds : (down up : Fate) (p : Place) → Holds p → Holds (step m before down up p)
   step_holds Delivers up p h = arrived_holds (out_at p) up (heard m before p) (is_heard m before p)
@@ -370,35 +343,32 @@ module _ (m : Meaning) (before commands : List (List ℕ)) where
 
   going_once : (w : World) (k : Kept) → IsRight m.does before commands k.done k.answers
       → w.card.ran ≡ before ++ k.done → w.answers ≡ k.answers
-      → ((cause : Cause) → w.terminal.phase ≡ GivenUp cause → ⊥)
-      → (w.terminal.phase ≡ Over → ⊥) → IsAtMostOnce m before commands w
-  going_once w k right ran answers going moving = record {
+      → has_stopped w.terminal.phase ≡ false → IsAtMostOnce m before commands w
+  going_once w k right ran answers moving = record {
     ran = k.done;
     ran_is = ran;
     right = subst (λ a. IsRight m.does before commands k.done a) (sym answers) right;
-    told = λ cause e. absurd (going cause e);
-    finished = λ e. absurd (moving e);
+    told = λ cause e. absurd (let no = sym moving ∙ ap has_stopped e in cc);
+    finished = λ e. absurd (let no = sym moving ∙ ap has_stopped e in cc);
   }
 
   once_at : (p : Place) → Holds p → IsAtMostOnce m before commands (world_of m before p)
   once_at (Opens k rest tries extensions asks) h =
-      going_once _ (opens_with k) (sending_right _ _ h) refl refl (λ cause e. absurd (cc))
-      (λ e. absurd (cc))
+      going_once _ (opens_with k) (sending_right _ _ h) refl refl refl
   once_at (Behind k collected rest answering tries extensions asks) h =
-      going_once _ k (sending_right k _ h) refl refl (λ cause e. absurd (cc)) (λ e. absurd (cc))
+      going_once _ k (sending_right k _ h) refl refl refl
   once_at (Taken k collected b bytes tries extensions) h =
-      going_once _ k (sending_right k _ h) refl refl (λ cause e. absurd (cc)) (λ e. absurd (cc))
+      going_once _ k (sending_right k _ h) refl refl refl
   once_at (Waits k rest n size granted tries extensions) h =
-      going_once _ k (responding_right k _ h) refl refl (λ cause e. absurd (cc)) (λ e. absurd (cc))
+      going_once _ k (responding_right k _ h) refl refl refl
   once_at (Grows k rest size granted tries extensions) h =
-      going_once _ k (responding_right k _ h.0) refl refl (λ cause e. absurd (cc))
-      (λ e. absurd (cc))
+      going_once _ k (responding_right k _ h.0) refl refl refl
   once_at (Answering k rest tries extensions) h =
-      going_once _ k (responding_right k _ h) refl refl (λ cause e. absurd (cc)) (λ e. absurd (cc))
+      going_once _ k (responding_right k _ h) refl refl refl
   once_at (Between k got b bytes tries extensions) h =
-      going_once _ k (responding_right k _ h) refl refl (λ cause e. absurd (cc)) (λ e. absurd (cc))
+      going_once _ k (responding_right k _ h) refl refl refl
   once_at (Repeating k got rest tries extensions) h =
-      going_once _ k (responding_right k _ h) refl refl (λ cause e. absurd (cc)) (λ e. absurd (cc))
+      going_once _ k (responding_right k _ h) refl refl refl
   once_at (Given_up w cause) h = record {
     ran = h.done;
     ran_is = h.ran_is;

@@ -1,5 +1,5 @@
 -- How many exchanges can still come, at most.
-use Rattle.std.proofs.Common.{◌≡◌, refl, sym, ap, subst, ◌∙◌, ℕ, zero, suc, ◌+◌, ◌-◌, ◌*◌, ◌/◌, ◌≤◌, Bool, true, false, List, [], ◌∷◌, ◌++◌, length, take, drop, length-drop, Option, Some, None, append_assoc, append-nil, arith, ◌⊎◌, inl, inr}
+use Rattle.std.proofs.Common.{◌≡◌, refl, sym, ap, subst, ◌∙◌, ℕ, zero, suc, ◌+◌, ◌-◌, ◌*◌, ◌/◌, ◌≤◌, Bool, true, false, List, [], ◌∷◌, ◌++◌, length, take, drop, length-drop, Option, Some, append_assoc, append-nil, arith, ◌⊎◌, inl, inr}
 use Rattle.std.proofs.lemmas.List.{take-append-drop}
 use Rattle.std.proofs.Math.Nat.{suc-mul, mul-le-mul_right, div-eq-sub-div}
 use Rattle.t1_core.specs.declared.line.Fate.{Fate}
@@ -134,6 +134,8 @@ module _ (m : Meaning) (before commands : List (List ℕ)) where
 
   misses_less : (out : Out) (p : Place) → IsActive m before p → measure (misses m before out p) +
       1 ≤ measure p
+  misses_less out (Given_up w cause) a = absurd a
+  misses_less out (Finished w) a = absurd a
   misses_less out (Opens k rest tries extensions asks) a =
       uses_less TriesSpent tries _ _ _ (omega arith) (λ i e. omega (arith, e))
   misses_less out (Behind k collected rest answering tries extensions asks) a =
@@ -157,15 +159,12 @@ module _ (m : Meaning) (before commands : List (List ℕ)) where
   misses_less out (Repeating k got rest tries extensions) a =
       uses_less TriesSpent tries _ _ _ (some_weight k _ tries extensions (some_behind _ _))
       (λ i e. omega (arith, e))
-  misses_less out (Given_up w cause) a = absurd a
-  misses_less out (Finished w) a = absurd a
 
   starts_le : (k : Kept) (rest : List ℕ) (n : ℕ) (size : Option ℕ) (tries extensions most : ℕ)
       → weight k (behind k (size_after size k.size) (response k rest)) tries extensions ≤ most
       → measure (starts k rest n size tries extensions) ≤ most
-  starts_le k rest (suc n) size tries extensions most le = le
   starts_le k rest zero (Some size) tries extensions most le = le
-  starts_le k rest zero None tries extensions most le = le
+  starts_le _ _ _ _ _ _ _ le = le
 
   -- the response is counted once the command is carried out
   runs_le : (ifsd later n : ℕ) (bytes : List ℕ) → ifsd ≡ longest
@@ -178,9 +177,6 @@ module _ (m : Meaning) (before commands : List (List ℕ)) where
       omega (arith, le)
 
   heard_le : (p : Place) → Holds m before commands p → measure (heard m before p) ≤ measure p
-  heard_le (Opens k rest tries extensions asks) h = omega arith
-  heard_le (Behind k collected [] answering tries extensions true) h = omega arith
-  heard_le (Behind k collected (b ∷ bytes) answering tries extensions true) h = omega arith
   heard_le (Behind k collected [] answering tries extensions false) h =
       let command : List ℕ = collected ++ k.field in
       let done : List (List ℕ) = k.done ++ command ∷ [] in
@@ -204,22 +200,16 @@ module _ (m : Meaning) (before commands : List (List ℕ)) where
       ap (λ c. weight k (ahead k c rest) tries extensions)
       (append_assoc collected k.field (b ∷ bytes)) in
       as_le _ _ e
-  heard_le (Taken k collected b bytes tries extensions) h = as_le _ _ refl
   heard_le (Waits k rest n size true tries extensions) h = starts_le k rest n size tries
       extensions _ (as_le _ _ refl)
-  heard_le (Waits k rest n size false tries extensions) h = as_le _ _ refl
   heard_le (Grows k rest size true tries extensions) h =
       as_le _ _ (ap (λ n. weight k (behind k n (response k rest)) tries extensions) (h.1 refl))
-  heard_le (Grows k rest size false tries extensions) h = as_le _ _ refl
-  heard_le (Answering k rest tries extensions) h = as_le _ _ refl
   heard_le (Between k got b bytes tries extensions) h =
       let e : k.ifsd ≡ longest = h.sizes.1 in
       less_weight k (behind k k.size (response k (drop k.ifsd (b ∷ bytes))))
       (behind k k.size (more_blocks k.ifsd (length (b ∷ bytes)))) tries tries extensions
       (le_plus _ _ _ (drop_less k.ifsd (b ∷ bytes) (omega (arith, e)))) (omega arith)
-  heard_le (Repeating k got rest tries extensions) h = as_le _ _ refl
-  heard_le (Given_up w cause) h = omega arith
-  heard_le (Finished w) h = omega arith
+  heard_le _ h = as_le _ _ refl
 
   -- the next command, behind an answer
   proceeds_less : (k : Kept) (todo : List (List ℕ)) (w : World) (tries extensions : ℕ) → 1 ≤ k.size
@@ -304,62 +294,40 @@ module _ (m : Meaning) (before commands : List (List ℕ)) where
       grows_less (is_size size) out k rest size granted tries extensions
   comes_less out (Answering k rest tries extensions) a h =
       first_less (is_long m before k []) out k rest tries extensions h.sizes.0
-  comes_less out (Between k got b bytes tries extensions) a h = misses_less out
-      (Between k got b bytes tries extensions) tt
   comes_less out (Repeating k got rest tries extensions) a h =
       next_less (is_long m before k got) out k got rest tries extensions h.sizes.0
-  comes_less out (Given_up w cause) a h = absurd a
-  comes_less out (Finished w) a h = absurd a
+  comes_less out p a h = misses_less out p a
 
   arrived_less : (up : Fate) (out : Out) (p : Place) → IsActive m before p → Holds m before
       commands p
       → measure (arrived m before out up p) + 1 ≤ measure p
   arrived_less Delivers out p a h = comes_less out p a h
-  arrived_less Damages out p a h = misses_less out p a
-  arrived_less Loses out p a h = misses_less out p a
+  arrived_less _ out p a h = misses_less out p a
 
   garbled_less : (up : Fate) (p : Place) → IsActive m before p → Holds m before commands p
       → measure (garbled m before up p) + 1 ≤ measure p
-  garbled_less up (Opens k rest tries extensions asks) a h = misses_less _
-      (Opens k rest tries extensions asks) tt
-  garbled_less up (Behind k collected rest answering tries extensions asks) a h = arrived_less up
-      _ _ tt h
+  garbled_less up (Behind k collected rest answering tries extensions asks) a h =
+      arrived_less up _ _ tt h
   garbled_less up (Taken k collected b bytes tries extensions) a h = arrived_less up _ _ tt h
   garbled_less up (Waits k rest n size granted tries extensions) a h = arrived_less up _ _ tt h
   garbled_less up (Grows k rest size granted tries extensions) a h = arrived_less up _ _ tt h
-  garbled_less up (Answering k rest tries extensions) a h = misses_less _
-      (Answering k rest tries extensions) tt
-  garbled_less up (Between k got b bytes tries extensions) a h = misses_less _
-      (Between k got b bytes tries extensions) tt
-  garbled_less up (Repeating k got rest tries extensions) a h = misses_less _
-      (Repeating k got rest tries extensions) tt
-  garbled_less up (Given_up w cause) a h = absurd a
-  garbled_less up (Finished w) a h = absurd a
+  garbled_less up p a h = misses_less (out_at p) p a
 
   starts_active : (k : Kept) (rest : List ℕ) (n : ℕ) (size : Option ℕ) (tries extensions : ℕ)
       → IsActive m before (starts k rest n size tries extensions)
-  starts_active k rest (suc n) size tries extensions = tt
   starts_active k rest zero (Some size) tries extensions = tt
-  starts_active k rest zero None tries extensions = tt
+  starts_active _ _ _ _ _ _ = tt
 
   heard_active : (p : Place) → IsActive m before p → IsActive m before (heard m before p)
-  heard_active (Opens k rest tries extensions asks) a = tt
-  heard_active (Behind k collected [] answering tries extensions true) a = tt
-  heard_active (Behind k collected (b ∷ bytes) answering tries extensions true) a = tt
-  heard_active (Behind k collected [] answering tries extensions false) a = starts_active _ _ _ _
-      tries extensions
+  heard_active (Behind k collected [] answering tries extensions false) a =
+      starts_active _ _ _ _ tries extensions
   heard_active (Behind k collected (b ∷ bytes) answering tries extensions false) a = tt
-  heard_active (Taken k collected b bytes tries extensions) a = tt
-  heard_active (Waits k rest n size true tries extensions) a = starts_active k rest n size tries
-      extensions
-  heard_active (Waits k rest n size false tries extensions) a = tt
+  heard_active (Waits k rest n size true tries extensions) a =
+      starts_active k rest n size tries extensions
   heard_active (Grows k rest size true tries extensions) a = tt
-  heard_active (Grows k rest size false tries extensions) a = tt
-  heard_active (Answering k rest tries extensions) a = tt
-  heard_active (Between k got b bytes tries extensions) a = tt
-  heard_active (Repeating k got rest tries extensions) a = tt
   heard_active (Given_up w cause) a = absurd a
   heard_active (Finished w) a = absurd a
+  heard_active _ a = tt
 
   pub step_less : (down up : Fate) (p : Place) → IsActive m before p → Holds m before commands p
       → measure (step m before down up p) + 1 ≤ measure p
@@ -373,16 +341,9 @@ module _ (m : Meaning) (before commands : List (List ℕ)) where
 
   pub active_or : (p : Place) → IsActive m before p ⊎
       (has_stopped (world_of m before p).terminal.phase ≡ true)
-  active_or (Opens k rest tries extensions asks) = inl tt
-  active_or (Behind k collected rest answering tries extensions asks) = inl tt
-  active_or (Taken k collected b bytes tries extensions) = inl tt
-  active_or (Waits k rest n size granted tries extensions) = inl tt
-  active_or (Grows k rest size granted tries extensions) = inl tt
-  active_or (Answering k rest tries extensions) = inl tt
-  active_or (Between k got b bytes tries extensions) = inl tt
-  active_or (Repeating k got rest tries extensions) = inl tt
   active_or (Given_up w cause) = inr refl
   active_or (Finished w) = inr refl
+  active_or _ = inl tt
 
   pub some_left : (p : Place) → IsActive m before p → measure p ≡ 0 → ⊥
   some_left p a none = let less = misses_less Asks p a in absurd (omega (arith, less, none))
@@ -391,16 +352,9 @@ module _ (m : Meaning) (before commands : List (List ℕ)) where
 
   stays_stopped : (x : Fates) (p : Place) → has_stopped (world_of m before p).terminal.phase ≡ true
       → has_stopped (exchange m x (world_of m before p)).terminal.phase ≡ true
-  stays_stopped x (Opens k rest tries extensions asks) e = absurd (cc)
-  stays_stopped x (Behind k collected rest answering tries extensions asks) e = absurd (cc)
-  stays_stopped x (Taken k collected b bytes tries extensions) e = absurd (cc)
-  stays_stopped x (Waits k rest n size granted tries extensions) e = absurd (cc)
-  stays_stopped x (Grows k rest size granted tries extensions) e = absurd (cc)
-  stays_stopped x (Answering k rest tries extensions) e = absurd (cc)
-  stays_stopped x (Between k got b bytes tries extensions) e = absurd (cc)
-  stays_stopped x (Repeating k got rest tries extensions) e = absurd (cc)
   stays_stopped x (Given_up w cause) e = refl
   stays_stopped x (Finished w) e = refl
+  stays_stopped x _ e = absurd (cc)
 
   stops_at : (fates : List Fates) (p : Place) → Holds m before commands p
       → (measure p ≤ length fates) ⊎ (has_stopped (world_of m before p).terminal.phase ≡ true)

@@ -13,9 +13,9 @@ use Rattle.t1_core.specs.declared.terminal.Out.TheVariants.{Own, Asks, Grants}
 use Rattle.t1_core.specs.declared.terminal.Phase.{Phase}
 use Rattle.t1_core.specs.declared.terminal.Phase.TheVariants.{Opening, Sending, Receiving, Over, GivenUp}
 use Rattle.t1_core.specs.Block.{Block, I, R, Request, Response, other, more, is_size}
-use Rattle.t1_core.specs.CardSide.{Card, Meaning, Turn, answers_with, request_of, carries_out}
-use Rattle.t1_core.specs.TerminalSide.{Terminal, takes, longest}
-use Rattle.t1_core.specs.World.{World, arrives, settled, next_command, exchange}
+use Rattle.t1_core.specs.CardSide.{Card, Meaning, Turn, answers_with, card_damaged, request_of, carries_out, turn}
+use Rattle.t1_core.specs.TerminalSide.{Terminal, sends, takes, longest}
+use Rattle.t1_core.specs.World.{World, arrives, settled, next_command, exchange, exchanged}
 use Rattle.t1_core.proofs.Bits.{same_self, same_other, same_other_2, other_other}
 
 -- what both ends keep, but for what an exchange goes by
@@ -213,27 +213,17 @@ module _ (m : Meaning) (before : List (List ℕ)) where
 
   starts_heard : (k : Kept) (rest : List ℕ) (n : ℕ) (size : Option ℕ) (tries extensions : ℕ)
       → IsHeard (starts k rest n size tries extensions)
-  starts_heard k rest (suc n) size tries extensions = tt
   starts_heard k rest zero (Some size) tries extensions = tt
-  starts_heard k rest zero None tries extensions = tt
+  starts_heard _ _ _ _ _ _ = tt
 
   pub is_heard : (p : Place) → IsHeard (heard p)
   is_heard (Opens k rest tries extensions asks) = refl
-  is_heard (Behind k collected [] answering tries extensions true) = tt
-  is_heard (Behind k collected (b ∷ bytes) answering tries extensions true) = tt
-  is_heard (Behind k collected [] answering tries extensions false) = starts_heard _ _ _ _ tries
-      extensions
+  is_heard (Behind k collected [] answering tries extensions false) =
+      starts_heard _ _ _ _ tries extensions
   is_heard (Behind k collected (b ∷ bytes) answering tries extensions false) = tt
-  is_heard (Taken k collected b bytes tries extensions) = tt
   is_heard (Waits k rest n size true tries extensions) = starts_heard k rest n size tries extensions
-  is_heard (Waits k rest n size false tries extensions) = tt
   is_heard (Grows k rest size true tries extensions) = tt
-  is_heard (Grows k rest size false tries extensions) = tt
-  is_heard (Answering k rest tries extensions) = tt
-  is_heard (Between k got b bytes tries extensions) = tt
-  is_heard (Repeating k got rest tries extensions) = tt
-  is_heard (Given_up w cause) = tt
-  is_heard (Finished w) = tt
+  is_heard _ = tt
 
   -- the card's block does not come
   abbrev pub misses : Out → Place → Place
@@ -335,14 +325,15 @@ module _ (m : Meaning) (before : List (List ℕ)) where
 
   -- the card has got a damaged block
   abbrev pub garbled : Fate → Place → Place
-  garbled up (Opens k rest tries extensions asks) =
-      misses (out_of asks) (Opens k rest tries extensions asks)
-  garbled up (Answering k rest tries extensions) = misses Asks (Answering k rest tries extensions)
-  garbled up (Between k got b bytes tries extensions) =
-      misses Asks (Between k got b bytes tries extensions)
-  garbled up (Repeating k got rest tries extensions) =
-      misses Asks (Repeating k got rest tries extensions)
-  garbled up p = arrived (out_at p) up p
+  garbled up (Behind k collected rest answering tries extensions asks) =
+      arrived (out_of asks) up (Behind k collected rest answering tries extensions asks)
+  garbled up (Taken k collected b bytes tries extensions) =
+      arrived Asks up (Taken k collected b bytes tries extensions)
+  garbled up (Waits k rest n size granted tries extensions) =
+      let p : Place = Waits k rest n size granted tries extensions in arrived (out_at p) up p
+  garbled up (Grows k rest size granted tries extensions) =
+      let p : Place = Grows k rest size granted tries extensions in arrived (out_at p) up p
+  garbled up p = misses (out_at p) p
 
   abbrev pub step : Fate → Fate → Place → Place
   step Delivers up p = arrived (out_at p) up (heard p)
@@ -362,23 +353,16 @@ module _ (m : Meaning) (before : List (List ℕ)) where
 
   missed : (out : Out) (p : Place) → IsActive p → took out p None ≡ world_of (misses out p)
   missed out (Opens k rest zero extensions asks) a = refl
-  missed out (Opens k rest (suc n) extensions asks) a = refl
   missed out (Behind k collected rest answering zero extensions asks) a = refl
-  missed out (Behind k collected rest answering (suc n) extensions asks) a = refl
   missed out (Taken k collected b bytes zero extensions) a = refl
-  missed out (Taken k collected b bytes (suc n) extensions) a = refl
   missed out (Waits k rest n size granted zero extensions) a = refl
-  missed out (Waits k rest n size granted (suc t) extensions) a = refl
   missed out (Grows k rest size granted zero extensions) a = refl
-  missed out (Grows k rest size granted (suc n) extensions) a = refl
   missed out (Answering k rest zero extensions) a = refl
-  missed out (Answering k rest (suc n) extensions) a = refl
   missed out (Between k got b bytes zero extensions) a = refl
-  missed out (Between k got b bytes (suc n) extensions) a = refl
   missed out (Repeating k got rest zero extensions) a = refl
-  missed out (Repeating k got rest (suc n) extensions) a = refl
   missed out (Given_up w cause) a = absurd a
   missed out (Finished w) a = absurd a
+  missed _ _ _ = refl
 
   proceeds_is : (k : Kept) (todo old : List (List ℕ)) (out : Out) (got : List ℕ)
       (tries extensions : ℕ) (answers : List (List ℕ))
@@ -441,8 +425,8 @@ module _ (m : Meaning) (before : List (List ℕ)) where
       grown out k rest size granted tries extensions (is_size size) refl
   comes_is out (Answering k rest tries extensions) a =
       first_is out k rest tries extensions (is_long k []) refl
-  comes_is out (Between k got b bytes zero extensions) a = refl
-  comes_is out (Between k got b bytes (suc n) extensions) a = refl
+  comes_is out (Between k got b bytes tries extensions) a =
+      missed out (Between k got b bytes tries extensions) a
   comes_is out (Repeating k got rest tries extensions) a =
       next_is out k got rest tries extensions (is_long k got) refl
   comes_is out (Given_up w cause) a = absurd a
@@ -451,50 +435,14 @@ module _ (m : Meaning) (before : List (List ℕ)) where
   ups : (out : Out) (up : Fate) (p : Place) → IsActive p
       → took out p (arrives up (Some (reply_of p))) ≡ world_of (arrived out up p)
   ups out Delivers p a = comes_is out p a
-  ups out Damages p a = missed out p a
-  ups out Loses p a = missed out p a
+  ups out _ p a = missed out p a
 
-  -- R that is no use: the card got a damaged block
-  abbrev Notices : Out → Fate → Place → Bool → Type 0
-  Notices out up p number = took out p (arrives up (Some (R number))) ≡ world_of (misses out p)
-
-  notices_opening : (out : Out) (up : Fate) (k : Kept) (rest : List ℕ) (tries extensions : ℕ)
-      (asks number : Bool)
-      → Notices out up (Opens k rest tries extensions asks) number
-  notices_opening out Delivers k rest tries extensions asks number = missed out
-      (Opens k rest tries extensions asks) tt
-  notices_opening out Damages k rest tries extensions asks number = missed out
-      (Opens k rest tries extensions asks) tt
-  notices_opening out Loses k rest tries extensions asks number = missed out
-      (Opens k rest tries extensions asks) tt
-
-  notices_answering : (up : Fate) (k : Kept) (rest : List ℕ) (tries extensions : ℕ)
-      → Notices Asks up (Answering k rest tries extensions) (other k.number)
-  notices_answering Delivers k rest tries extensions =
-      rw (same_other k.number) (missed Asks (Answering k rest tries extensions) tt)
-  notices_answering Damages k rest tries extensions = missed Asks
-      (Answering k rest tries extensions) tt
-  notices_answering Loses k rest tries extensions = missed Asks
-      (Answering k rest tries extensions) tt
-
-  notices_between : (up : Fate) (k : Kept) (got : List ℕ) (b : ℕ) (bytes : List ℕ)
-      (tries extensions : ℕ)
-      → Notices Asks up (Between k got b bytes tries extensions) k.number
-  notices_between Delivers k got b bytes tries extensions = missed Asks
-      (Between k got b bytes tries extensions) tt
-  notices_between Damages k got b bytes tries extensions = missed Asks
-      (Between k got b bytes tries extensions) tt
-  notices_between Loses k got b bytes tries extensions = missed Asks
-      (Between k got b bytes tries extensions) tt
-
-  notices_repeating : (up : Fate) (k : Kept) (got rest : List ℕ) (tries extensions : ℕ)
-      → Notices Asks up (Repeating k got rest tries extensions) k.number
-  notices_repeating Delivers k got rest tries extensions = missed Asks
-      (Repeating k got rest tries extensions) tt
-  notices_repeating Damages k got rest tries extensions = missed Asks
-      (Repeating k got rest tries extensions) tt
-  notices_repeating Loses k got rest tries extensions = missed Asks
-      (Repeating k got rest tries extensions) tt
+  -- R is no use: the card has received a damaged block
+  unread : (out : Out) (up : Fate) (p : Place) (number : Bool) → IsActive p
+      → took out p (Some (R number)) ≡ took out p None
+      → took out p (arrives up (Some (R number))) ≡ world_of (misses out p)
+  unread out Delivers p number a e = e ∙ missed out p a
+  unread out _ p number a e = missed out p a
 
   -- a world after the card's turn
   abbrev turned : Kept → Terminal → Fate → Turn → World
@@ -536,36 +484,47 @@ module _ (m : Meaning) (before : List (List ℕ)) where
   gone : (down up : Fate) (w : World) (cause : Cause)
       → After down up (Given_up w cause) ≡ world_of (step down up (Given_up w cause))
   gone Delivers Delivers w cause = refl
-  gone Delivers Damages w cause = refl
-  gone Delivers Loses w cause = refl
-  gone Damages Delivers w cause = refl
-  gone Damages Damages w cause = refl
-  gone Damages Loses w cause = refl
-  gone Loses up w cause = refl
+  gone _ _ w cause = refl
 
-  over : (down up : Fate) (w : World) → After down up (Finished w) ≡ world_of
-      (step down up (Finished w))
+  over : (down up : Fate) (w : World)
+      → After down up (Finished w) ≡ world_of (step down up (Finished w))
   over Delivers Delivers w = refl
-  over Delivers Damages w = refl
-  over Delivers Loses w = refl
-  over Damages Delivers w = refl
-  over Damages Damages w = refl
-  over Damages Loses w = refl
-  over Loses up w = refl
+  over _ _ w = refl
+
+  sends_some : (p : Place) → IsActive p → (b : Block) × (sends (world_of p).terminal ≡ Some b)
+  sends_some (Opens k rest tries extensions true) a = (_, refl)
+  sends_some (Behind k collected rest answering tries extensions true) a = (_, refl)
+  sends_some (Waits k rest n size true tries extensions) a = (_, refl)
+  sends_some (Grows k rest size true tries extensions) a = (_, refl)
+  sends_some (Given_up w cause) a = absurd a
+  sends_some (Finished w) a = absurd a
+  sends_some _ a = (_, refl)
+
+  lost : (up : Fate) (p : Place) → IsActive p
+      → After Loses up p ≡ world_of (misses (out_at p) p)
+  lost up p a =
+      ap (exchanged m (record { down = Loses; up = up }) (world_of p)) (sends_some p a).1
+      ∙ missed (out_at p) p a
+
+  -- the card answers a damaged block with this one
+  garbles : (up : Fate) (p : Place) (b : Block) → IsActive p
+      → card_damaged (world_of p).card ≡ turn (world_of p).card b
+      → After Damages up p ≡ took (out_at p) p (arrives up (Some b))
+  garbles up p b a e =
+      let w : World = world_of p in
+      ap (exchanged m (record { down = Damages; up = up }) w) (sends_some p a).1
+      ∙ ap (λ (t : Turn). settled (record w {
+        terminal = takes w.terminal (arrives up t.block);
+        card = t.card;
+      })) e
 
   pub is_step : (down up : Fate) (p : Place) → After down up p ≡ world_of (step down up p)
+  is_step down up (Given_up w cause) = gone down up w cause
+  is_step down up (Finished w) = over down up w
   is_step Delivers up (Opens k rest tries extensions true) =
       ups Asks up (Opens (record k { ifsd = longest }) rest tries extensions true) tt
   is_step Delivers up (Opens k rest tries extensions false) =
       ups Own up (Opens (record k { ifsd = longest }) rest tries extensions false) tt
-  is_step Damages up (Opens k rest tries extensions true) = notices_opening Asks up k rest tries
-      extensions true k.number
-  is_step Damages up (Opens k rest tries extensions false) = notices_opening Own up k rest tries
-      extensions false k.number
-  is_step Loses up (Opens k rest tries extensions true) = missed Asks
-      (Opens k rest tries extensions true) tt
-  is_step Loses up (Opens k rest tries extensions false) = missed Own
-      (Opens k rest tries extensions false) tt
   is_step Delivers up (Behind k collected [] answering tries extensions true) =
       rw (same_self k.due) (ups Asks up (Behind k collected [] answering tries extensions true) tt)
   is_step Delivers up (Behind k collected (b ∷ bytes) answering tries extensions true) =
@@ -576,66 +535,39 @@ module _ (m : Meaning) (before : List (List ℕ)) where
   is_step Delivers up (Behind k collected (b ∷ bytes) answering tries extensions false) =
       rw (same_self k.number) (ups Own up
       (Taken (record k { last = [] }) (collected ++ k.field) b bytes tries extensions) tt)
-  is_step Damages up (Behind k collected rest answering tries extensions true) =
-      ups Asks up (Behind k collected rest answering tries extensions true) tt
-  is_step Damages up (Behind k collected rest answering tries extensions false) =
-      ups Own up (Behind k collected rest answering tries extensions false) tt
-  is_step Loses up (Behind k collected rest answering tries extensions true) =
-      missed Asks (Behind k collected rest answering tries extensions true) tt
-  is_step Loses up (Behind k collected rest answering tries extensions false) =
-      missed Own (Behind k collected rest answering tries extensions false) tt
   is_step Delivers up (Taken k collected b bytes tries extensions) =
       rw (same_self k.due) (ups Asks up (Taken k collected b bytes tries extensions) tt)
-  is_step Damages up (Taken k collected b bytes tries extensions) = ups Asks up
-      (Taken k collected b bytes tries extensions) tt
-  is_step Loses up (Taken k collected b bytes tries extensions) = missed Asks
-      (Taken k collected b bytes tries extensions) tt
   is_step Delivers up (Waits k rest n size true tries extensions) =
       rw (eq-eqb k.multiple k.multiple refl)
       (answers_now (Grants (Wtx k.multiple)) up k rest n size tries extensions)
   is_step Delivers up (Waits k rest n size false tries extensions) =
       ups Asks up (Waits k rest n size false tries extensions) tt
-  is_step Damages up (Waits k rest n size true tries extensions) =
-      ups (Grants (Wtx k.multiple)) up (Waits k rest n size true tries extensions) tt
-  is_step Damages up (Waits k rest n size false tries extensions) =
-      ups Asks up (Waits k rest n size false tries extensions) tt
-  is_step Loses up (Waits k rest n size true tries extensions) =
-      missed (Grants (Wtx k.multiple)) (Waits k rest n size true tries extensions) tt
-  is_step Loses up (Waits k rest n size false tries extensions) = missed Asks
-      (Waits k rest n size false tries extensions) tt
   is_step Delivers up (Grows k rest size true tries extensions) =
       rw (eq-eqb size size refl) (ups (Grants (Ifs size)) up (Answering k rest tries extensions) tt)
-  is_step Delivers up (Grows k rest size false tries extensions) = ups Asks up
-      (Grows k rest size false tries extensions) tt
-  is_step Damages up (Grows k rest size true tries extensions) =
-      ups (Grants (Ifs size)) up (Grows k rest size true tries extensions) tt
-  is_step Damages up (Grows k rest size false tries extensions) = ups Asks up
-      (Grows k rest size false tries extensions) tt
-  is_step Loses up (Grows k rest size true tries extensions) =
-      missed (Grants (Ifs size)) (Grows k rest size true tries extensions) tt
-  is_step Loses up (Grows k rest size false tries extensions) = missed Asks
-      (Grows k rest size false tries extensions) tt
+  is_step Delivers up (Grows k rest size false tries extensions) =
+      ups Asks up (Grows k rest size false tries extensions) tt
   is_step Delivers up (Answering k rest tries extensions) =
       rw (same_other_2 k.due) (rw (other_other k.due)
       (ups Asks up (Answering k rest tries extensions) tt))
-  is_step Damages up (Answering k rest tries extensions) = notices_answering up k rest tries
-      extensions
-  is_step Loses up (Answering k rest tries extensions) = missed Asks
-      (Answering k rest tries extensions) tt
   is_step Delivers up (Between k got b bytes tries extensions) =
       rw (same_self k.due) (ups Asks up
       (Repeating (record k { last = take k.ifsd (b ∷ bytes) }) got (drop k.ifsd (b ∷ bytes))
       tries extensions) tt)
-  is_step Damages up (Between k got b bytes tries extensions) = notices_between up k got b bytes
-      tries extensions
-  is_step Loses up (Between k got b bytes tries extensions) = missed Asks
-      (Between k got b bytes tries extensions) tt
   is_step Delivers up (Repeating k got rest tries extensions) =
       rw (same_other_2 k.due) (rw (other_other k.due)
       (ups Asks up (Repeating k got rest tries extensions) tt))
-  is_step Damages up (Repeating k got rest tries extensions) = notices_repeating up k got rest
-      tries extensions
-  is_step Loses up (Repeating k got rest tries extensions) = missed Asks
-      (Repeating k got rest tries extensions) tt
-  is_step down up (Given_up w cause) = gone down up w cause
-  is_step down up (Finished w) = over down up w
+  is_step Damages up (Opens k rest tries extensions asks) =
+      let p = Opens k rest tries extensions asks in
+      garbles up p _ tt refl ∙ unread (out_of asks) up p k.number tt refl
+  is_step Damages up (Answering k rest tries extensions) =
+      let p = Answering k rest tries extensions in
+      garbles up p _ tt refl
+      ∙ unread Asks up p (other k.number) tt (rw (same_other k.number) refl)
+  is_step Damages up (Between k got b bytes tries extensions) =
+      let p = Between k got b bytes tries extensions in
+      garbles up p _ tt refl ∙ unread Asks up p k.number tt refl
+  is_step Damages up (Repeating k got rest tries extensions) =
+      let p = Repeating k got rest tries extensions in
+      garbles up p _ tt refl ∙ unread Asks up p k.number tt refl
+  is_step Damages up p = garbles up p _ tt refl ∙ ups (out_at p) up p tt
+  is_step Loses up p = lost up p tt

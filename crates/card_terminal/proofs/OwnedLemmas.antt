@@ -1,4 +1,4 @@
--- An exchange that is put aside and made again.
+-- The mark of an exchange, and the exchange that is made of it again.
 use Rattle.std.proofs.Common.{◌≡◌, ℕ, ◌≤◌, ◌+◌, ◌*◌, List, refl, sym, subst, ap, ◌∙◌, Some, None, Bool, true, false, if◌then◌else◌, arith}
 use Rattle.apdu_core.specs.StatusWord.{StatusWord}
 use Rattle.t0_core.specs.declared.end.End.TheVariants.{Terminal}
@@ -9,27 +9,15 @@ use Rattle.t0_core.specs.Front.{Front, GoesOn}
 use Rattle.t0_core.specs.Room.{Room}
 use Rattle.t0_core.specs.HostSide.{Hosting, HostStandsAt, IsRequest, at_stage, turn_of, after_turn}
 use Rattle.t0_core.specs.HostMark.{HasOnly, with_data}
-use Rattle.card_terminal.specs.declared.exchange.kept.Kept.{Kept}
+use Rattle.card_terminal.specs.declared.attempt.Attempt.{Attempt}
+use Rattle.card_terminal.specs.declared.wanted.Wanted.{Wanted}
 use Rattle.card_terminal.specs.Attempts.{most_begun, one_more}
 use Rattle.card_terminal.specs.Gathered.{Gathers}
 use Rattle.card_terminal.specs.ExchangeSide.{ExchangeOf, IsKept, exchange_turn}
 use Rattle.card_terminal.specs.ExchangeSteps.{IsTurn, IsAnswer}
-use Rattle.card_terminal.specs.OwnedExchange.{exchange_of, of_parts}
+use Rattle.card_terminal.specs.OwnedExchange.{of_parts}
 use Rattle.card_terminal.proofs.ExchangeLemmas.{sends_further, with_host}
 use Rattle.card_terminal.proofs.ComesToLemmas.{end_leads, next_leads}
-
-pub made_again : (kept : Kept) (room gather : Room) (bytes content : List ℕ) (made ex : ExchangeOf)
-    → made ≡ exchange_of kept room bytes → room ≡ gather → bytes ≡ content
-    → exchange_of kept gather content ≡ ex → made ≡ ex
-made_again kept room gather bytes content made ex is same_room same_bytes view =
-    is ∙ ap (λ (r : Room). exchange_of kept r bytes) same_room
-    ∙ ap (λ (bs : List ℕ). exchange_of kept gather bs) same_bytes ∙ view
-
-pub has_only : (kept : Kept) (room : Room) (bytes content : List ℕ) (made : ExchangeOf)
-    → made ≡ exchange_of kept room bytes → bytes ≡ content → HasOnly content made.host
-has_only kept room bytes content made is same =
-    subst (λ (bs : List ℕ). HasOnly bs made.host) same
-    (subst (λ (ex : ExchangeOf). HasOnly bytes ex.host) (sym is) refl)
 
 pub no_answer : (ex : ExchangeOf)
     → ((status : StatusWord) → exchange_turn ex ≡ Done status → ⊥) → IsAnswer ex None
@@ -56,11 +44,13 @@ pub same_sent : (a b : ℕ) → Sends a ≡ Sends b → a ≡ b
 same_sent a b e = cc
 
 -- the exchange of these parts, whose end was made again over its data
-pub same_parts : (kept : Kept) (gather : Room) (content : List ℕ) (host : Hosting) (ex : ExchangeOf)
-    → host ≡ with_data kept.mark content → exchange_of kept gather content ≡ ex
-    → of_parts host gather kept.attempt kept.wanted kept.stalled ≡ ex
-same_parts kept gather content host ex is view =
-    ap (λ (h : Hosting). of_parts h gather kept.attempt kept.wanted kept.stalled) is ∙ view
+pub same_parts : (end : HostMark) (gather : Room) (attempt : Attempt) (wanted : Wanted)
+    (stalled : Bool) (content : List ℕ) (host : Hosting) (ex : ExchangeOf)
+    → host ≡ with_data end content
+    → of_parts (with_data end content) gather attempt wanted stalled ≡ ex
+    → of_parts host gather attempt wanted stalled ≡ ex
+same_parts end gather attempt wanted stalled content host ex is view =
+    ap (λ (h : Hosting). of_parts h gather attempt wanted stalled) is ∙ view
 
 pub end_has_only : (mark : HostMark) (content : List ℕ) (host : Hosting)
     → host ≡ with_data mark content → HasOnly content host

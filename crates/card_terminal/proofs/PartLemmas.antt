@@ -17,7 +17,7 @@ use Rattle.card_terminal.specs.Attempts.{most_begun, one_more}
 use Rattle.card_terminal.specs.Talk.{AreCommandsOf}
 use Rattle.card_terminal.specs.ExchangeSide.{ExchangeOf, UnderWay, IsKept, IsBounded, exchange_turn}
 use Rattle.card_terminal.specs.ExchangeHistory.{ComesTo}
-use Rattle.card_terminal.specs.OwnedExchange.{DetachedOf, over_data, IsSound}
+use Rattle.card_terminal.specs.OwnedExchange.{ExchangeMarkOf, over_data, IsSound}
 use Rattle.card_terminal.specs.OperationRoom.{IsPart, BeginsWith}
 use Rattle.card_terminal.specs.TerminalSide.{OperationOf, AreLeft, LeadsTo, GoesToNext}
 use Rattle.card_terminal.specs.PieceLaws.{IsFrontOf, left_is, left_after, chain_of, first_names, opening_front, next_front, rest_seen}
@@ -39,7 +39,7 @@ bounded ex kept = record {
       (length ex.gather.bytes) ex.attempt.number kept.counted.begun kept.counted.number;
 }
 
-pub part_of : (items content : List ℕ) (from until : ℕ) (ex : DetachedOf)
+pub part_of : (items content : List ℕ) (from until : ℕ) (ex : ExchangeMarkOf)
     → IsFrontOf items from until content → IsSound (over_data ex content)
     → IsPart items from until (over_data ex (slice_range items from until))
 part_of items content from until ex front sound = record {
@@ -55,7 +55,7 @@ begins_by_sending : (c : Command) (ex : ExchangeOf) → UnderWay c ex [] None fr
 begins_by_sending c ex under = let (byte, is) = opening_turn ex.host under.stands in
     (byte, ap (λ v. if v then Failed else turn_of ex.host) under.going ∙ is)
 
-pub begins_with : (first : Command) (value items : List ℕ) (ex : DetachedOf) (until p1 p2 : ℕ)
+pub begins_with : (first : Command) (value items : List ℕ) (ex : ExchangeMarkOf) (until p1 p2 : ℕ)
     → items ≡ value → (more : List ℕ) × (value ≡ first.content ++ more)
     → until ≡ length first.content → p1 ≡ first.header.p1 → p2 ≡ first.header.p2
     → UnderWay first (over_data ex first.content) [] None fresh
@@ -118,7 +118,7 @@ put_begins tag value p1 p2 header pieces list others c o new header_is names are
 
 -- ---- the next piece
 
-pub next_begins : (old : OperationOf) (ex : ExchangeOf) (new : DetachedOf)
+pub next_begins : (old : OperationOf) (ex : ExchangeOf) (new : ExchangeMarkOf)
     (items seen : List ℕ) (until p1 p2 size : ℕ) (first : Bool) (header : Header)
     (pieces : List (List ℕ)) (list others : List Command) (c : Command)
     → record { exchange = ex; p1 = p1; p2 = p2; rest = drop until items; first = first } ≡ old

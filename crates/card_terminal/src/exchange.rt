@@ -12,9 +12,8 @@ ghost use Rattle.t0_core.specs.HostAnswer.{answer_fault, fails_with, Gives};
 ghost use Rattle.t0_core.specs.TpduBytes.{asked_of, due_by};
 ghost use Rattle.card_terminal.specs.ExchangeSide.{HostOpensBy, asks_card, response_limit};
 
-mod detached;
+mod exchange_mark;
 mod handing;
-mod kept;
 mod owned;
 mod taking;
 
@@ -25,7 +24,7 @@ use crate::start_fault::StartFault;
 use crate::taken::Taken;
 use crate::wanted::Wanted;
 use apdu_core::{Command, Header, Status};
-pub(crate) use detached::Detached;
+pub(crate) use exchange_mark::ExchangeMark;
 use handing::handed_by;
 pub use owned::OwnedExchange;
 use std::alloc::{AllocError, Allocator, Global};

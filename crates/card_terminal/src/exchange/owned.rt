@@ -10,7 +10,7 @@ ghost use Rattle.card_terminal.specs.Unsent.{IsFirst};
 ghost use Rattle.card_terminal.specs.ExchangeSteps.{IsTurn, IsTaking, IsAnswering, IsAnswer, IsLimited};
 
 use crate::exchange::RESPONSE_LIMIT;
-use crate::exchange::detached::Detached;
+use crate::exchange::exchange_mark::ExchangeMark;
 use crate::handed_out::HandedOut;
 use crate::start_fault::StartFault;
 use crate::taken::Taken;
@@ -23,7 +23,7 @@ use t0_core::{AnswerFault, HostTurn, LineFault, WholeTpdu};
 #[derive(Drop)]
 pub struct OwnedExchange {
     content: Vec<u8>,
-    exchange: Detached,
+    exchange: ExchangeMark,
 }
 
 impl Model for OwnedExchange {
@@ -82,7 +82,7 @@ impl OwnedExchange {
         ensures limit { IfOk result (λ ex. ex.gather.limit ≡ limit) }
     {
         let content = Vec::from_slice(alloc, command.data())?;
-        let exchange = Detached::start(alloc, command, limit)?;
+        let exchange = ExchangeMark::start(alloc, command, limit)?;
         Ok(OwnedExchange { content, exchange })
     }
 

@@ -13,7 +13,7 @@ ghost use Rattle.card_terminal.specs.Unsent.{IsUnsent};
 ghost use Rattle.card_terminal.specs.TerminalSide.{GoesOver, GoesToNext, IsSettled, with_exchange};
 
 use crate::commands::put_header;
-use crate::exchange::Detached;
+use crate::exchange::ExchangeMark;
 use crate::handed_out::HandedOut;
 use crate::taken::Taken;
 use crate::unsent::Unsent;
@@ -25,7 +25,7 @@ use t0_core::{AnswerFault, HostTurn, LineFault, WholeTpdu};
 /// An operation that has begun.
 #[derive(Drop)]
 pub struct Operation<A: Allocator + Copy = Global> {
-    exchange: Detached<A>,
+    exchange: ExchangeMark<A>,
     /// All that goes to the card as data.
     content: Vec<u8, A>,
     /// The data of the command that came last begin here..
@@ -78,7 +78,7 @@ impl<A: Allocator + Copy> Operation<A> {
         let Header { p1, p2, .. } = first.header();
         let until = first.data().len();
         let content = Vec::from_slice(alloc, content)?;
-        let exchange = Detached::start(alloc, first, limit)?;
+        let exchange = ExchangeMark::start(alloc, first, limit)?;
         Ok(Operation {
             exchange,
             content,

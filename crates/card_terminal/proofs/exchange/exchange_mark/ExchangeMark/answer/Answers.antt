@@ -1,11 +1,11 @@
 use Rattle.std.proofs.Common.{sym, ap, ◌∙◌}
-use Rattle.card_terminal.specs.OwnedExchange.{DetachedOf}
+use Rattle.card_terminal.specs.OwnedExchange.{ExchangeMarkOf}
 use Rattle.card_terminal.proofs.OwnedLemmas.{no_answer, answers}
-use Rattle.card_terminal.proofs.exchange.detached.Detached.answer.Goals as goal
+use Rattle.card_terminal.proofs.exchange.exchange_mark.ExchangeMark.answer.Goals as goal
 
 pub returns-in-Done : goal.returns-in-Done
 returns-in-Done g c = answers _ c.in-Done.status _ (sym c.turn.ensures ∙ c.in-Done.is)
-    (c.bytes.ensures.value ∙ ap (λ (d : DetachedOf). d.gather.bytes) c.self.view_is)
+    (c.bytes.ensures.value ∙ ap (λ (m : ExchangeMarkOf). m.gather.bytes) c.self.view_is)
 
 pub returns-in_default : goal.returns-in_default
 returns-in_default g c =

@@ -4,19 +4,18 @@ use Rattle.t0_core.specs.HostSide.{Hosting}
 use Rattle.t0_core.specs.HostMark.{HasOnly}
 use Rattle.card_terminal.specs.ExchangeSide.{ExchangeOf}
 use Rattle.card_terminal.specs.ExchangeSteps.{IsTurn}
-use Rattle.card_terminal.specs.OwnedExchange.{DetachedOf, over_data, of_parts, IsSound}
+use Rattle.card_terminal.specs.OwnedExchange.{ExchangeMarkOf, over_data, of_parts, IsSound}
 use Rattle.card_terminal.proofs.ExchangeLemmas.{sending_is_going}
 use Rattle.card_terminal.proofs.OwnedLemmas.{same_parts, same_sent, end_has_only, turned}
-use Rattle.card_terminal.proofs.exchange.detached.Detached.next_data.Goals as goal
+use Rattle.card_terminal.proofs.exchange.exchange_mark.ExchangeMark.next_data.Goals as goal
 
 pub returns-clause-turn : goal.returns-clause-turn
 returns-clause-turn g c = λ byte is.
     let content = c.args.content.now in
-    let kept = c.self.inside.kept in
-    let gather = c.self.inside.gather in
-    let ex = of_parts c.at-end.result gather kept.attempt kept.wanted kept.stalled in
-    let begun = same_parts kept gather content c.at-end.result _ c.at-end.ensures
-    (ap (λ (d : DetachedOf). over_data d content) c.self.view_is) in
+    let i = c.self.inside in
+    let ex = of_parts c.at-end.result i.gather i.attempt i.wanted i.stalled in
+    let begun = same_parts i.end i.gather i.attempt i.wanted i.stalled content _ _ c.at-end.ensures
+    (ap (λ (m : ExchangeMarkOf). over_data m content) c.self.view_is) in
     let sound = subst IsSound (sym begun) c.requires in
     let sends = c.in-Some.ensures.sends byte is in
     let step = turned ex (Sends byte) c.next_data.new.self sound.1
@@ -27,7 +26,7 @@ returns-clause-turn g c = λ byte is.
     let only = subst (λ (h : Hosting). HasOnly content h) (sym sends.1)
     (end_has_only _ _ _ c.at-end.ensures) in
     let P : Hosting → Type 0 = λ h. IsTurn (over_data c.args.self.now content) (Sends byte)
-    (of_parts h gather kept.attempt kept.wanted kept.stalled) in
+    (of_parts h i.gather i.attempt i.wanted i.stalled) in
     let Q : ExchangeOf → Type 0 = λ old. IsTurn old (Sends byte)
-    (of_parts c.next_data.new.self gather kept.attempt kept.wanted kept.stalled) in
+    (of_parts c.next_data.new.self i.gather i.attempt i.wanted i.stalled) in
     subst P (sym (c.mark-self-inside.ensures.again content only)) (subst Q begun step)

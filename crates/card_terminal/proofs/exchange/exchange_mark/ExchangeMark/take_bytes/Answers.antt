@@ -3,9 +3,9 @@ use Rattle.t0_core.specs.HostSide.{Hosting}
 use Rattle.card_terminal.specs.Buffers.{IsTakingAll}
 use Rattle.card_terminal.specs.ExchangeSide.{ExchangeOf}
 use Rattle.card_terminal.specs.ExchangeSteps.{IsTaking}
-use Rattle.card_terminal.specs.OwnedExchange.{DetachedOf, over_data, of_parts, IsSound}
+use Rattle.card_terminal.specs.OwnedExchange.{ExchangeMarkOf, over_data, of_parts, IsSound}
 use Rattle.card_terminal.proofs.OwnedLemmas.{same_parts, end_has_only}
-use Rattle.card_terminal.proofs.exchange.detached.Detached.take_bytes.Goals as goal
+use Rattle.card_terminal.proofs.exchange.exchange_mark.ExchangeMark.take_bytes.Goals as goal
 
 pub returns-clause-sound : goal.returns-clause-sound
 returns-clause-sound g c =
@@ -13,22 +13,22 @@ returns-clause-sound g c =
     let made = c.all_taken_by-taken in
     let only = made.ensures.data content (end_has_only _ _ _ c.at-end.ensures) in
     let P : Hosting → Type 0 = λ h. IsSound
-    (of_parts h made.new.gather made.new.attempt c.self.inside.kept.wanted made.new.stalled) in
+    (of_parts h made.new.gather made.new.attempt c.self.inside.wanted made.new.stalled) in
     subst P (sym (c.mark-self-inside.ensures.again content only))
     (c.mark-self-inside.ensures.range, made.ensures.kept)
 
 pub returns-clause-taking : goal.returns-clause-taking
 returns-clause-taking g c =
     let content = c.args.content.now in
-    let kept = c.self.inside.kept in
+    let i = c.self.inside in
     let made = c.all_taken_by-taken in
-    let begun = same_parts kept c.self.inside.gather content c.at-end.result _ c.at-end.ensures
-    (ap (λ (d : DetachedOf). over_data d content) c.self.view_is) in
+    let begun = same_parts i.end i.gather i.attempt i.wanted i.stalled content _ _ c.at-end.ensures
+    (ap (λ (m : ExchangeMarkOf). over_data m content) c.self.view_is) in
     let only = made.ensures.data content (end_has_only _ _ _ c.at-end.ensures) in
-    let new = of_parts made.new.end made.new.gather made.new.attempt kept.wanted made.new.stalled in
+    let new = of_parts made.new.end made.new.gather made.new.attempt i.wanted made.new.stalled in
     let P : Hosting → Type 0 = λ h. IsTakingAll IsTaking (over_data c.args.self.now content)
     c.args.bytes.now made.result
-    (of_parts h made.new.gather made.new.attempt kept.wanted made.new.stalled) in
+    (of_parts h made.new.gather made.new.attempt i.wanted made.new.stalled) in
     let Q : ExchangeOf → Type 0 = λ ex. IsTakingAll IsTaking ex c.args.bytes.now made.result new in
     subst P (sym (c.mark-self-inside.ensures.again content only))
     (subst Q begun made.ensures.taking)

@@ -10,42 +10,56 @@ ghost use Rattle.card_terminal.specs.ExchangeSide.{UnderWay, exchange_turn, resp
 ghost use Rattle.card_terminal.specs.ExchangeHistory.{ComesTo};
 ghost use Rattle.card_terminal.specs.Buffers.{IsHandingOut, IsTakingAll};
 ghost use Rattle.card_terminal.specs.ExchangeSteps.{IsTurn, IsTaking, IsAnswering, IsAnswer};
-ghost use Rattle.card_terminal.specs.OwnedExchange.{exchange_of, over_data, IsSound};
+ghost use Rattle.card_terminal.specs.OwnedExchange.{over_data, IsSound};
 ghost use Rattle.card_terminal.specs.Unsent.{IsFirst};
 
+use crate::attempt::Attempt;
 use crate::exchange::Exchange;
 use crate::exchange::handing::handed_by;
-use crate::exchange::kept::Kept;
 use crate::exchange::taking::{all_taken_by, taken_by};
 use crate::handed_out::HandedOut;
 use crate::taken::Taken;
+use crate::wanted::Wanted;
 use apdu_core::{Command, Status};
 use std::alloc::{AllocError, Allocator, Global};
 use std::marker::Model;
 use std::mem;
-use t0_core::{AnswerFault, Gather, HostEnd, HostTurn, LineFault, WholeTpdu};
+use t0_core::{AnswerFault, Gather, HostEnd, HostMark, HostTurn, LineFault, WholeTpdu};
 
 /// An exchange that holds no borrow: who keeps it keeps the data of its command too, and hands them
 /// to each call.
 #[derive(Drop)]
-pub struct Detached<A: Allocator + Copy = Global> {
+pub struct ExchangeMark<A: Allocator + Copy = Global> {
     alloc: A,
-    kept: Kept,
+    end: HostMark,
     gather: Gather<A>,
+    attempt: Attempt,
+    wanted: Wanted,
+    stalled: bool,
 }
 
-impl<A: Allocator + Copy> Model for Detached<A> {
-    ghost use Rattle.card_terminal.specs.OwnedExchange.{DetachedOf};
+impl<A: Allocator + Copy> Model for ExchangeMark<A> {
+    ghost use Rattle.card_terminal.specs.OwnedExchange.{ExchangeMarkOf};
 
-    ghost Value = { DetachedOf };
+    ghost Value = { ExchangeMarkOf };
 
-    ghost view = { λ e. record { kept = e.kept; gather = e.gather } };
+    ghost view = { λ e. record {
+      end = e.end;
+      gather = e.gather;
+      attempt = e.attempt;
+      wanted = e.wanted;
+      stalled = e.stalled;
+    } };
 }
 
-impl<A: Allocator + Copy> Detached<A> {
+impl<A: Allocator + Copy> ExchangeMark<A> {
     /// Begins the exchange of a command with so much room for the response, which is taken here;
     /// the error is want of memory.
-    pub fn start(alloc: A, command: Command<'_>, limit: usize) -> Result<Detached<A>, AllocError>
+    pub fn start(
+        alloc: A,
+        command: Command<'_>,
+        limit: usize,
+    ) -> Result<ExchangeMark<A>, AllocError>
         requires { limit ≤ response_limit }
         ensures led { IfOk result
             (λ ex. ComesTo command.entry [] (over_data ex command.entry.content)) }
@@ -54,12 +68,8 @@ impl<A: Allocator + Copy> Detached<A> {
         ensures sound { IfOk result (λ ex. IsSound (over_data ex command.entry.content)) }
         ensures limit { IfOk result (λ ex. ex.gather.limit ≡ limit) }
     {
-        let (kept, gather) = aside(Exchange::in_room(alloc, command, limit)?);
-        Ok(Detached {
-            alloc,
-            kept,
-            gather,
-        })
+        let exchange = Exchange::in_room(alloc, command, limit)?;
+        Ok(ExchangeMark::of(alloc, exchange))
     }
 
     /// Begins the exchange of another command in the same room, which is emptied.
@@ -73,9 +83,30 @@ impl<A: Allocator + Copy> Detached<A> {
     {
         let mut gather = mem::replace(&mut self.gather, Gather::without_room(self.alloc));
         gather.clear();
-        let (kept, gather) = aside(Exchange::begin(gather, command));
-        self.kept = kept;
-        self.gather = gather;
+        *self = ExchangeMark::of(self.alloc, Exchange::begin(gather, command));
+    }
+
+    /// The mark of an exchange.
+    fn of(alloc: A, exchange: Exchange<'_, A>) -> ExchangeMark<A>
+        ensures again { (content : List ℕ) → HasOnly content exchange.entry.host
+            → over_data result content ≡ exchange.entry }
+        ensures sound { IsSound exchange.entry }
+    {
+        let Exchange {
+            end,
+            gather,
+            attempt,
+            wanted,
+            stalled,
+        } = exchange;
+        ExchangeMark {
+            alloc,
+            end: end.mark(),
+            gather,
+            attempt,
+            wanted,
+            stalled,
+        }
     }
 
     /// What `next` answers, which changes nothing here.
@@ -83,10 +114,10 @@ impl<A: Allocator + Copy> Detached<A> {
         requires { IsSound (over_data self.now content.now) }
         ensures { result ≡ exchange_turn (over_data self.now content.now) }
     {
-        if self.kept.stalled {
+        if self.stalled {
             return HostTurn::Failed;
         }
-        let mut end = HostEnd::at(self.kept.mark, content);
+        let mut end = HostEnd::at(self.end, content);
         end.next()
     }
 
@@ -102,12 +133,12 @@ impl<A: Allocator + Copy> Detached<A> {
         ensures sound { IsSound (over_data self.new content.now) }
         ensures limit { self.new.gather.limit ≡ self.old.gather.limit }
     {
-        if self.kept.stalled {
+        if self.stalled {
             return HostTurn::Failed;
         }
-        let mut end = HostEnd::at(self.kept.mark, content);
+        let mut end = HostEnd::at(self.end, content);
         let turn = end.next();
-        self.kept.mark = end.mark();
+        self.end = end.mark();
         turn
     }
 
@@ -126,11 +157,11 @@ impl<A: Allocator + Copy> Detached<A> {
         ensures sound { IsSound (over_data self.new content.now) }
         ensures limit { self.new.gather.limit ≡ self.old.gather.limit }
     {
-        let mut end = HostEnd::at(self.kept.mark, content);
+        let mut end = HostEnd::at(self.end, content);
         let Some(byte) = end.next_data() else {
             return None;
         };
-        self.kept.mark = end.mark();
+        self.end = end.mark();
         Some(byte)
     }
 
@@ -143,16 +174,16 @@ impl<A: Allocator + Copy> Detached<A> {
         ensures sound { IsSound (over_data self.new content.now) }
         ensures limit { self.new.gather.limit ≡ self.old.gather.limit }
     {
-        let mut end = HostEnd::at(self.kept.mark, content);
+        let mut end = HostEnd::at(self.end, content);
         let taken = taken_by(
             &mut end,
             &mut self.gather,
-            &mut self.kept.attempt,
-            self.kept.wanted,
-            &mut self.kept.stalled,
+            &mut self.attempt,
+            self.wanted,
+            &mut self.stalled,
             byte,
         );
-        self.kept.mark = end.mark();
+        self.end = end.mark();
         taken
     }
 
@@ -167,9 +198,9 @@ impl<A: Allocator + Copy> Detached<A> {
         ensures sound { IsSound (over_data self.new content.now) }
         ensures limit { self.new.gather.limit ≡ self.old.gather.limit }
     {
-        let mut end = HostEnd::at(self.kept.mark, content);
-        let handed = handed_by(&mut end, self.kept.stalled, bytes);
-        self.kept.mark = end.mark();
+        let mut end = HostEnd::at(self.end, content);
+        let handed = handed_by(&mut end, self.stalled, bytes);
+        self.end = end.mark();
         handed
     }
 
@@ -181,16 +212,16 @@ impl<A: Allocator + Copy> Detached<A> {
         ensures sound { IsSound (over_data self.new content.now) }
         ensures limit { self.new.gather.limit ≡ self.old.gather.limit }
     {
-        let mut end = HostEnd::at(self.kept.mark, content);
+        let mut end = HostEnd::at(self.end, content);
         let taken = all_taken_by(
             &mut end,
             &mut self.gather,
-            &mut self.kept.attempt,
-            self.kept.wanted,
-            &mut self.kept.stalled,
+            &mut self.attempt,
+            self.wanted,
+            &mut self.stalled,
             bytes,
         );
-        self.kept.mark = end.mark();
+        self.end = end.mark();
         taken
     }
 
@@ -199,7 +230,7 @@ impl<A: Allocator + Copy> Detached<A> {
         requires { IsSound (over_data self.now content.now) }
         ensures { option_map asked_of result ≡ due_by (over_data self.now content.now).host }
     {
-        HostEnd::at(self.kept.mark, content).whole()
+        HostEnd::at(self.end, content).whole()
     }
 
     /// The command itself, if nothing of the exchange has gone.
@@ -207,12 +238,12 @@ impl<A: Allocator + Copy> Detached<A> {
         requires { IsSound (over_data self.now content.now) }
         ensures { IsFirst (over_data self.now content.now) result }
     {
-        if self.kept.stalled || self.kept.attempt.number != 1 {
+        if self.stalled || self.attempt.number != 1 {
             return None;
         }
         match self.tpdu(content) {
             None => None,
-            Some(due) => Command::new(due.header, due.content, self.kept.wanted.le()),
+            Some(due) => Command::new(due.header, due.content, self.wanted.le()),
         }
     }
 
@@ -229,12 +260,15 @@ impl<A: Allocator + Copy> Detached<A> {
         ensures sound { IsSound (over_data self.new content.now) }
         ensures limit { self.new.gather.limit ≡ self.old.gather.limit }
     {
-        let gather = mem::replace(&mut self.gather, Gather::without_room(self.alloc));
-        let mut exchange = resumed(self.kept, gather, content);
+        let mut exchange = Exchange {
+            end: HostEnd::at(self.end, content),
+            gather: mem::replace(&mut self.gather, Gather::without_room(self.alloc)),
+            attempt: self.attempt,
+            wanted: self.wanted,
+            stalled: self.stalled,
+        };
         let taken = exchange.answered(bytes, status);
-        let (kept, gather) = aside(exchange);
-        self.kept = kept;
-        self.gather = gather;
+        *self = ExchangeMark::of(self.alloc, exchange);
         taken
     }
 
@@ -249,46 +283,4 @@ impl<A: Allocator + Copy> Detached<A> {
             _ => None,
         }
     }
-}
-
-/// The exchange again, over the data of its command.
-fn resumed<A: Allocator>(kept: Kept, gather: Gather<A>, content: &[u8]) -> Exchange<'_, A>
-    requires { IsSound (exchange_of kept gather content.now) }
-    ensures { result ≡ exchange_of kept gather content.now }
-{
-    let Kept {
-        mark,
-        attempt,
-        wanted,
-        stalled,
-    } = kept;
-    Exchange {
-        end: HostEnd::at(mark, content),
-        gather,
-        attempt,
-        wanted,
-        stalled,
-    }
-}
-
-/// What is kept of an exchange, and its room.
-fn aside<A: Allocator>(exchange: Exchange<'_, A>) -> (Kept, Gather<A>)
-    ensures again { (content : List ℕ) → HasOnly content exchange.entry.host
-        → exchange_of result.0 result.1 content ≡ exchange.entry }
-    ensures sound { IsSound exchange.entry }
-{
-    let Exchange {
-        end,
-        gather,
-        attempt,
-        wanted,
-        stalled,
-    } = exchange;
-    let kept = Kept {
-        mark: end.mark(),
-        attempt,
-        wanted,
-        stalled,
-    };
-    (kept, gather)
 }

@@ -3,17 +3,16 @@ use Rattle.t0_core.specs.HostSide.{Hosting}
 use Rattle.t0_core.specs.HostMark.{HasOnly}
 use Rattle.card_terminal.specs.ExchangeSide.{ExchangeOf}
 use Rattle.card_terminal.specs.ExchangeSteps.{IsTurn}
-use Rattle.card_terminal.specs.OwnedExchange.{DetachedOf, over_data, of_parts, IsSound}
+use Rattle.card_terminal.specs.OwnedExchange.{ExchangeMarkOf, over_data, of_parts, IsSound}
 use Rattle.card_terminal.proofs.OwnedLemmas.{same_parts, end_has_only, turned}
-use Rattle.card_terminal.proofs.exchange.detached.Detached.next.Goals as goal
+use Rattle.card_terminal.proofs.exchange.exchange_mark.ExchangeMark.next.Goals as goal
 
 pub returns-clause-turn : goal.returns-clause-turn
 returns-clause-turn g c =
     let content = c.args.content.now in
-    let kept = c.self.inside.kept in
-    let gather = c.self.inside.gather in
-    let begun = same_parts kept gather content c.at-end.result _ c.at-end.ensures
-    (ap (λ (d : DetachedOf). over_data d content) c.self.view_is) in
+    let i = c.self.inside in
+    let begun = same_parts i.end i.gather i.attempt i.wanted i.stalled content _ _ c.at-end.ensures
+    (ap (λ (m : ExchangeMarkOf). over_data m content) c.self.view_is) in
     let sound = subst IsSound (sym begun) c.requires in
     let turn = c.next-turn.result in
     let step = turned _ turn c.next-turn.new.self sound.1 c.if-self.false c.next-turn.ensures.turn
@@ -22,7 +21,7 @@ returns-clause-turn g c =
     let only = subst (λ (h : Hosting). HasOnly content h) (sym c.next-turn.ensures.after)
     (end_has_only _ _ _ c.at-end.ensures) in
     let P : Hosting → Type 0 = λ h. IsTurn (over_data c.args.self.now content) turn
-    (of_parts h gather kept.attempt kept.wanted kept.stalled) in
+    (of_parts h i.gather i.attempt i.wanted i.stalled) in
     let Q : ExchangeOf → Type 0 = λ ex. IsTurn ex turn
-    (of_parts c.next-turn.new.self gather kept.attempt kept.wanted kept.stalled) in
+    (of_parts c.next-turn.new.self i.gather i.attempt i.wanted i.stalled) in
     subst P (sym (c.mark-self-inside.ensures.again content only)) (subst Q begun step)

@@ -1,4 +1,4 @@
-//! What a command is answered: a status, and the data that were gathered.
+//! The answer to a command: a status, and the data that an exchange gathered.
 ghost use Rattle.std.specs.Prelude.{◌≡◌, IfSome, IfNone};
 ghost use Rattle.tlv_core.specs.Object.{Object};
 ghost use Rattle.card_terminal.specs.OneObject.{IsOneObject};
@@ -9,7 +9,7 @@ use std::marker::Model;
 use t0_core::Gather;
 use tlv_core::{Obj, Objects};
 
-/// What a card answers to a command: the data gathered, and the status.
+/// The answer to a command: the gathered data, and the status.
 #[derive(Drop)]
 pub struct Answer<A: Allocator = Global> {
     status: Status,
@@ -25,7 +25,7 @@ impl<A: Allocator> Model for Answer<A> {
 }
 
 impl<A: Allocator> Answer<A> {
-    /// An answer of these data, in memory of their size.
+    /// Makes an answer of the gathered data. Their room shrinks to their size.
     pub fn new(status: Status, gather: Gather<A>) -> Answer<A>
         ensures { result ≡ record { status = status; content = gather.bytes } }
     {
@@ -49,7 +49,7 @@ impl<A: Allocator> Answer<A> {
         self.content.as_slice()
     }
 
-    /// The data as one object, if they are tag, length and value of one and nothing else.
+    /// The data as one data object, if they are its tag, length and value and nothing else.
     pub fn object(&self) -> Option<Obj<'_>>
         ensures some { IfSome result (λ object. IsOneObject self.now.content object) }
         ensures none { IfNone result ((object : Object) → IsOneObject self.now.content object → ⊥) }

@@ -1,11 +1,11 @@
-//! The answers to a list of operations, which grows by one for each.
+//! The list of answers to which a session appends one for each operation.
 ghost use Rattle.std.specs.Prelude.{◌≡◌, ◌≤◌, [], ◌∷◌, ◌++◌, length, slice_get, option_copied, OnOk, MatchOption};
 
 use crate::answer::Answer;
 use std::alloc::{AllocError, Allocator, Global};
 use std::marker::Model;
 
-/// The answers to operations, in order.
+/// The answers to operations, in their order.
 #[derive(Drop)]
 pub struct Answers<A: Allocator = Global> {
     answers: Vec<Answer<A>, A>,
@@ -25,7 +25,7 @@ impl<A: Allocator> Model for Answers<A> {
 }
 
 impl<A: Allocator> Answers<A> {
-    /// No answers. It takes no memory.
+    /// Makes an empty list. It allocates nothing.
     pub fn new(alloc: A) -> Answers<A>
         ensures { result.given ≡ [] }
     {
@@ -34,21 +34,21 @@ impl<A: Allocator> Answers<A> {
         }
     }
 
-    /// How many answers there are.
+    /// The number of answers.
     pub fn len(&self) -> usize
         ensures { result ≡ length self.now.given }
     {
         self.answers.len()
     }
 
-    /// The answer at this place, from 0; None past the last.
+    /// The answer with index `at`, from 0, if there is one.
     pub fn get(&self, at: usize) -> Option<&Answer<A>>
         ensures { option_copied result ≡ slice_get self.now.given at }
     {
         self.answers.as_slice().get(at)
     }
 
-    /// Takes the last answer out, if there is one.
+    /// Removes the last answer and returns it, if there is one.
     pub fn pop(&mut self) -> Option<Answer<A>>
         ensures { MatchOption result ((self.old.given ≡ []) × (self.new.given ≡ []))
             (λ answer. self.old.given ≡ self.new.given ++ answer ∷ []) }
@@ -56,8 +56,11 @@ impl<A: Allocator> Answers<A> {
         self.answers.pop()
     }
 
-    /// Takes the room for one more answer. Its error is want of memory. Either way the answers
-    /// stay.
+    /// Makes sure that there is room for one more answer.
+    ///
+    /// # Errors
+    ///
+    /// - `AllocError`: memory ran out; the answers are unchanged.
     pub fn make_room(&mut self) -> Result<(), AllocError>
         ensures stays { self.new.given ≡ self.old.given }
         ensures room { OnOk result (1 ≤ self.new.room) }
@@ -65,7 +68,7 @@ impl<A: Allocator> Answers<A> {
         self.answers.reserve(1)
     }
 
-    /// Appends an answer, for which there is room.
+    /// Appends an answer. There is room for it.
     pub fn append(&mut self, answer: Answer<A>)
         requires { 1 ≤ self.old.room }
         ensures { self.new.given ≡ self.old.given ++ answer ∷ [] }

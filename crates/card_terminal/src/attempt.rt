@@ -1,4 +1,4 @@
-//! The place of a TPDU in its exchange, and what follows it.
+//! The place of one TPDU in its exchange, and which TPDU follows it.
 ghost use Rattle.std.specs.Prelude.{◌≡◌, ◌≤◌};
 ghost use Rattle.apdu_core.specs.StatusWord.{corrects, announces};
 ghost use Rattle.card_terminal.specs.Gathered.{fetched_of};
@@ -16,37 +16,37 @@ pub const GET_RESPONSE: Header = Header {
     p2: 0x00,
 };
 
-/// The place of the TPDU under way in its exchange.
+/// The place of the current TPDU in its exchange.
 #[derive(Clone, Copy, Debug, PartialEq, Eq)]
 pub struct Attempt {
     /// CLA INS P1 P2.
     pub header: Header,
     /// It asks the card for data.
     pub asks: bool,
-    /// It is of a GET RESPONSE that fetches what was announced.
+    /// It is a GET RESPONSE that fetches what a `61XX` announced.
     pub fetches: bool,
-    /// It repeats the one before, with the count that a `6CXX` told.
+    /// It repeats the TPDU before it, with the count of a `6CXX`.
     pub repeats: bool,
-    /// So many bytes were gathered before its unit.
+    /// The number of bytes gathered before it and the TPDU that it repeats.
     pub before: usize,
-    /// It is so many TPDUs from the first, which is number 1.
+    /// Its number in the exchange, from 1.
     pub number: usize,
 }
 
-/// What follows a TPDU that has ended.
+/// What follows when a TPDU has ended.
 #[derive(Clone, Copy, Debug, PartialEq, Eq)]
 pub enum Next {
-    /// One more TPDU, which asks for so many bytes.
+    /// One more TPDU, which asks for `count` bytes.
     Asks { attempt: Attempt, count: u16 },
-    /// Nothing: the exchange has stalled.
+    /// The exchange has stalled.
     Stalls,
-    /// Nothing: the exchange is over.
+    /// The exchange has ended.
     Ends,
 }
 
 impl Attempt {
-    /// What follows, where so many bytes are gathered, so much is still wanted, and this is the
-    /// status.
+    /// Returns what follows this TPDU, which ended with `status`. `gathered` is the number of bytes
+    /// that the exchange has gathered, at most `RESPONSE_LIMIT`, and `left` is what it still wants.
     pub fn followed(self, gathered: usize, left: Wanted, status: Status) -> Next
         requires counted { IsCounted self gathered }
         requires room { gathered ≤ response_limit }
@@ -81,7 +81,7 @@ impl Attempt {
         }
     }
 
-    /// The count that this TPDU is repeated with, if it is.
+    /// The count to repeat this TPDU with, if it is repeated.
     fn repeated_with(self, left: Wanted, corrected: Option<u16>) -> Option<u16>
         ensures { result ≡ again_with self left corrected }
     {
@@ -93,7 +93,7 @@ impl Attempt {
     }
 }
 
-/// The count that a GET RESPONSE fetches of what is announced, if one follows.
+/// The count of the GET RESPONSE that follows, if one does.
 fn fetched(left: Wanted, announced: Option<u16>) -> Option<u16>
     ensures { result ≡ fetched_of left announced }
 {

@@ -1,10 +1,10 @@
-//! The value of a put, as bytes that it owns.
+//! The value of a put operation, in memory that it owns.
 ghost use Rattle.std.specs.Prelude.{◌≡◌};
 
 use std::alloc::{Allocator, Global};
 use std::marker::Model;
 
-/// A list of bytes, as the value of a put.
+/// A list of bytes: the value of `Op::Put`.
 #[derive(Drop)]
 pub struct Bytes<A: Allocator = Global> {
     bytes: Vec<u8, A>,
@@ -19,7 +19,7 @@ impl<A: Allocator> Model for Bytes<A> {
 }
 
 impl<A: Allocator> Bytes<A> {
-    /// These bytes.
+    /// Makes the list of these bytes.
     pub fn new(bytes: Vec<u8, A>) -> Bytes<A>
         ensures { result ≡ bytes.items }
     {

@@ -1,4 +1,4 @@
-//! The commands that operations become, but for the pieces of a put.
+//! The commands of operations: SELECT, GET DATA, and the header of PUT DATA.
 ghost use Rattle.std.specs.Prelude.{◌≡◌, ℕ};
 ghost use Rattle.tlv_core.specs.Address.{NamesTag};
 ghost use Rattle.object_card.specs.Tables.{IsAid};
@@ -9,7 +9,7 @@ use apdu_core::{Command, Header};
 use object_card::{Aid, GET_DATA, PUT_DATA, SELECT};
 use tlv_core::ObjectTag;
 
-/// SELECT by identifier, with Le `00` (ISO/IEC 7816-4, SELECT).
+/// The SELECT of the application with this identifier, with Le `00` (ISO/IEC 7816-4, SELECT).
 pub fn select_command(aid: &Aid) -> Command<'_>
     ensures command { result ≡ talk.select_command aid.now }
     ensures aid { IsAid aid.now }
@@ -23,7 +23,7 @@ pub fn select_command(aid: &Aid) -> Command<'_>
     Command::new(header, aid.bytes(), Some(256)).unwrap()
 }
 
-/// GET DATA of a tag, with Le `00` (ISO/IEC 7816-4, GET DATA).
+/// The GET DATA of the object with this tag, with Le `00` (ISO/IEC 7816-4, GET DATA).
 pub fn get_command(tag: ObjectTag) -> Command<'static>
     ensures { (p1 p2 : ℕ) × NamesTag tag p1 p2 × (result ≡ talk.get_command p1 p2) }
 {
@@ -37,7 +37,8 @@ pub fn get_command(tag: ObjectTag) -> Command<'static>
     Command::new(header, &[], Some(256)).unwrap()
 }
 
-/// The header of PUT DATA, as the last of its chain has it (ISO/IEC 7816-4, PUT DATA).
+/// The header of the last PUT DATA of a chain. `p1` and `p2` name the tag (ISO/IEC 7816-4, PUT
+/// DATA).
 pub fn put_header(p1: u8, p2: u8) -> Header
     ensures { result ≡ carrying.put_header p1 p2 }
 {

@@ -1,4 +1,4 @@
-//! The exchange of one command: its TPDUs in turn, and the data that they bring.
+//! The terminal's side of one command: its TPDUs in turn, and the data that they bring.
 ghost use Rattle.std.specs.Prelude.{◌≡◌, ◌≤◌, ◌<◌, ◌+◌, ◌*◌, ℕ, ◌⊎◌, ◌↔◌, List, [], ◌∷◌, ◌++◌, length, Option, Some, None, true, false, IfOk, IfErr, IsOk, MatchResult, IsSome, IfSome};
 ghost use Rattle.std.specs.Option.{option_map};
 ghost use Rattle.apdu_core.specs.declared.header.Header.{Header};
@@ -32,12 +32,15 @@ use std::marker::Model;
 use t0_core::{AnswerFault, Gather, HostEnd, HostTurn, LineFault, WholeTpdu};
 use taking::{all_taken_by, taken_by};
 
-/// The most bytes of a response that a terminal gathers, whatever its limit (this project's
-/// profile).
+/// The most bytes of a response that any exchange gathers (profile).
 pub const RESPONSE_LIMIT: usize = 16_384;
 
-/// The terminal's side of a command: its TPDU, a repetition of it after `6CXX`, and a GET RESPONSE
-/// after each `61XX` while more is wanted (ISO/IEC 7816-3, clause 12).
+/// The terminal's side of one command (ISO/IEC 7816-3, clause 12): its TPDU, the same again after
+/// `6CXX`, and a GET RESPONSE after each `61XX` while the command wants more data.
+///
+/// `next` returns each character to send, and `take` takes each character of the card, until `next`
+/// returns `Done`. `into_answer` then returns the status and the data. `tpdu` and `answered` pass
+/// whole TPDUs instead.
 #[derive(Drop)]
 pub struct Exchange<'a, A: Allocator = Global> {
     end: HostEnd<'a>,
@@ -85,8 +88,11 @@ impl<'a, A: Allocator> Exchange<'a, A> {
     ghost use Rattle.t0_core.specs.Character.{Character};
     ghost use Rattle.card_terminal.specs.ExchangeSide.{UnderWay, IsKept, IsBounded, Continues, Stall, exchange_turn, ended_with};
 
-    /// Begins the exchange of a command. The room for the response, `RESPONSE_LIMIT` bytes, is
-    /// taken here; the error is want of memory.
+    /// Begins the exchange of a command, and allocates room for `RESPONSE_LIMIT` bytes.
+    ///
+    /// # Errors
+    ///
+    /// - `AllocError`: memory ran out; there is no exchange.
     pub fn start(alloc: A, command: Command<'a>) -> Result<Exchange<'a, A>, AllocError>
         ensures begins { IfOk result (λ ex. UnderWay command.entry ex [] None fresh) }
         ensures led { IfOk result (λ ex. ComesTo command.entry [] ex) }
@@ -96,12 +102,15 @@ impl<'a, A: Allocator> Exchange<'a, A> {
         Exchange::in_room(alloc, command, RESPONSE_LIMIT)
     }
 
-    /// Begins the exchange of a command whose response may have so many bytes, 0 to
-    /// `RESPONSE_LIMIT`; data beyond them are `TooLong` where they come. So much room is taken
-    /// here.
+    /// Begins the exchange of a command whose response has at most `limit` bytes, 0 to
+    /// `RESPONSE_LIMIT`, and allocates room for them. More data are a fault, `TooLong`.
     ///
-    /// `OverLimit` comes where the limit is over `RESPONSE_LIMIT`, and then no memory is asked for;
-    /// else the fault is want of memory, `OutOfMemory`.
+    /// # Errors
+    ///
+    /// There is no exchange after either:
+    ///
+    /// - `OverLimit`: `limit` exceeds `RESPONSE_LIMIT`; nothing was allocated.
+    /// - `OutOfMemory`: memory ran out.
     pub fn start_within(
         alloc: A,
         command: Command<'a>,
@@ -118,8 +127,8 @@ impl<'a, A: Allocator> Exchange<'a, A> {
         Ok(Exchange::in_room(alloc, command, limit)?)
     }
 
-    /// Begins the exchange of a command with so much room for the response. The error is want of
-    /// memory.
+    /// Begins the exchange of a command, and allocates room for `limit` bytes. The error is that
+    /// memory ran out.
     fn in_room(alloc: A, command: Command<'a>, limit: usize) -> Result<Exchange<'a, A>, AllocError>
         requires { limit ≤ response_limit }
         ensures begins { IfOk result (λ ex. UnderWay command.entry ex [] None fresh) }
@@ -131,7 +140,7 @@ impl<'a, A: Allocator> Exchange<'a, A> {
         Ok(Exchange::begin(gather, command))
     }
 
-    /// Begins the exchange of another command in the same room, which is emptied.
+    /// Begins the exchange of another command in the room of this one. The data in it are lost.
     pub fn again<'b>(self, command: Command<'b>) -> Exchange<'b, A>
         ensures begins { UnderWay command.entry result [] None fresh }
         ensures led { ComesTo command.entry [] result }
@@ -142,7 +151,7 @@ impl<'a, A: Allocator> Exchange<'a, A> {
         Exchange::begin(gather, command)
     }
 
-    /// Begins the exchange of a command in an empty room.
+    /// Begins the exchange of a command in this empty room.
     pub(crate) fn begin(gather: Gather<A>, command: Command<'a>) -> Exchange<'a, A>
         requires empty { gather.bytes ≡ [] }
         requires limit { gather.limit ≤ response_limit }
@@ -169,15 +178,14 @@ impl<'a, A: Allocator> Exchange<'a, A> {
         }
     }
 
-    /// What the terminal does now. A character to send is handed out; nothing else changes
-    /// anything.
+    /// Returns what the terminal does next. Only a character to send changes the exchange.
     #[inline(always)]
     pub fn next(&mut self) -> HostTurn
         ensures turn { IsTurn self.old result self.new }
         ensures data { (content : List ℕ) → HasOnly content self.old.host
             → HasOnly content self.new.host }
 
-        // It brings no exchange to its end.
+        // No character to send ends the exchange.
         ensures over { (status : StatusWord) → exchange_turn self.new ≡ HostTurn.Done status
             → self.new ≡ self.old }
     {
@@ -187,8 +195,8 @@ impl<'a, A: Allocator> Exchange<'a, A> {
         self.end.next()
     }
 
-    /// Hands out a character of the command's data, if one is due, as `next` does; else nothing
-    /// changes.
+    /// Returns the next character of the command's data if one is to be sent, as `next` would.
+    /// Otherwise nothing changes.
     #[inline(always)]
     pub(crate) fn next_data(&mut self) -> Option<u8>
         ensures due { result ≡ data_due self.old.host }
@@ -205,14 +213,22 @@ impl<'a, A: Allocator> Exchange<'a, A> {
         self.end.next_data()
     }
 
-    /// Takes a character of the card. With a status the next TPDU is begun, if one follows.
+    /// Takes a character of the card. If it completes a status, the next TPDU begins, if one
+    /// follows.
     ///
-    /// `BadProcedure` comes where a procedure byte is due and this is neither one nor a first
-    /// status byte, `TooLong` where a data character of the card is due and the room is full,
-    /// `Stalled` where a GET RESPONSE that the exchange has sent of its own has brought nothing and
-    /// the card announces more (a command that is itself a GET RESPONSE may bring nothing): then
-    /// the exchange has failed for good (this project's profile). `AfterEnd` comes where it is over
-    /// or has failed, `NotListening` where it has characters to send: these change nothing.
+    /// # Errors
+    ///
+    /// The rules are the profile's:
+    ///
+    /// - `BadProcedure`: a procedure byte or SW1 is expected, and `byte` is neither; the exchange
+    ///   has failed for good.
+    /// - `TooLong`: a data character is expected, and the room is full; the exchange has failed for
+    ///   good.
+    /// - `Stalled`: a GET RESPONSE that the exchange added brought nothing, and the card announces
+    ///   more; the exchange has failed for good. A command that is itself a GET RESPONSE may bring
+    ///   nothing.
+    /// - `AfterEnd`: the exchange has ended or failed; it is unchanged.
+    /// - `NotListening`: the exchange has characters to send first; it is unchanged.
     #[inline(always)]
     pub fn take(&mut self, byte: u8) -> Result<(), LineFault>
         ensures taking { IsTaking self.old byte result self.new }
@@ -229,8 +245,8 @@ impl<'a, A: Allocator> Exchange<'a, A> {
         )
     }
 
-    /// Hands out characters into a buffer, as `next` one at a time, until the buffer is full or the
-    /// terminal does not send. So an empty buffer is full at once.
+    /// Writes the next characters to `bytes`, as `next` one at a time, until the terminal has none
+    /// to send or `bytes` is full. An empty buffer is full.
     pub fn next_bytes(&mut self, bytes: &mut [u8]) -> HandedOut
         ensures handed { IsHandingOut IsTurn self.old bytes.old bytes.new result self.new }
         ensures data { (content : List ℕ) → HasOnly content self.old.host
@@ -239,8 +255,8 @@ impl<'a, A: Allocator> Exchange<'a, A> {
         handed_by(&mut self.end, self.stalled, bytes)
     }
 
-    /// Takes the characters of a buffer, as `take` one at a time, up to the first that is a fault,
-    /// with which it stops. That fault does what it does at `take`.
+    /// Takes the characters of a buffer, as `take` one at a time, up to the first error. The state
+    /// after an error is that after the same error of `take`.
     pub fn take_bytes(&mut self, bytes: &[u8]) -> Taken
         ensures taking { IsTakingAll IsTaking self.old bytes.now result self.new }
         ensures data { (content : List ℕ) → HasOnly content self.old.host
@@ -256,8 +272,8 @@ impl<'a, A: Allocator> Exchange<'a, A> {
         )
     }
 
-    /// The whole TPDU that is due, for a transport of whole TPDUs, where none of its characters has
-    /// gone. `None` where one has, and where the exchange is over or has failed.
+    /// The next TPDU as a whole, for a transport of whole TPDUs. `None` if a character of it was
+    /// sent already, or if the exchange has ended or failed.
     pub fn tpdu(&self) -> Option<WholeTpdu<'a>>
         ensures due { option_map asked_of result ≡ due_by self.now.host }
         ensures begins { (c : spec.Command) (units : List UnitOf) (first : Option Dialogue)
@@ -267,13 +283,18 @@ impl<'a, A: Allocator> Exchange<'a, A> {
         self.end.whole()
     }
 
-    /// Takes the answer to the whole TPDU that is due, its data and its status, as a transport of
-    /// whole TPDUs gives it. With it the next TPDU is begun, if one follows.
+    /// Takes the answer of the card to the TPDU that `tpdu` returns: its data, `bytes`, and its
+    /// status. The next TPDU begins, if one follows.
     ///
-    /// `NotDue` comes where `tpdu` is `None`, `NotAsked` where the TPDU sends data and some came,
-    /// `TooMany` where more came than it may: these change nothing. `TooLong` comes where the room
-    /// is too small for the data, `Stalled` as from `take`: then the exchange has failed for good
-    /// (this project's profile).
+    /// # Errors
+    ///
+    /// The rules are the profile's:
+    ///
+    /// - `NotDue`: `tpdu` returns `None`; the exchange is unchanged.
+    /// - `NotAsked`: the TPDU sends data, and `bytes` is not empty; the exchange is unchanged.
+    /// - `TooMany`: `bytes` exceeds what P3 states; the exchange is unchanged.
+    /// - `TooLong`: the room has too little space for `bytes`; the exchange has failed for good.
+    /// - `Stalled`: as for `take`; the exchange has failed for good.
     pub fn answered(&mut self, bytes: &[u8], status: Status) -> Result<(), AnswerFault>
         ensures fault { MatchResult result
             (λ _. answer_fault self.old.host self.old.gather bytes.now ≡ None)
@@ -288,8 +309,8 @@ impl<'a, A: Allocator> Exchange<'a, A> {
         ensures failed { IfErr result
             (λ fault. fails_with fault ≡ true → exchange_turn self.new ≡ HostTurn.Failed) }
 
-        // Whichever dialogue went over the line, with these data and this status, the exchange goes
-        // on as after its characters, or fails as there.
+        // After any dialogue with these data and this status, the exchange continues as after its
+        // characters, or fails as there.
         ensures ends { (c : spec.Command) (units : List UnitOf) (first : Option Dialogue)
             (d : Dialogue) →
             UnderWay c self.old units first fresh → Gives self.old.host d bytes.now status →
@@ -298,8 +319,8 @@ impl<'a, A: Allocator> Exchange<'a, A> {
             ⊎ ((fault ≡ AnswerFault.TooLong)
             × (self.old.gather.limit < length self.old.gather.bytes + length bytes.now))) }
 
-        // Whatever led to the exchange leads to it with its characters; where there is no room for
-        // the data, with those up to the first that is too much.
+        // If some characters led to the exchange, they and those of the dialogue lead to the new
+        // one. If the data exceed the room, it is those up to the first that exceeds it.
         ensures led { (c : spec.Command) (came : List Character) (d : Dialogue) →
             ComesTo c came self.old → Gives self.old.host d bytes.now status →
             MatchResult result (λ _. ComesTo c (came ++ characters d) self.new)
@@ -307,7 +328,7 @@ impl<'a, A: Allocator> Exchange<'a, A> {
             ⊎ ((fault ≡ AnswerFault.TooLong) × ComesTooFar c came (characters d) self.new)
             ⊎ (fault ≡ AnswerFault.NotDue)) }
 
-        // Some dialogue gives each answer that is taken or ends the exchange.
+        // Some dialogue gives each answer that is taken or makes the exchange fail.
         ensures given { MatchResult result
             (λ _. (d : Dialogue) × Gives self.old.host d bytes.now status)
             (λ fault. fails_with fault ≡ true
@@ -320,14 +341,15 @@ impl<'a, A: Allocator> Exchange<'a, A> {
         }
     }
 
-    /// The room, with what is gathered.
+    /// Returns the room, with the gathered data.
     pub(crate) fn into_room(self) -> Gather<A>
         ensures { result ≡ self.entry.gather }
     {
         self.gather
     }
 
-    /// The answer, if the exchange is over.
+    /// Returns the answer, if the exchange has ended. The memory is that of the data; the rest of
+    /// the room is freed.
     pub fn into_answer(self) -> Option<Answer<A>>
         ensures done { (status : StatusWord) → exchange_turn self.entry ≡ HostTurn.Done status →
             result ≡ Some (record { status = status; content = self.entry.gather.bytes }) }
@@ -353,8 +375,8 @@ impl<'a, A: Allocator> Exchange<'a, A> {
     }
 }
 
-/// The terminal's end of a command's first TPDU, and whether it asks the card for data: in case 2
-/// it does, else it sends the command's data.
+/// Returns the terminal's end of a command's first TPDU, and whether that TPDU asks the card for
+/// data. It does in case 2; otherwise it sends the command's data.
 fn first_end<'a>(header: Header, content: &'a [u8], le: Option<u16>) -> (HostEnd<'a>, bool)
     requires valid { ins_is_valid header.ins ≡ true }
     requires sizes { HasSizes content.now le }

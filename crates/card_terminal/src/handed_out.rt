@@ -1,12 +1,12 @@
-//! What a terminal has handed out into a buffer.
+//! The result of writing a terminal's characters to a buffer.
 use t0_core::HostTurn;
 
-/// How many characters were handed out, and what stopped it.
+/// How many characters a terminal wrote to a buffer, and why it stopped.
 #[derive(Clone, Copy, Debug, PartialEq, Eq)]
 pub struct HandedOut {
-    /// So many stand at the front of the buffer.
+    /// The number of characters, which are at the front of the buffer.
     pub count: usize,
-    /// What the terminal does now, which is not to send; `None` where the buffer is full, so that
-    /// there may be more.
+    /// What the terminal does now instead of sending. `None`: the buffer is full, and more
+    /// characters may follow.
     pub stop: Option<HostTurn>,
 }

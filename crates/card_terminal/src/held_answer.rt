@@ -1,4 +1,4 @@
-//! What a command is answered, in the room that was taken for it.
+//! The answer to an operation, in a room that the next operation can use again.
 ghost use Rattle.std.specs.Prelude.{◌≡◌, []};
 ghost use Rattle.card_terminal.specs.ExchangeSide.{response_limit};
 
@@ -8,8 +8,8 @@ use std::alloc::{Allocator, Global};
 use std::marker::Model;
 use t0_core::Gather;
 
-/// What a card answers to a command, in room for `RESPONSE_LIMIT` bytes: the next operation may
-/// have that room.
+/// The answer to an operation or a command, in a room for `RESPONSE_LIMIT` bytes. `into_room` gives
+/// the room to the next operation.
 #[derive(Drop)]
 pub struct HeldAnswer<A: Allocator = Global> {
     status: Status,
@@ -29,7 +29,7 @@ impl<A: Allocator> Model for HeldAnswer<A> {
 }
 
 impl<A: Allocator> HeldAnswer<A> {
-    /// An answer of the data in this room.
+    /// Makes an answer of the data in this room.
     pub(crate) fn new(status: Status, gather: Gather<A>) -> HeldAnswer<A>
         requires { gather.limit ≡ response_limit }
         ensures { result ≡ record { status = status; content = gather.bytes } }
@@ -51,7 +51,7 @@ impl<A: Allocator> HeldAnswer<A> {
         self.gather.bytes()
     }
 
-    /// The answer in memory of its size. The rest of the room is given back.
+    /// Returns the answer in memory of its size, and frees the rest of the room.
     pub fn into_answer(self) -> Answer<A>
         ensures { result ≡ self }
     {
@@ -59,7 +59,7 @@ impl<A: Allocator> HeldAnswer<A> {
         Answer::new(status, gather)
     }
 
-    /// The room, for the next operation. The data are overwritten with zeros.
+    /// Returns the room, empty, for the next operation. Zeros overwrite the data.
     pub fn into_room(self) -> Gather<A>
         ensures { result ≡ record { bytes = []; limit = response_limit } }
     {

@@ -1,4 +1,5 @@
-//! Laws of exchanges, over the definitions alone.
+//! Laws of exchanges, over the definitions alone: each function's contract is one. For the proof:
+//! the bodies are empty.
 
 ghost use Rattle.std.specs.Prelude.{◌≡◌, ◌⊎◌, ◌≤◌, ◌<◌, ◌+◌, ◌*◌, ◌++◌, ◌∷◌, [], ℕ, List, length, Option, true};
 ghost use Rattle.std.specs.List.{AllByRecursion, flat_map};
@@ -12,21 +13,21 @@ ghost use Rattle.card_terminal.specs.Gathered.{UnitOf, dialogues_of, IsOpenExcha
 ghost use Rattle.card_terminal.specs.ExchangeSide.{ExchangeOf, Continues, IsOver, Stall, ended_with, exchange_turn};
 ghost use Rattle.card_terminal.specs.ExchangeHistory.{ComesTo, Expects, BeginsExchange, FaultCameLast, unit_characters};
 
-/// What led to an exchange are the first characters of an open exchange of its command, but for a
-/// last one that was a fault at those before it, and so ended it.
+/// The characters that led to an exchange are the first of an open exchange of its command. Or all
+/// except the last are, and the last was an error that ended it.
 pub fn what_led_begins_an_exchange()
     ensures { (c : spec.Command) (came : List Character) (ex : ExchangeOf) → ComesTo c came ex →
         BeginsExchange c came ⊎ FaultCameLast c came ex }
 {}
 
-/// An exchange that brings so many bytes has at most twice two more TPDUs.
+/// An exchange that brings r bytes has at most 2(r + 2) TPDUs.
 pub fn an_exchange_has_few_tpdus()
     ensures { (c : spec.Command) (units : List UnitOf) → IsOpenExchange c units →
         tpdus units ≤ 2 * (length (flat_map unit_data units) + 2) }
 {}
 
-/// Where the characters that led to an exchange are those of a whole one of its command, it is
-/// over, with the status and the data of that one. It needs an INS that is valid.
+/// If the characters that led to an exchange are those of a whole one of its command, it has ended,
+/// with the status and the data of that one. INS must be valid.
 pub fn a_whole_exchange_is_done()
     ensures { (c : spec.Command) (came : List Character) (ex : ExchangeOf) (units : List UnitOf)
         (gathered : List ℕ) (status : StatusWord) →
@@ -37,10 +38,10 @@ pub fn a_whole_exchange_is_done()
         (exchange_turn ex ≡ HostTurn.Done status) × (ex.gather.bytes ≡ gathered) }
 {}
 
-/// The talk leaves an exchange no choice. Where what led to it goes on to the characters of a whole
-/// exchange of its command, whose data there is room for, it sends the next character if that is
-/// the terminal's; if it is the card's, it listens and finds no fault in it. It has not failed, so
-/// that with such a character no exchange stalls.
+/// The next character of an exchange is settled. Take a whole exchange of its command that begins
+/// with the characters that led to it, and whose data fit its room. If the next character is the
+/// terminal's, the exchange sends it. If it is the card's, the exchange listens and takes it
+/// without an error. In neither case has the exchange failed, so it has not stalled.
 pub fn the_next_character_is_settled()
     ensures next { (c : spec.Command) (came : List Character) (ex : ExchangeOf)
         (units : List UnitOf) (gathered : List ℕ) (status : StatusWord) (ch : Character)
@@ -59,8 +60,8 @@ pub fn the_next_character_is_settled()
         unit_characters units ≡ came ++ rest → exchange_turn ex ≡ HostTurn.Failed → ⊥ }
 {}
 
-/// Where a dialogue ends that is the last of a whole exchange, an exchange that has come to it is
-/// over, with the status and the data of the whole one. It has not stalled.
+/// If the last dialogue of a whole exchange ends, an exchange that continues after that dialogue
+/// has ended, with the status and the data of the whole one. A whole exchange has not stalled.
 pub fn a_whole_exchange_is_over()
     ensures over { (c : spec.Command) (ex : ExchangeOf) (units : List UnitOf)
         (first : Option Dialogue) (d : Dialogue) (gathered : List ℕ) (status : StatusWord) →

@@ -1,5 +1,21 @@
-//! The terminal's side of a command at T=0: the exchange of its TPDUs, and the session that joins
-//! it to a card (ISO/IEC 7816-3, clause 12).
+//! The terminal's side of commands at T=0 (ISO/IEC 7816-3, clause 12): it repeats a TPDU after
+//! `6CXX` and fetches a response after `61XX`.
+//!
+//! An [`Exchange`] is one command with all its TPDUs; an [`OwnedExchange`] owns the command's data.
+//! A [`Terminal`] runs SELECT, GET DATA, a put or one command; its caller passes the characters or
+//! the whole TPDUs. A [`Session`] joins a terminal to a `t0_core::CardEnd`, and runs [`Op`]s into
+//! [`Answers`]. [`Answer`] and [`HeldAnswer`] are a status with its data. [`StartFault`],
+//! [`BeginFault`] and [`SessionFault`] are the errors. This runs a list of operations:
+//!
+//! ```rust
+//! // crates/library_use/src/session.rt
+//! session.run(alloc, &ops, &mut plans, &mut Silent, &mut answers)?;
+//! ```
+//!
+//! Proved: the answers of `Session::run` are those of a card that does each operation in one step.
+//! An exchange sends and takes the characters that the standard allows, and no others. The README
+//! lists the contracts; start with `specs/Gathered`. `laws`, `talk_laws`, `tap_laws` and
+//! `terminal_laws` are laws about definitions.
 #![tactic(auto)]
 
 mod answer;

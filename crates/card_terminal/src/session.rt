@@ -1,4 +1,4 @@
-//! A terminal and a card that are joined, and one command carried out with them.
+//! A session: a terminal joined to a card, and how it carries out one command.
 ghost use Rattle.std.specs.Prelude.{◌≡◌, ℕ, ◌<◌, ◌≤◌, ◌++◌, List, [], ◌⊎◌, true, false, MatchResult, OnOk, OnErr, IfOk, IfErr};
 ghost use Rattle.apdu_core.specs.CommandBytes as spec;
 ghost use Rattle.t0_core.specs.CardHistory.{Leads, LeadsUnder};
@@ -20,7 +20,8 @@ use std::alloc::Allocator;
 use std::marker::Model;
 use t0_core::{CardEnd, End, HostTurn, LineFault, Plans, TpduCard, Turn, Watch};
 
-/// A terminal and a card, joined by a line that delivers every character.
+/// A terminal and a card, joined by a line that delivers every character. Contracts see a session
+/// as its card.
 #[derive(Drop)]
 pub struct Session<C: TpduCard> {
     end: CardEnd<C>,
@@ -44,7 +45,7 @@ impl<C: TpduCard> Session<C> {
     ghost use Rattle.card_terminal.specs.Gathered.{UnitOf, Gathers, dialogues_of};
     ghost use Rattle.card_terminal.specs.Conversing.{HaveGone};
 
-    /// A session with a card, which it resets.
+    /// Resets the card, and starts a session with it.
     pub fn new(mut end: CardEnd<C>) -> Session<C>
         ensures { C.standing result ≡ C.after_reset (C.standing end.card) }
     {
@@ -66,7 +67,7 @@ impl<C: TpduCard> Session<C> {
         self.end.reset();
     }
 
-    /// The card's end of the line, reset.
+    /// Ends the session: resets the card, and returns its end of the line.
     pub fn into_end(self) -> CardEnd<C>
         ensures card { C.standing result.card ≡ C.after_reset (C.standing self) }
         ensures stage { result.stage ≡ Taking_header [] }
@@ -80,10 +81,14 @@ impl<C: TpduCard> Session<C> {
         end
     }
 
-    /// Carries out a command that is agreed with the card.
+    /// Carries out a command that is agreed with the card, under the plans at the cursor `plans`.
+    /// `watch` hears each character. The response has at most `RESPONSE_LIMIT` bytes.
     ///
-    /// `OutOfMemory` comes before the first character, and changes nothing. `Line` comes where the
-    /// card stalls or brings more than there is room for; the card is reset then.
+    /// # Errors
+    ///
+    /// - `OutOfMemory`: memory ran out before the first character; nothing has changed.
+    /// - `Line`: the response exceeds the room (`TooLong`), or the card stalls (`Stalled`); the
+    ///   card was reset. `plans` and `watch` are past the characters that were sent.
     pub fn transmit<A: Allocator, B: Allocator, W: Watch>(
         &mut self,
         alloc: A,
@@ -117,7 +122,7 @@ impl<C: TpduCard> Session<C> {
     }
 }
 
-/// Passes the card's next character to the terminal, and tells the watch.
+/// Passes the card's next character to the terminal and to the watch.
 #[inline(always)]
 fn pass_from_card<A: Allocator, B: Allocator, C: TpduCard, W: Watch>(
     exchange: &mut Exchange<'_, A>,
@@ -139,8 +144,9 @@ fn pass_from_card<A: Allocator, B: Allocator, C: TpduCard, W: Watch>(
     Ok(())
 }
 
-/// Passes the data that the terminal has to send now, so that nobody asks before each of them whose
-/// turn it is.
+/// Passes the data that the terminal sends now to the card and to the watch. For speed: it does not
+/// test before each character which end sends. The caller uses it only after a character of the
+/// card, since a call after each character slows down GET DATA.
 #[inline(always)]
 fn pass_data<A: Allocator, C: TpduCard, W: Watch>(
     exchange: &mut Exchange<'_, A>,
@@ -153,16 +159,16 @@ fn pass_data<A: Allocator, C: TpduCard, W: Watch>(
         Keeps C.TpduCard (line exchange.old end.old cursor (W.hearing watch.old))
         (line exchange.new end.new cursor (W.hearing watch.new)) }
 {
-    // Asked here alone, and not after each character of either end, which makes gets slower.
+    // For the proof: the label names the loop's goals.
     'data: while let Some(byte) = exchange.next_data() {
         end.take(byte).unwrap();
         watch.seen(End::Terminal, byte);
     }
 }
 
-/// Passes one character from the end whose turn it is to the other, and after one of the card the
-/// data that the terminal then has to send, and tells the watch. The answer is whether there was
-/// one.
+/// Passes the next character from one end to the other, and to the watch. After a character of the
+/// card it also passes the data that the terminal then sends. Returns false if the exchange has
+/// ended and there was no character.
 #[inline(always)]
 fn pass_characters<A: Allocator, B: Allocator, C: TpduCard, W: Watch>(
     exchange: &mut Exchange<'_, A>,
@@ -191,7 +197,7 @@ fn pass_characters<A: Allocator, B: Allocator, C: TpduCard, W: Watch>(
     }
 }
 
-/// Passes characters until the exchange is over, or has failed.
+/// Passes characters until the exchange has ended or failed.
 #[inline(always)]
 fn converse<A: Allocator, B: Allocator, C: TpduCard, W: Watch>(
     exchange: &mut Exchange<'_, A>,
@@ -206,6 +212,8 @@ fn converse<A: Allocator, B: Allocator, C: TpduCard, W: Watch>(
         (line exchange.new end.new plans.new (W.hearing watch.new)) result }
 {
     let mut going = true;
+
+    // For the proof: the label names the loop's goals.
     'talk: while going {
         going = pass_characters(exchange, end, plans, watch)?;
     }

@@ -1,16 +1,16 @@
-//! Why a session has not answered a command.
+//! The error of a session that runs a command or operations.
 use std::alloc::AllocError;
 use std::error::Error;
 use std::fmt;
 use t0_core::LineFault;
 
-/// Why a command was not answered.
+/// Why a session has no answer to a command.
 #[derive(Clone, Copy, Debug, PartialEq, Eq)]
 pub enum SessionFault {
-    /// Memory was wanting for the response; no character was sent.
+    /// Memory ran out; no character of the command was sent.
     OutOfMemory,
-    /// The card has brought more than there is room for (`TooLong`), or announces what it does not
-    /// bring (`Stalled`).
+    /// The response exceeds the room (`TooLong`), or the card announces data that it does not send
+    /// (`Stalled`).
     Line(LineFault),
 }
 

@@ -1,14 +1,14 @@
-//! Why no exchange or terminal with a limit was made.
+//! The error of making an exchange or a terminal with a limit.
 use std::alloc::AllocError;
 use std::error::Error;
 use std::fmt;
 
-/// Why no exchange, or no terminal, with a limit on the bytes of a response was made.
+/// Why no exchange or terminal was made with a limit on the bytes of a response.
 #[derive(Clone, Copy, Debug, PartialEq, Eq)]
 pub enum StartFault {
-    /// Memory was wanting for the response, or for the copy of the command's data.
+    /// Memory ran out, for the response or for the copy of the command's data.
     OutOfMemory,
-    /// The limit is over `RESPONSE_LIMIT`.
+    /// The limit exceeds `RESPONSE_LIMIT`.
     OverLimit,
 }
 

@@ -1,11 +1,11 @@
-//! What a terminal has taken out of a buffer.
+//! The result of giving a terminal the characters of a buffer.
 use t0_core::LineFault;
 
-/// How many characters of the card were taken, and the fault that stopped it, if any.
+/// How many characters of the card a terminal took, and the error that stopped it, if any.
 #[derive(Clone, Copy, Debug, PartialEq, Eq)]
 pub struct Taken {
-    /// So many at the front of the buffer were taken without a fault.
+    /// The number of characters that were taken without an error, from the front of the buffer.
     pub count: usize,
-    /// The fault that the character behind them is; else all were taken.
+    /// The error of the next character; `Ok` if all were taken.
     pub outcome: Result<(), LineFault>,
 }

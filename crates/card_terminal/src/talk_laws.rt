@@ -1,4 +1,5 @@
-//! Laws of what a terminal and a card of data objects do together: each function's contract is one.
+//! Laws of talks between a terminal and a card of data objects: each function's contract is one.
+//! For the proof: the bodies are empty.
 ghost use Rattle.std.specs.Prelude.{◌≡◌, ℕ, ◌+◌, ◌≤◌, List, length, Option, Some, IfSome, true};
 ghost use Rattle.std.specs.List.{flat_map};
 ghost use Rattle.apdu_core.specs.CommandBytes.{Command};
@@ -17,8 +18,8 @@ ghost use Rattle.card_terminal.specs.Talk.{IsTalkOf, Talk, HaveCuts, talk_dialog
 
 use object_card::DataCard;
 
-/// Whatever the plans, what goes over the line for an operation is that operation in one step: a
-/// card with no chain pending has then what the step leaves, and again no chain is pending.
+/// A talk of one operation, under any plans, equals that operation in one step. A card with no
+/// chain pending then has the tables that the step leaves, and again no chain is pending.
 pub fn a_talk_of_an_operation_is_one_step()
     ensures { (old new : CardState) (plans : List Course) (operation : Operation)
         (exchanges : List (List UnitOf)) (answer : Reply) → is_idle old.pending ≡ true
@@ -28,8 +29,8 @@ pub fn a_talk_of_an_operation_is_one_step()
         × (is_idle new.pending ≡ true) }
 {}
 
-/// Whatever the plans, a talk of operations has the answers of the card that answers each in one
-/// step, and its tables. A sound card with no chain pending is so again.
+/// A talk of operations, under any plans, has the answers and the tables of the one-step card. A
+/// sound card with no chain pending is again sound, with no chain pending.
 pub fn a_talk_is_answered_in_single_steps()
     ensures { (first last : CardState) (plans left : List Course) (operations : List Operation)
         (replies : List Reply) (line : List Character) → IsCardState first
@@ -39,8 +40,8 @@ pub fn a_talk_is_answered_in_single_steps()
         × IsCardState last }
 {}
 
-/// No exchange of any command with a card of data objects brings more than a value with its tag and
-/// length: less than a terminal gathers. So it is while the exchange goes on.
+/// An exchange of any command with a card of data objects brings at most a value with its tag and
+/// length, which is less than a terminal gathers. The same holds at each point of the exchange.
 pub fn an_exchange_fits()
     ensures whole { (c : Command) (units : List UnitOf) (plans : List Course)
         (old new : CardState) → IsCardState old → HaveCuts plans → IsOpenExchange c units →
@@ -61,8 +62,8 @@ pub fn no_exchange_stalls()
         HaveCuts plans → Runs Does old (flat_map dialogues_of units) plans new → Stall c units → ⊥ }
 {}
 
-/// So it is with every card of data objects, whatever its own states are: a talk from the state
-/// that stands at one time to the one at another has single answers from the one to the other.
+/// A talk of operations with any `DataCard`, whatever its own states, has the answers and the
+/// tables of the one-step card.
 pub fn a_talk_with_any_card_is_answered_in_single_steps<C: DataCard>()
     ensures { (before after : C) (plans left : List Course) (operations : List Operation)
         (replies : List Reply) (line : List Character) → IsCardState (C.state before) →

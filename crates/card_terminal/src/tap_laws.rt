@@ -1,4 +1,5 @@
-//! What a tap makes of what a session puts on the line: the function's contract is the law.
+//! The law of what a tap reads in the characters of a session: the function's contract. For the
+//! proof: the body only cites another law.
 ghost use Rattle.std.specs.Prelude.{◌≡◌, List, [], false};
 ghost use Rattle.std.specs.List.{AllByRecursion};
 ghost use Rattle.t0_core.specs.declared.heard.Heard.{Heard};
@@ -14,9 +15,8 @@ ghost use Rattle.card_terminal.specs.Talk.{Talk};
 use t0_core::TpduCard;
 use t0_core::laws::a_tap_takes_dialogues_under_plans;
 
-/// What a fresh watch that loses nothing hears of a talk, whatever the operations and the plans, a
-/// tap takes to its end, and it tells the dialogues of the talk, in turn. The contract of a
-/// session's `run` has such a talk.
+/// A tap takes every character of a talk that a fresh watch heard without loss, and reports the
+/// dialogues of the talk, in turn. The contract of `Session::run` states such a talk.
 pub fn a_tap_follows_a_talk<C: TpduCard>()
     ensures { (first last : C.State) (plans left : List Course) (operations : List Operation)
         (replies : List Reply) (line : List Character) (hearing : Hearing)

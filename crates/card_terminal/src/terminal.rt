@@ -1,4 +1,4 @@
-//! A terminal that a caller drives: an operation under way, over any line.
+//! A terminal that runs operations over any line, whose characters its caller passes.
 ghost use Rattle.std.specs.Prelude.{◌≡◌, ◌≤◌, ◌<◌, ℕ, List, [], ◌∷◌, ◌++◌, None, MatchResult, Some, true, false};
 ghost use Rattle.std.specs.Option.{option_map};
 ghost use Rattle.apdu_core.specs.CommandBytes as spec;
@@ -30,19 +30,18 @@ use std::marker::Model;
 use t0_core::{AnswerFault, HostTurn, LineFault, WholeTpdu};
 use tlv_core::ObjectTag;
 
-/// A terminal that carries out operations with a card over any line: its caller asks it for its
-/// characters, and hands it those of the card. It holds no borrow.
+/// A terminal that carries out operations with a card over any line. Its caller sends the
+/// terminal's characters, and passes it those of the card. It borrows nothing.
 ///
-/// `select`, `get`, `put` and `send` begin an operation, and take all its memory. `next` and `take`
-/// pass its characters, until `next` answers `Done`; then `answer` has the status and the data. The
-/// next operation may begin once it is over, has failed or was dropped by `reset`. Contracts see a
-/// terminal as the most bytes that a response may have, and what it keeps of the operation that it
-/// has begun last, if any.
+/// `select`, `get`, `put` and `send` begin an operation, and allocate all its memory. `next` and
+/// `take` pass its characters until `next` returns `Done`. `answer` then returns the status and the
+/// data. The next operation may begin once this one has ended or failed, or `reset` has dropped it.
+/// Contracts see a terminal as the most bytes that a response may have, and the last operation, if
+/// there is one.
 ///
-/// The memory of an operation, room for the response and a copy of the data, is kept for the next,
-/// which takes more only for longer data than any before. So what went over the line stands there,
-/// secrets too, but for what a later operation has written over, until `reset` or a drop gives it
-/// back.
+/// The next operation uses the memory of this one: room for the response, and a copy of the data.
+/// It allocates only if its data are longer than any before. This memory keeps sent and received
+/// bytes, secrets included, until they are overwritten, or `reset` or drop frees them.
 #[derive(Drop)]
 pub struct Terminal<A: Allocator + Copy = Global> {
     alloc: A,
@@ -61,8 +60,8 @@ impl<A: Allocator + Copy> Model for Terminal<A> {
 }
 
 impl<A: Allocator + Copy> Terminal<A> {
-    /// A terminal that has begun no operation, for responses of up to `RESPONSE_LIMIT` bytes. It
-    /// takes no memory.
+    /// Makes a terminal without an operation, for responses of at most `RESPONSE_LIMIT` bytes. It
+    /// allocates nothing.
     pub fn new(alloc: A) -> Terminal<A>
         ensures { result ≡ at_rest response_limit }
     {
@@ -73,10 +72,12 @@ impl<A: Allocator + Copy> Terminal<A> {
         }
     }
 
-    /// A terminal that has begun no operation, for responses of up to so many bytes, 0 to
-    /// `RESPONSE_LIMIT`; data beyond them are `TooLong` where they come. It takes no memory.
+    /// Makes a terminal without an operation, for responses of at most `limit` bytes, 0 to
+    /// `RESPONSE_LIMIT`. More data are a fault, `TooLong`. It allocates nothing.
     ///
-    /// The only fault is `OverLimit`, where the limit is over `RESPONSE_LIMIT`.
+    /// # Errors
+    ///
+    /// - `OverLimit`: `limit` exceeds `RESPONSE_LIMIT`; there is no terminal.
     pub fn new_within(alloc: A, limit: usize) -> Result<Terminal<A>, StartFault>
         ensures { MatchResult result (λ t. (limit ≤ response_limit) × (t ≡ at_rest limit))
             (λ fault. (response_limit < limit) × (fault ≡ StartFault.OverLimit)) }
@@ -91,12 +92,15 @@ impl<A: Allocator + Copy> Terminal<A> {
         })
     }
 
-    /// Begins the selection of the application with this identifier.
+    /// Begins to select the application with this identifier.
     ///
-    /// `UnderWay` comes where an operation is under way, `OutOfMemory` where memory is wanting for
-    /// the response (as many bytes as the terminal's limit) or the copy of the data that go to the
-    /// card, and no earlier operation has left enough. Neither changes anything. So it is with each
-    /// operation.
+    /// # Errors
+    ///
+    /// The terminal is unchanged after either:
+    ///
+    /// - `UnderWay`: another operation is in progress.
+    /// - `OutOfMemory`: memory ran out, for the response (as many bytes as the terminal's limit) or
+    ///   for the copy of the data. No earlier operation left enough.
     pub fn select(&mut self, aid: &Aid) -> Result<(), BeginFault>
         ensures begins { IsBeginning (AreCommandsOf (Select aid.now)) self.old.operation result
             self.new.operation }
@@ -105,7 +109,7 @@ impl<A: Allocator + Copy> Terminal<A> {
         self.send(select_command(aid))
     }
 
-    /// Begins the reading of the data object with this tag.
+    /// Begins to read the data object with this tag. The errors are those of `select`.
     pub fn get(&mut self, tag: ObjectTag) -> Result<(), BeginFault>
         ensures begins { IsBeginning (AreCommandsOf (Get tag)) self.old.operation result
             self.new.operation }
@@ -114,8 +118,8 @@ impl<A: Allocator + Copy> Terminal<A> {
         self.send(get_command(tag))
     }
 
-    /// Begins the storing of this value, which is copied, under the tag. It goes in pieces, up to
-    /// the first that is answered with another status than `9000`.
+    /// Begins to store a copy of this value under the tag. The terminal sends it in pieces, up to
+    /// the first status other than `9000`. The errors are those of `select`.
     pub fn put(&mut self, tag: ObjectTag, value: &[u8]) -> Result<(), BeginFault>
         ensures begins { IsBeginning (AreCommandsOf (Put tag value.now)) self.old.operation result
             self.new.operation }
@@ -132,7 +136,7 @@ impl<A: Allocator + Copy> Terminal<A> {
         Ok(())
     }
 
-    /// Begins the exchange of a command, whose data are copied.
+    /// Begins the exchange of a command, with a copy of its data. The errors are those of `select`.
     pub fn send(&mut self, command: Command<'_>) -> Result<(), BeginFault>
         ensures begins { IsBeginning (λ commands. commands ≡ command.entry ∷ [])
             self.old.operation result self.new.operation }
@@ -146,9 +150,9 @@ impl<A: Allocator + Copy> Terminal<A> {
         Ok(())
     }
 
-    /// Begins an operation whose first command is this one, with all that goes to the card, in the
-    /// memory of the last one where there is one. The error is want of memory, and then nothing has
-    /// changed.
+    /// Begins an operation by its first command, in the memory of the last operation if there is
+    /// one. `content` is all data of its commands. The error is that memory ran out; nothing has
+    /// changed then.
     fn begin(&mut self, first: Command<'_>, content: &[u8]) -> Result<(), AllocError>
         requires front { (more : List ℕ) × (content.now ≡ first.content ++ more) }
         ensures begins { MatchResult result (λ _. (o : OperationOf)
@@ -163,7 +167,8 @@ impl<A: Allocator + Copy> Terminal<A> {
         Ok(())
     }
 
-    /// Whether an operation is under way: it is neither over nor failed, and none may begin.
+    /// Whether an operation is in progress: it has neither ended nor failed. No other may begin
+    /// then.
     pub fn is_going(&self) -> bool
         ensures going { result ≡ is_going self.now.operation }
         ensures limit { KeepsLimit self.now self.now }
@@ -177,9 +182,9 @@ impl<A: Allocator + Copy> Terminal<A> {
         }
     }
 
-    /// What the terminal does now, as `Exchange::next`; `None` where no operation has begun. A
-    /// character to send is handed out; nothing else changes anything. It is `Done` with the status
-    /// of the last command once the operation is over, and `Failed` after a line fault.
+    /// Returns what the terminal does next, as `Exchange::next`, or `None` if no operation has
+    /// begun. Only a character to send changes the terminal. `Done` has the status of the last
+    /// command; `Failed` follows a line fault.
     #[inline(always)]
     pub fn next(&mut self) -> Option<HostTurn>
         ensures turn { IsTerminalTurn self.old.operation result self.new.operation }
@@ -191,9 +196,9 @@ impl<A: Allocator + Copy> Terminal<A> {
         }
     }
 
-    /// Hands out a character of the operation's data, if one is due, as `next` does; else nothing
-    /// changes. A loop over it behind each `take` passes what a procedure byte has asked for, and
-    /// asks before none of it whose turn it is.
+    /// Returns the next character of the operation's data if one is to be sent, as `next` would.
+    /// Otherwise nothing changes. A loop over it after each `take` sends what a procedure byte
+    /// asked for, faster than a loop over `next`.
     #[inline(always)]
     pub fn next_data(&mut self) -> Option<u8>
         ensures due { result ≡ terminal_data self.old.operation }
@@ -208,12 +213,15 @@ impl<A: Allocator + Copy> Terminal<A> {
         }
     }
 
-    /// Takes a character of the card, as `Exchange::take`. With the status `9000` of a piece of a
-    /// put the next is begun, if one follows.
+    /// Takes a character of the card, as `Exchange::take`. After the status `9000` of a piece of a
+    /// put, the next piece begins, if one follows.
     ///
-    /// The faults are those of `Exchange::take`. `BadProcedure`, `TooLong` and `Stalled` end the
-    /// operation. `AfterEnd` comes where it is over or has failed, or none has begun, and
-    /// `NotListening` where it has characters to send: these change nothing.
+    /// # Errors
+    ///
+    /// - `BadProcedure`, `TooLong`, `Stalled`: as for `Exchange::take`; the operation has failed
+    ///   for good.
+    /// - `AfterEnd`: no operation has begun, or it has ended or failed; nothing has changed.
+    /// - `NotListening`: the operation has characters to send first; nothing has changed.
     #[inline(always)]
     pub fn take(&mut self, byte: u8) -> Result<(), LineFault>
         ensures taking { IsTerminalTaking self.old.operation byte result self.new.operation }
@@ -225,8 +233,8 @@ impl<A: Allocator + Copy> Terminal<A> {
         }
     }
 
-    /// Hands out characters into a buffer, as `next` one at a time, until the buffer is full or the
-    /// terminal does not send; `None` where no operation has begun.
+    /// Writes the next characters to `bytes`, as `next` one at a time, until the terminal has none
+    /// to send or `bytes` is full. Returns `None` if no operation has begun.
     pub fn next_bytes(&mut self, bytes: &mut [u8]) -> Option<HandedOut>
         ensures handed { IsTerminalHandingOut self.old.operation bytes.old bytes.new result
             self.new.operation }
@@ -238,8 +246,8 @@ impl<A: Allocator + Copy> Terminal<A> {
         }
     }
 
-    /// Takes the characters of a buffer, as `take` one at a time, up to the first that is a fault,
-    /// with which it stops. That fault does what it does at `take`.
+    /// Takes the characters of a buffer, as `take` one at a time, up to the first error. The state
+    /// after an error is that after the same error of `take`.
     pub fn take_bytes(&mut self, bytes: &[u8]) -> Taken
         ensures taking { IsTakingAll IsTerminalTaking self.old.operation bytes.now result
             self.new.operation }
@@ -251,8 +259,7 @@ impl<A: Allocator + Copy> Terminal<A> {
         }
     }
 
-    /// The whole TPDU that is due, for a transport of whole TPDUs, as `Exchange::tpdu`; `None` also
-    /// where no operation has begun.
+    /// The next TPDU as a whole, as `Exchange::tpdu`. `None` also if no operation has begun.
     pub fn tpdu(&self) -> Option<WholeTpdu<'_>>
         ensures { option_map asked_of result ≡ terminal_due self.now.operation }
     {
@@ -262,8 +269,8 @@ impl<A: Allocator + Copy> Terminal<A> {
         }
     }
 
-    /// What the operation is to send, if nothing of it has gone over the line: so it may go another
-    /// way, as by whole commands.
+    /// The commands of the operation, if no character of it was sent: it can still be sent in
+    /// another way, as by whole commands.
     pub fn unsent(&self) -> Option<Unsent<'_>>
         ensures { IsUnsent self.now.operation result }
     {
@@ -273,13 +280,14 @@ impl<A: Allocator + Copy> Terminal<A> {
         }
     }
 
-    /// Takes the answer to the whole TPDU that is due, its data and its status, as
-    /// `Exchange::answered`. With the status `9000` of a piece of a put the next is begun, if one
-    /// follows.
+    /// Takes the answer of the card to the TPDU that `tpdu` returns, as `Exchange::answered`. After
+    /// the status `9000` of a piece of a put, the next piece begins, if one follows.
     ///
-    /// The faults are those of `Exchange::answered`. `TooLong` and `Stalled` end the operation.
-    /// `NotDue` comes also where no operation has begun; it, `NotAsked` and `TooMany` change
-    /// nothing.
+    /// # Errors
+    ///
+    /// - `NotDue`: `tpdu` returns `None`; nothing has changed.
+    /// - `NotAsked`, `TooMany`: as for `Exchange::answered`; nothing has changed.
+    /// - `TooLong`, `Stalled`: as for `Exchange::answered`; the operation has failed for good.
     pub fn answered(&mut self, bytes: &[u8], status: Status) -> Result<(), AnswerFault>
         ensures answering { IsTerminalAnswering self.old.operation bytes.now status result
             self.new.operation }
@@ -291,8 +299,8 @@ impl<A: Allocator + Copy> Terminal<A> {
         }
     }
 
-    /// The status and the data of the last command of the operation, if it is over. They can be
-    /// asked for again until the next operation begins, or a reset.
+    /// The status and the data of the last command, if the operation has ended. They are there
+    /// until the next operation begins or `reset`.
     pub fn answer(&self) -> Option<(Status, &[u8])>
         ensures { IsTerminalAnswer self.now.operation (option_map (λ a. (a.0, a.1.now)) result) }
     {
@@ -302,8 +310,8 @@ impl<A: Allocator + Copy> Terminal<A> {
         }
     }
 
-    /// Drops the operation, wherever it is, and gives back the memory that was kept for the next.
-    /// Nothing is told to the card.
+    /// Drops the operation, in whatever state it is, and frees its memory. It sends nothing to the
+    /// card.
     pub fn reset(&mut self)
         ensures { self.new ≡ at_rest self.old.limit }
     {
@@ -311,7 +319,7 @@ impl<A: Allocator + Copy> Terminal<A> {
     }
 }
 
-/// What is taken of a buffer where no operation has begun.
+/// The result of `take_bytes` if no operation has begun.
 fn none_taken(bytes: &[u8]) -> Taken
     ensures { IsTakingAll IsTerminalTaking None bytes.now result None }
 {

@@ -1,4 +1,5 @@
-//! Laws of operations at a terminal that is driven from outside: each function's contract is one.
+//! Laws of operations at a `Terminal`: each function's contract is one. For the proof: the bodies
+//! are empty.
 ghost use Rattle.std.specs.Prelude.{◌≡◌, ◌⊎◌, ◌≤◌, ◌+◌, ◌*◌, ◌++◌, ◌∷◌, ℕ, List, length, Some};
 ghost use Rattle.std.specs.List.{AllByRecursion, flat_map};
 ghost use Rattle.apdu_core.specs.CommandBytes.{Command};
@@ -13,17 +14,17 @@ ghost use Rattle.card_terminal.specs.ExchangeHistory.{Expects, BeginsExchange, F
 ghost use Rattle.card_terminal.specs.TerminalSide.{OperationOf, HasCome, LeadsTo};
 ghost use Rattle.card_terminal.specs.TerminalHistory.{HaveValidIns, HaveRoom, brought_by};
 
-/// What led to an operation are the characters of whole exchanges of its first commands, each
-/// answered `9000`, and the first characters of an open exchange of the next; but for a last one
-/// that was a fault at those before it, and so ended the operation.
+/// The characters that led to an operation are those of whole exchanges of its first commands, each
+/// with the status `9000`, and the first of an open exchange of the next command. Or all except the
+/// last are, and the last was an error that ended the operation.
 pub fn what_led_begins_an_operation()
     ensures { (commands : List Command) (came : List Character) (o : OperationOf)
         → LeadsTo commands came (Some o) → HasCome (λ c here. BeginsExchange c here) commands came o
         ⊎ HasCome (λ c here. FaultCameLast c here o.exchange) commands came o }
 {}
 
-/// Where the characters that led to an operation are those of whole exchanges of its commands, up
-/// to the first that is answered with another status than `9000`, it is over, with their answer.
+/// If the characters that led to an operation are those of whole exchanges of its commands, up to
+/// the first status other than `9000`, it has ended, with their answer.
 pub fn a_whole_operation_is_done()
     ensures { (commands : List Command) (came : List Character) (o : OperationOf)
         (exchanges : List (List UnitOf)) (answer : Reply) → HaveValidIns commands →
@@ -33,10 +34,10 @@ pub fn a_whole_operation_is_done()
         × (o.exchange.gather.bytes ≡ answer.content) }
 {}
 
-/// The talk leaves a terminal no choice. Where what led to an operation goes on to the characters
-/// of whole exchanges of its commands, whose data there is room for, it sends the next character if
-/// that is the terminal's; if it is the card's, it listens and finds no fault in it. It has not
-/// failed, so that with such a character no operation stalls.
+/// The next character of an operation is settled. Take whole exchanges of its commands that begin
+/// with the characters that led to it, and whose data fit its room. If the next character is the
+/// terminal's, the operation sends it. If it is the card's, the operation listens and takes it
+/// without an error. In neither case has the operation failed, so it has not stalled.
 pub fn the_next_character_of_an_operation_is_settled()
     ensures next { (commands : List Command) (came : List Character) (o : OperationOf)
         (exchanges : List (List UnitOf)) (answer : Reply) (ch : Character)
@@ -55,7 +56,7 @@ pub fn the_next_character_of_an_operation_is_settled()
         exchange_turn o.exchange ≡ HostTurn.Failed → ⊥ }
 {}
 
-/// An operation has at most four TPDUs for each command that has gone, and two for each byte that
+/// An operation has at most four TPDUs for each command that was sent, and two for each byte that
 /// its exchanges bring.
 pub fn an_operation_has_few_tpdus()
     ensures { (commands : List Command) (exchanges : List (List UnitOf)) (answer : Reply) →

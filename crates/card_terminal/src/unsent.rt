@@ -1,14 +1,14 @@
-//! What an operation is to send, before anything of it has gone over the line.
+//! An operation before its first character, so that it can be sent in another way.
 use apdu_core::Command;
 
-/// An operation of which nothing has gone over the line.
+/// The commands of an operation that has sent nothing yet.
 #[derive(Drop)]
 pub struct Unsent<'a> {
-    /// Its first command.
+    /// The first command.
     pub first: Command<'a>,
-    /// P1-P2 of the commands of a put.
+    /// P1-P2 of all commands of a put.
     pub p1: u8,
     pub p2: u8,
-    /// What is to be put after the first command's data.
+    /// The bytes to put after the first command's data.
     pub rest: &'a [u8],
 }

@@ -1,20 +1,20 @@
-//! How much of a response a command still wants.
+//! How many bytes of a response a command still wants.
 ghost use Rattle.std.specs.Prelude.{◌≡◌, ◌≤◌, IfSome};
 ghost use Rattle.card_terminal.specs.Gathered.{wanted_by, less, wants_some, wants_at_least, smaller};
 ghost use Rattle.card_terminal.specs.Unsent.{le_by};
 
-/// How much of a response is wanted.
+/// How many bytes of a response a command wants.
 #[derive(Clone, Copy, Debug, PartialEq, Eq)]
 pub enum Wanted {
-    /// So many bytes, 0 to 255.
+    /// At most this number of bytes, 0 to 255.
     Bytes(u16),
-    /// All that the card announces.
+    /// All bytes that the card announces.
     Everything,
 }
 
 impl Wanted {
-    /// What a command with this Le wants: nothing without one, and with 256 everything, also past
-    /// 256 bytes (this project's profile).
+    /// Returns what a command with this Le, 1 to 256, wants: nothing without Le, and everything,
+    /// even beyond 256 bytes, with 256 (profile).
     pub fn by(le: Option<u16>) -> Wanted
         ensures { result ≡ wanted_by le }
     {
@@ -25,7 +25,7 @@ impl Wanted {
         }
     }
 
-    /// The Le of a command that wants this much.
+    /// The Le of a command that wants this.
     pub fn le(self) -> Option<u16>
         ensures { result ≡ le_by self }
     {
@@ -36,7 +36,7 @@ impl Wanted {
         }
     }
 
-    /// What is still wanted where so many bytes are gathered.
+    /// Returns what is still wanted after `gathered` bytes.
     #[inline(never)]
     pub fn less(self, gathered: usize) -> Wanted
         ensures { result ≡ less self gathered }
@@ -57,7 +57,7 @@ impl Wanted {
         !matches!(self, Wanted::Bytes(0))
     }
 
-    /// Whether so many bytes are no more than are wanted.
+    /// Whether at least `count` bytes are wanted.
     pub fn is_at_least(self, count: u16) -> bool
         ensures { result ≡ wants_at_least count self }
     {
@@ -67,7 +67,7 @@ impl Wanted {
         }
     }
 
-    /// So many bytes, but no more than are wanted.
+    /// Returns `count`, or what is wanted if that is less.
     pub fn up_to(self, count: u16) -> u16
         ensures { result ≡ smaller count self }
     {

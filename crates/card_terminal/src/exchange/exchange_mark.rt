@@ -1,4 +1,4 @@
-//! An exchange without its command's data, which each call is given.
+//! An exchange without its command's data, which its owner passes to each call.
 ghost use Rattle.std.specs.Prelude.{◌≡◌, ◌≤◌, ℕ, List, [], None, Some, IfOk, IfSome};
 ghost use Rattle.std.specs.Option.{option_map};
 ghost use Rattle.apdu_core.specs.StatusWord.{StatusWord};
@@ -26,8 +26,8 @@ use std::marker::Model;
 use std::mem;
 use t0_core::{AnswerFault, Gather, HostEnd, HostMark, HostTurn, LineFault, WholeTpdu};
 
-/// An exchange that holds no borrow: who keeps it keeps the data of its command too, and hands them
-/// to each call.
+/// The mark of an exchange: its state without the data of its command. Its owner stores them, and
+/// passes the same data, `content`, to each call. The fields are those of `Exchange`.
 #[derive(Drop)]
 pub struct ExchangeMark<A: Allocator + Copy = Global> {
     alloc: A,
@@ -53,8 +53,8 @@ impl<A: Allocator + Copy> Model for ExchangeMark<A> {
 }
 
 impl<A: Allocator + Copy> ExchangeMark<A> {
-    /// Begins the exchange of a command with so much room for the response, which is taken here;
-    /// the error is want of memory.
+    /// Begins the exchange of a command, and allocates room for `limit` bytes. The error is that
+    /// memory ran out.
     pub fn start(
         alloc: A,
         command: Command<'_>,
@@ -72,7 +72,7 @@ impl<A: Allocator + Copy> ExchangeMark<A> {
         Ok(ExchangeMark::of(alloc, exchange))
     }
 
-    /// Begins the exchange of another command in the same room, which is emptied.
+    /// Begins the exchange of another command in the same room. The data in it are lost.
     pub fn again(&mut self, command: Command<'_>)
         requires { self.old.gather.limit ≤ response_limit }
         ensures led { ComesTo command.entry [] (over_data self.new command.entry.content) }
@@ -86,7 +86,7 @@ impl<A: Allocator + Copy> ExchangeMark<A> {
         *self = ExchangeMark::of(self.alloc, Exchange::begin(gather, command));
     }
 
-    /// The mark of an exchange.
+    /// Makes the mark of an exchange.
     fn of(alloc: A, exchange: Exchange<'_, A>) -> ExchangeMark<A>
         ensures again { (content : List ℕ) → HasOnly content exchange.entry.host
             → over_data result content ≡ exchange.entry }
@@ -109,7 +109,7 @@ impl<A: Allocator + Copy> ExchangeMark<A> {
         }
     }
 
-    /// What `next` answers, which changes nothing here.
+    /// Returns what `next` would, and changes nothing.
     pub fn turn(&self, content: &[u8]) -> HostTurn
         requires { IsSound (over_data self.now content.now) }
         ensures { result ≡ exchange_turn (over_data self.now content.now) }
@@ -121,7 +121,7 @@ impl<A: Allocator + Copy> ExchangeMark<A> {
         end.next()
     }
 
-    /// What the terminal does now, as `Exchange::next`.
+    /// Returns what the terminal does next, as `Exchange::next`.
     #[inline(always)]
     pub fn next(&mut self, content: &[u8]) -> HostTurn
         requires { IsSound (over_data self.old content.now) }
@@ -142,8 +142,7 @@ impl<A: Allocator + Copy> ExchangeMark<A> {
         turn
     }
 
-    /// Hands out a character of the command's data, if one is due, as `next` does; else nothing
-    /// changes.
+    /// Returns the next character of the command's data, as `Exchange::next_data`.
     #[inline(always)]
     pub fn next_data(&mut self, content: &[u8]) -> Option<u8>
         requires { IsSound (over_data self.old content.now) }
@@ -187,7 +186,7 @@ impl<A: Allocator + Copy> ExchangeMark<A> {
         taken
     }
 
-    /// Hands out characters into a buffer, as `Exchange::next_bytes`.
+    /// Writes the next characters to `bytes`, as `Exchange::next_bytes`.
     pub fn next_bytes(&mut self, bytes: &mut [u8], content: &[u8]) -> HandedOut
         requires { IsSound (over_data self.old content.now) }
         ensures handed { IsHandingOut IsTurn (over_data self.old content.now) bytes.old bytes.new
@@ -225,7 +224,7 @@ impl<A: Allocator + Copy> ExchangeMark<A> {
         taken
     }
 
-    /// The whole TPDU that is due, as `Exchange::tpdu`.
+    /// The next TPDU as a whole, as `Exchange::tpdu`.
     pub fn tpdu<'c>(&self, content: &'c [u8]) -> Option<WholeTpdu<'c>>
         requires { IsSound (over_data self.now content.now) }
         ensures { option_map asked_of result ≡ due_by (over_data self.now content.now).host }
@@ -233,7 +232,7 @@ impl<A: Allocator + Copy> ExchangeMark<A> {
         HostEnd::at(self.end, content).whole()
     }
 
-    /// The command itself, if nothing of the exchange has gone.
+    /// The command, if no character of the exchange was sent.
     pub fn unsent<'c>(&self, content: &'c [u8]) -> Option<Command<'c>>
         requires { IsSound (over_data self.now content.now) }
         ensures { IsFirst (over_data self.now content.now) result }
@@ -247,7 +246,7 @@ impl<A: Allocator + Copy> ExchangeMark<A> {
         }
     }
 
-    /// Takes the answer to it, as `Exchange::answered`.
+    /// Takes the answer to that TPDU, as `Exchange::answered`.
     pub fn answered(
         &mut self,
         bytes: &[u8],
@@ -272,7 +271,7 @@ impl<A: Allocator + Copy> ExchangeMark<A> {
         taken
     }
 
-    /// The status and the data, if the exchange is over, as `Exchange::into_answer`.
+    /// The status and the data, if the exchange has ended.
     pub fn answer(&self, content: &[u8]) -> Option<(Status, &[u8])>
         requires { IsSound (over_data self.now content.now) }
         ensures { IsAnswer (over_data self.now content.now)

@@ -1,4 +1,4 @@
-//! Characters that a terminal's end hands out into a buffer.
+//! The body of `Exchange::next_bytes`, which an exchange and its mark share.
 ghost use Rattle.std.specs.Prelude.{◌≡◌, ℕ, List, None, Some, length, ◌==◌, if◌then◌else◌};
 ghost use Rattle.apdu_core.specs.StatusWord.{StatusWord};
 ghost use Rattle.t0_core.specs.Room.{Room};
@@ -13,8 +13,8 @@ ghost use Rattle.card_terminal.specs.OwnedExchange.{of_parts};
 use crate::handed_out::HandedOut;
 use t0_core::{HostEnd, HostTurn};
 
-/// Hands out characters into a buffer, as `Exchange::next_bytes`, which has its promises: the end
-/// is that of an exchange, whatever else this has.
+/// Writes the next characters to a buffer. The parameters are the fields of an exchange, wherever
+/// its owner stores them. The clauses are those of `Exchange::next_bytes`, for any other fields.
 #[inline(always)]
 pub(crate) fn handed_by(end: &mut HostEnd<'_>, stalled: bool, bytes: &mut [u8]) -> HandedOut
     ensures handed { (gather : Room) (attempt : Attempt) (wanted : Wanted)
@@ -32,7 +32,7 @@ pub(crate) fn handed_by(end: &mut HostEnd<'_>, stalled: bool, bytes: &mut [u8]) 
     if stalled {
         return none_by_failed(bytes.len());
     }
-    // Data are due at the front alone, since a procedure byte of the card is what asks for them.
+    // Data can only be first: a procedure byte of the card asks for them.
     let count = end.next_data_bytes(bytes);
     for at in count..bytes.len() {
         match end.next() {
@@ -51,7 +51,7 @@ pub(crate) fn handed_by(end: &mut HostEnd<'_>, stalled: bool, bytes: &mut [u8]) 
     }
 }
 
-/// What an end that has failed hands out into so much room: nothing.
+/// Returns what a failed exchange writes to a buffer of `room` bytes: no character.
 fn none_by_failed(room: usize) -> HandedOut
     ensures count { result.count ≡ 0 }
     ensures stop { result.stop ≡ (if room == 0 then None else Some HostTurn.Failed) }

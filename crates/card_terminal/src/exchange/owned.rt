@@ -1,4 +1,4 @@
-//! An exchange that can be kept between characters, since it borrows nothing.
+//! An exchange that borrows nothing, so that its owner can store it between two characters.
 ghost use Rattle.std.specs.Prelude.{◌≡◌, ◌≤◌, ℕ, List, [], None, Some, IfOk, IsSome, ◌↔◌, Option};
 ghost use Rattle.std.specs.Option.{option_map};
 ghost use Rattle.t0_core.specs.Front.{fresh};
@@ -19,7 +19,7 @@ use std::alloc::{AllocError, Allocator, Global};
 use std::marker::Model;
 use t0_core::{AnswerFault, HostTurn, LineFault, WholeTpdu};
 
-/// An `Exchange` that holds its command's data itself. Contracts see it as an exchange.
+/// An `Exchange` that owns a copy of its command's data. Contracts see it as an exchange.
 #[derive(Drop)]
 pub struct OwnedExchange {
     content: Vec<u8>,
@@ -43,8 +43,12 @@ impl OwnedExchange {
     ghost use Rattle.t0_core.specs.Front.{Front};
     ghost use Rattle.card_terminal.specs.Gathered.{UnitOf};
 
-    /// Begins the exchange of a command, whose data are copied. All memory is taken here: that of
-    /// `Exchange::start`, and room for the data; the error is want of it.
+    /// Begins the exchange of a command. Allocates room for `RESPONSE_LIMIT` bytes, and a copy of
+    /// the command's data. No other call allocates.
+    ///
+    /// # Errors
+    ///
+    /// - `AllocError`: memory ran out; there is no exchange.
     pub fn start(alloc: Global, command: Command<'_>) -> Result<OwnedExchange, AllocError>
         ensures begins { IfOk result (λ ex. UnderWay command.entry ex [] None fresh) }
         ensures led { IfOk result (λ ex. ComesTo command.entry [] ex) }
@@ -53,8 +57,15 @@ impl OwnedExchange {
         OwnedExchange::in_room(alloc, command, RESPONSE_LIMIT)
     }
 
-    /// Begins the exchange of a command whose response may have so many bytes, as
-    /// `Exchange::start_within`, with a copy of the command's data.
+    /// Begins the exchange of a command whose response has at most `limit` bytes, 0 to
+    /// `RESPONSE_LIMIT`. Allocates room for them, and a copy of the command's data.
+    ///
+    /// # Errors
+    ///
+    /// There is no exchange after either:
+    ///
+    /// - `OverLimit`: `limit` exceeds `RESPONSE_LIMIT`; nothing was allocated.
+    /// - `OutOfMemory`: memory ran out.
     pub fn start_within(
         alloc: Global,
         command: Command<'_>,
@@ -70,7 +81,7 @@ impl OwnedExchange {
         Ok(OwnedExchange::in_room(alloc, command, limit)?)
     }
 
-    /// Begins the exchange of a command with so much room for the response.
+    /// Begins the exchange of a command, and allocates room for `limit` bytes.
     fn in_room(
         alloc: Global,
         command: Command<'_>,
@@ -86,21 +97,21 @@ impl OwnedExchange {
         Ok(OwnedExchange { content, exchange })
     }
 
-    /// What the terminal does now, as `Exchange::next`.
+    /// Returns what the terminal does next, as `Exchange::next`.
     pub fn next(&mut self) -> HostTurn
         ensures { IsTurn self.old result self.new }
     {
         self.exchange.next(self.content.as_slice())
     }
 
-    /// Takes a character of the card, as `Exchange::take`.
+    /// Takes a character of the card, with the errors of `Exchange::take`.
     pub fn take(&mut self, byte: u8) -> Result<(), LineFault>
         ensures { IsTaking self.old byte result self.new }
     {
         self.exchange.take(byte, self.content.as_slice())
     }
 
-    /// Hands out characters into a buffer, as `Exchange::next_bytes`.
+    /// Writes the next characters to `bytes`, as `Exchange::next_bytes`.
     pub fn next_bytes(&mut self, bytes: &mut [u8]) -> HandedOut
         ensures { IsHandingOut IsTurn self.old bytes.old bytes.new result self.new }
     {
@@ -114,7 +125,7 @@ impl OwnedExchange {
         self.exchange.take_bytes(bytes, self.content.as_slice())
     }
 
-    /// The whole TPDU that is due, as `Exchange::tpdu`.
+    /// The next TPDU as a whole, as `Exchange::tpdu`.
     pub fn tpdu(&self) -> Option<WholeTpdu<'_>>
         ensures due { option_map asked_of result ≡ due_by self.now.host }
         ensures begins { (c : spec.Command) (units : List UnitOf) (first : Option Dialogue)
@@ -124,15 +135,14 @@ impl OwnedExchange {
         self.exchange.tpdu(self.content.as_slice())
     }
 
-    /// The command itself, if nothing of the exchange has gone over the line: so it may go another
-    /// way.
+    /// The command, if no character of the exchange was sent: it can still be sent in another way.
     pub fn unsent(&self) -> Option<Command<'_>>
         ensures { IsFirst self.now result }
     {
         self.exchange.unsent(self.content.as_slice())
     }
 
-    /// Takes the answer to it, as `Exchange::answered`.
+    /// Takes the answer to that TPDU, with the errors of `Exchange::answered`.
     pub fn answered(&mut self, bytes: &[u8], status: Status) -> Result<(), AnswerFault>
         ensures { IsAnswering self.old bytes.now status result self.new }
     {
@@ -140,7 +150,7 @@ impl OwnedExchange {
             .answered(bytes, status, self.content.as_slice())
     }
 
-    /// The status and the data, if the exchange is over, as `Exchange::into_answer`.
+    /// The status and the data, if the exchange has ended.
     pub fn answer(&self) -> Option<(Status, &[u8])>
         ensures { IsAnswer self.now (option_map (λ a. (a.0, a.1.now)) result) }
     {

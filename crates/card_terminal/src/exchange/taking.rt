@@ -1,4 +1,4 @@
-//! A character of the card, taken by the parts of an exchange.
+//! The bodies of `Exchange::take` and `take_bytes`, which an exchange and its mark share.
 ghost use Rattle.std.specs.Prelude.{◌≡◌, ◌++◌, ℕ, ◌⊎◌, List, [], ◌∷◌, length, Option, Some, None, true, false, OnOk, OnErr, IfErr, MatchResult, IsErrOf};
 ghost use Rattle.apdu_core.specs.CommandBytes as spec;
 ghost use Rattle.t0_core.specs.declared.end.End.TheVariants.{Card};
@@ -21,8 +21,8 @@ use crate::wanted::Wanted;
 use std::alloc::Allocator;
 use t0_core::{Gather, HostEnd, LineFault};
 
-/// Takes a character of the card, as `Exchange::take`, which has its promises: the parts are those
-/// of an exchange, wherever each of them is kept.
+/// Takes a character of the card. The parameters are the fields of an exchange, wherever its owner
+/// stores them. The clauses and the errors are those of `Exchange::take`.
 #[inline(always)]
 pub(crate) fn taken_by<A: Allocator>(
     end: &mut HostEnd<'_>,
@@ -104,7 +104,8 @@ pub(crate) fn taken_by<A: Allocator>(
     }
 }
 
-/// Takes the characters of a buffer, as `Exchange::take_bytes`, which has its promises.
+/// Takes the characters of a buffer. The parameters are the fields of an exchange, and the clauses
+/// are those of `Exchange::take_bytes`.
 #[inline(always)]
 pub(crate) fn all_taken_by<A: Allocator>(
     end: &mut HostEnd<'_>,

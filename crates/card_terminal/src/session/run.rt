@@ -1,4 +1,4 @@
-//! Operations, carried out with a card of data objects.
+//! Operations of a session with a card of data objects.
 ghost use Rattle.std.specs.Prelude.{◌≡◌, ℕ, ◌<◌, ◌++◌, List, [], ◌∷◌, None, length, true, MatchResult, OnErr, IfOk};
 ghost use Rattle.std.specs.List.{AllByRecursion, flat_map};
 ghost use Rattle.apdu_core.specs.CommandBytes as spec;
@@ -31,7 +31,8 @@ use t0_core::{Gather, HostTurn, Plans, Watch};
 use tlv_core::ObjectTag;
 
 impl<C: DataCard> Session<C> {
-    /// Whether no chain is pending at the card: `run` and `operate` may be called.
+    /// Whether no chain is pending at the card. If so, `run`, `operate` and `operate_in` may be
+    /// called.
     pub fn is_idle(&self) -> bool
         ensures idle { result ≡ is_idle (C.state self.now).pending }
         ensures sound { IsCardState (C.state self.now) }
@@ -39,10 +40,13 @@ impl<C: DataCard> Session<C> {
         self.end.card().is_idle()
     }
 
-    /// Carries out the operations in turn, and appends an answer for each to `out`.
+    /// Carries out the operations in turn, and appends an answer to `out` for each. The card
+    /// follows the plans at the cursor `plans`, and `watch` hears each character.
     ///
-    /// The only fault is `OutOfMemory`, before the first character of an operation, which is not
-    /// begun. Those before it stand, with their answers, and no chain is pending.
+    /// # Errors
+    ///
+    /// - `OutOfMemory`: memory ran out before the first character of an operation. The operations
+    ///   before it were carried out, and `out` holds their answers. No chain is pending.
     pub fn run<A: Allocator + Copy, B: Allocator, V: Allocator, W: Watch>(
         &mut self,
         alloc: A,
@@ -53,20 +57,20 @@ impl<C: DataCard> Session<C> {
     ) -> Result<(), SessionFault>
         requires { is_idle (C.state self.old).pending ≡ true }
 
-        // Each operation has its answer, after those that were there; or the memory for one is
-        // wanting, and then it and those after it have none.
+        // The new answers follow those that `out` held: one for each operation, or fewer if memory
+        // ran out.
         ensures answered { let answers = new_answers out.old.given out.new.given in
             (out.new.given ≡ out.old.given ++ answers)
             × MatchResult result (λ _. length answers ≡ length ops.now)
             (λ fault. (fault ≡ OutOfMemory) × (length answers < length ops.now)) }
 
-        // The answers and the tables are those of the card that answers each in one step.
+        // The answers and the tables are those of the one-step card.
         ensures one_step { let answers = new_answers out.old.given out.new.given in
             AnswersAll (C.state self.old) (carried_out ops.now answers) answers
             (C.state self.new) }
 
-        // What the watch heard is a talk of these operations under the plans that were left, with
-        // these answers and states; the cursor stands past the plans used.
+        // The watch heard a talk of these operations under the next plans, with these answers and
+        // states. The cursor is then past the plans that were used.
         ensures talk { let answers = new_answers out.old.given out.new.given in
             (line : List Character)
             × Talk C.Does (C.standing self.old) plans.old.rest (carried_out ops.now answers)
@@ -82,7 +86,7 @@ impl<C: DataCard> Session<C> {
         Ok(())
     }
 
-    /// Carries out one operation, and returns its answer.
+    /// Carries out one operation, as `run`, and returns its answer.
     ///
     /// # Errors
     ///
@@ -98,11 +102,11 @@ impl<C: DataCard> Session<C> {
         ensures memory { OnErr result ((self.new ≡ self.old) × (plans.new ≡ plans.old)
             × (W.hearing watch.new ≡ W.hearing watch.old)) }
 
-        // The answer and the tables are those of the card that answers in one step.
+        // The answer and the tables are those of the one-step card.
         ensures one_step { IfOk result (λ answer. AnswersAll (C.state self.old)
             (operation_of op.now ∷ []) (answer ∷ []) (C.state self.new)) }
 
-        // What the watch heard is a talk of the operation under the plans that were left.
+        // The watch heard a talk of the operation under the next plans.
         ensures talk { IfOk result (λ answer. (line : List Character)
             × Talk C.Does (C.standing self.old) plans.old.rest (operation_of op.now ∷ [])
             (answer ∷ []) (C.standing self.new) plans.new.rest line
@@ -113,9 +117,8 @@ impl<C: DataCard> Session<C> {
         Ok(self.operate_in(room, op, plans, watch).into_answer())
     }
 
-    /// Carries out one operation, as `operate`, in room that was taken before: an empty one for
-    /// `RESPONSE_LIMIT` bytes, as an earlier answer gives back (`HeldAnswer::into_room`). It takes
-    /// no memory at the terminal.
+    /// Carries out one operation, as `operate`, and allocates nothing at the terminal. `room` is
+    /// empty and for `RESPONSE_LIMIT` bytes, as `HeldAnswer::into_room` returns it.
     pub fn operate_in<A: Allocator, B: Allocator, V: Allocator, W: Watch>(
         &mut self,
         room: Gather<A>,
@@ -134,14 +137,18 @@ impl<C: DataCard> Session<C> {
             × Hears (W.hearing watch.old) line (W.hearing watch.new) }
         ensures idle { is_idle (C.state self.new).pending ≡ true }
     {
+        // For the proof: the card's state is sound, and no chain is pending.
         let idle = self.is_idle();
         prove!(idle);
         self.carry_out(room, op, plans, watch)
     }
 
-    /// Carries out a command that is agreed with the card, as `transmit` does. A card of data
-    /// objects neither stalls nor brings more than there is room for, so the only error is want of
-    /// memory, before the first character, and then nothing has changed.
+    /// Carries out a command that is agreed with the card, as `transmit`. A card of data objects
+    /// neither stalls nor sends more than there is room for.
+    ///
+    /// # Errors
+    ///
+    /// - `AllocError`: memory ran out, before the first character; nothing has changed.
     pub fn send<A: Allocator, B: Allocator, W: Watch>(
         &mut self,
         alloc: A,
@@ -162,7 +169,8 @@ impl<C: DataCard> Session<C> {
         Ok(self.send_in(room, command, plans, watch).into_answer())
     }
 
-    /// Carries out a command, as `send`, in room that was taken before, as `operate_in`.
+    /// Carries out a command, as `send`, and allocates nothing at the terminal. `room` is as for
+    /// `operate_in`.
     pub fn send_in<A: Allocator, B: Allocator, W: Watch>(
         &mut self,
         room: Gather<A>,
@@ -179,6 +187,7 @@ impl<C: DataCard> Session<C> {
             (flat_map dialogues_of units)
             (point (C.standing self.new) plans.new.rest (W.hearing watch.new)) }
     {
+        // For the proof: the call's contract says that the card's state is sound.
         let _is_sound = self.is_idle();
         let mut exchange = Exchange::begin(room, command);
         let status = self.go_through(&mut exchange, plans, watch);
@@ -209,7 +218,7 @@ impl<C: DataCard> Session<C> {
         }
     }
 
-    /// Puts a value under a tag.
+    /// Stores a value under a tag, by a chain of PUT DATA.
     fn put<A: Allocator, B: Allocator, W: Watch>(
         &mut self,
         room: Gather<A>,
@@ -235,8 +244,8 @@ impl<C: DataCard> Session<C> {
         self.chain(room, first, commands, plans, watch)
     }
 
-    /// Carries out a command and those after it, up to the first that is answered with another
-    /// status than `9000`, all in one room.
+    /// Carries out the command `first` and then `others` in one room, up to the first status other
+    /// than `9000`.
     fn chain<'v, A: Allocator, B: Allocator, W: Watch>(
         &mut self,
         room: Gather<A>,
@@ -258,6 +267,8 @@ impl<C: DataCard> Session<C> {
     {
         let mut exchange = Exchange::begin(room, first);
         let mut status = self.go_through(&mut exchange, plans, watch);
+
+        // For the proof: the label names the loop's goals.
         'pieces: for command in others {
             if !status.is_ok() {
                 break;
@@ -268,7 +279,7 @@ impl<C: DataCard> Session<C> {
         HeldAnswer::new(status, exchange.into_room())
     }
 
-    /// Passes the characters of an exchange that is begun until it is over, and answers its status.
+    /// Passes the characters of an exchange, from its first to its last, and returns its status.
     #[inline(always)]
     fn go_through<A: Allocator, B: Allocator, W: Watch>(
         &mut self,

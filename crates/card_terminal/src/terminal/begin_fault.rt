@@ -1,14 +1,14 @@
-//! Why an operation has not begun.
+//! The error of beginning an operation at a terminal.
 use std::alloc::AllocError;
 use std::error::Error;
 use std::fmt;
 
-/// Why an operation was not begun. Nothing has changed.
+/// Why no operation has begun. The terminal is unchanged.
 #[derive(Clone, Copy, Debug, PartialEq, Eq)]
 pub enum BeginFault {
-    /// Memory was wanting for its response, or for the copy of its data.
+    /// Memory ran out, for the response or for the copy of the operation's data.
     OutOfMemory,
-    /// An operation is under way.
+    /// Another operation is in progress.
     UnderWay,
 }
 

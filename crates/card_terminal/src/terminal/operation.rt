@@ -1,4 +1,4 @@
-//! An operation that has begun: the exchange of one of its commands, and what is still to be put.
+//! The operation of a `Terminal`: the exchange of the current command, and the bytes still to put.
 ghost use Rattle.std.specs.Prelude.{◌≡◌, ◌⊎◌, ℕ, ◌≤◌, List, [], ◌∷◌, ◌++◌, length, None, Some, Err, IfOk, IsOk, is_ok, MatchResult, if◌then◌else◌, true, false, vec_capacity};
 ghost use Rattle.std.specs.Option.{option_map};
 ghost use Rattle.card_terminal.specs.OperationRoom.{BeginsWith};
@@ -26,15 +26,15 @@ use t0_core::{AnswerFault, HostTurn, LineFault, WholeTpdu};
 #[derive(Drop)]
 pub struct Operation<A: Allocator + Copy = Global> {
     exchange: ExchangeMark<A>,
-    /// All that goes to the card as data.
+    /// The data of all its commands.
     content: Vec<u8, A>,
-    /// The data of the command that came last begin here..
+    /// The index in `content` at which the data of the current command begin.
     from: usize,
-    /// ..and end here. The rest goes in more pieces of a put.
+    /// The index at which they end. More pieces of a put send the rest.
     until: usize,
     p1: u8,
     p2: u8,
-    /// The command that came last is the first.
+    /// The current command is the first.
     first: bool,
 }
 
@@ -60,10 +60,10 @@ impl<A: Allocator + Copy> Model for Operation<A> {
 }
 
 impl<A: Allocator + Copy> Operation<A> {
-    /// Begins an operation whose first command is this one. The content is all that goes to the
-    /// card as data: what follows the first command's goes in more pieces of a put, under its
-    /// P1-P2. All memory is taken here: so much room for a response, and room for the content; the
-    /// error is want of it.
+    /// Begins an operation by its first command. `content` is the data of all its commands: it
+    /// begins with those of the first, and more pieces of a put send the rest, with the same P1-P2.
+    /// Allocates room for `limit` bytes of a response, and a copy of `content`. The error is that
+    /// memory ran out.
     pub fn start(
         alloc: A,
         limit: usize,
@@ -90,9 +90,9 @@ impl<A: Allocator + Copy> Operation<A> {
         })
     }
 
-    /// Begins another operation in the place of this one, as `start`, in the memory of this one:
-    /// none is taken but for a longer content than any before. The error is want of it, and then
-    /// nothing has changed.
+    /// Begins another operation, as `start`, in the place and the memory of this one. It allocates
+    /// only if `content` is longer than any before. The error is that memory ran out; nothing has
+    /// changed then.
     pub fn again(&mut self, first: Command<'_>, content: &[u8]) -> Result<(), AllocError>
         requires front { (more : List ℕ) × (content.now ≡ first.content ++ more) }
         ensures begins { MatchResult result (λ _. BeginsWith first.entry content.now self.new)
@@ -110,14 +110,14 @@ impl<A: Allocator + Copy> Operation<A> {
         Ok(())
     }
 
-    /// What `next` answers, which changes nothing here.
+    /// Returns what `next` would, and changes nothing.
     pub fn turn(&self) -> HostTurn
         ensures { result ≡ exchange_turn self.now.exchange }
     {
         self.exchange.turn(&self.content[self.from..self.until])
     }
 
-    /// What the terminal does now, as `Exchange::next`.
+    /// Returns what the terminal does next, as `Exchange::next`.
     #[inline(always)]
     pub fn next(&mut self) -> HostTurn
         ensures turn { IsTurn self.old.exchange result self.new.exchange }
@@ -129,7 +129,8 @@ impl<A: Allocator + Copy> Operation<A> {
         self.exchange.next(&self.content[self.from..self.until])
     }
 
-    /// Hands out a character of the data, if one is due, as `next` does; else nothing changes.
+    /// Returns the next character of the data if one is to be sent, as `next` would. Otherwise
+    /// nothing changes.
     #[inline(always)]
     pub fn next_data(&mut self) -> Option<u8>
         ensures due { result ≡ data_due self.old.exchange.host }
@@ -144,8 +145,8 @@ impl<A: Allocator + Copy> Operation<A> {
             .next_data(&self.content[self.from..self.until])
     }
 
-    /// Takes a character of the card, as `Exchange::take`. With a status `9000` the next piece of a
-    /// put is begun, if one follows.
+    /// Takes a character of the card, as `Exchange::take`. After the status `9000`, the next piece
+    /// of a put begins, if one follows.
     #[inline(always)]
     pub fn take(&mut self, byte: u8) -> Result<(), LineFault>
         ensures taking { (ex : ExchangeOf) × IsTaking self.old.exchange byte result ex
@@ -159,7 +160,7 @@ impl<A: Allocator + Copy> Operation<A> {
         taken
     }
 
-    /// Hands out characters into a buffer, as `Exchange::next_bytes`.
+    /// Writes the next characters to `bytes`, as `Exchange::next_bytes`.
     pub fn next_bytes(&mut self, bytes: &mut [u8]) -> HandedOut
         ensures handed { IsHandingOut IsTurn self.old.exchange bytes.old bytes.new result
             self.new.exchange }
@@ -171,8 +172,8 @@ impl<A: Allocator + Copy> Operation<A> {
             .next_bytes(bytes, &self.content[self.from..self.until])
     }
 
-    /// Takes the characters of a buffer, as `Exchange::take_bytes`. With a status `9000` the next
-    /// piece of a put is begun, if one follows.
+    /// Takes the characters of a buffer, as `Exchange::take_bytes`. After the status `9000`, the
+    /// next piece of a put begins, if one follows.
     pub fn take_bytes(&mut self, bytes: &[u8]) -> Taken
         ensures taking { IsSettled self.old → IsTakingAll IsTerminalTaking (Some self.old)
             bytes.now result (Some self.new) }
@@ -183,8 +184,8 @@ impl<A: Allocator + Copy> Operation<A> {
         if begins { out_of_turn(taken) } else { taken }
     }
 
-    /// Takes the characters of a buffer up to a fault, and then goes on. Says whether the next
-    /// piece has begun.
+    /// Takes the characters of a buffer up to an error, and then begins the next piece of a put, if
+    /// one follows. Returns whether it has.
     fn take_and_go_on(&mut self, bytes: &[u8]) -> (Taken, bool)
         ensures taking { (ex : ExchangeOf)
             × IsTakingAll IsTaking self.old.exchange bytes.now result.0 ex
@@ -200,14 +201,14 @@ impl<A: Allocator + Copy> Operation<A> {
         (taken, begins)
     }
 
-    /// The whole TPDU that is due, as `Exchange::tpdu`.
+    /// The next TPDU as a whole, as `Exchange::tpdu`.
     pub fn tpdu(&self) -> Option<WholeTpdu<'_>>
         ensures { option_map asked_of result ≡ due_by self.now.exchange.host }
     {
         self.exchange.tpdu(&self.content[self.from..self.until])
     }
 
-    /// What the operation is to send, if nothing of it has gone.
+    /// The commands of the operation, if no character of it was sent.
     pub fn unsent(&self) -> Option<Unsent<'_>>
         ensures { IsUnsent (Some self.now) result }
     {
@@ -225,8 +226,8 @@ impl<A: Allocator + Copy> Operation<A> {
         }
     }
 
-    /// Takes the answer to it, as `Exchange::answered`. With a status `9000` the next piece of a
-    /// put is begun, if one follows.
+    /// Takes the answer to that TPDU, as `Exchange::answered`. After the status `9000`, the next
+    /// piece of a put begins, if one follows.
     pub fn answered(&mut self, bytes: &[u8], status: Status) -> Result<(), AnswerFault>
         ensures answering { (ex : ExchangeOf)
             × IsAnswering self.old.exchange bytes.now status result ex
@@ -239,8 +240,8 @@ impl<A: Allocator + Copy> Operation<A> {
         taken
     }
 
-    /// Begins the exchange of the next piece of a put, where the last was answered `9000` and one
-    /// follows. Says whether it has.
+    /// Begins the exchange of the next piece of a put, if one follows and the status of the last is
+    /// `9000`. Returns whether it has.
     #[inline(always)]
     fn go_on(&mut self) -> bool
         ensures over { GoesOver self.old self.new }
@@ -277,7 +278,7 @@ impl<A: Allocator + Copy> Operation<A> {
         self.exchange.again(next);
     }
 
-    /// The status and the data, if the exchange is over.
+    /// The status and the data, if the exchange has ended.
     pub fn answer(&self) -> Option<(Status, &[u8])>
         ensures { IsAnswer self.now.exchange (option_map (λ a. (a.0, a.1.now)) result) }
     {
@@ -285,8 +286,8 @@ impl<A: Allocator + Copy> Operation<A> {
     }
 }
 
-/// Makes a vector a copy of these bytes, in the room that it has where they fit there. The error is
-/// want of memory, and then its items stay.
+/// Makes `copy` a copy of `bytes`. It allocates only if they exceed its capacity. The error is that
+/// memory ran out; `copy` is unchanged then.
 fn copy_again<A: Allocator>(copy: &mut Vec<u8, A>, bytes: &[u8]) -> Result<(), AllocError>
     ensures items { copy.new.items ≡ (if is_ok result then bytes.now else copy.old.items) }
     ensures room { length bytes.now ≤ vec_capacity copy.old → IsOk result }
@@ -299,8 +300,8 @@ fn copy_again<A: Allocator>(copy: &mut Vec<u8, A>, bytes: &[u8]) -> Result<(), A
     Ok(())
 }
 
-/// What is told of characters with which the next piece has begun: after them it is the terminal
-/// that sends.
+/// The result of `take_bytes` if the next piece has begun: the terminal sends next, so that any
+/// further character is `NotListening`.
 fn out_of_turn(taken: Taken) -> Taken
     ensures { MatchResult taken.outcome (λ _. result ≡ taken) (λ _. result ≡ record {
       count = taken.count;

@@ -11,7 +11,8 @@ use Rattle.object_card.specs.InstructionLaws.{one_way}
 use Rattle.object_card.specs.Agreed.{IsAgreed}
 use Rattle.card_terminal.specs.Talk.{select_command}
 
--- what a card of data objects may take and send under
+-- `R` holds for each INS whose data a card of data objects receives, `S` for each whose data it
+-- sends
 pub record KeepsTo (R S : ℕ → Type 0) : Type 0 where
   pub receives : (ins : ℕ) → R ins ↔ MayReceive ins
   pub sends : (ins : ℕ) → S ins ↔ MaySend ins

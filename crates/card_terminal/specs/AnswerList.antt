@@ -1,8 +1,8 @@
--- A list of answers.
+-- The view of `Answers`: a list of answers with room for more.
 use Rattle.std.specs.Prelude.{ℕ, List}
 use Rattle.object_card.specs.OneStep.{Reply}
 
--- the answers, in order, and for how many more there is room
+-- the answers, in order, and the number of further answers that there is room for
 pub record AnswerList : Type 0 where
   pub given : List Reply
   pub room : ℕ

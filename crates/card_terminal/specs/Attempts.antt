@@ -1,4 +1,4 @@
--- What follows a TPDU of an exchange, from what the exchange keeps of it.
+-- Which TPDU follows one of an exchange, by the place of that one (`Attempt`) and its status.
 use Rattle.std.specs.Prelude.{◌≡◌, ℕ, ◌+◌, ◌*◌, ◌≤◌, Option, Some, None, Bool, true, false, not, ◌&&◌, ◌==◌, if◌then◌else◌}
 use Rattle.apdu_core.specs.HeaderBytes.{ins_is_valid}
 use Rattle.apdu_core.specs.StatusWord.{StatusWord, corrects}
@@ -31,14 +31,14 @@ fetch a gathered = record {
   number = a.number + 1;
 }
 
--- the count that it is repeated with: it asks for data, repeats none, and so much is still wanted
--- as it was told that it should have asked for
+-- The count to repeat a TPDU with: if it asked for data and repeats none, the count of 6CXX, unless
+-- that exceeds what is still wanted.
 abbrev pub again_with : Attempt → Wanted → Option ℕ → Option ℕ
 again_with a left None = None
 again_with a left (Some n) =
     if a.asks && not a.repeats && wants_at_least n left then Some n else None
 
--- a fetch that has brought nothing is not followed by another
+-- no fetch follows one that brought nothing
 abbrev pub fetches_next : Attempt → ℕ → Option ℕ → Next
 fetches_next a gathered None = Ends
 fetches_next a gathered (Some n) = if a.fetches && gathered ==
@@ -52,7 +52,8 @@ abbrev pub following : Attempt → ℕ → Wanted → StatusWord → Next
 following a gathered left status = next_by a gathered (again_with a left (corrects status))
     (fetched_after left status)
 
--- Each fetch but the first follows one that has brought a byte, and each may be repeated once.
+-- the most TPDUs of an exchange: each fetch except the first follows one that brought a byte, and
+-- each may be repeated once
 abbrev pub most_begun : Bool → ℕ → ℕ
 most_begun false before = 1
 most_begun true before = 2 * before + 3
@@ -66,7 +67,7 @@ pub record IsCounted (a : Attempt) (gathered : ℕ) : Type 0 where
   pub begun : a.before ≤ gathered
   pub number : a.number ≤ most_begun a.fetches a.before + one_more a.repeats
 
--- what is asked for next is counted, and 1 to 256 bytes
+-- the next TPDU is counted, and asks for 1 to 256 bytes
 abbrev pub IsNext : Next → ℕ → Type 0
 IsNext (Asks attempt count) gathered = IsCounted attempt gathered × (1 ≤ count) × (count ≤ 256)
 IsNext Stalls gathered = Unit {0}

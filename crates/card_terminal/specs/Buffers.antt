@@ -1,4 +1,4 @@
--- Characters of an exchange that pass by a buffer, one step for each.
+-- Many characters at once, in a buffer, as one step for each.
 use Rattle.std.specs.Prelude.{◌≡◌, ◌<◌, ℕ, List, length, take, slice_index, Result, Ok, Err, MatchResult, MatchOption}
 use Rattle.t0_core.specs.declared.host_end.HostTurn.{HostTurn}
 use Rattle.t0_core.specs.declared.host_end.HostTurn.TheVariants.{Sends}
@@ -7,8 +7,8 @@ use Rattle.t0_core.specs.Buffers.{Steps, HandsOut}
 use Rattle.card_terminal.specs.declared.handed_out.HandedOut.{HandedOut}
 use Rattle.card_terminal.specs.declared.taken.Taken.{Taken}
 
--- An end that takes turns hands out each character that it sends, until the buffer is full, or what
--- it does next is not to send: then that is told.
+-- An end writes each character that it sends to the buffer, until the buffer is full or its next
+-- turn (`stop`) is not to send.
 pub record IsHandingOut {State : Type 0} (Turn : State → HostTurn → State → Type 0) (old : State)
     (before after : List ℕ) (handed : HandedOut) (new : State) : Type 0 where
   pub sent : HandsOut (λ s b t. Turn s (Sends b) t) old before after handed.count new
@@ -16,8 +16,8 @@ pub record IsHandingOut {State : Type 0} (Turn : State → HostTurn → State �
       (λ turn. (handed.count < length before) × Turn new turn new
       × ((byte : ℕ) → turn ≡ Sends byte → ⊥))
 
--- It takes the characters of a buffer one after another, all of them, or up to the first that is a
--- fault: then those before it are taken, and the fault does what it does.
+-- An end takes all characters of a buffer, one after another. Or it takes those before the first
+-- that is a fault, and then that one.
 pub record IsTakingAll {State : Type 0}
     (Taking : State → ℕ → Result (Unit {0}) LineFault → State → Type 0) (old : State)
     (bytes : List ℕ) (taken : Taken) (new : State) : Type 0 where

@@ -17,12 +17,12 @@ use Rattle.card_terminal.specs.Gathered.{UnitOf, dialogues_of}
 use Rattle.card_terminal.specs.Talk.{HaveCuts}
 use Rattle.card_terminal.specs.ExchangeSide.{ExchangeOf, UnderWay, Stall, so_far, exchange_turn, response_limit}
 
--- the plan of the TPDU that comes after so many: past the end of the list one without steps
+-- the plan of the next TPDU: the first of the list, or one without steps if the list is empty
 abbrev pub next_plan : List Course → Course
 next_plan [] = plain
 next_plan (p ∷ plans) = p
 
--- a point of a talk: how the card stands, the plans that are left, and what a watch has heard
+-- a point of a talk: the state of the card, the plans that are left, and what a watch has heard
 pub record Point (State : Type 0) : Type 0 where
   pub standing : State
   pub plans : List Course
@@ -31,8 +31,8 @@ pub record Point (State : Type 0) : Type 0 where
 abbrev pub point : {State : Type 0} → State → List Course → Hearing → Point State
 point standing plans hearing = record { standing = standing; plans = plans; hearing = hearing }
 
--- From one point to another these dialogues have gone: they follow the plans, whose cuts are 1 to
--- 256, are a run of the card's meaning, and are heard; and so many plans are taken.
+-- These dialogues lead from one point to another. They follow the plans, whose cuts are 1 to 256;
+-- they are a run of the card's meaning; the watch hears them. Each takes one plan.
 pub record HaveGone {State : Type 0} (Does : State → ℕ → Tpdu → State → Type 0)
     (from : Point State) (ds : List Dialogue) (to : Point State) : Type 0 where
   pub are_dialogues : AllByRecursion IsDialogue ds
@@ -49,8 +49,8 @@ pub record HasStalled {State : Type 0} (Does : State → ℕ → Tpdu → State 
   pub stall : Stall c units
   pub gone : HaveGone Does from (flat_map dialogues_of units) to
 
--- the dialogues of an exchange, and the front of one more, with which the card has sent more
--- than there is room for, and whose plan is taken
+-- the dialogues of an exchange, and a front of one more, in which the card has sent more data than
+-- there is room for; the plan of that one is taken
 pub record HasOverflown {State : Type 0} (Does : State → ℕ → Tpdu → State → Type 0)
     (from : Point State) (c : Command) (to : Point State) : Type 0 where
   pub units : List UnitOf
@@ -72,15 +72,15 @@ pub record HasOverflown {State : Type 0} (Does : State → ℕ → Tpdu → Stat
   pub too_many : response_limit < length (flat_map received (so_far units tried) ++ brought front)
   pub hears : Hears between (front_characters front) to.hearing
 
--- a card causes these faults alone
+-- the only faults that a card causes
 abbrev pub IsCaused : {State : Type 0} → (State → ℕ → Tpdu → State → Type 0) → Point State
     → Command → Point State → LineFault → Type 0
 IsCaused Does from c to fault =
     ((fault ≡ Stalled) × HasStalled Does from c to)
     ⊎ ((fault ≡ TooLong) × HasOverflown Does from c to)
 
--- A number that falls with each character that passes: what is still to go of a TPDU, and of all
--- that may come.
+-- A number that decreases with each character (`characters_left`): those still to pass in this
+-- TPDU (`here`), and in all that may follow. For the proof: a loop's measure.
 abbrev pub here : Stage → Cursor → ℕ
 here (Taking_header bytes) cursor = still_to_go (Taking_header bytes) plain
 here (Refusing header p3 status done) cursor = still_to_go (Refusing header p3 status done)
@@ -98,7 +98,7 @@ is_done Listens = false
 is_done (Done status) = true
 is_done Failed = true
 
--- the most TPDUs that an exchange begins, with all its room gathered
+-- the most TPDUs of an exchange, whose room is then full
 abbrev pub most_tpdus : ℕ
 most_tpdus = 2 * (response_limit + 2)
 

@@ -1,4 +1,4 @@
--- Which characters led to an exchange, whatever the card sent.
+-- The characters that led to a state of an exchange, whatever the card sent.
 use Rattle.std.specs.Prelude.{◌≡◌, ℕ, List, [], ◌∷◌, ◌++◌, Option, Some, None, true}
 use Rattle.std.specs.List.{AllByRecursion, flat_map}
 use Rattle.apdu_core.specs.StatusWord.{StatusWord}
@@ -19,15 +19,14 @@ use Rattle.card_terminal.specs.ExchangeSide.{ExchangeOf, UnderWay, IsOver, Stall
 abbrev pub unit_characters : List UnitOf → List Character
 unit_characters units = flat_map characters (flat_map dialogues_of units)
 
--- the characters of units, of the first dialogue of one more where that is repeated, and of a
--- front of the next dialogue
+-- the characters of units, of the first dialogue of one more if that is repeated, and of a front of
+-- the next dialogue
 abbrev pub characters_to : List UnitOf → Option Dialogue → Front → List Character
 characters_to units first front = flat_map characters (so_far units first) ++ front_characters front
 
--- These characters lead to the exchange as it is: to a front of a dialogue; to the end of a
--- whole exchange; to that of
--- one that stalls; or a character came last that was refused for good at such a front: it was no
--- procedure byte where one was due, or it was too much for the room (`is_final`).
+-- These characters lead to this state of the exchange: to a front of a dialogue, to the end of a
+-- whole exchange, or to the end of one that stalls. Or they lead to such a front, and then to a
+-- final fault (`is_final`): no procedure byte if one is expected, or data that exceed the room.
 pub data ComesTo (c : Command) (came : List Character) (ex : ExchangeOf) : Type 0 where
   to_front : (units : List UnitOf) (first : Option Dialogue) (front : Front)
       → UnderWay c ex units first front
@@ -44,8 +43,8 @@ pub data ComesTo (c : Command) (came : List Character) (ex : ExchangeOf) : Type 
       → exchange_turn ex ≡ Failed → before.gather.limit ≡ ex.gather.limit
       → came ≡ characters_to units first front ++ (Card, byte) ∷ [] → ComesTo c came ex
 
--- After those that came, these characters lead to the first for which there is no room, and with it
--- to the exchange as it is, which has failed.
+-- After `came`, the characters `cs` lead to the first for which there is no room. With it they lead
+-- to this state of the exchange, which has failed.
 pub record ComesTooFar (c : Command) (came cs : List Character) (ex : ExchangeOf) : Type 0 where
   pub before : List Character
   pub byte : ℕ
@@ -65,16 +64,15 @@ pub record BeginsExchange (c : Command) (came : List Character) : Type 0 where
   pub rest : List Character
   pub whole : unit_characters units ≡ came ++ rest
 
--- the exchange does what this character asks of it: it sends it, or listens and finds no fault in
--- it
+-- the exchange sends this character, or listens and takes it without a fault
 abbrev pub Expects : ExchangeOf → Character → Type 0
 Expects ex c = From c.0 where
   From : End → Type 0
   From Terminal = exchange_turn ex ≡ Sends c.1
   From Card = (exchange_turn ex ≡ Listens) × (fault_of ex.host ex.gather c.1 ≡ None)
 
--- A character that the card sent last was a fault, and ended the exchange for good: those before it
--- led to one at which it was, and are a front of those of an open exchange.
+-- The last character is the card's, and was a fault that ended the exchange for good. Those before
+-- it are the first characters of an open exchange, and led to a state in which it is a fault.
 pub record FaultCameLast (c : Command) (came : List Character) (ex : ExchangeOf) : Type 0 where
   pub before : List Character
   pub byte : ℕ

@@ -1,4 +1,4 @@
--- How far an exchange has come: which dialogues are over, and which is under way.
+-- The state of an exchange: which dialogues have ended, and which is in progress.
 use Rattle.std.specs.Prelude.{◌≡◌, ℕ, ◌+◌, ◌*◌, ◌<◌, ◌≤◌, List, [], ◌∷◌, ◌++◌, length, Option, Some, None, is_some, Bool, true, false, ◌⊎◌, if◌then◌else◌}
 use Rattle.std.specs.List.{AllByRecursion, flat_map}
 use Rattle.apdu_core.specs.declared.header.Header.{Header}
@@ -22,9 +22,8 @@ use Rattle.card_terminal.specs.Attempts.{IsCounted}
 use Rattle.object_card.specs.CarryingOut.{get_response}
 use Rattle.card_terminal.specs.Gathered.{wanted_by, after_unit, fetched_after, repeated_with, Opening, By_command, By_fetch, OpensWith, UnitOf, Single, Repeated, last_of, dialogues_of, unit_data, AreFollowed, IsOpenExchange, Gathers}
 
--- what an exchange keeps: the end of the TPDU under way, the data so far, the place of the TPDU
--- in the exchange,
--- what the command wants, and whether the exchange has stalled
+-- the view of an exchange: the end of the current TPDU, the data so far, the place of the TPDU in
+-- the exchange, what the command wants, and whether the exchange has stalled
 pub record ExchangeOf : Type 0 where
   pub host : Hosting
   pub gather : Room
@@ -32,14 +31,14 @@ pub record ExchangeOf : Type 0 where
   pub wanted : Wanted
   pub stalled : Bool
 
--- the end opens a TPDU with this header that asks for so many bytes
+-- the end opens a TPDU with this header that asks for `n` bytes
 pub record HostAsks (header : Header) (n : ℕ) (host : Hosting) : Type 0 where
   pub header_is : host.header ≡ header
   pub from_card : host.direction ≡ FromCard
   pub counts : count host.p3 ≡ n
   pub is_byte : host.p3 < 256
 
--- or one that sends these
+-- the end opens a TPDU with this header that sends these bytes
 pub record HostSends (header : Header) (content : List ℕ) (host : Hosting) : Type 0 where
   pub header_is : host.header ≡ header
   pub to_card : host.direction ≡ ToCard
@@ -55,23 +54,23 @@ abbrev pub HostOpens : Opening → Hosting → Type 0
 HostOpens (By_command c) host = HostOpensBy c.header c.content c.le host
 HostOpens (By_fetch n) host = HostAsks get_response n host
 
--- The TPDU under way opens a unit; or it repeats the first dialogue of one with the count that
--- was told.
+-- The current TPDU opens a unit. Or it repeats the first dialogue of a unit, with the count of
+-- 6CXX.
 abbrev pub IsOpenedAs : Opening → Wanted → Option Dialogue → Hosting → Type 0
 IsOpenedAs opening left None host = HostOpens opening host
 IsOpenedAs opening left (Some d) host = OpensWith opening d × (n : ℕ)
     × (repeated_with left d ≡ Some n) × HostAsks d.body.header n host
 
--- the first dialogue of the unit under way, where that is over
+-- the first dialogue of the current unit, if that has ended
 abbrev pub begun_with : Option Dialogue → List Dialogue
 begun_with None = []
 begun_with (Some d) = d ∷ []
 
--- the dialogues that are over
+-- the dialogues that have ended
 abbrev pub so_far : List UnitOf → Option Dialogue → List Dialogue
 so_far units first = flat_map dialogues_of units ++ begun_with first
 
--- the unit under way, once its last dialogue is over
+-- the current unit, once its last dialogue has ended
 abbrev pub ended_with : Option Dialogue → Dialogue → UnitOf
 ended_with None d = Single d
 ended_with (Some e) d = Repeated e d
@@ -84,7 +83,7 @@ abbrev pub is_fetch : Opening → Bool
 is_fetch (By_command c) = false
 is_fetch (By_fetch n) = true
 
--- what the exchange keeps of the place of a TPDU
+-- this `Attempt` is the place of the current TPDU
 pub record IsPlaceOf (a : Attempt) (opening : Opening) (units : List UnitOf)
     (first : Option Dialogue) (host : Hosting) : Type 0 where
   pub header_is : a.header ≡ host.header
@@ -94,12 +93,12 @@ pub record IsPlaceOf (a : Attempt) (opening : Opening) (units : List UnitOf)
   pub before_is : a.before ≡ length (flat_map unit_data units)
   pub number_is : a.number ≡ length (so_far units first) + 1
 
--- the most bytes that a response may have at all: no exchange has more room
+-- the most bytes of any response: no exchange has more room
 abbrev pub response_limit : ℕ
 response_limit = RESPONSE_LIMIT
 
--- these units are over, and the first dialogue of the next where it is repeated, and the TPDU
--- under way stands at this front
+-- The exchange is in progress: these units have ended, and the first dialogue of the next if it is
+-- repeated. The current TPDU is at this front.
 pub record UnderWay (c : Command) (ex : ExchangeOf) (units : List UnitOf)
     (first : Option Dialogue) (front : Front) : Type 0 where
   pub opening : Opening
@@ -115,7 +114,7 @@ pub record UnderWay (c : Command) (ex : ExchangeOf) (units : List UnitOf)
   pub wanted_is : ex.wanted ≡ wanted_by c.le
   pub going : ex.stalled ≡ false
 
--- the exchange is over: these are its units, and it has the data and the status
+-- the exchange has ended: these are its units, and it has their data and their status
 pub record IsOver (c : Command) (ex : ExchangeOf) (units : List UnitOf)
     (status : StatusWord) : Type 0 where
   pub gathers : Gathers c units ex.gather.bytes status
@@ -123,8 +122,8 @@ pub record IsOver (c : Command) (ex : ExchangeOf) (units : List UnitOf)
   pub done : turn_of ex.host ≡ Done status
   pub going : ex.stalled ≡ false
 
--- the last of these units is a fetch that has brought nothing, and the card announces more (this
--- project's profile)
+-- the exchange of these units has stalled: the last is a fetch that brought nothing, and the card
+-- announces more (profile)
 pub record Stall (c : Command) (units : List UnitOf) : Type 0 where
   pub is_open : IsOpenExchange c units
   pub asked : ℕ
@@ -134,24 +133,24 @@ pub record Stall (c : Command) (units : List UnitOf) : Type 0 where
   pub announces : fetched_after (after_unit is_open.left is_open.last)
       (last_of is_open.last).status ≡ Some more
 
--- what the exchange does when it is its turn
+-- what the exchange does next
 abbrev pub exchange_turn : ExchangeOf → HostTurn
 exchange_turn ex = if ex.stalled then Failed else turn_of ex.host
 
--- With so many bytes gathered, at most the room's, it has begun at most twice two more TPDUs.
+-- The data fit the room. With r bytes gathered, at most 2(r + 2) TPDUs have begun.
 pub record IsBounded (ex : ExchangeOf) : Type 0 where
   pub room : ex.gather.limit ≤ response_limit
   pub fits : length ex.gather.bytes ≤ ex.gather.limit
   pub tpdus : ex.attempt.number ≤ 2 * (length ex.gather.bytes + 2)
 
--- what holds of every exchange
+-- the invariant of an exchange
 pub record IsKept (ex : ExchangeOf) : Type 0 where
   pub counted : IsCounted ex.attempt (length ex.gather.bytes)
   pub room : ex.gather.limit ≤ response_limit
   pub fits : length ex.gather.bytes ≤ ex.gather.limit
   pub stalled_at_end : ex.stalled ≡ true → (status : StatusWord) × (turn_of ex.host ≡ Done status)
 
--- the faults that end an exchange; the others change nothing
+-- the faults that end an exchange for good; the others change nothing
 abbrev pub is_final : LineFault → Bool
 is_final (BadProcedure byte) = true
 is_final AfterEnd = false
@@ -159,12 +158,12 @@ is_final TooLong = true
 is_final Stalled = true
 is_final NotListening = false
 
--- it neither sends nor listens any more
+-- the exchange has ended or failed
 abbrev pub IsAtEnd : ExchangeOf → Type 0
 IsAtEnd ex = (exchange_turn ex ≡ Failed)
     ⊎ ((status : StatusWord) × (exchange_turn ex ≡ Done status))
 
--- After a dialogue it is repeated, or more is fetched, or the exchange is over.
+-- after a dialogue it is repeated, or more is fetched, or the exchange has ended
 abbrev pub Continues : Command → ExchangeOf → List UnitOf → Option Dialogue → Dialogue → Type 0
 Continues c ex units first d =
     ((first ≡ None) × UnderWay c ex units (Some d) fresh)

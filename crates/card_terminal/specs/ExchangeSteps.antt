@@ -1,5 +1,4 @@
--- What each call does to an exchange, said once for the exchange that holds its command's data and
--- for what is built on it.
+-- What each call does to an exchange, for `Exchange`, `OwnedExchange` and what is built on them.
 use Rattle.std.specs.Prelude.{◌≡◌, ◌<◌, ◌≤◌, ◌+◌, ℕ, List, [], ◌∷◌, ◌++◌, length, Option, Some, None, true, false, ◌⊎◌, Result, MatchResult, OnOk, OnErr, IfErr, IsErrOf, IfSome}
 use Rattle.apdu_core.specs.StatusWord.{StatusWord}
 use Rattle.apdu_core.specs.CommandBytes.{Command}
@@ -21,17 +20,17 @@ use Rattle.card_terminal.specs.Gathered.{UnitOf, Gathers}
 use Rattle.card_terminal.specs.ExchangeSide.{ExchangeOf, UnderWay, IsBounded, IsAtEnd, Continues, Stall, exchange_turn, ended_with, is_final, response_limit}
 use Rattle.card_terminal.specs.ExchangeHistory.{ComesTo, ComesTooFar, unit_characters}
 
--- An exchange with so much room has begun; or the limit is over the most that a response may have;
--- or it is not, and memory was wanting.
+-- An exchange with this limit has begun. Or the limit exceeds that of any response. Or it does not,
+-- and memory ran out.
 abbrev pub IsLimited : ℕ → Result ExchangeOf StartFault → Type 0
 IsLimited limit result = MatchResult result
     (λ ex. (limit ≤ response_limit) × (ex.gather.limit ≡ limit))
     (λ fault. ((fault ≡ OverLimit) × (response_limit < limit))
     ⊎ ((fault ≡ OutOfMemory) × (limit ≤ response_limit)))
 
--- A turn of the terminal: what it does now. With a character that it sends the dialogue under way
--- goes on, and whatever led to the exchange leads to it with this character; nothing else changes
--- anything, and the room for the response never does.
+-- The next turn of the terminal. A character that it sends continues the current dialogue, and
+-- follows the characters that led to the exchange. Only a character to send changes the exchange,
+-- and nothing changes its room.
 pub record IsTurn (old : ExchangeOf) (turn : HostTurn) (new : ExchangeOf) : Type 0 where
   pub turn_is : turn ≡ exchange_turn old
   pub stays : ((byte : ℕ) → turn ≡ Sends byte → ⊥) → new ≡ old
@@ -43,8 +42,8 @@ pub record IsTurn (old : ExchangeOf) (turn : HostTurn) (new : ExchangeOf) : Type
   pub led : (c : Command) (came : List Character) (byte : ℕ) → ComesTo c came old
       → turn ≡ Sends byte → ComesTo c (came ++ (Terminal, byte) ∷ []) new
 
--- A character of the card is taken, or is a fault. A fault that is not final changes nothing; after
--- a final one the exchange has failed.
+-- The exchange takes a character of the card, or it is a fault. A fault that is not final changes
+-- nothing; after a final one the exchange has failed.
 pub record IsTaking (old : ExchangeOf) (byte : ℕ) (result : Result (Unit {0}) LineFault)
     (new : ExchangeOf) : Type 0 where
   pub fault : MatchResult result (λ _. fault_of old.host old.gather byte ≡ None)
@@ -74,8 +73,9 @@ pub record IsTaking (old : ExchangeOf) (byte : ℕ) (result : Result (Unit {0}) 
       → MatchResult result (λ _. ComesTo c (came ++ (Card, byte) ∷ []) new)
       (λ fault. is_final fault ≡ true → ComesTo c (came ++ (Card, byte) ∷ []) new)
 
--- An answer to a whole TPDU is taken, or is a fault: whichever dialogue gives it, the exchange goes
--- on as after its characters, or fails as there. A fault that is not final changes nothing.
+-- The exchange takes the answer to a whole TPDU, or it is a fault. After any dialogue with this
+-- answer it continues as after its characters, or fails as there. A fault that is not final changes
+-- nothing.
 pub record IsAnswering (old : ExchangeOf) (bytes : List ℕ) (status : StatusWord)
     (result : Result (Unit {0}) AnswerFault) (new : ExchangeOf) : Type 0 where
   pub fault : MatchResult result (λ _. answer_fault old.host old.gather bytes ≡ None)
@@ -100,8 +100,8 @@ pub record IsAnswering (old : ExchangeOf) (bytes : List ℕ) (status : StatusWor
   pub given : MatchResult result (λ _. (d : Dialogue) × Gives old.host d bytes status)
       (λ fault. fails_with fault ≡ true → (d : Dialogue) × Gives old.host d bytes status)
 
--- The status and the data of an exchange that is over; none of every other one. They are what the
--- characters that led to it say.
+-- The status and the data of an exchange that has ended, and nothing of any other. They are what
+-- the characters that led to it gather.
 pub record IsAnswer (ex : ExchangeOf) (answer : Option (StatusWord × List ℕ)) : Type 0 where
   pub done : (status : StatusWord) → exchange_turn ex ≡ Done status
       → answer ≡ Some (status, ex.gather.bytes)

@@ -1,4 +1,4 @@
--- The texts of the faults of a session, of a terminal and of a limit.
+-- The texts of the errors of a session, of a terminal and of a limit.
 use Rattle.std.specs.Prelude.{ℕ, List, codes}
 use Rattle.t0_core.specs.FaultText.{fault_text}
 use Rattle.card_terminal.specs.declared.session_fault.SessionFault.{SessionFault}
@@ -8,17 +8,17 @@ use Rattle.card_terminal.specs.declared.terminal.begin_fault.BeginFault.TheVaria
 use Rattle.card_terminal.specs.declared.start_fault.StartFault.{StartFault}
 use Rattle.card_terminal.specs.declared.start_fault.StartFault.TheVariants as start
 
--- why a command was not answered
+-- why a session has no answer to a command
 abbrev pub session_text : SessionFault → List ℕ
 session_text OutOfMemory = codes "out of memory"
 session_text (Line fault) = fault_text fault
 
--- why an operation has not begun
+-- why no operation has begun
 abbrev pub begin_text : BeginFault → List ℕ
 begin_text begin.OutOfMemory = codes "out of memory"
 begin_text begin.UnderWay = codes "an operation is under way"
 
--- why no exchange or terminal with a limit was made
+-- why no exchange or terminal was made with a limit
 abbrev pub start_text : StartFault → List ℕ
 start_text start.OutOfMemory = codes "out of memory"
 start_text start.OverLimit = codes "the limit is over 16384 bytes"

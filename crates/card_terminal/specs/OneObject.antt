@@ -5,7 +5,7 @@ use Rattle.tlv_core.specs.Length.{SpellsLength}
 use Rattle.tlv_core.specs.Spelling.{AreObjects}
 use Rattle.tlv_core.specs.Object.{Object}
 
--- its tag, its length as spelled and its value, and no padding round them
+-- its tag, its length as spelled and its value, without padding around them
 pub record IsOneObject (bytes : List ℕ) (object : Object) : Type 0 where
   pub whole : bytes ≡ object.tag ++ object.size ++ object.value
   pub are_objects : AreObjects bytes 1

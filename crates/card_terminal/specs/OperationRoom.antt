@@ -1,4 +1,4 @@
--- What a terminal keeps of an operation's data, and how an operation begins.
+-- The data of an operation at a terminal, and how an operation begins.
 use Rattle.std.specs.Prelude.{◌≡◌, ℕ, ◌≤◌, List, [], length, drop, true}
 use Rattle.apdu_core.specs.CommandBytes.{Command}
 use Rattle.card_terminal.specs.ExchangeSide.{ExchangeOf}
@@ -6,15 +6,15 @@ use Rattle.card_terminal.specs.ExchangeHistory.{ComesTo}
 use Rattle.card_terminal.specs.OwnedExchange.{IsSound}
 use Rattle.card_terminal.specs.TerminalSide.{OperationOf, IsSettled}
 
--- the data of the command that came last lie within those of the operation, and its exchange can go
--- on
+-- the data of the current command are those from `from` to `until` of the operation's data, and the
+-- command's exchange is sound
 pub record IsPart (content : List ℕ) (from until : ℕ) (ex : ExchangeOf) : Type 0 where
   pub begin : from ≤ until
   pub within : until ≤ length content
   pub sound : IsSound ex
 
--- The exchange of this command has begun, and what follows its data in all that goes to the card is
--- still to be put, under its P1-P2.
+-- The exchange of this command has begun. The rest of `content` after its data is still to be put,
+-- under its P1-P2.
 pub record BeginsWith (first : Command) (content : List ℕ) (o : OperationOf) : Type 0 where
   pub led : ComesTo first [] o.exchange
   pub p1_is : o.p1 ≡ first.header.p1

@@ -1,4 +1,4 @@
--- The operations of a session, as the card that answers each in one step knows them.
+-- The operations of a session, as those of the one-step card.
 use Rattle.object_card.specs.OneStep.{Operation, Select, Get, Put}
 use Rattle.card_terminal.specs.declared.operation.Op.{Op}
 use Rattle.card_terminal.specs.declared.operation.Op.TheVariants as op

@@ -1,4 +1,4 @@
--- An exchange by its parts, and as what is kept of it, with the room and the data of its command.
+-- An exchange by its fields, and its mark: the exchange without the data of its command.
 use Rattle.std.specs.Prelude.{ℕ, List, Bool}
 use Rattle.t0_core.specs.declared.host_mark.HostMark.{HostMark}
 use Rattle.t0_core.specs.HostMark.{with_data}
@@ -8,7 +8,7 @@ use Rattle.card_terminal.specs.declared.attempt.Attempt.{Attempt}
 use Rattle.card_terminal.specs.declared.wanted.Wanted.{Wanted}
 use Rattle.card_terminal.specs.ExchangeSide.{ExchangeOf, IsKept}
 
--- the exchange that has these parts
+-- the exchange with these fields
 abbrev pub of_parts : Hosting → Room → Attempt → Wanted → Bool → ExchangeOf
 of_parts host gather attempt wanted stalled =
     record {
@@ -19,7 +19,7 @@ of_parts host gather attempt wanted stalled =
       stalled = stalled;
     }
 
--- an exchange without the data of its command
+-- the view of an `ExchangeMark`
 pub record ExchangeMarkOf : Type 0 where
   pub end : HostMark
   pub gather : Room
@@ -27,11 +27,11 @@ pub record ExchangeMarkOf : Type 0 where
   pub wanted : Wanted
   pub stalled : Bool
 
--- the exchange that it is over these data
+-- the exchange that the mark and these data make
 abbrev pub over_data : ExchangeMarkOf → List ℕ → ExchangeOf
 over_data mark content =
     of_parts (with_data mark.end content) mark.gather mark.attempt mark.wanted mark.stalled
 
--- an exchange that can go on
+-- the exchange keeps its invariant, so that a mark can make it again
 abbrev pub IsSound : ExchangeOf → Type 0
 IsSound ex = IsInRange ex.host × IsKept ex

@@ -1,4 +1,4 @@
--- The pieces of a value are taken one by one, each at the front of what is left of it.
+-- Laws of the pieces of a value: a terminal takes them one by one from the front of the rest.
 use Rattle.std.proofs.Common.{◌≡◌, ◌≤◌, ◌+◌, ◌-◌, arith, ℕ, zero, suc, List, [], ◌∷◌, ◌++◌, length, take, drop, refl, sym, subst, ◌∙◌, ap, append-nil, length-append}
 use Rattle.std.specs.List.{concat, slice_range}
 use Rattle.std.proofs.Math.Seq.{drop-append_seam, take-append_seam}
@@ -56,7 +56,7 @@ same_pieces (a ∷ c ∷ p) (b ∷ d ∷ q) p_sizes q_sizes e =
     ap (λ z. z ∷ c ∷ p) front ∙ ap (λ z. b ∷ z) (same_pieces (c ∷ p) (d ∷ q) p_sizes.1 q_sizes.1
     rest)
 
--- the commands that carry what is left of a value: there are some, and no others
+-- the commands that carry the rest of a value are exactly these
 pub left_is : (p1 p2 : ℕ) (rest : List ℕ) (pieces : List (List ℕ)) (left : List Command)
     → (rest ≡ [] → ⊥) → IsPieces rest pieces → AreLeft p1 p2 rest left
     → left ≡ chain_commands (put_header p1 p2) pieces
@@ -65,7 +65,7 @@ left_is p1 p2 (b ∷ bs) pieces left some are (others, also, same) =
     same ∙ ap (λ p. chain_commands (put_header p1 p2) p)
     (same_pieces others pieces also.1 are.1 (also.0 ∙ sym are.0))
 
--- what is left after a piece
+-- the rest after a piece
 more_left : (p1 p2 : ℕ) (next : List ℕ) (others : List (List ℕ)) → HavePieceSizes (next ∷ others)
     → AreLeft p1 p2 (concat (next ∷ others)) (chain_commands (put_header p1 p2) (next ∷ others))
 more_left p1 p2 [] others sizes = absurd (omega (arith, some_in [] others sizes))
@@ -114,7 +114,7 @@ left_after p1 p2 (b ∷ bs) pieces c others are e =
 
 -- ---- the data of a chain's first command, at the front of the value
 
--- what stands at the front of what is left of the data
+-- this content is the slice of the data from `from` to `until`
 pub record IsFrontOf (items : List ℕ) (from until : ℕ) (content : List ℕ) : Type 0 where
   pub slice : slice_range items from until ≡ content
   pub begin : from ≤ until

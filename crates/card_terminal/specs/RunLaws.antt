@@ -1,4 +1,4 @@
--- Operations that have been carried out in turn, over any transport: which have their answers.
+-- Laws of operations carried out in turn, over any transport: which have their answers.
 use Rattle.std.proofs.Common.{slice_index_or, map, ◌≡◌, ℕ, zero, suc, ◌+◌, ◌<◌, ◌≤◌, List, [], ◌∷◌, ◌++◌, length, take, drop, refl, sym, ap, subst, ◌∙◌, arith, append-nil, append_assoc, length-append}
 use Rattle.object_card.specs.OneStep.{Operation, Reply}
 use Rattle.card_terminal.specs.declared.operation.Op.{Op}
@@ -23,8 +23,7 @@ carried_are : {A : Type 0} (ops : List (Op A)) (done left : List Operation)
 carried_are ops done left given is same = ap (λ n. take n (map operation_of ops)) same
     ∙ ap (λ l. take (length done) l) is ∙ take_front done left
 
--- The first of the operations are carried out, so many as there are new answers; what is known of
--- them has come of these.
+-- The first `n` operations were carried out and gave `n` new answers. `Come` holds for them.
 pub record HaveReplies {A : Type 0} (Come : List Operation → List Reply → Type 0)
     (ops : List (Op A)) (before : List Reply) (n : ℕ) (given : List Reply) : Type 0 where
   pub done : List Operation
@@ -49,7 +48,7 @@ no_replies Come ops before come = record {
   come = come;
 }
 
--- one more is carried out
+-- one more operation was carried out
 pub one_more_reply : {A : Type 0} (Come Then : List Operation → List Reply → Type 0)
     (ops : List (Op A)) (before : List Reply) (n : ℕ) (given given' : List Reply) (op : Op A)
     (r : Reply) → HaveReplies Come ops before n given → n < length ops
@@ -74,7 +73,7 @@ one_more_reply Come Then ops before n given given' op r have lt next given_is mo
       come = more have.done have.replies have.come;
     }
 
--- what has come, of the answers that are new
+-- `Come` holds for the new answers
 pub replies_come : {A : Type 0} (Come : List Operation → List Reply → Type 0) (ops : List (Op A))
     (before : List Reply) (n : ℕ) (given : List Reply) → HaveReplies Come ops before n given
     → Come (carried_out ops (new_answers before given)) (new_answers before given)
@@ -87,7 +86,7 @@ replies_come Come ops before n given have =
     subst (λ os. Come os (new_answers before given)) (sym same)
     (subst (λ rs. Come have.done rs) (sym replies) have.come)
 
--- an item of a list, and those after it
+-- the rest of a list is an item and those after it
 pub next_item : {X : Type 0} (xs : List X) (n : ℕ) (x : X) → n < length xs
     → x ≡ slice_index_or xs n x → drop n xs ≡ x ∷ drop (n + 1) xs
 next_item [] n x lt is = absurd (omega (arith, lt))

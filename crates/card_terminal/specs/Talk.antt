@@ -1,4 +1,5 @@
--- What goes over the line for operations: which commands each becomes, and each command's exchange.
+-- The talk of a list of operations: the commands of each operation, and the exchange of each
+-- command.
 use Rattle.std.specs.Prelude.{◌≡◌, ◌≢◌, ℕ, List, [], ◌∷◌, length, drop, Some, ◌⊎◌}
 use Rattle.std.specs.List.{AllByRecursion, flat_map}
 use Rattle.apdu_core.specs.StatusWord.{StatusWord, ok}
@@ -14,8 +15,8 @@ use Rattle.object_card.specs.OneStep.{Operation, Select, Get, Put, Reply}
 use Rattle.object_card.specs.CarryingOut.{select_header, get_header, put_header}
 use Rattle.card_terminal.specs.Gathered.{UnitOf, dialogues_of, Gathers}
 
--- SELECT by identifier, and GET DATA, both with Le = 00, which asks for all that there is
--- (ISO/IEC 7816-4, SELECT and GET DATA)
+-- SELECT by identifier, and GET DATA, both with Le = 00, which asks for everything (ISO/IEC 7816-4,
+-- SELECT and GET DATA)
 abbrev pub select_command : List ℕ → Command
 select_command aid = record {
   header = select_header;
@@ -40,9 +41,9 @@ AreCommandsOf (Put tag value) commands =
     (p1 p2 : ℕ) × (pieces : List (List ℕ)) × NamesTag tag p1 p2 × IsPieces value pieces
     × (commands ≡ chain_commands (put_header p1 p2) pieces)
 
--- A transport tells what an exchange of a command brings, and its status. The commands come in
--- turn, an exchange each, up to the first that is answered with another status than 9000; the
--- answer is that of the last exchange.
+-- `Brings` says for a transport which data and status an exchange of a command brings. The commands
+-- have one exchange each, in turn, up to the first status other than 9000. The answer is that of
+-- the last exchange.
 abbrev pub AreExchangesBy : {E : Type 0} → (Command → E → List ℕ → StatusWord → Type 0)
     → List Command → List E → Reply → Type 0
 AreExchangesBy Brings [] exchanges answer = ⊥
@@ -57,8 +58,7 @@ AreExchangesBy Brings (c ∷ commands) (exchange ∷ next ∷ exchanges) answer 
 abbrev pub AreExchangesOf : List Command → List (List UnitOf) → Reply → Type 0
 AreExchangesOf commands exchanges answer = AreExchangesBy Gathers commands exchanges answer
 
--- Commands of which each has had its exchange and was answered 9000, and those that have not come
--- yet.
+-- The first commands have had these exchanges, each with the status 9000; `left` is the rest.
 abbrev pub AreTakenUpTo : List Command → List (List UnitOf) → List Command → Type 0
 AreTakenUpTo commands [] left = left ≡ commands
 AreTakenUpTo [] (units ∷ exchanges) left = ⊥
@@ -75,7 +75,7 @@ IsTalkBy Brings operation exchanges answer =
 abbrev pub IsTalkOf : Operation → List (List UnitOf) → Reply → Type 0
 IsTalkOf operation exchanges answer = IsTalkBy Gathers operation exchanges answer
 
--- operations in turn, each with its exchanges and its answer
+-- the operations in turn, each with its exchanges and its answer
 abbrev pub AreTalksBy : {E : Type 0} → (Command → E → List ℕ → StatusWord → Type 0)
     → List Operation → List (List E) → List Reply → Type 0
 AreTalksBy Brings [] [] [] = Unit {0}
@@ -99,8 +99,9 @@ abbrev pub HaveCuts : List Course → Type 0
 HaveCuts plans = AllByRecursion (λ plan. IsCut plan.cut) plans
 
 -- A talk of operations with a card. The characters are those of whole dialogues, which follow the
--- plans in turn and are a run of the card's meaning from state to state. They fall into the
--- exchanges of the operations, each with its answer. Left are the plans that no dialogue has taken.
+-- plans in turn and are a run of the card's meaning from `first` to `last`. The dialogues are those
+-- of the exchanges of the operations, each with its answer. `left` are the plans that no dialogue
+-- has taken.
 pub record Talk {State : Type 0} (Does : State → ℕ → Tpdu → State → Type 0) (first : State)
     (plans : List Course) (operations : List Operation) (replies : List Reply) (last : State)
     (left : List Course) (line : List Character) : Type 0 where

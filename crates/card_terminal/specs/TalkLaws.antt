@@ -1,5 +1,5 @@
--- Laws of talks, over any transport: the commands of a put are the put in one step, and operations
--- come in turn.
+-- Laws of talks, over any transport: the commands of a put equal the put in one step, and
+-- operations follow one another.
 use Rattle.std.proofs.Common.{◌≡◌, ◌≢◌, ℕ, List, [], ◌∷◌, ◌++◌, ◌⊎◌, inl, inr, refl, sym, ap, subst, ◌∙◌}
 use Rattle.std.proofs.lemmas.Bool.Decides.{eqb_tells}
 use Rattle.apdu_core.specs.declared.header.Header.{Header}
@@ -46,7 +46,7 @@ is_ok_or_not status = elim (eqb_tells status.0 0x90) [
   | inr other ↦ inr (λ e. other.1 (ap (λ (s : StatusWord). s.0) e))
 ]
 
--- the last command of a chain, and one that is answered otherwise than 9000
+-- the last command of a chain, and one with a status other than 9000
 ends_here : (old new : CardState) (c : Command) (commands : List Command) (status : StatusWord)
     → IsAnswered old c status new
     → (commands ≡ []) ⊎ (status ≢ ok) → EndsWith old (c ∷ commands) new status
@@ -60,8 +60,8 @@ ends_here old new c commands status answered (inl none) =
       | inr other ↦ stopped [] c [] old status refl refl answered other
     ])
 
--- The exchanges of a chain's commands: how they end, and that they bring no data, if that is so of
--- each exchange.
+-- The exchanges of a chain's commands: how they end, and that they bring no data, if each exchange
+-- brings none.
 pub chains_end : {E : Type 0} (Brings : Command → E → List ℕ → StatusWord → Type 0)
     (Goes : CardState → E → CardState → Type 0) (All : CardState → List E → CardState → Type 0)
     → ((old new : CardState) (e : E) (others : List E) → All old (e ∷ others) new
@@ -108,7 +108,7 @@ chains_end {E} Brings Goes All apart none each h pieces exchanges answer old new
           empty_then,
         )
 
--- one operation more
+-- one more operation
 pub talks_more : {E : Type 0} (Brings : Command → E → List ℕ → StatusWord → Type 0)
     (operations : List Operation) (talks : List (List E)) (replies : List Reply) (o : Operation)
     (exchanges : List E) (r : Reply) → AreTalksBy Brings operations talks replies
@@ -122,7 +122,7 @@ talks_more Brings (p ∷ operations) (t ∷ talks) [] o exchanges r are talk = a
 talks_more Brings (p ∷ operations) (t ∷ talks) (q ∷ replies) o exchanges r are talk =
     (are.0, talks_more Brings operations talks replies o exchanges r are.1 talk)
 
--- what is pending is no matter to operations in turn
+-- a pending chain makes no difference to operations in turn
 pub all_alike : (operations : List Operation) (replies : List Reply) (a b new : CardState)
     → SameTables a b → AnswersAll a operations replies new → AnswersAll b operations replies new
 all_alike [] [] a b new same answers = (sym same.0 ∙ answers.0, sym same.1 ∙ answers.1)

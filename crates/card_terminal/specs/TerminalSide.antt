@@ -1,5 +1,4 @@
--- An operation at a terminal that is driven from outside: what is kept of it, and which characters
--- led there.
+-- The operation of a `Terminal`: its state, and the characters that led there.
 use Rattle.std.specs.Prelude.{◌≡◌, ◌≤◌, ◌⊎◌, ℕ, List, [], ◌∷◌, ◌++◌, Option, Some, None, IfSome, Bool, true, false, not}
 use Rattle.std.specs.List.{AllByRecursion}
 use Rattle.apdu_core.specs.StatusWord.{ok}
@@ -16,8 +15,8 @@ use Rattle.card_terminal.specs.ExchangeSide.{ExchangeOf, IsBounded, exchange_tur
 use Rattle.card_terminal.specs.ExchangeHistory.{ComesTo, ComesTooFar}
 use Rattle.card_terminal.specs.Conversing.{is_done}
 
--- The exchange of the operation's command that came last, what is still to be put after its data,
--- under a tag that these P1-P2 name, and whether that command is the first.
+-- The exchange of the operation's current command; the bytes still to put after its data (`rest`),
+-- under the tag that these P1-P2 name; and whether that command is the first.
 pub record OperationOf : Type 0 where
   pub exchange : ExchangeOf
   pub p1 : ℕ
@@ -25,34 +24,33 @@ pub record OperationOf : Type 0 where
   pub rest : List ℕ
   pub first : Bool
 
--- A terminal: the most bytes that a response may have, and the operation that it has begun last, if
--- any.
+-- the view of a terminal: the most bytes that a response may have, and the last operation, if any
 pub record TerminalOf : Type 0 where
   pub limit : ℕ
   pub operation : Option OperationOf
 
--- one that has begun none
+-- a terminal without an operation
 abbrev pub at_rest : ℕ → TerminalOf
 at_rest limit = record { limit = limit; operation = None }
 
--- so many bytes are the room of the operation's exchange
+-- the room of the operation's exchange is `limit` bytes
 abbrev pub HasRoomFor : ℕ → Option OperationOf → Type 0
 HasRoomFor limit operation = IfSome operation (λ o. o.exchange.gather.limit ≡ limit)
 
--- The limit of a terminal stays as it was, and is that of the exchange under way.
+-- the limit of a terminal stays as it was, and is that of its exchange
 pub record KeepsLimit (old new : TerminalOf) : Type 0 where
   pub stays : new.limit ≡ old.limit
   pub is_room : HasRoomFor new.limit new.operation
 
--- the commands that are still to come: none, or those that carry the rest of the value
+-- the next commands of the operation: none, or those that carry the rest of the value
 abbrev pub AreLeft : ℕ → ℕ → List ℕ → List Command → Type 0
 AreLeft p1 p2 [] left = left ≡ []
 AreLeft p1 p2 (b ∷ bs) left = (pieces : List (List ℕ)) × IsPieces (b ∷ bs) pieces
     × (left ≡ chain_commands (put_header p1 p2) pieces)
 
--- Of an operation with these commands, these characters have come: some commands have gone, an
--- exchange each, and each was answered 9000; and what came after these exchanges led to that of the
--- next.
+-- The characters of an operation with these commands. They are those of whole exchanges of its
+-- first commands (`gone`), each with the status 9000, and then those that led to the exchange of
+-- the current command (`here`).
 pub record HasCome (Led : Command → List Character → Type 0) (commands : List Command)
     (came : List Character) (o : OperationOf) : Type 0 where
   pub gone : List (List UnitOf)
@@ -66,28 +64,28 @@ pub record HasCome (Led : Command → List Character → Type 0) (commands : Lis
   pub led : Led current here
   pub came_is : came ≡ talk_characters gone ++ here
 
--- these characters lead to what is kept of the operation
+-- these characters lead to this state of the operation
 abbrev pub LeadsThrough : List Command → List Character → OperationOf → Type 0
 LeadsThrough commands came o = HasCome (λ c here. ComesTo c here o.exchange) commands came o
 
--- after those that came, these characters lead to the first for which there is no room
+-- after `came`, the characters `cs` lead to the first for which there is no room
 abbrev pub LeadsThroughTooFar : List Command → List Character → List Character → OperationOf
     → Type 0
 LeadsThroughTooFar commands came cs o =
     HasCome (λ c here. ComesTooFar c here cs o.exchange) commands came o
 
--- where a command is answered 9000, no more are to come: else the next has begun at once
+-- if the status of the current command is 9000, it is the last: otherwise the next has begun
 abbrev pub IsSettled : OperationOf → Type 0
 IsSettled o = exchange_turn o.exchange ≡ Done ok → o.rest ≡ []
 
--- what holds of every terminal
+-- the invariant of a terminal
 pub record IsSet (limit : ℕ) (operation : Option OperationOf) : Type 0 where
   pub few : limit ≤ response_limit
   pub is_room : HasRoomFor limit operation
   pub settled : IfSome operation (λ o. IsSettled o)
 
--- So it is of a terminal, which has begun an operation, or has none. After a command that is
--- answered 9000 the next has begun, if one follows.
+-- These characters lead to this operation of a terminal. If the status of a command was 9000, the
+-- next has begun, if one follows.
 abbrev pub LeadsTo : List Command → List Character → Option OperationOf → Type 0
 LeadsTo commands came None = ⊥
 LeadsTo commands came (Some o) = LeadsThrough commands came o × IsSettled o
@@ -97,12 +95,12 @@ abbrev pub LeadsTooFarTo : List Command → List Character → List Character �
 LeadsTooFarTo commands came cs None = ⊥
 LeadsTooFarTo commands came cs (Some o) = LeadsThroughTooFar commands came cs o
 
--- what a terminal does when it is its turn: what the exchange does
+-- what a terminal does next: what the exchange does
 abbrev pub terminal_turn : Option OperationOf → Option HostTurn
 terminal_turn None = None
 terminal_turn (Some o) = Some (exchange_turn o.exchange)
 
--- an operation is under way: it sends or listens
+-- an operation is in progress: it sends or listens
 abbrev pub is_going : Option OperationOf → Bool
 is_going None = false
 is_going (Some o) = not (is_done (exchange_turn o.exchange))
@@ -111,7 +109,7 @@ abbrev pub with_exchange : OperationOf → ExchangeOf → OperationOf
 with_exchange o ex =
     record { exchange = ex; p1 = o.p1; p2 = o.p2; rest = o.rest; first = o.first }
 
--- the exchange of the next command has begun, and it is the terminal's turn to send
+-- the exchange of the next command has begun, and the terminal sends next
 pub record GoesToNext (old new : OperationOf) : Type 0 where
   pub done : exchange_turn old.exchange ≡ Done ok
   pub more : old.rest ≡ [] → ⊥
@@ -123,6 +121,6 @@ pub record GoesToNext (old new : OperationOf) : Type 0 where
   pub bounds : IsBounded new.exchange
   pub limit : new.exchange.gather.limit ≡ old.exchange.gather.limit
 
--- after a command's exchange that is over the next begins, if one follows; else nothing changes
+-- after the status 9000 of a command the next begins, if one follows; otherwise nothing changes
 abbrev pub GoesOver : OperationOf → OperationOf → Type 0
 GoesOver old new = (IsSettled old × (new ≡ old)) ⊎ GoesToNext old new

@@ -1,4 +1,4 @@
--- What each call does to a terminal that is driven from outside.
+-- What each call does to a `Terminal`.
 use Rattle.std.specs.Prelude.{◌≡◌, ℕ, List, [], ◌∷◌, ◌++◌, Option, Some, None, true, false, ◌⊎◌, Result, MatchResult, IfErr, IsErrOf, IfSome, is_some}
 use Rattle.apdu_core.specs.StatusWord.{StatusWord}
 use Rattle.apdu_core.specs.CommandBytes.{Command}
@@ -23,7 +23,7 @@ use Rattle.card_terminal.specs.Talk.{AreExchangesOf, talk_characters}
 use Rattle.card_terminal.specs.ExchangeSide.{IsBounded, is_final}
 use Rattle.card_terminal.specs.TerminalSide.{OperationOf, LeadsTo, LeadsTooFarTo, terminal_turn, is_going}
 
--- An operation whose commands are these has begun; or one is under way, or memory was wanting, and
+-- An operation with these commands has begun. Or another is in progress, or memory ran out, and
 -- nothing has changed.
 pub record IsBeginning (AreIts : List Command → Type 0) (old : Option OperationOf)
     (result : Result (Unit {0}) BeginFault) (new : Option OperationOf) : Type 0 where
@@ -34,12 +34,12 @@ pub record IsBeginning (AreIts : List Command → Type 0) (old : Option Operatio
       (λ fault. ((fault ≡ UnderWay) × (is_going old ≡ true))
       ⊎ ((fault ≡ OutOfMemory) × (is_going old ≡ false)))
 
--- the exchange keeps to the bounds on its data and its TPDUs
+-- the exchange keeps within the bounds on its data and its TPDUs
 abbrev pub KeepsBounds : Option OperationOf → Type 0
 KeepsBounds t = IfSome t (λ o. IsBounded o.exchange)
 
--- A turn of the terminal: what it does now. With a character that it sends whatever led to it leads
--- on; nothing else changes anything.
+-- The next turn of the terminal. A character that it sends follows those that led to the operation.
+-- Only a character to send changes the terminal.
 pub record IsTerminalTurn (old : Option OperationOf) (turn : Option HostTurn)
     (new : Option OperationOf) : Type 0 where
   pub turn_is : turn ≡ terminal_turn old
@@ -49,7 +49,7 @@ pub record IsTerminalTurn (old : Option OperationOf) (turn : Option HostTurn)
       → LeadsTo commands came old → turn ≡ Some (Sends byte)
       → LeadsTo commands (came ++ (Terminal, byte) ∷ []) new
 
--- Characters are handed out into a buffer as by turns; where no operation has begun, nothing is.
+-- the terminal writes characters to a buffer, as by turns, or nothing if no operation has begun
 abbrev pub IsTerminalHandingOut : Option OperationOf → List ℕ → List ℕ → Option HandedOut
     → Option OperationOf → Type 0
 IsTerminalHandingOut old before after None new =
@@ -57,19 +57,18 @@ IsTerminalHandingOut old before after None new =
 IsTerminalHandingOut old before after (Some handed) new = (is_some old ≡ true)
     × IsHandingOut (λ s turn t. IsTerminalTurn s (Some turn) t) old before after handed new
 
--- the data character that the terminal sends now, if one is due
+-- the data character that the terminal sends next, if it sends one
 abbrev pub terminal_data : Option OperationOf → Option ℕ
 terminal_data None = None
 terminal_data (Some o) = data_due o.exchange.host
 
--- the fault that a character of the card is, if any; where no operation has begun it is after the
--- end
+-- the fault that a character of the card is, if any: `AfterEnd` if no operation has begun
 abbrev pub character_fault : Option OperationOf → ℕ → Option LineFault
 character_fault None byte = Some AfterEnd
 character_fault (Some o) byte = fault_of o.exchange.host o.exchange.gather byte
 
--- A character of the card is taken, or is a fault. A fault that is not final changes nothing; after
--- a final one the operation has failed.
+-- The terminal takes a character of the card, or it is a fault. A fault that is not final changes
+-- nothing; after a final one the operation has failed.
 pub record IsTerminalTaking (old : Option OperationOf) (byte : ℕ)
     (result : Result (Unit {0}) LineFault) (new : Option OperationOf) : Type 0 where
   pub fault : MatchResult result (λ _. character_fault old byte ≡ None)
@@ -83,9 +82,9 @@ pub record IsTerminalTaking (old : Option OperationOf) (byte : ℕ)
       → MatchResult result (λ _. LeadsTo commands (came ++ (Card, byte) ∷ []) new)
       (λ fault. is_final fault ≡ true → LeadsTo commands (came ++ (Card, byte) ∷ []) new)
 
--- The status and the data of the last command of an operation that is over; none of every other
--- one. They are what the characters that led there say: exchanges of all its commands, or of those
--- up to the first that is answered with another status than 9000.
+-- The status and the data of the last command of an operation that has ended, and nothing of any
+-- other. They are what the characters that led there bring: exchanges of its commands, up to the
+-- first status other than 9000.
 pub record IsTerminalAnswer (t : Option OperationOf) (answer : Option (StatusWord × List ℕ))
     : Type 0 where
   pub done : (status : StatusWord) → terminal_turn t ≡ Some (Done status)
@@ -97,24 +96,24 @@ pub record IsTerminalAnswer (t : Option OperationOf) (answer : Option (StatusWor
       × AreExchangesOf commands exchanges (record { status = a.0; content = a.1 })
       × (came ≡ talk_characters exchanges))
 
--- the whole TPDU that is due, if one is about to begin
+-- the next TPDU as a whole, if no character of it was sent
 abbrev pub terminal_due : Option OperationOf → Option Asked
 terminal_due None = None
 terminal_due (Some o) = due_by o.exchange.host
 
--- the fault that an answer with these data is, if any; none is due where no operation has begun
+-- the fault that an answer with these data is, if any: `NotDue` if no operation has begun
 abbrev pub whole_fault : Option OperationOf → List ℕ → Option AnswerFault
 whole_fault None bytes = Some answer.NotDue
 whole_fault (Some o) bytes = answer_fault o.exchange.host o.exchange.gather bytes
 
--- the dialogue is one that the terminal opens now, and it gives these data and this status
+-- the dialogue is one that the terminal opens next, with these data and this status
 abbrev pub GivesTo : Option OperationOf → Dialogue → List ℕ → StatusWord → Type 0
 GivesTo None d bytes status = ⊥
 GivesTo (Some o) d bytes status = Gives o.exchange.host d bytes status
 
--- An answer to a whole TPDU is taken, or is a fault: whichever dialogue gives it, the terminal goes
--- on as after its characters, or fails as there. A fault that is not final changes nothing. Some
--- dialogue gives each answer that is taken, or ends the operation.
+-- The terminal takes the answer to a whole TPDU, or it is a fault. After any dialogue with this
+-- answer it continues as after its characters, or fails as there. A fault that is not final changes
+-- nothing. Some dialogue gives each answer that is taken or makes the operation fail.
 pub record IsTerminalAnswering (old : Option OperationOf) (bytes : List ℕ) (status : StatusWord)
     (result : Result (Unit {0}) AnswerFault) (new : Option OperationOf) : Type 0 where
   pub fault : MatchResult result (λ _. whole_fault old bytes ≡ None)

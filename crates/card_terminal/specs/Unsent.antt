@@ -1,4 +1,4 @@
--- What an operation of which nothing has gone over the line is to send.
+-- The commands of an operation before its first character.
 use Rattle.std.specs.Prelude.{◌≡◌, ℕ, List, ◌∷◌, Option, Some, None, IfSome, MatchOption, Bool, true, false, not, ◌&&◌, ◌==◌, zero, suc}
 use Rattle.std.specs.List.{AllByRecursion}
 use Rattle.apdu_core.specs.CommandBytes.{Command, IsCommand}
@@ -11,13 +11,13 @@ use Rattle.card_terminal.specs.ExchangeSide.{ExchangeOf}
 use Rattle.card_terminal.specs.ExchangeHistory.{ComesTo}
 use Rattle.card_terminal.specs.TerminalSide.{OperationOf, AreLeft, LeadsTo}
 
--- the Le of a command that wants this much
+-- the Le of a command that wants this
 abbrev pub le_by : Wanted → Option ℕ
 le_by (Bytes zero) = None
 le_by (Bytes (suc n)) = Some (suc n)
 le_by Everything = Some 256
 
--- its first TPDU is about to begin
+-- no character of the exchange was sent
 abbrev pub is_unsent : ExchangeOf → Bool
 is_unsent ex = not ex.stalled && ((ex.attempt.number == 1) && is_due ex.host)
 
@@ -25,14 +25,14 @@ abbrev pub is_unsent_at : Option OperationOf → Bool
 is_unsent_at None = false
 is_unsent_at (Some o) = o.first && is_unsent o.exchange
 
--- The command of an exchange of which nothing has gone; none of every other.
+-- the command of an exchange before its first character, and nothing of any other
 pub record IsFirst (ex : ExchangeOf) (first : Option Command) : Type 0 where
   pub known : IfSome first (λ c. is_unsent ex ≡ true)
   pub led : (c : Command) (came : List Character) → IsCommand c → ComesTo c came ex
       → is_unsent ex ≡ true → first ≡ Some c
 
--- What an operation is to send of which nothing has gone: its first command, and then the rest of
--- its data in the commands that are left. None of every other.
+-- the commands of an operation before its first character: the first, and the rest of the data for
+-- the others; nothing of any other operation
 pub record IsUnsent (t : Option OperationOf) (unsent : Option Unsent) : Type 0 where
   pub known : IfSome unsent (λ u. is_unsent_at t ≡ true)
   pub led : (commands : List Command) (came : List Character) → AllByRecursion IsCommand commands

@@ -1,5 +1,5 @@
--- What a card of data objects brings in an exchange: no more than a value and its head, and in each
--- fetch some.
+-- An exchange with a card of data objects brings at most a value and its head, and each fetch
+-- brings some data.
 use Rattle.std.proofs.Common.{◌≡◌, ℕ, ◌+◌, ◌≤◌, List, [], ◌∷◌, ◌++◌, length, drop, Option, Some, None, Bool, true, false, refl, sym, ap, subst, ◌∙◌, arith, append-nil, length-append, length-take}
 use Rattle.std.specs.Prelude.{IfSome, if◌then◌else◌}
 use Rattle.std.specs.List.{flat_map}
@@ -22,7 +22,7 @@ use Rattle.card_terminal.proofs.UnitLemmas.{gathered_parts}
 use Rattle.t0_core.specs.DialogueLaws.{flat_map_last}
 use Rattle.card_terminal.proofs.FetchLemmas.{Goes, goes_apart, goes_sound}
 
--- a dialogue that is repeated was told a count
+-- a dialogue that is repeated has a status 6CXX
 repeated_is_corrected : (w : Wanted) (d : Dialogue) (n : ℕ) → repeated_with w d ≡ Some n
     → (k : ℕ) × (corrects d.status ≡ Some k)
 repeated_is_corrected w d n is = by d.body.direction (corrects d.status) refl is
@@ -79,7 +79,7 @@ unit_brings (By_fetch n) w (Repeated d e) s t sound opens is_unit
       length-append (received e) [],
     )
 
--- Units that follow one another, and what then waits, are within the bound.
+-- The data of units that follow one another, and those that then wait, are within the bound.
 pub followed_bring : (opening : Opening) (w : Wanted) (units : List UnitOf) (next : Opening)
     (left : Wanted) (s t : CardState) → IsCardState s
     → AreFollowed opening w units next left → Goes s (flat_map dialogues_of units) t
@@ -98,7 +98,7 @@ followed_bring opening w (u ∷ units) next left s t sound (n, is, followed) goe
       length-append (unit_data u) (flat_map unit_data units),
     )
 
--- So are the units of an exchange, whole or not.
+-- The same holds for the units of an exchange, whole or not.
 pub open_exchange_brings : (c : Command) (units : List UnitOf) (s t : CardState) → IsCardState s
     → IsOpenExchange c units → Goes s (flat_map dialogues_of units) t
     → length (flat_map unit_data units) + length (waiting t.pending) ≤ VALUE_LIMIT + HEAD_LIMIT
@@ -127,7 +127,7 @@ open_exchange_brings c units s t sound is_open goes =
           (unit_data is_open.last),
     )
 
--- The dialogues of an exchange that are over, where a unit may have begun.
+-- The same holds for the dialogues of an exchange that have ended, even inside a unit.
 pub so_far_brings : (c : Command) (units : List UnitOf) (opening : Opening) (left : Wanted)
     (first : Option Dialogue) (s t : CardState) → IsCardState s
     → AreFollowed (By_command c) (wanted_by c.le) units opening left
@@ -161,12 +161,12 @@ so_far_brings c units opening left first s t sound followed repeats goes =
         let (k, told) = repeated_is_corrected left d n is in
         append-nil (received d) ∙ corrected_brings_none mid next cut k (tpdu_of d) does told
 
--- A fetch is of no more than what waits.
+-- A fetch asks for at most the bytes that wait.
 abbrev pub Waits : Opening → CardState → Type 0
 Waits (By_command c) s = Unit {0}
 Waits (By_fetch n) s = n ≤ length (waiting s.pending)
 
--- a fetch was announced, and is of no more than that
+-- a fetch asks for at most the bytes that were announced
 fetch_is_announced : (left : Wanted) (status : StatusWord) (n : ℕ)
     → fetched_after left status ≡ Some n → (m : ℕ) × (announces status ≡ Some m) × (n ≤ m)
 fetch_is_announced left status n is = by (announces status) refl is
@@ -213,7 +213,7 @@ waits_on opening w (u ∷ units) next left s t waits (n, is, followed) goes =
     omega (arith, few, last_announces u s mid m first told) in
     waits_on (By_fetch n) (after_unit w u) units next left mid t here followed others
 
--- a fetch of no more than what waits brings some
+-- a fetch of at most the bytes that wait brings some
 fetch_brings : (n : ℕ) (w : Wanted) (u : UnitOf) (s t : CardState) → Waits (By_fetch n) s
     → OpensWith (By_fetch n) (first_of u) → IsUnit w u → Goes s (dialogues_of u) t
     → 1 ≤ length (unit_data u)

@@ -1,4 +1,4 @@
--- What led to an exchange leads to it with one more character.
+-- The characters that led to an exchange lead to the next state with one more character.
 use Rattle.std.proofs.Common.{◌≡◌, ℕ, List, [], ◌∷◌, ◌++◌, refl, sym, subst, ◌∙◌, ap, inl, inr, ◌⊎◌, true, false, Bool, Option, Some, None, append-nil, append_assoc, if◌then◌else◌}
 use Rattle.std.specs.List.{AllByRecursion, flat_map}
 use Rattle.apdu_core.specs.StatusWord.{StatusWord}
@@ -56,7 +56,7 @@ pub failed_sends_nothing : (byte : ℕ) (turn : HostTurn) → turn ≡ Failed �
 failed_sends_nothing byte turn failed sends = let e : Failed ≡ Sends byte = sym failed
     ∙ sends in absurd (cc)
 
--- an exchange that is over says so
+-- the turn of an exchange that has ended is `Done`
 pub over_turn : (c : Command) (ex : ExchangeOf) (units : List UnitOf) (status : StatusWord)
     → IsOver c ex units status → exchange_turn ex ≡ Done status
 over_turn c ex units status over = ap (λ b. if b then Failed else turn_of ex.host) over.going
@@ -84,7 +84,7 @@ next_leads c came ex new byte sends goes_on
 
 -- ---- a character of the card
 
--- at its end no character is taken
+-- an exchange that has ended or failed takes no character
 pub at_end_fault : (ex seen : ExchangeOf) (room : Room) (byte : ℕ) → ex ≡ seen → IsKept ex
     → IsAtEnd seen → fault_of ex.host room byte ≡ Some AfterEnd
 at_end_fault ex seen room byte is kept end = by (ex.stalled) refl (subst At (sym is) end)
@@ -194,7 +194,7 @@ fault_leads c came ex new byte fault going why final failed same leads =
       | inr end ↦ absurd (going end)
     ]
 
--- a fault that ends it is not that of an end
+-- a final fault is not `AfterEnd`
 pub final_is_no_end : (fault : LineFault) → is_final fault ≡ true → fault ≡ AfterEnd → ⊥
 final_is_no_end (BadProcedure byte) final is = absurd (cc)
 final_is_no_end AfterEnd final is = absurd (cc)
@@ -213,7 +213,7 @@ pub failed_turn : (stalled : Bool) (host : Hosting) → turn_of host ≡ Failed
 failed_turn true host failed = refl
 failed_turn false host failed = failed
 
--- a fault that ends it leaves an end that has failed
+-- the end has failed after a final fault
 pub broken : (host new : Hosting) (fault : LineFault)
     → new ≡ at_stage host (after_fault host.stage fault) → is_final fault ≡ true
     → turn_of new ≡ Failed
@@ -223,7 +223,7 @@ broken host new TooLong is final = ap turn_of is
 broken host new Stalled is final = ap turn_of is
 broken host new NotListening is final = absurd (cc)
 
--- what a whole exchange came with
+-- the characters of an exchange that has ended are those of a whole one
 pub end_leads : (c : Command) (came : List Character) (ex : ExchangeOf) (status : StatusWord)
     → exchange_turn ex ≡ Done status → ComesTo c came ex
     → (units : List UnitOf) × Gathers c units ex.gather.bytes status

@@ -1,5 +1,5 @@
--- What led to an exchange, and goes on to the characters of a whole one: they have one cutting into
--- units, and the next character is settled.
+-- If the characters that led to an exchange continue to those of a whole one, both have one
+-- division into units, and the next character is settled.
 use Rattle.std.proofs.Common.{◌≡◌, ◌≤◌, ◌<◌, ℕ, zero, suc, ◌+◌, List, [], ◌∷◌, ◌++◌, length, take, refl, sym, subst, ◌∙◌, ap, arith, lit<, inl, inr, ◌⊎◌, true, false, Bool, Option, Some, None, if◌then◌else◌, append-nil, append_assoc, length-append}
 use Rattle.std.specs.List.{AllByRecursion, flat_map}
 use Rattle.std.proofs.lemmas.Grind.{flat_map-append}
@@ -33,7 +33,7 @@ use Rattle.card_terminal.proofs.OverLemmas.{none_or_some}
 use Rattle.card_terminal.proofs.ComesToLemmas.{final_is_no_end, some_fault}
 use Rattle.card_terminal.proofs.PrefixLemmas.{led_begins}
 
--- ---- an opening fixes the header, and which way data move
+-- ---- an opening determines the header and the direction of the data
 
 abbrev pub header_of : Opening → Header
 header_of (By_command c) = c.header
@@ -80,7 +80,7 @@ opened_header : (opening : Opening) (d : Dialogue) → OpensWith opening d
 opened_header (By_command c) d opens = header_by c.header c.content c.le d opens
 opened_header (By_fetch n) d opens = opens.header_is
 
--- ---- one cutting of the characters of units
+-- ---- characters have one division into units
 
 one_dialogue : (opening : Opening) (d e : Dialogue) (r s : List Character) → IsValid opening
     → d.body.header ≡ header_of opening → IsDialogue d → IsDialogue e → OpenAlike d e
@@ -153,7 +153,7 @@ same_unit opening w (Repeated d f) (Repeated e g) r s valid od oe is also are ot
       again.1,
     )
 
--- The units of a whole exchange, from one that opens so where so much is wanted, and its status.
+-- the units of a whole exchange, from `opening` with `w` still wanted, and its status
 abbrev WholeFrom : StatusWord → Opening → Wanted → List UnitOf → Type 0
 WholeFrom s opening w [] = ⊥
 WholeFrom s opening w (u ∷ us) =
@@ -210,7 +210,7 @@ whole_of c units gathered status whole are =
     o.last o.opening o.left o.followed o.opens o.is_unit whole.ends whole.status_is
     (subst Are o.units_are are))
 
--- units that have gone are the first of the whole list, and the others go on from there
+-- units that have ended are the first of the whole list, and the others follow them
 record IsRest (s : StatusWord) (next : Opening) (left : Wanted) (gone units : List UnitOf)
     (tail : List Character) : Type 0 where
   valid : IsValid next
@@ -268,7 +268,7 @@ rest_of s opening w (u ∷ gone) next left (v ∷ us) tail valid followed are wh
           }
     ]
 
--- ---- the dialogue under way
+-- ---- the current dialogue
 
 -- the dialogue of the whole exchange that this end has opened
 record IsDue (host : Hosting) (first : Option Dialogue) (u : UnitOf) (tail : List Character)
@@ -386,7 +386,7 @@ due_of opening w host (Some d) u more tail valid opened begun opens is_unit are 
     due_again opening w host d opened.1 u more tail valid opened.0 begun.0 opened.2 opened.3 opens
     is_unit are (e ∙ ap (λ z. z ++ tail) (append-nil (characters d)))
 
--- ---- where a dialogue is under way
+-- ---- if a dialogue is in progress
 
 split_all : (ds es : List Dialogue) → AreAll (ds ++ es) → AreAll ds × AreAll es
 split_all [] es are = (tt, are)
@@ -495,7 +495,7 @@ expects ex front d Card byte after going room (inl sends) =
 expects ex front d Card byte after going room (inr takes) =
     (exchange_does ex Listens going takes.1, takes.2 ex.gather (inl room))
 
--- a character that is due is no fault
+-- the expected character is no fault
 no_fault : (ex : ExchangeOf) (front : Front) (d : Dialogue) (byte : ℕ) (after : List Character)
     (fault : LineFault) → HasRoom ex.gather front d ⊎ (after ≡ [])
     → Suits ex.host front d (Card, byte) after
@@ -505,9 +505,9 @@ no_fault ex front d byte after fault room (inl sends) why =
 no_fault ex front d byte after fault room (inr takes) why =
     let e : None ≡ Some fault = sym (takes.2 ex.gather room) ∙ why in absurd (cc)
 
--- ---- where units are over
+-- ---- if units have ended
 
--- the last of the units that are over, among those of the whole exchange
+-- the last of the units that have ended, among those of the whole exchange
 record IsAtLast (s : StatusWord) (opening : Opening) (left : Wanted) (last : UnitOf)
     (gone units : List UnitOf) (tail : List Character) : Type 0 where
   more : List UnitOf
@@ -573,7 +573,7 @@ at_last c units gathered status gone o tail valid whole are gone_are e =
 
 -- ---- what an exchange does on the way to the end of a whole one
 
--- it is done with the whole one's status and data; or the next character is due
+-- it has ended with the status and data of the whole one, or the next character is expected
 abbrev pub Comes : ExchangeOf → List Character → List ℕ → StatusWord → Type 0
 Comes ex rest gathered status =
     ((rest ≡ []) × (exchange_turn ex ≡ Done status) × (ex.gather.bytes ≡ gathered))
@@ -657,7 +657,7 @@ faults_not c ex units gone first front byte fault gathered status rest valid und
       | inr few ↦ inl (next.room (omega (arith, few, ap length whole.gathered_is)))
     ]) suits why
 
--- the characters that led here go on to those of a whole exchange
+-- the characters that led here continue to those of a whole exchange
 pub comes : (c : Command) (came : List Character) (ex : ExchangeOf) (units : List UnitOf)
     (gathered : List ℕ) (status : StatusWord) (rest : List Character) → IsValid (By_command c)
     → ComesTo c came ex → Gathers c units gathered status → AreAll (flat_map dialogues_of units)
@@ -731,7 +731,7 @@ unfailing c came ex units gathered status rest valid small leads whole are fits 
       | inr next ↦ expecting_is_no_failure ex next.0.0 next.0.1 (next.3 fits) failed
     ]
 
--- ---- nothing comes after a whole exchange, and there is one cutting into two of them
+-- ---- nothing follows a whole exchange, and characters have one division into two of them
 
 -- units of an open exchange, from an opening on
 abbrev OpenFrom : Opening → Wanted → List UnitOf → Type 0
@@ -810,7 +810,7 @@ none_longer s opening w (u ∷ us) (v ∷ vs) tail valid whole opens e =
       ]
     ]
 
--- so it is with what begins an open exchange
+-- the same holds for the beginning of an open exchange
 none_begins_longer : (c : Command) (came : List Character) (units : List UnitOf)
     (gathered : List ℕ) (status : StatusWord) (rest : List Character) → IsValid (By_command c)
     → BeginsExchange c came → Gathers c units gathered status
@@ -856,7 +856,7 @@ last_within before ch whole rest e = elim (before_both before whole (ch ∷ []) 
     by (x ∷ t) is same =
         let tail : [] ≡ t ++ rest = cc in inl (none_after t rest (sym tail))
 
--- what comes where an exchange is over is after the end
+-- a character after an exchange has ended is `AfterEnd`
 over_fault : (ex : ExchangeOf) (status : StatusWord) (byte : ℕ) → exchange_turn ex ≡ Done status
     → fault_of ex.host ex.gather byte ≡ Some AfterEnd
 over_fault ex status byte done = by ex.stalled refl
@@ -867,7 +867,7 @@ over_fault ex status byte done = by ex.stalled refl
     by false going = after_done ex.host ex.gather byte status
         (ap (λ b. if b then Failed else turn_of ex.host) (sym going) ∙ done)
 
--- what led to an exchange goes no further than a whole one of its command
+-- the characters that led to an exchange are at most those of a whole one of its command
 pub none_led_longer : (c : Command) (came : List Character) (ex : ExchangeOf)
     (units : List UnitOf) (gathered : List ℕ) (status : StatusWord) (rest : List Character)
     → ins_is_valid c.header.ins ≡ true → c.header.ins < 256 → ComesTo c came ex
@@ -891,7 +891,7 @@ none_led_longer c came ex units gathered status rest valid small leads whole are
           ]
     ]
 
--- two whole exchanges of a command that begin one row of characters are the same
+-- two whole exchanges of a command that begin the same characters are the same
 longer_whole : (c : Command) (units gone : List UnitOf) (gathered brought : List ℕ)
     (status other : StatusWord) (t : List Character) → IsValid (By_command c)
     → Gathers c gone brought other → AreAll (flat_map dialogues_of gone)

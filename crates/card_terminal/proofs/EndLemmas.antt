@@ -1,5 +1,5 @@
--- What follows the end of a dialogue of an exchange: it is repeated, or more is fetched, or the
--- exchange is over or has stalled.
+-- What follows a dialogue of an exchange: it is repeated, or more is fetched, or the exchange has
+-- ended or stalled.
 use Rattle.std.proofs.Common.{◌≡◌, ℕ, ◌+◌, ◌<◌, List, [], ◌∷◌, ◌++◌, length, take, drop, refl, sym, subst, ◌∙◌, ap, arith, inl, inr, ◌⊎◌, true, false, not, ◌&&◌, ◌==◌, Bool, Option, Some, None, is_some, append-nil, length-append, lit<, if◌then◌else◌, eq-eqb}
 use Rattle.std.specs.List.{AllByRecursion, flat_map}
 use Rattle.std.proofs.lemmas.List.{take-append-drop}
@@ -30,7 +30,7 @@ use Rattle.card_terminal.proofs.UnitLemmas.{followed_left, one_more, less_less, 
 
 -- ---- the dialogue that has ended
 
--- it is one that the end opened, and has brought what the front had
+-- the end opened it, and it brought the data of the front
 abbrev pub IsEnded : Hosting → Front → Dialogue → Type 0
 IsEnded host front d = IsOpenedBy host d.body × IsDialogue d × (received d ≡ brought front)
 
@@ -51,7 +51,7 @@ ended_at host (After_first b sw1) byte d stands is ends =
       received_of b (sw1, byte),
     )
 
--- it opens or repeats what the end opened
+-- it is a dialogue of the TPDU that the end opened
 asks_as : (h : Header) (n : ℕ) (host : Hosting) (d : Dialogue) → HostAsks h n host
     → IsOpenedBy host d.body → Asks h n d
 asks_as h n host d asks by =
@@ -100,7 +100,7 @@ pub unit_opens : (opening : Opening) (left : Wanted) (first : Option Dialogue) (
 unit_opens opening left None host d opens by = opens_as opening host d opens by
 unit_opens opening left (Some e) host d opens by = opens.0
 
--- ---- what is gathered, and what is still wanted
+-- ---- the gathered data, and what is still wanted
 
 pub all_gathered : (c : Command) (ex : ExchangeOf) (units : List UnitOf)
     (first : Option Dialogue) (front : Front) (d : Dialogue) → UnderWay c ex units first front
@@ -152,7 +152,7 @@ again_once : (a : Attempt) (left : Wanted) (corrected : Option ℕ) → a.repeat
 again_once a left None again = refl
 again_once a left (Some n) again = rw (again, never_again a.asks (wants_at_least n left)) refl
 
--- the count of a repetition, which a repetition has not
+-- the count of a repetition; nothing repeats a repetition
 abbrev pub again_of : Option Dialogue → Option ℕ → Option ℕ
 again_of None corrected = corrected
 again_of (Some e) corrected = None
@@ -169,7 +169,7 @@ again_is a left now None d is asks once =
     ∙ ap (λ w. correction_of d.body.direction w (corrects d.status)) (is ∙ same_left left d)
 again_is a left now (Some e) d is asks again = again_once a now (corrects d.status) again
 
--- where it is not, the unit is whole
+-- if it is not repeated, the unit is whole
 pub unit_is : (opening : Opening) (left : Wanted) (first : Option Dialogue) (host : Hosting)
     (d : Dialogue) → IsOpenedAs opening left first host → IsOpenedBy host d.body
     → again_of first (repeated_with left d) ≡ None → IsUnit left (ended_with first d)
@@ -181,7 +181,7 @@ last_is : (first : Option Dialogue) (d : Dialogue) → last_of (ended_with first
 last_is None d = refl
 last_is (Some e) d = refl
 
--- ---- what is known at the end of a dialogue
+-- ---- what holds at the end of a dialogue
 
 pub record AtEnd (c : Command) (ex : ExchangeOf) (units : List UnitOf) (first : Option Dialogue)
     (front : Front) (d : Dialogue) (under : UnderWay c ex units first front) : Type 0 where
@@ -218,7 +218,7 @@ at_end c ex units first front byte d under ends =
           (sym (last_is first d));
     }
 
--- ---- what the attempt says
+-- ---- what follows by the attempt
 
 pub some_or_none : {A : Type 0} (o : Option A) → (o ≡ None) ⊎ ((x : A) × (o ≡ Some x))
 some_or_none None = inl refl
@@ -271,7 +271,7 @@ end_is a gathered None None e = (refl, refl)
 end_is a gathered None (Some m) e =
     absurd (end_is_when (a.fetches && gathered == a.before) (fetch a gathered) m e)
 
--- ---- and the exchange after it
+-- ---- the exchange after it
 
 abbrev pub next_exchange : ExchangeOf → Hosting → Attempt → ExchangeOf
 next_exchange ex host attempt =
@@ -417,7 +417,7 @@ is_open c ex units first front d under end none = record {
   is_unit = unit_is under.opening under.left first ex.host d under.opened_as end.by none;
 }
 
--- the exchange is over
+-- the exchange has ended
 pub is_over : (c : Command) (ex : ExchangeOf) (host : Hosting) (units : List UnitOf)
     (first : Option Dialogue) (front : Front) (d : Dialogue)
     (under : UnderWay c ex units first front)
@@ -442,7 +442,7 @@ is_over c ex host units first front d under end none fetched done =
       going = under.going;
     }
 
--- it has stalled
+-- the exchange has stalled
 no_command_stalls : (opening : Opening) (a : Attempt) (v : Bool) → a.fetches ≡ is_fetch opening
     → (a.fetches && v) ≡ true → (n : ℕ) × (opening ≡ By_fetch n)
 no_command_stalls (By_command c) a v fetches both = let first = (and_parts a.fetches v both).0 in
@@ -581,6 +581,6 @@ ends_stalled c ex units first front d under end is =
     let stall = stall_is ex.attempt (length ex.gather.bytes) _ _ (sym is) in
     stalls c ex units first front d stall.2.0 under end stall.0 stall.2.1 stall.1
 
--- a status that was told is the one of the turn
+-- two equal statuses in `Some`
 pub same_status : (a b : StatusWord) → Some a ≡ Some b → a ≡ b
 same_status a b e = cc

@@ -1,4 +1,4 @@
--- An exchange goes through the dialogues of its units.
+-- An exchange takes the dialogues of its units one character further.
 use Rattle.std.proofs.Common.{◌≡◌, ℕ, ◌<◌, List, [], ◌∷◌, ◌++◌, refl, sym, subst, ◌∙◌, ap, inl, inr, Option, Some, None, Bool, true, false, if◌then◌else◌}
 use Rattle.std.specs.List.{flat_map}
 use Rattle.apdu_core.specs.declared.header.Header.{Header}
@@ -22,7 +22,7 @@ use Rattle.object_card.specs.CarryingOut.{get_response}
 use Rattle.card_terminal.specs.Gathered.{Opening, By_command, By_fetch, UnitOf}
 use Rattle.card_terminal.specs.ExchangeSide.{ExchangeOf, HostAsks, HostSends, HostOpens, HostOpensBy, IsOpenedAs, IsPlaceOf, IsKept, UnderWay, so_far, asks_card, exchange_turn}
 
--- what an end opened its TPDU with stays
+-- the header, P3, direction and data of an end stay the same
 pub record IsSameRequest (old new : Hosting) : Type 0 where
   pub header : new.header ≡ old.header
   pub p3 : new.p3 ≡ old.p3
@@ -122,7 +122,7 @@ with_host ex host gather =
           ex.stalled;
     }
 
--- a character takes the dialogue under way on
+-- a character continues the current dialogue
 pub goes_further : (c : Command) (ex : ExchangeOf) (host : Hosting) (gather : Room)
     (units : List UnitOf) (first : Option Dialogue) (front new : Front) (ch : End × ℕ)
     → IsSameRequest ex.host host → IsRequest host
@@ -145,7 +145,7 @@ goes_further c ex host gather units first front new ch same request under goes s
       going = under.going;
     }
 
--- the exchange as it is seen
+-- for the exchange as contracts see it
 pub seen_under_way : (c : Command) (ex seen : ExchangeOf) (units : List UnitOf)
     (first : Option Dialogue) (front : Front) → ex ≡ seen → UnderWay c seen units first front
     → UnderWay c ex units first front
@@ -165,7 +165,7 @@ tells ex seen turn is going does =
     let P : ExchangeOf → Type 0 = λ e. exchange_turn e ≡ turn in
     subst P is (ap (λ b. if b then Failed else turn_of ex.host) going ∙ does)
 
--- a character that its end sends takes the dialogue under way further
+-- a character that its end sends continues the current dialogue
 pub sends_further : (c : Command) (ex : ExchangeOf) (host : Hosting) (units : List UnitOf)
     (first : Option Dialogue) (front : Front) (byte : ℕ) → UnderWay c ex units first front
     → host ≡ at_stage ex.host (after_turn ex.host) → IsRequest host
@@ -196,7 +196,7 @@ sending_is_going ex byte kept sends = by ex.stalled refl where
       let e : Sends byte ≡ Done done.0 = sym sends ∙ done.1 in absurd (cc)
   by false going = going
 
--- an end that is done stays so, whether it is asked for a character or not
+-- an end that has ended stays so, even if `next` is called
 pub done_stays : (old new : Hosting) (given : Option ℕ)
     → ((byte : ℕ) → given ≡ Some byte → turn_of old ≡ Sends byte) → (given ≡ None → new ≡ old)
     → (status : StatusWord) × (turn_of old ≡ Done status)

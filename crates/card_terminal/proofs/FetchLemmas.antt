@@ -1,4 +1,4 @@
--- What a command brings that wants everything: its first unit, and the fetches of all that is then
+-- What a command that wants everything brings: its first unit, and the fetches of all that is then
 -- announced, as TPDUs of the card.
 use Rattle.std.proofs.Common.{◌≡◌, ℕ, List, [], ◌∷◌, ◌++◌, Option, Some, None, true, refl, sym, ap, subst, ◌∙◌, arith, append-nil}
 use Rattle.std.specs.List.{flat_map}
@@ -21,7 +21,7 @@ use Rattle.card_terminal.specs.declared.wanted.Wanted.{Wanted}
 use Rattle.card_terminal.specs.Gathered.{UnitOf, Opens, By_command, Gathers, after_dialogue, Single, Repeated, By_fetch, first_of, last_of, dialogues_of, unit_data, after_unit, fetched_of, fetched_after, repeated_with, correction_of, Opening, OpensWith, IsUnit, AreFollowed}
 use Rattle.card_terminal.specs.Talk.{HaveCuts}
 
--- the card goes from state to state, a dialogue at a time, under some cut each
+-- the card goes from state to state by these dialogues, each under some cut
 abbrev pub Goes : CardState → List Dialogue → CardState → Type 0
 Goes old [] new = new ≡ old
 Goes old (d ∷ ds) new = (cut : ℕ) × (mid : CardState) × IsCut cut × Does old cut (tpdu_of d) mid
@@ -42,14 +42,14 @@ goes_apart old new (x ∷ xs) ys (cut, next, is, does, others) =
     let (mid, before, after) = goes_apart next new xs ys others in
     (mid, (cut, next, is, does, before), after)
 
--- a card's state stays one
+-- a sound state of the card stays sound
 pub goes_sound : (old new : CardState) (ds : List Dialogue) → IsCardState old → Goes old ds new
     → IsCardState new
 goes_sound old new [] sound goes = subst IsCardState (sym goes) sound
 goes_sound old new (d ∷ ds) sound (cut, mid, is_cut, does, others) =
     goes_sound mid new ds (stays_sound old mid cut (tpdu_of d) does sound) others
 
--- no dialogue that is told no count is repeated
+-- a dialogue is repeated only after 6CXX
 pub not_repeated : (d : Dialogue) → corrects d.status ≡ None → repeated_with Everything d ≡ None
 not_repeated d told = by d.body.direction (corrects d.status) told
   where
@@ -58,7 +58,7 @@ not_repeated d told = by d.body.direction (corrects d.status) told
     by FromCard None e = refl
     by FromCard (Some n) e = absurd (cc)
 
--- a fetch of what was announced is one dialogue
+-- a fetch of announced data is one dialogue
 record IsFetch (n : ℕ) (u : UnitOf) (old new : CardState) : Type 0 where
   cut : ℕ
   dialogue : Dialogue
@@ -89,7 +89,7 @@ one_fetch n cut t (Repeated d e) prior old new before in_range announced opens i
     let no : Some is_unit.0 ≡ None = sym is_unit.1 ∙ not_repeated d told in
     absurd (cc)
 
--- what more is fetched is what is announced
+-- the next fetch is of what is announced
 announced_by : (status : StatusWord) (m : ℕ) → fetched_after Everything status ≡ Some m
     → announces status ≡ Some m
 announced_by status m e = by (announces status) e
@@ -98,7 +98,7 @@ announced_by status m e = by (announces status) e
     by None e = absurd (cc)
     by (Some k) e = e
 
--- and where no more is fetched, no more is announced
+-- if nothing more is fetched, nothing more is announced
 none_announced : (status : StatusWord) → fetched_after Everything status ≡ None
     → announces status ≡ None
 none_announced status e = by (announces status) e
@@ -110,7 +110,7 @@ none_announced status e = by (announces status) e
 abbrev pub all_brought : List Tpdu → List ℕ
 all_brought ts = flat_map (λ (t : Tpdu). t.received) ts
 
--- after this status all that is announced is fetched, and brings these
+-- after this status all announced data are fetched, and these are the data
 pub record AreFetched (old : CardState) (told : StatusWord) (content : List ℕ) (status : StatusWord)
     (new : CardState) : Type 0 where
   pub fetches : List Tpdu
@@ -183,15 +183,15 @@ fetched_all n cut t (u ∷ before) last opening left prior old new does in_range
           ∙ ap (λ z. received d ++ z) more.content_is;
     }
 
--- What follows the first unit of a command that wants everything: the fetches of what its last
--- dialogue announces, if it does.
+-- After the first unit of a command that wants everything: the fetches of what its last dialogue
+-- announces, if it does.
 abbrev pub Rest : UnitOf → CardState → CardState → List ℕ → StatusWord → Type 0
 Rest u mid new content status =
     (prior : CardState) (cut : ℕ) → IsCut cut → Does prior cut (tpdu_of (last_of u)) mid
     → (brought : List ℕ) × (content ≡ unit_data u ++ brought)
     × AreFetched mid (last_of u).status brought status new
 
--- the first unit, and what follows it
+-- the first unit and those after it
 pub record IsBegun (c : Command) (u : UnitOf) (old mid new : CardState) (content : List ℕ)
     (status : StatusWord) : Type 0 where
   pub opens : Opens c (first_of u)
@@ -268,7 +268,7 @@ begun h bytes units content status old new g goes =
           },
         )
 
--- what an operation leaves
+-- an operation equals one step, and no chain is pending after it
 pub record IsOneStep (old : CardState) (operation : Operation) (answer : Reply) (new : CardState)
     : Type 0 where
   pub after : CardState
@@ -284,7 +284,7 @@ pub same_reply : (s t : StatusWord) (a b : List ℕ) → t ≡ s → b ≡ a →
 same_reply s t a b status content = ap (λ x. answer_of x a) (sym status)
     ∙ ap (λ x. answer_of t x) (sym content)
 
--- an operation that is carried out is done in one step
+-- an operation that was carried out equals one step
 pub as_one_step : (old new : CardState) (operation : Operation) (status : StatusWord)
     (brought content : List ℕ) → content ≡ brought
     → IsCarriedOut old operation status brought new
@@ -296,7 +296,7 @@ as_one_step old new operation status brought content is (after, answers, same, i
   idle = idle;
 }
 
--- where data go to the card the unit has one dialogue
+-- a unit that sends data to the card has one dialogue
 pub sent_once : (u : UnitOf) → (first_of u).body.direction ≡ ToCard → IsUnit Everything u
     → u ≡ Single (first_of u)
 sent_once (Single d) to is = refl

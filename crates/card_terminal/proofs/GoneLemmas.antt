@@ -1,4 +1,4 @@
--- Dialogues that have gone: none, one, and others after them.
+-- Dialogues from one point of a talk to another: none, one, and others after them.
 use Rattle.std.proofs.Common.{append-nil, ◌≡◌, ℕ, zero, suc, ◌+◌, List, [], ◌∷◌, ◌++◌, length, take, drop, refl, sym, ap, subst, ◌∙◌, arith, length-append, Option}
 use Rattle.std.specs.List.{flat_map}
 use Rattle.std.proofs.lemmas.Grind.{flat_map-append}
@@ -23,7 +23,7 @@ cuts_both (suc n) m (p ∷ plans) first second =
     subst (λ k. HaveCuts (take k (p ∷ plans))) e
     (first.0, cuts_both n m plans first.1 second)
 
--- dialogues that have gone, and others after them
+-- dialogues, and others after them
 pub gone_both : {State : Type 0} (Does : State → ℕ → Tpdu → State → Type 0)
     (from mid to : Point State) (ds es : List Dialogue) → HaveGone Does from ds mid
     → HaveGone Does mid es to → HaveGone Does from (ds ++ es) to

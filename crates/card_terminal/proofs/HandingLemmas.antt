@@ -1,4 +1,4 @@
--- Characters that a terminal's end hands out into a buffer, one turn for each.
+-- A terminal's end writes characters to a buffer, in one turn for each.
 use Rattle.std.proofs.Common.{◌≡◌, ℕ, ◌+◌, ◌<◌, ◌≤◌, List, [], ◌∷◌, length, take, set, refl, sym, subst, ap, ◌∙◌, arith, Some, None, Bool, true, false}
 use Rattle.apdu_core.specs.StatusWord.{StatusWord}
 use Rattle.t0_core.specs.declared.end.End.TheVariants.{Terminal}
@@ -19,12 +19,12 @@ use Rattle.card_terminal.specs.OwnedExchange.{of_parts}
 use Rattle.card_terminal.proofs.OwnedLemmas.{same_sent, turned}
 use Rattle.card_terminal.proofs.TurnLemmas.{over_by_turn}
 
--- a turn at which a character is handed out
+-- a turn that sends a character
 abbrev pub SendsOne : ExchangeOf → ℕ → ExchangeOf → Type 0
 SendsOne s b t = IsTurn s (Sends b) t
 
--- From where it began, an end has handed so many characters into the buffer, whatever else the
--- exchange has of which it is the end.
+-- Since it began, the end of an exchange has written `at` characters to the buffer, whatever the
+-- other fields of the exchange.
 pub record HasHanded (begun : Hosting) (stalled : Bool) (before after : List ℕ) (at : ℕ)
     (end : Hosting) : Type 0 where
   pub out : (gather : Room) (attempt : Attempt) (wanted : Wanted)
@@ -38,7 +38,7 @@ pub record HasHanded (begun : Hosting) (stalled : Bool) (before after : List ℕ
       → exchange_turn (of_parts end gather attempt wanted stalled) ≡ Done status → end ≡ begun
   pub only : (content : List ℕ) → HasOnly content begun → HasOnly content end
 
--- what holds of every exchange still does at another stage of its end, where it has not stalled
+-- the invariant of an exchange still holds at another stage of its end, unless it has stalled
 still_kept : (end next : Hosting) (stalled : Bool) (gather : Room) (attempt : Attempt)
     (wanted : Wanted) → stalled ≡ false → IsKept (of_parts end gather attempt wanted stalled)
     → IsKept (of_parts next gather attempt wanted stalled)
@@ -49,7 +49,7 @@ still_kept end next stalled gather attempt wanted going kept = record {
   stalled_at_end = λ is. let no : true ≡ false = sym is ∙ going in absurd (cc);
 }
 
--- a run of data is so many turns
+-- a run of data equals one turn for each byte
 data_run : (bytes : List ℕ) (end last : Hosting) (gather : Room) (attempt : Attempt)
     (wanted : Wanted) → IsKept (of_parts end gather attempt wanted false)
     → Steps IsDataTurn end bytes last
@@ -92,7 +92,7 @@ data_only [] end last content steps only =
 data_only (b ∷ bytes) end last content steps only = data_only bytes steps.0 last content steps.2
     (subst (λ (h : Hosting). HasOnly content h) (sym steps.1.after) only)
 
--- the data that are due have been handed out
+-- the data to send have been written
 pub run_handed : (begun end : Hosting) (stalled : Bool) (before after : List ℕ) (at : ℕ)
     → stalled ≡ false → HandsOut IsDataTurn begun before after at end
     → HasHanded begun stalled before after at end
@@ -125,7 +125,7 @@ module _ (begun end next : Hosting) (stalled : Bool) (before after : List ℕ) (
   one_turn gather attempt wanted kept = turned (of_parts end gather attempt wanted stalled) turn
       next (handed.kept gather attempt wanted kept) going is went request stays goes_on
 
-  -- one more is handed out
+  -- one more character is written
   pub handed_on : (byte : ℕ) → turn ≡ Sends byte
       → HasHanded begun stalled before (set after at byte) (at + 1) next
   handed_on byte sends = record {
@@ -149,7 +149,7 @@ module _ (begun end next : Hosting) (stalled : Bool) (before after : List ℕ) (
         (handed.only content only);
   }
 
-  -- or none, and that is told
+  -- or none is, and `stop` is the turn
   pub handed_up_to : ((byte : ℕ) → turn ≡ Sends byte → ⊥) → (gather : Room) (attempt : Attempt)
       (wanted : Wanted) → IsKept (of_parts begun gather attempt wanted stalled)
       → IsHandingOut IsTurn (of_parts begun gather attempt wanted stalled) before after
@@ -167,7 +167,7 @@ module _ (begun end next : Hosting) (stalled : Bool) (before after : List ℕ) (
         stop = (omega (arith, below, same), subst Q (sym back) step, none);
       }
 
-  -- the end has come no further
+  -- the end has not changed
   pub over_still : ((byte : ℕ) → turn ≡ Sends byte → ⊥) → (gather : Room) (attempt : Attempt)
       (wanted : Wanted) (status : StatusWord)
       → exchange_turn (of_parts next gather attempt wanted stalled) ≡ Done status → next ≡ begun

@@ -1,4 +1,4 @@
--- Bytes are at most one object in one way.
+-- Bytes are one object in at most one way.
 use Rattle.std.proofs.Common.{◌≡◌, ℕ, ◌+◌, ◌*◌, ◌%◌, List, [], ◌∷◌, ◌++◌, length, sym, ◌∙◌, ap, arith, append_assoc, length-append}
 use Rattle.std.proofs.lemmas.List.Elements.{All-head}
 use Rattle.tlv_core.specs.TagForm.{IsTag}
@@ -33,7 +33,7 @@ tag_same (a ∷ b ∷ c ∷ []) (f ∷ g ∷ []) x y one two e = let same : b �
 tag_same (a ∷ b ∷ c ∷ []) (f ∷ g ∷ h ∷ []) x y one two e = (cc, cc)
 tag_same (a ∷ b ∷ c ∷ []) (f ∷ g ∷ h ∷ i ∷ u) x y one two e = absurd two
 
--- nor a spelling of a length, and it spells one length
+-- nor is a spelling of a length a prefix of another, and it spells one length
 size_same : (s t x y : List ℕ) (n m : ℕ) → SpellsLength s n → SpellsLength t m → s ++ x ≡ t ++ y
     → (s ≡ t) × (n ≡ m)
 size_same [] t x y n m one two e = absurd one
@@ -64,7 +64,7 @@ size_same (a ∷ b ∷ c ∷ []) (f ∷ g ∷ h ∷ []) x y n m one two e =
     (cc, one.3 ∙ ap (λ k. 256 * k + c) second ∙ ap (λ k. 256 * g + k) third ∙ sym two.3)
 size_same (a ∷ b ∷ c ∷ []) (f ∷ g ∷ h ∷ i ∷ t) x y n m one two e = absurd two
 
--- a tag begins with a byte that is no padding
+-- the first byte of a tag is not padding
 tag_is_no_padding : (t x : List ℕ) (p : ℕ) (ps : List ℕ) → IsTag t → t ++ x ≡ p ∷ ps → p ≡ 0 → ⊥
 tag_is_no_padding [] x p ps is e zero_is = is
 tag_is_no_padding (a ∷ []) x p ps is e zero_is = let same : a ≡ p = cc in

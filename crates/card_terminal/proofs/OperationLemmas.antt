@@ -1,4 +1,4 @@
--- A SELECT or a GET DATA, repeated or not, and its fetches are the operation in one step.
+-- A SELECT or a GET DATA, repeated or not, and its fetches equal the operation in one step.
 use Rattle.std.proofs.Common.{◌≡◌, ℕ, List, [], ◌∷◌, ◌++◌, Option, Some, None, true, refl, sym, ap, subst, ◌∙◌, append-nil, append_assoc}
 use Rattle.apdu_core.specs.StatusWord.{StatusWord, corrects}
 use Rattle.tlv_core.specs.Address.{NamesTag}
@@ -38,7 +38,7 @@ select_answers old mid new aid d content status idle is_aid sends (cut, next, in
       );
     }) here f.all)
 
--- a dialogue that is not repeated, though everything is wanted, was told no count
+-- if everything is wanted, a dialogue that is not repeated has no status 6CXX
 told_no_count : (d : Dialogue) → d.body.direction ≡ FromCard → repeated_with Everything d ≡ None
     → corrects d.status ≡ None
 told_no_count d from once =

@@ -1,4 +1,4 @@
--- An exchange that has come to the end of a whole one is over, and has not stalled.
+-- An exchange at the end of a whole one has ended, and has not stalled.
 use Rattle.std.proofs.Common.{◌≡◌, ℕ, List, [], ◌∷◌, ◌++◌, refl, sym, subst, ◌∙◌, ap, inl, inr, Option, Some, None}
 use Rattle.std.proofs.lemmas.List.{same_from_push}
 use Rattle.apdu_core.specs.StatusWord.{StatusWord}
@@ -13,7 +13,7 @@ pub none_or_some : (found : Option ℕ) (n : ℕ) → found ≡ None → found �
 none_or_some None n none some = absurd (cc)
 none_or_some (Some m) n none some = absurd (cc)
 
--- what is still wanted after these units is one thing
+-- these units determine what is still wanted
 same_left : (c : Command) (units : List UnitOf) (opening other : Opening) (left wanted : Wanted)
     → AreFollowed (By_command c) (wanted_by c.le) units opening left
     → AreFollowed (By_command c) (wanted_by c.le) units other wanted → left ≡ wanted
@@ -21,7 +21,7 @@ same_left c units opening other left wanted followed again =
     followed_left (By_command c) (wanted_by c.le) units opening left followed
     ∙ sym (followed_left (By_command c) (wanted_by c.le) units other wanted again)
 
--- units that are followed are so up to the last, which is followed too
+-- if units are followed, so are those before the last, and the last
 last_followed : (first : Opening) (w : Wanted) (units : List UnitOf) (u : UnitOf) (next : Opening)
     (left : Wanted) → AreFollowed first w (units ++ u ∷ []) next left
     → (opening : Opening) × (mid : Wanted) × (n : ℕ) × AreFollowed first w units opening mid

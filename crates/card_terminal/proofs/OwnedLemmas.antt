@@ -43,7 +43,7 @@ answers ex status bytes turn same = record {
 pub same_sent : (a b : ℕ) → Sends a ≡ Sends b → a ≡ b
 same_sent a b e = cc
 
--- the exchange of these parts, whose end was made again over its data
+-- the exchange with these fields, whose end was made of its mark again
 pub same_parts : (end : HostMark) (gather : Room) (attempt : Attempt) (wanted : Wanted)
     (stalled : Bool) (content : List ℕ) (host : Hosting) (ex : ExchangeOf)
     → host ≡ with_data end content

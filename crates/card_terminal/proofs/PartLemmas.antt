@@ -1,4 +1,4 @@
--- The data of a command lie within those of its operation.
+-- The data of a command are a slice of those of its operation.
 use Rattle.std.proofs.Common.{◌≡◌, ◌≤◌, ◌+◌, ◌*◌, arith, true, false, Bool, ℕ, List, [], ◌∷◌, ◌++◌, length, drop, refl, sym, subst, ◌∙◌, ap, Option, None, Some, if◌then◌else◌, append-nil}
 use Rattle.std.specs.List.{slice_range}
 use Rattle.std.proofs.Math.Seq.{drop-append_seam}
@@ -166,7 +166,7 @@ next_begins old ex new items seen until p1 p2 size first header pieces list othe
           (byte, ap (λ (bs : List ℕ). exchange_turn (over_data new bs)) front.slice ∙ turn);
     }
 
--- ---- whether there is one
+-- ---- if there is one
 
 pub some_rest : (items : List ℕ) (until size : ℕ) → until ≤ length items → size ≡ length items
     → (until ≡ size → ⊥) → drop until items ≡ [] → ⊥

@@ -1,4 +1,4 @@
--- What led to an exchange is a front of an open exchange of its command.
+-- The characters that led to an exchange are the first of an open exchange of its command.
 use Rattle.std.proofs.Common.{◌≡◌, ℕ, List, [], ◌∷◌, ◌++◌, refl, sym, subst, ◌∙◌, ap, inl, inr, ◌⊎◌, lit<, Option, Some, None, append-nil, append_assoc, true, false, Bool, ◌==◌, if◌then◌else◌}
 use Rattle.std.specs.List.{AllByRecursion, flat_map}
 use Rattle.apdu_core.specs.StatusWord.{StatusWord, count, corrects}
@@ -53,7 +53,7 @@ is_at_once d = record {
       λ _. tt;
 }
 
--- the characters of one more dialogue, of which the front is a part
+-- the characters of one more dialogue, and the front that is a part of it
 with_dialogue : (ds : List Dialogue) (front : Front) (d : Dialogue) (rest : List Character)
     → characters d ≡ front_characters front ++ rest
     → flat_map characters (ds ++ d ∷ []) ≡ (flat_map characters ds ++ front_characters front)
@@ -62,7 +62,7 @@ with_dialogue ds front d rest is =
     flat_map_last characters ds d ∙ ap (λ cs. flat_map characters ds ++ cs) is
     ∙ sym (append_assoc (flat_map characters ds) (front_characters front) rest)
 
--- a dialogue with which the unit under way is whole
+-- a dialogue that completes the current unit
 whole_with : (c : Command) (ex : ExchangeOf) (units : List UnitOf) (first : Option Dialogue)
     (front : Front) (d : Dialogue) (rest : List Character) (under : UnderWay c ex units first front)
     → IsDialogue d → IsOpenedBy ex.host d.body → characters d ≡ front_characters front ++ rest
@@ -89,7 +89,7 @@ whole_with c ex units first front d rest under is by begins none =
           ∙ with_dialogue (so_far units first) front d rest begins;
     }
 
--- one that is to be repeated, with its repetition
+-- one that is repeated, with its repetition
 repeated_dialogues : (units : List UnitOf) (d e : Dialogue)
     → flat_map dialogues_of (units ++ Repeated d e ∷ []) ≡ (so_far units None ++ d ∷ []) ++ e ∷ []
 repeated_dialogues units d e =
@@ -161,7 +161,7 @@ whole_begins c units is_open are =
           sym (append-nil (unit_characters units));
     }
 
--- but for a last character that ended it by a fault
+-- except a last character that ended it by a fault
 pub led_begins : (c : Command) (came : List Character) (ex : ExchangeOf) → ComesTo c came ex
     → BeginsExchange c came ⊎ FaultCameLast c came ex
 led_begins c came ex (to_front units first front under is) =

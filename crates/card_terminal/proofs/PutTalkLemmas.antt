@@ -1,4 +1,4 @@
--- The commands of a put, an exchange each, are the put in one step.
+-- The commands of a put, with one exchange each, equal the put in one step.
 use Rattle.std.proofs.Common.{◌≡◌, ℕ, ◌-◌, List, [], ◌∷◌, ◌++◌, length, Option, Some, None, refl, sym, ap, subst, ◌∙◌, arith, append-nil}
 use Rattle.std.specs.List.{flat_map}
 use Rattle.apdu_core.specs.declared.header.Header.{Header}

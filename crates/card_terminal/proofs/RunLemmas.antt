@@ -1,4 +1,4 @@
--- Operations with a card of data objects: no line fault comes, and talks come one after another.
+-- Operations with a card of data objects: no line fault occurs, and talks follow one another.
 use Rattle.std.proofs.Common.{Result, Ok, Err, IsOk, MatchResult, ◌≡◌, ◌≢◌, ℕ, ◌+◌, ◌-◌, ◌<◌, ◌≤◌, List, [], ◌∷◌, ◌++◌, length, take, drop, ◌⊎◌, inl, inr, refl, sym, ap, subst, ◌∙◌, arith, Option, Some, None, IfSome, Bool, true, false, ◌==◌, if◌then◌else◌, length-append, append-nil}
 use Rattle.std.specs.List.{flat_map}
 use Rattle.apdu_core.specs.StatusWord.{StatusWord, count, ok}
@@ -78,7 +78,7 @@ talk_used Does first last plans left operations replies line talk = record {
   are_talks = talk.are_talks;
 }
 
--- what a card whose own states stand for these does, under plans with such cuts
+-- a card whose own states stand for these does the same, under plans with these cuts
 own_goes : {State : Type 0} (Own : State → ℕ → Tpdu → State → Type 0) (own_reset : State → State)
     (state_of : State → CardState) → StandsFor Own own_reset state_of → (old new : State)
     (ds : List Dialogue) (plans : List Course) → Runs Own old ds plans new
@@ -141,7 +141,7 @@ few_of host b by is ends = few_in b.direction b.p3 b.segments b.moved ends (elim
   | inr few ↦ inr (subst (λ n. n < 256) (sym by.1) few)
 ])
 
--- the data that a dialogue under way has brought are at most 256
+-- the data of the current dialogue are at most 256 bytes
 brought_few : (host : Hosting) (front : Front) → (host.direction ≡ ToCard) ⊎ (host.p3 < 256)
     → HostStandsAt host front → IsFront front → length (brought front) ≤ 256
 brought_few host (In_header bytes) is stands is_front = omega arith
@@ -159,7 +159,7 @@ one_from_card : (direction : Direction) (moved : List ℕ) (byte : ℕ)
 one_from_card ToCard moved byte = omega arith
 one_from_card FromCard moved byte = omega (arith, length-append moved (byte ∷ []))
 
--- and with one character more, one more
+-- with one more character, at most one more
 brings_one : (front new : Front) (c : Character) → GoesOn front c new
     → length (brought new) ≤ length (brought front) + 1
 brings_one (In_header bytes) new c (from, inl (few, is)) = rw is (omega arith)
@@ -176,7 +176,7 @@ repeats_first : (opening : Opening) (left : Wanted) (first : Option Dialogue) (h
 repeats_first opening left None host opened = tt
 repeats_first opening left (Some d) host (opens, n, repeats, asks) = (n, repeats)
 
--- no more comes than there is room for
+-- the data do not exceed the room
 never_overflows : {State : Type 0} (Own : State → ℕ → Tpdu → State → Type 0)
     (own_reset : State → State) (state_of : State → CardState)
     → StandsFor Own own_reset state_of → (from to : Point State) (c : Command)
@@ -215,7 +215,7 @@ never_caused Own own_reset state_of stands from to c fault sound (inl (is, stall
 never_caused Own own_reset state_of stands from to c fault sound (inr (is, over)) =
     never_overflows Own own_reset state_of stands from to c sound over
 
--- it stays a sound one
+-- the card stays sound
 pub stays_sound : {State : Type 0} (Own : State → ℕ → Tpdu → State → Type 0)
     (own_reset : State → State) (state_of : State → CardState)
     → StandsFor Own own_reset state_of → (from to : Point State) (ds : List Dialogue)
@@ -228,7 +228,8 @@ stays_sound Own own_reset state_of stands from to ds sound gone =
 
 -- ---- the commands of an operation
 
--- The exchange of a command is over, and those of the commands before it, each answered 9000.
+-- The exchange of a command has ended, after those of the commands before it, each with the status
+-- 9000.
 pub record HaveBeen {State : Type 0} (Does : State → ℕ → Tpdu → State → Type 0)
     (from : Point State) (commands left : List Command) (ex : ExchangeOf) (status : StatusWord)
     (to : Point State) : Type 0 where
@@ -281,7 +282,7 @@ next_has_been Does from mid to commands left c ex after units status next been i
           been.gone gone);
     }
 
--- none follows: these are the exchanges of the commands, with this answer
+-- no command follows: these are the exchanges of the commands, with this answer
 pub all_have_been : {State : Type 0} (Does : State → ℕ → Tpdu → State → Type 0)
     (from to : Point State) (commands left : List Command) (ex : ExchangeOf)
     (status : StatusWord) (answer : Reply) → HaveBeen Does from commands left ex status to
@@ -299,7 +300,7 @@ all_have_been Does from to commands left ex status answer been ends is =
       been.gone,
     )
 
--- ---- an exchange that has been gone through
+-- ---- an exchange from its first to its last character
 
 pub ok_unless : {E : Type 0} (r : Result Unit E) (P : Unit → Type 0) (Q : E → Type 0)
     → MatchResult r P Q → ((e : E) → Q e → ⊥) → IsOk r
@@ -326,7 +327,7 @@ over_then c ex after units status told over stays turn =
     subst (λ e. IsOver c e units told) (sym stays)
     (subst (λ s. IsOver c ex units s) (sym is) over)
 
--- a sound card's own state stands for a sound one
+-- the own state of a sound card stands for a sound state
 pub sound_at : {C State : Type 0} (state_of : State → CardState) (state : C → CardState)
     (standing : C → State) → ((card : C) → state_of (standing card) ≡ state card)
     → (card seen : C) → card ≡ seen → IsCardState (state seen)
@@ -350,9 +351,9 @@ pub never_both : (b : Bool) → b ≡ true → b ≡ false → ⊥
 never_both true one two = absurd (cc)
 never_both false one two = absurd (cc)
 
--- ---- what an operation has been answered
+-- ---- the answer of an operation
 
--- a list of commands with some exchanges that are gone through
+-- a list of commands with exchanges that have ended
 abbrev pub Answered : {State : Type 0} → (State → ℕ → Tpdu → State → Type 0) → Point State
     → Point State → List Command → Reply → Type 0
 Answered Does from to commands answer =
@@ -376,7 +377,7 @@ sent_alone Does from to c r (units, gathers, gone) = (
       (sym (one_more_exchange [] units)) gone,
 )
 
--- or of an operation
+-- or those of an operation
 abbrev pub Talked : {State : Type 0} → (State → ℕ → Tpdu → State → Type 0) → Point State
     → Point State → Operation → Reply → Type 0
 Talked Does from to operation answer =
@@ -413,7 +414,7 @@ one_talk Does from to o r (exchanges, talk, gone) = record {
   are_talks = (talk, tt);
 }
 
--- the talk of operations is heard, from one point to another
+-- the watch hears the talk of operations, from one point to another
 abbrev pub IsHeard : {State : Type 0} → (State → ℕ → Tpdu → State → Type 0) → Point State
     → List Operation → List Reply → Point State → Type 0
 IsHeard Does from operations replies to = (line : List Character)
@@ -429,7 +430,7 @@ is_heard Does from to o r talked = (
   talked.2.hears,
 )
 
--- the answer is that of the card that answers in one step
+-- the answer is that of the one-step card
 pub in_one_step : {State : Type 0} (Own : State → ℕ → Tpdu → State → Type 0)
     (own_reset : State → State) (state_of : State → CardState)
     → StandsFor Own own_reset state_of → (from to : Point State) (old new : CardState)
@@ -447,13 +448,13 @@ in_one_step Own own_reset state_of stands from to old new was is o r sound idle 
 
 -- ---- operations in turn
 
--- Operations have come: their talk is heard, and the card has answered each in one step.
+-- The watch has heard the talk of operations, and the answers are those of the one-step card.
 abbrev pub HaveCome : {State : Type 0} → (State → ℕ → Tpdu → State → Type 0) → Point State
     → CardState → Point State → CardState → List Operation → List Reply → Type 0
 HaveCome Does from old to new operations replies =
     IsHeard Does from operations replies to × AnswersAll old operations replies new
 
--- The first of the operations are carried out, so many as there are new answers.
+-- The first operations were carried out, as many as there are new answers.
 abbrev pub HaveAnswers : {State A : Type 0} → (State → ℕ → Tpdu → State → Type 0) → Point State
     → CardState → List (Op A) → List Reply → ℕ → List Reply → Point State → CardState → Type 0
 HaveAnswers Does from old ops before n given to new =
@@ -481,7 +482,7 @@ none_answered Does at old ops before = no_replies (HaveCome Does at old at old) 
   (refl, refl),
 )
 
--- it is so where nothing has changed
+-- this holds if nothing has changed
 pub still_answered : {State A : Type 0} (Does : State → ℕ → Tpdu → State → Type 0)
     (from : Point State) (old : CardState) (ops : List (Op A)) (before : List Reply) (n : ℕ)
     (given given' : List Reply) (to to' : Point State) (new new' : CardState)
@@ -513,7 +514,7 @@ answers_more old mid new (p ∷ operations) [] o r answers next = absurd answers
 answers_more old mid new (p ∷ operations) (q ∷ replies) o r (state, first, others) next =
     (state, first, answers_more state mid new operations replies o r others next)
 
--- one more is carried out
+-- one more operation was carried out
 pub one_more_answered : {State A : Type 0} (Does : State → ℕ → Tpdu → State → Type 0)
     (from mid to : Point State) (old now new : CardState) (ops : List (Op A))
     (before : List Reply) (n : ℕ) (given given' : List Reply) (op : Op A) (r : Reply)
@@ -537,7 +538,7 @@ one_more_answered Does from mid to old now new ops before n given given' op r ha
       answers_more old now new done replies o r come.1 answers,
     ))
 
--- what has come of the operations, by the answers that are new
+-- what holds for the operations, by the new answers
 pub have_come : {State A : Type 0} (Does : State → ℕ → Tpdu → State → Type 0)
     (from : Point State) (old : CardState) (ops : List (Op A)) (before : List Reply) (n : ℕ)
     (given : List Reply) (to : Point State) (new : CardState)

@@ -1,4 +1,4 @@
--- A character that passes from one end to the other takes both to the same front.
+-- A character that passes from one end to the other moves both to the same front.
 use Rattle.std.proofs.Common.{◌≡◌, ℕ, ◌+◌, ◌-◌, ◌*◌, ◌<◌, ◌≤◌, List, [], ◌∷◌, ◌++◌, length, drop, refl, sym, subst, ◌∙◌, ap, arith, inl, inr, ◌⊎◌, lit<, true, false, Bool, Option, Some, None, Result, Ok, Err, length-append, if◌then◌else◌}
 use Rattle.std.specs.Result.{OnOk}
 use Rattle.std.specs.List.{flat_map}
@@ -55,7 +55,7 @@ steps_advanced : (rest : List Course) (kept : Option Course)
 steps_advanced [] kept = refl
 steps_advanced (p ∷ plans) kept = refl
 
--- the end has its plan once it hands out a character
+-- the card's end has its plan once it sends a character
 takes_none_twice : (stage : Stage) (plan : Course) → takes_plan stage ≡ true
     → under_way stage plan ≡ plan ∷ [] → ⊥
 takes_none_twice (Taking_header bytes) plan takes under = absurd (cc)
@@ -63,7 +63,7 @@ takes_none_twice (Refusing h p3 status done) plan takes under = absurd (cc)
 takes_none_twice (Serving s came) plan takes under = absurd (cc)
 takes_none_twice (Ending status) plan takes under = absurd (cc)
 
--- what is known of the plan once the card's end has handed out a character
+-- what holds for the plan once the card's end has sent a character
 pub record HasPlan (stage : Stage) (before old new : Cursor) : Type 0 where
   pub is : new ≡ advanced before
   pub kept : plan_kept new ≡ next_plan before.rest
@@ -136,10 +136,10 @@ has_plan card before front l new silent (stands, on, at_plan) is taken =
       );
     }
 
--- ---- which way data move
+-- ---- the direction of the data
 
--- to an instruction under which the terminal sends the card never sends, and where it asks the
--- card never takes
+-- if the terminal sends data with an instruction, the card never does; if it asks for data, the
+-- card never takes any
 abbrev pub Never : (ℕ → Type 0) → (ℕ → Type 0) → Direction → ℕ → Type 0
 Never R S ToCard ins = S ins → ⊥
 Never R S FromCard ins = R ins → ⊥
@@ -168,7 +168,7 @@ never_opens R S h (b ∷ bs) None host opens agreed = never_sends R S h (b ∷ b
 never_opens R S h (b ∷ bs) (Some n) host opens agreed =
     never_sends R S h (b ∷ bs) host opens agreed.0
 
--- more is fetched only where the command wants some
+-- more is fetched only if the command wants some
 none_fetched : (k : ℕ) (announced : Option ℕ) → fetched_of (less (Bytes 0) k) announced ≡ None
 none_fetched k None = refl
 none_fetched k (Some n) =
@@ -298,7 +298,7 @@ suits Does s p R S host (Serving service came) next cut front none host_stands p
 suits Does s p R S host (Ending status) next cut front none host_stands permitted takes stands =
     absurd (cc)
 
--- ---- what is heard
+-- ---- what the watch hears
 
 hears_on : (since now later : Hearing) (came more : List Character) (ch : Character)
     → Hears since came now → Hears now (ch ∷ []) later → more ≡ came ++ ch ∷ []
@@ -322,7 +322,7 @@ on_its_plan : {State : Type 0} (Does : State → ℕ → Tpdu → State → Type
 on_its_plan Does cut stage next front byte old new prepared kept plan is steps = let P : Course
     → Type 0 = λ k. Advances Does cut k stage front byte old new prepared next in subst P is steps
 
--- ---- a step of the card's end, at the front at which the terminal's stands
+-- ---- a step of the card's end, at the front of the terminal's
 
 pub turned : {C : Type 0} (card : Ghosts C) (s : Start card.State) (l : Line C) (end : EndOf C)
     (new : Cursor) (byte : ℕ) (under : IsGoing card s l)
@@ -372,7 +372,7 @@ turned card s l end new byte under has permitted advances =
       | inr ends ↦ inr (ends.0, ends.1, ends.2, ends.6 under.stands.1, ends.4, ends.5)
     ]
 
--- ---- a character has passed, and the dialogue goes on
+-- ---- a character has passed, and the dialogue continues
 
 plan_stays : (stage new : Stage) (before cursor : Cursor) (byte : ℕ) → listens stage ≡ true
     → new ≡ with_character stage byte → IsAtPlan stage before cursor → IsAtPlan new before cursor
@@ -410,7 +410,7 @@ passed card s l new ch front under goes terminal kept stands same hears =
           (goes_on under.front front ch under.terminal.is_front goes).1;
     }
 
--- ---- it has passed, and a dialogue is over
+-- ---- a character has passed, and the dialogue has ended
 
 pub gone_more : {C : Type 0} (card : Ghosts C) (s : Start card.State) (l new : Line C)
     (d : Dialogue) (byte : ℕ) (under : IsGoing card s l) → Ends under.front (Card, byte) d
@@ -431,7 +431,7 @@ gone_more card s l new d byte under ends is follows does has hears =
     (hears_on under.between l.hearing new.hearing _ _ (Card, byte) under.hears hears
     (ends_with under.front byte d ends))))
 
--- these dialogues have gone since then
+-- these dialogues have crossed the line since the start
 abbrev HasGone : {C : Type 0} (card : Ghosts C) → Start card.State → Line C → List Dialogue
     → Type 0
 HasGone card s l ds = HaveGone card.Does s.from ds (point_of card l)
@@ -467,7 +467,7 @@ begins card command l rests (agreed, terminal, room) =
     begins_next card (on_line.begun card command l) l [] None [] agreed rests terminal room refl
     (none_gone card.Does (point_of card l))
 
--- after a dialogue the exchange goes on, or is over
+-- after a dialogue the exchange continues or has ended
 pub continues : {C : Type 0} (card : Ghosts C) (s : Start card.State) (l : Line C)
     (units : List UnitOf) (tried : Option Dialogue) (d : Dialogue)
     → IsAgreed card.MayReceive card.MaySend s.command → l.end.stage ≡ Taking_header []
@@ -637,7 +637,7 @@ end_falls c l new units tried before front d under (inr (inr over)) bounded has 
 
 -- ---- a character of the terminal
 
--- what an exchange that sends this character promises of it, and what the card's end does
+-- an exchange that sends this character continues its dialogue with it
 abbrev pub SendsOn : Command → ExchangeOf → ExchangeOf → ℕ → Type 0
 SendsOn c ex new byte = (units : List UnitOf) (tried : Option Dialogue) (front : Front)
     → UnderWay c ex units tried front
@@ -673,7 +673,7 @@ terminal_passed {C = C} card s l new byte under sends kept same end_is falls on 
           (ap (λ (e : EndOf C). card.standing e.card) end_is) hears,
     )
 
--- ---- a character that is not taken
+-- ---- a character that the terminal refuses
 
 is_too_long : (host : Hosting) (room : Room) (byte : ℕ) (fault : LineFault) → fault ≡ TooLong
     → (fault_of host room byte ≡ Some fault)
@@ -757,7 +757,7 @@ has_overflown card s l new front byte fault under goes stands same is faults hea
 
 -- ---- in the terms of the code
 
--- the card's end does not listen where it hands a character out
+-- the card's end does not listen if it sends a character
 pub silent_turn : (stage : Stage) (byte : ℕ)
     → (turn.Sends byte ≡ turn.Listens → listens stage ≡ true)
     × (listens stage ≡ true → turn.Sends byte ≡ turn.Listens) → listens stage ≡ false
@@ -777,7 +777,7 @@ pub on_too : {C : Type 0} (card : Ghosts C) (s : Start card.State) (l : Line C)
 on_too card s l new is on =
     subst (λ e. IsOneOf card s (line e l.end l.cursor l.hearing)) (sym is) on
 
--- an exchange that is over neither sends nor listens
+-- an exchange that has ended neither sends nor listens
 pub over_sends_nothing : (c : Command) (ex : ExchangeOf) (units : List UnitOf)
     (status : StatusWord) (byte : ℕ) → IsOver c ex units status → Sends byte ≡ exchange_turn ex → ⊥
 over_sends_nothing c ex units status byte over does =
@@ -790,7 +790,7 @@ over_is_silent c ex units status over does =
     let e : Listens ≡ Done status = does
     ∙ ap (λ b. if b then Failed else turn_of ex.host) over.going ∙ over.done in absurd (cc)
 
--- where the exchange sends or listens it is under way
+-- an exchange that sends or listens is in progress
 pub still_going : {C : Type 0} (card : Ghosts C) (s : Start card.State) (l : Line C)
     → IsOneOf card s l → exchange_turn l.exchange ≡ Listens → IsGoing card s l
 still_going card s l (inl under) listens = under
@@ -803,7 +803,7 @@ still_sending card s l byte (inl under) sends = under
 still_sending card s l byte (inr over) sends =
     absurd (over_sends_nothing s.command l.exchange over.units over.status byte over.terminal sends)
 
--- where it is at its end, it is over
+-- an exchange whose turn is `Done` has ended
 pub still_over : {C : Type 0} (card : Ghosts C) (s : Start card.State) (l : Line C)
     (new : ExchangeOf) (status : StatusWord) → IsOneOf card s l
     → Done status ≡ exchange_turn l.exchange
@@ -818,7 +818,7 @@ still_over card s l new status (inr over) done stays =
     λ byte e. let same : Done status ≡ Sends byte = e in absurd (cc) in
     subst (λ e. IsDone card s (line e l.end l.cursor l.hearing)) (sym (stays never)) over
 
--- what is known of a result that is Ok
+-- what holds for a result that is `Ok`
 pub on_ok : {A E : Type 0} (r : Result A E) (P : Type 0) (x : A) → r ≡ Ok x → OnOk r P → P
 on_ok {A = A} {E = E} r P x is on = let Q : Result A E → Type 0 = λ s. OnOk s P in subst Q is on
 
@@ -826,7 +826,7 @@ pub none_left : {C : Type 0} (card : Ghosts C) (s : Start card.State) (l : Line 
     → IsDone card s l → left l ≡ 0
 none_left card s l over = left_over s.command l over.units over.status over.terminal
 
--- a step of the loop: what goes on falls, and what is over has none left
+-- a step of the loop: fewer characters are left if it continues, and none if the exchange has ended
 pub smaller : {C : Type 0} (card : Ghosts C) (s : Start card.State) (old new : Line C)
     (going : Bool) → HasPassed card s old new going
     → left new + (if going then 1 else 0) < left old + 1
@@ -846,7 +846,7 @@ over_at_end card s old new false over ends = over
 pub some_is : {A : Type 0} (o : Option A) (x y : A) → o ≡ Some x → o ≡ Some y → x ≡ y
 some_is o x y one two = let e : Some x ≡ Some y = sym one ∙ two in cc
 
--- what a whole exchange has answered
+-- the answer of a whole exchange
 pub answered : {C : Type 0} (card : Ghosts C) (s : Start card.State) (l : Line C)
     (was : Point card.State) (answer : Reply) (over : IsDone card s l) → s.from ≡ was
     → answer ≡ record { status = over.status; content = l.exchange.gather.bytes }

@@ -13,7 +13,7 @@ use Rattle.card_terminal.specs.ExchangeSteps.{IsTaking}
 abbrev pub TakesOne : ExchangeOf → ℕ → ExchangeOf → Type 0
 TakesOne s b t = IsTaking s b (Ok tt) t
 
--- from where it began, an exchange has taken so many characters of the buffer
+-- since it began, an exchange has taken `at` characters of the buffer
 pub record HasTaken (old now : ExchangeOf) (bytes : List ℕ) (at : ℕ) : Type 0 where
   pub kept : IsKept now
   pub limit : now.gather.limit ≡ old.gather.limit
@@ -28,7 +28,7 @@ none_yet old bytes kept = record {
   only = λ content only. only;
 }
 
--- one more
+-- one more character
 pub taken_on : (old now next : ExchangeOf) (bytes : List ℕ) (at : ℕ)
     (result : Result (Unit {0}) LineFault) → at < length bytes → HasTaken old now bytes at
     → IsTaking now (get_or bytes at 0) result next → result ≡ Ok tt → IsKept next
@@ -42,7 +42,7 @@ taken_on old now next bytes at result below taken step is kept only = record {
   only = λ content has. only content (taken.only content has);
 }
 
--- one that is a fault
+-- one character that is a fault
 pub taken_up_to : (old now next : ExchangeOf) (bytes : List ℕ) (at : ℕ)
     (result : Result (Unit {0}) LineFault) (fault : LineFault) → at < length bytes
     → HasTaken old now bytes at → IsTaking now (get_or bytes at 0) result next
@@ -54,7 +54,7 @@ taken_up_to old now next bytes at result fault below taken step is = record {
   outcome = (below, subst (λ r. IsTaking now (get_or bytes at 0) r next) is step);
 }
 
--- or all
+-- all characters
 pub taken_all : (old now : ExchangeOf) (bytes : List ℕ) (at : ℕ) → length bytes ≤ at
     → at ≤ length bytes → HasTaken old now bytes at
     → IsTakingAll IsTaking old bytes (record { count = length bytes; outcome = Ok tt }) now

@@ -1,4 +1,4 @@
--- A talk of an operation is its answer in one step.
+-- A talk of an operation equals its answer in one step.
 use Rattle.std.proofs.Common.{◌≡◌, ℕ, List, [], ◌∷◌, arith, true, refl, sym, ap, subst, ◌∙◌, append-nil}
 use Rattle.std.specs.List.{flat_map}
 use Rattle.apdu_core.specs.CommandBytes.{Command}
@@ -39,7 +39,7 @@ one_goes old new units exchanges is goes =
     subst (λ ds. Goes old ds new) (append-nil (flat_map dialogues_of units))
     (subst (λ es. Goes old (talk_dialogues es) new) is goes)
 
--- a command that wants everything, from its first unit on
+-- a command that wants everything, from its first unit
 select_unit : (old mid new : CardState) (aid : List ℕ) (u : UnitOf) (answer : Reply)
     → is_idle old.pending ≡ true → IsAid aid
     → Opens (select_command aid) (first_of u) → IsUnit Everything u → Goes old (dialogues_of u) mid

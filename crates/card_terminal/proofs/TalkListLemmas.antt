@@ -1,5 +1,5 @@
--- Dialogues one after another: what follows the plans, and what runs, in parts and whole; a talk,
--- and one operation more.
+-- Dialogues one after another: how they follow the plans and run, in parts and as a whole; a talk
+-- with one more operation.
 use Rattle.std.proofs.Common.{◌≡◌, ◌≢◌, ℕ, List, [], ◌∷◌, ◌++◌, length, drop, ◌⊎◌, refl, sym, ap, subst, ◌∙◌}
 use Rattle.std.specs.List.{AllByRecursion, flat_map}
 use Rattle.std.proofs.Math.Seq.{drop-nil}
@@ -19,12 +19,12 @@ use Rattle.card_terminal.specs.Gathered.{UnitOf, Gathers, dialogues_of}
 use Rattle.card_terminal.specs.TalkLaws.{talks_more}
 use Rattle.card_terminal.specs.Talk.{AreTakenUpTo, AreExchangesOf, AreTalksOf, IsTalkOf, Talk, talk_dialogues}
 
--- no plan is left of none
+-- an empty list of plans stays empty
 no_plans : (xs ys : List Dialogue)
     → drop {A = Course} (length xs) [] ≡ drop {A = Course} (length ys) []
 no_plans xs ys = drop-nil {A = Course} (length xs) ∙ sym (drop-nil {A = Course} (length ys))
 
--- what is left of the plans after some dialogues and then others
+-- the plans left after some dialogues and then others
 pub left_after_both : (xs ys : List Dialogue) (plans : List Course)
     → drop (length (xs ++ ys)) plans ≡ drop (length ys) (drop (length xs) plans)
 left_after_both [] ys plans = refl
@@ -32,7 +32,8 @@ left_after_both (x ∷ xs) ys [] = no_plans (x ∷ xs ++ ys) ys
     ∙ ap (λ p. drop (length ys) p) (sym (drop-nil {A = Course} (length (x ∷ xs))))
 left_after_both (x ∷ xs) ys (p ∷ plans) = left_after_both xs ys plans
 
--- Dialogues follow the plans, and others what is left of them: so do they all; and apart.
+-- Dialogues follow the plans, and others follow the rest: then all follow them together. The
+-- reverse holds too.
 pub follow_both : (xs ys : List Dialogue) (plans : List Course) → FollowInTurn xs plans
     → FollowInTurn ys (drop (length xs) plans) → FollowInTurn (xs ++ ys) plans
 follow_both [] ys plans first second = second
@@ -43,7 +44,7 @@ follow_both (x ∷ xs) ys [] first second = (
 )
 follow_both (x ∷ xs) ys (p ∷ plans) first second = (first.0, follow_both xs ys plans first.1 second)
 
--- A run, and a run from where it ended: one run; and apart.
+-- A run, and another from its last state, are one run. The reverse holds too.
 pub runs_both : {State : Type 0} (Does : State → ℕ → Tpdu → State → Type 0) (old mid new : State)
     (xs ys : List Dialogue) (plans : List Course)
     → Runs Does old xs plans mid → Runs Does mid ys (drop (length xs) plans) new
@@ -64,7 +65,7 @@ pub all_both : {A : Type 0} (P : A → Type 0) (xs ys : List A) → AllByRecursi
 all_both P [] ys first second = second
 all_both P (x ∷ xs) ys first second = (first.0, all_both P xs ys first.1 second)
 
--- one more is answered 9000
+-- one more command has the status 9000
 pub taken_more : (commands : List Command) (exchanges : List (List UnitOf)) (c : Command)
     (left : List Command) (units : List UnitOf) (brought : List ℕ)
     → AreTakenUpTo commands exchanges (c ∷ left) → Gathers c units brought ok
@@ -75,7 +76,7 @@ taken_more [] (first ∷ exchanges) c left units brought taken gathers = absurd 
 taken_more (d ∷ commands) (first ∷ exchanges) c left units brought taken gathers =
     (taken.0, taken.1, taken_more commands exchanges c left units brought taken.2 gathers)
 
--- the last comes, or one that is answered otherwise
+-- the last command, or one with another status
 pub taken_to_end : (commands : List Command) (exchanges : List (List UnitOf)) (c : Command)
     (left : List Command) (units : List UnitOf) (answer : Reply)
     → AreTakenUpTo commands exchanges (c ∷ left) → Gathers c units answer.content answer.status
@@ -107,7 +108,7 @@ one_talk o [] r are = absurd are
 one_talk o (t ∷ []) r are = (t, refl, are.0)
 one_talk o (t ∷ u ∷ talks) r are = absurd are.1
 
--- A talk, and that of one operation more under the plans that are left.
+-- A talk, and that of one more operation under the plans that are left.
 pub talk_more : {State : Type 0} (Does : State → ℕ → Tpdu → State → Type 0)
     (first mid last : State) (plans left rest : List Course) (operations : List Operation)
     (replies : List Reply) (line more : List Character) (o : Operation) (r : Reply)

@@ -33,7 +33,7 @@ object = 0x5F ∷ 0x20 ∷ 0x03 ∷ 0x4A ∷ 0x4F ∷ 0x45 ∷ []
 abbrev entry : List ℕ → List ℕ → Entry
 entry tag value = record { tag = tag; value = value; locked = false }
 
--- the card holds 5F20, and then 9F36 too
+-- the card holds 5F20, and later 9F36 too
 abbrev card : List Entry → Option (List ℕ) → CardState
 card entries selected =
     record {
@@ -221,7 +221,7 @@ runs_row = (
   ),
 )
 
--- SELECT, GET DATA and PUT DATA under one plan: what goes over the line, and that no plan is left.
+-- SELECT, GET DATA and PUT DATA under one plan: the characters on the line, and no plan is left.
 talk_row : Talk Does fresh (plan ∷ []) operations replies filled [] line
 talk_row = record {
   dialogues = select ∷ fetch ∷ corrected ∷ repeated ∷ put ∷ [];

@@ -1,4 +1,4 @@
--- What an exchange does with a buffer is what the terminal that holds it does.
+-- What an exchange does with a buffer, its terminal does.
 use Rattle.std.proofs.Common.{◌≡◌, ◌<◌, ℕ, List, [], ◌∷◌, length, take, get_or, inl, inr, refl, sym, subst, ◌∙◌, ap, true, false, Bool, Option, Some, None}
 use Rattle.std.specs.Prelude.{Result, Ok, Err, MatchResult, MatchOption, IfErr, not, is_some}
 use Rattle.apdu_core.specs.StatusWord.{ok}
@@ -20,13 +20,13 @@ use Rattle.card_terminal.proofs.TakingLemmas.{TakesOne}
 use Rattle.card_terminal.proofs.TurnLemmas.{not_listening}
 use Rattle.card_terminal.proofs.TerminalStepLemmas.{turns, takes, stays}
 
--- a turn of a terminal that holds an operation
+-- a turn of a terminal with an operation
 abbrev pub TurnsOf : Option OperationOf → HostTurn → Option OperationOf → Type 0
 TurnsOf s turn t = IsTerminalTurn s (Some turn) t
 
--- ---- handed out
+-- ---- characters to send
 
--- where it sends, nothing is over
+-- a terminal that sends has not ended
 sends_settled : (o : OperationOf) (ex next : ExchangeOf) (byte : ℕ) → SendsOne ex byte next
     → IsSettled (with_exchange o ex)
 sends_settled o ex next byte step = λ done.
@@ -75,15 +75,15 @@ hands_out o new before after handed settled handing same now_settled = record {
     stopped (Some turn) (less, step, none) =
         (less, turns new new turn step refl step.bounds now_settled, none)
 
--- ---- taken
+-- ---- characters to take
 
--- what takes a character is not over
+-- an exchange that takes a character has not ended
 takes_settled : (o : OperationOf) (ex next : ExchangeOf) (byte : ℕ) → TakesOne ex byte next
     → IsSettled (with_exchange o ex)
 takes_settled o ex next byte step = λ done.
     let no : Ok tt ≡ Err AfterEnd = step.after_end (inr (ok, done)) in absurd (cc)
 
--- the last of them may be followed by the next command
+-- the next command may follow the last character
 all_taken : (o new : OperationOf) (bs : List ℕ) (ex last : ExchangeOf)
     → IsSettled (with_exchange o ex) → Steps TakesOne ex bs last
     → GoesOver (with_exchange o last) new
@@ -104,7 +104,7 @@ all_taken o new (b ∷ c ∷ cs) ex last settled (next, step, rest) over =
       all_taken o new (c ∷ cs) next last then_settled rest over,
     )
 
--- a character that comes where the terminal sends
+-- a character while the terminal sends
 out_of_turn : (o : OperationOf) (sent byte : ℕ) → exchange_turn o.exchange ≡ Sends sent
     → IsBounded o.exchange → IsTerminalTaking (Some o) byte (Err NotListening) (Some o)
 out_of_turn o sent byte sends bounds = record {
@@ -117,7 +117,7 @@ out_of_turn o sent byte sends bounds = record {
   led = λ commands came l final. absurd (cc);
 }
 
--- a fault where the next command has begun: its turn is to send
+-- a fault once the next command has begun: the terminal sends next
 refused_next : (o new : OperationOf) (bytes : List ℕ) (count : ℕ) (fault : LineFault)
     (ex : ExchangeOf) → IsSettled o
     → IsTakingAll IsTaking o.exchange bytes (record { count = count; outcome = Err fault }) ex
@@ -146,7 +146,7 @@ refused_next o new bytes count fault ex settled taking next =
 same_fault : (a b : LineFault) → ◌≡◌ {A = Result (Unit {0}) LineFault} (Err a) (Err b) → a ≡ b
 same_fault a b e = cc
 
--- what is a fault has not brought the exchange to its end
+-- a character that is a fault does not end the exchange
 last_settled : (o : OperationOf) (last ex : ExchangeOf) (byte : ℕ) (fault : LineFault)
     → IsTaking last byte (Err fault) ex → IsSettled (with_exchange o ex)
     → IsSettled (with_exchange o last)
@@ -158,7 +158,7 @@ last_settled o last ex byte fault step settled = by (is_final fault) refl
         let no : true ≡ false = sym is ∙ ap is_final e in absurd (cc)
     by false is = subst (λ x. IsSettled (with_exchange o x)) (step.unchanged is) settled
 
--- all are taken, or one is a fault and nothing follows
+-- all are taken, or one is a fault, and no command follows
 takes_all : (o new : OperationOf) (bytes : List ℕ) (count : ℕ)
     (result : Result (Unit {0}) LineFault) (ex : ExchangeOf) → IsSettled o
     → IsTakingAll IsTaking o.exchange bytes (record { count = count; outcome = result }) ex
@@ -215,7 +215,7 @@ takes_to_next o new bytes count (Err fault) told ex settled taking next is =
     subst (λ t. IsTakingAll IsTerminalTaking (Some o) bytes t (Some new)) (sym is)
     (refused_next o new bytes count fault ex settled taking next)
 
--- ---- the same of what is seen
+-- ---- the same for the terminal as contracts see it
 
 pub none_handed_out : (old seen : Option OperationOf) (before after : List ℕ)
     (told : Option HandedOut) (later : Option OperationOf) → old ≡ seen → old ≡ None → told ≡ None

@@ -1,5 +1,5 @@
--- What led to an operation at a terminal, and goes on to the characters of a whole one: the next
--- character is settled, and at the end the terminal is done.
+-- If the characters that led to an operation continue to those of a whole one, the next character
+-- is settled, and at the end the terminal is `Done`.
 use Rattle.std.proofs.Common.{◌≡◌, ◌≤◌, ◌<◌, ◌+◌, ◌*◌, arith, Some, length-append, ℕ, suc, List, [], ◌∷◌, ◌++◌, length, refl, sym, subst, ◌∙◌, ap, inl, inr, ◌⊎◌, true, append-nil, append_assoc}
 use Rattle.std.specs.List.{AllByRecursion, flat_map}
 use Rattle.std.proofs.lemmas.Grind.{flat_map-append}
@@ -33,7 +33,7 @@ all_apart : (xs ys : List Dialogue) → AllByRecursion IsDialogue (xs ++ ys)
 all_apart [] ys all = (tt, all)
 all_apart (x ∷ xs) ys all = let both = all_apart xs ys all.1 in ((all.0, both.0), both.1)
 
--- the exchange is done with the operation's answer, or the next character is due
+-- the exchange has ended with the operation's answer, or the next character is expected
 abbrev pub GoesTo : ExchangeOf → List Character → List (List UnitOf) → Reply → Type 0
 GoesTo ex rest exchanges answer =
     ((rest ≡ []) × (exchange_turn ex ≡ Done answer.status)
@@ -53,7 +53,7 @@ fits : (units : List UnitOf) (gathered : List ℕ) (limit : ℕ) → gathered �
 fits units gathered limit is few =
     subst (λ (bs : List ℕ). length bs ≤ limit) (sym is) few
 
--- a command has no more after it where its exchange is done with 9000
+-- no command follows one whose exchange has ended with 9000
 abbrev pub Ends : ExchangeOf → List Command → Type 0
 Ends ex left = exchange_turn ex ≡ Done ok → left ≡ []
 
@@ -112,7 +112,7 @@ first_of_more c left here ex units next others answer brought rest valid small l
           )
         ]
 
--- the exchange under way, where none has gone before it
+-- the current exchange, if it is the first
 here_comes : (c : Command) (left : List Command) (here : List Character) (ex : ExchangeOf)
     (exchanges : List (List UnitOf)) (answer : Reply) (rest : List Character)
     → ins_is_valid c.header.ins ≡ true → c.header.ins < 256 → ComesTo c here ex → Ends ex left

@@ -1,4 +1,5 @@
--- What led to an operation at a terminal leads on with each call.
+-- After each call, the characters that led to an operation lead to its next state, with those of
+-- the call.
 use Rattle.std.proofs.Common.{◌≡◌, ◌≢◌, ℕ, List, [], ◌∷◌, ◌++◌, ◌⊎◌, inl, inr, refl, sym, subst, ◌∙◌, ap, append-nil, append_assoc, true, false}
 use Rattle.std.specs.List.{AllByRecursion, flat_map}
 use Rattle.std.proofs.lemmas.Grind.{flat_map-append}
@@ -32,7 +33,7 @@ one_begins c o none led = record {
   came_is = refl;
 }
 
--- one of several
+-- an operation of several commands begins
 pub first_begins : (c : Command) (left : List Command) (o : OperationOf)
     → AreLeft o.p1 o.p2 o.rest left → ComesTo c [] o.exchange → LeadsThrough (c ∷ left) [] o
 first_begins c left o are_left led = record {
@@ -48,7 +49,7 @@ first_begins c left o are_left led = record {
   came_is = refl;
 }
 
--- more has come of the exchange under way, and nothing else changes
+-- more characters of the current exchange, and nothing else changes
 pub come_on : (Led New : Command → List Character → Type 0) (commands : List Command)
     (came cs : List Character) (o : OperationOf) (ex : ExchangeOf)
     (l : HasCome Led commands came o) → New l.current (l.here ++ cs)
@@ -66,7 +67,7 @@ come_on Led New commands came cs o ex l led = record {
   came_is = ap (λ z. z ++ cs) l.came_is ∙ append_assoc (talk_characters l.gone) l.here cs;
 }
 
--- the same has come, and says something else
+-- the same characters, with another claim about the current exchange
 pub come_as : (Led New : Command → List Character → Type 0) (commands : List Command)
     (came : List Character) (o : OperationOf) (ex : ExchangeOf) (l : HasCome Led commands came o)
     → New l.current l.here → HasCome New commands came (with_exchange o ex)
@@ -90,7 +91,7 @@ talk_characters_more exchanges units =
     ap (λ ds. flat_map characters ds) (one_more_exchange exchanges units)
     ∙ flat_map-append characters (talk_dialogues exchanges) (flat_map dialogues_of units)
 
--- a command is over with 9000, and the next begins
+-- a command has ended with 9000, and the next begins
 to_next : (commands : List Command) (came : List Character) (o new : OperationOf)
     → GoesToNext o new → LeadsThrough commands came o → LeadsThrough commands came new
 to_next commands came o new next l =
@@ -126,13 +127,13 @@ goes_over commands came o new (inl same) l =
     subst (λ x. LeadsThrough commands came x) (sym same.1) l
 goes_over commands came o new (inr next) l = to_next commands came o new next l
 
--- nothing is left of no value
+-- no commands carry an empty rest
 pub none_left : (p1 p2 : ℕ) (rest : List ℕ) (left : List Command) → rest ≡ []
     → AreLeft p1 p2 rest left → left ≡ []
 none_left p1 p2 [] left none are = are
 none_left p1 p2 (b ∷ bs) left none are = absurd (cc)
 
--- the answer of an operation that is over
+-- the answer of an operation that has ended
 pub answer_led : (commands : List Command) (came : List Character) (o : OperationOf)
     (status : StatusWord) → IsSettled o → exchange_turn o.exchange ≡ Done status
     → LeadsThrough commands came o

@@ -1,4 +1,4 @@
--- Each step of an exchange is one of the terminal that holds it.
+-- Each step of an exchange is one of its terminal.
 use Rattle.std.proofs.Common.{◌≡◌, ℕ, List, [], ◌∷◌, ◌++◌, ◌⊎◌, inl, inr, refl, sym, subst, ◌∙◌, ap, true, false, Option, Some, None}
 use Rattle.std.specs.Prelude.{Result, Ok, Err, MatchResult, IfErr, IfSome, not}
 use Rattle.apdu_core.specs.StatusWord.{StatusWord, ok}
@@ -23,7 +23,7 @@ use Rattle.card_terminal.specs.TerminalSide.{OperationOf, TerminalOf, LeadsThrou
 use Rattle.card_terminal.specs.TerminalSteps.{IsTerminalTurn, IsTerminalTaking, IsTerminalAnswering, IsTerminalAnswer}
 use Rattle.card_terminal.proofs.TerminalLemmas.{come_on, come_as, goes_over, answer_led}
 
--- nothing is under way where the exchange is at its end
+-- no operation is in progress if its exchange has ended or failed
 at_end : (ex : ExchangeOf) → not (is_done (exchange_turn ex)) ≡ false → IsAtEnd ex
 at_end ex none = by (exchange_turn ex) refl none
   where
@@ -54,7 +54,7 @@ turns o new turn step same bounds settled = record {
     same_turn : (a b : HostTurn) → Some a ≡ Some b → a ≡ b
     same_turn a b e = cc
 
--- where the exchange of an operation stays, so does the operation
+-- if the exchange of an operation is unchanged, so is the operation
 pub stays : (o new : OperationOf) (ex : ExchangeOf) → IsSettled o
     → GoesOver (with_exchange o ex) new
     → ex ≡ o.exchange → new ≡ o
@@ -62,13 +62,13 @@ stays o new ex settled (inl same) is = same.1 ∙ ap (λ x. with_exchange o x) i
 stays o new ex settled (inr next) is =
     absurd (next.more (settled (ap exchange_turn (sym is) ∙ next.done)))
 
--- either way it is settled
+-- in both cases the operation is settled
 pub settles : (o new : OperationOf) → GoesOver o new → IsSettled new
 settles o new (inl same) = subst (λ x. IsSettled x) (sym same.1) same.0
 settles o new (inr next) = λ done. let e : Sends next.sends.0 ≡ Done ok = sym next.sends.1 ∙ done in
     absurd (cc)
 
--- an exchange that has failed is not followed by another
+-- no exchange follows one that has failed
 fails : (o new : OperationOf) (ex : ExchangeOf) → GoesOver (with_exchange o ex) new
     → exchange_turn ex ≡ Failed → Some (exchange_turn new.exchange) ≡ Some Failed
 fails o new ex (inl same) failed =
@@ -76,7 +76,7 @@ fails o new ex (inl same) failed =
 fails o new ex (inr next) failed =
     let e : Done ok ≡ Failed = sym next.done ∙ failed in absurd (cc)
 
--- the bounds hold of the exchange that has gone on, and of the next
+-- the bounds hold for the same exchange and for the next
 bounds_over : (o new : OperationOf) (ex : ExchangeOf) → IsBounded ex
     → GoesOver (with_exchange o ex) new → IsBounded new.exchange
 bounds_over o new ex bounds (inl same) =
@@ -197,7 +197,7 @@ answering o new bytes status result ex settled step over = record {
     ))
     on commands came d l (Err fault) failed (inr (inr none)) = inr (inr none)
 
--- the answer of an operation, for what led to it
+-- the answer of an operation, by the characters that led to it
 abbrev HasLed : OperationOf → Option (StatusWord × List ℕ) → Type 0
 HasLed o answer = (commands : List Command) (came : List Character)
     → LeadsTo commands came (Some o)
@@ -237,7 +237,7 @@ answers_for o answer settled is = record {
     same_turn : (a b : HostTurn) → Some a ≡ Some b → a ≡ b
     same_turn a b e = cc
 
--- ---- where no operation has begun
+-- ---- if no operation has begun
 
 pub idle_turn : IsTerminalTurn None None None
 idle_turn = record {
@@ -268,7 +268,7 @@ idle_answered bytes status = record {
   given = λ final. absurd (cc);
 }
 
--- ---- the same of what is seen
+-- ---- the same for the terminal as contracts see it
 
 pub held : {a b : TerminalOf} → a ≡ b → a.operation ≡ b.operation
 held is = ap (λ (t : TerminalOf). t.operation) is

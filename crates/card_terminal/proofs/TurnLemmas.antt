@@ -1,5 +1,5 @@
--- Turns of the terminal: no character that it sends brings an exchange to its end, and where it
--- sends it does not listen.
+-- Turns of the terminal: no character that it sends ends an exchange, and while it sends it does
+-- not listen.
 use Rattle.std.proofs.Common.{◌≡◌, ◌+◌, ℕ, List, refl, sym, ◌∙◌, ap, Some, true, false, Bool, nat_lt, if◌then◌else◌}
 use Rattle.apdu_core.specs.StatusWord.{StatusWord}
 use Rattle.t0_core.specs.declared.direction.Direction.{Direction}
@@ -47,7 +47,7 @@ over_at host (AwaitingSecond sw1) status e = refl
 over_at host (Ended other) status e = refl
 over_at host Broken status e = refl
 
--- where it is over afterwards, it was, and nothing has changed
+-- if it has ended after a turn, it had before, and nothing has changed
 pub over_by_turn : (ex seen : ExchangeOf) (host : Hosting) (status : StatusWord) → ex ≡ seen
     → ex.stalled ≡ false → host ≡ at_stage ex.host (after_turn ex.host)
     → exchange_turn (record ex { host = host }) ≡ Done status → record ex { host = host } ≡ seen
@@ -56,7 +56,7 @@ over_by_turn ex seen host status is going after done =
     ap turn_of (sym after) ∙ ap (λ v. if v then Failed else turn_of host) (sym going) ∙ done in
     ap (λ h. record ex { host = h }) (after ∙ over_at ex.host ex.host.stage status ended) ∙ is
 
--- ---- where it is the terminal that sends
+-- ---- if the terminal sends
 
 opens_at : (host : Hosting) (stage : HostStage) → HostStandsAt (at_stage host stage) fresh
     → (byte : ℕ) × (turn_of (at_stage host stage) ≡ Sends byte)
@@ -88,7 +88,7 @@ not_listening_at host (AwaitingSecond sw1) sent gather byte e = absurd (cc)
 not_listening_at host (Ended status) sent gather byte e = absurd (cc)
 not_listening_at host Broken sent gather byte e = absurd (cc)
 
--- a character of the card is then out of turn
+-- a character of the card is `NotListening` then
 pub not_listening : (ex : ExchangeOf) (sent byte : ℕ) → exchange_turn ex ≡ Sends sent
     → fault_of ex.host ex.gather byte ≡ Some NotListening
 not_listening ex sent byte e = by ex.stalled refl

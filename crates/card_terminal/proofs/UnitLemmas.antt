@@ -53,7 +53,7 @@ one_more opening w (v ∷ units) next left u n followed more = (
   one_more (By_fetch followed.0) (after_unit w v) units next left u n followed.2 more,
 )
 
--- the dialogues so far, and one more
+-- the dialogues that have ended, and one more
 ended_dialogues : (first : Option Dialogue) (d : Dialogue)
     → dialogues_of (ended_with first d) ≡ begun_with first ++ d ∷ []
 ended_dialogues None d = refl
@@ -90,7 +90,7 @@ ended_data (Some e) d =
     ap (λ ds. received e ++ ds) (append-nil (received d))
     ∙ ap (λ ds. ds ++ received d) (sym (append-nil (received e)))
 
--- what is gathered: the data of the units, and those of the unit under way
+-- the gathered data: those of the units, and those of the current unit
 pub gathered_parts : (units : List UnitOf) (first : Option Dialogue) (bytes : List ℕ)
     → flat_map received (so_far units first) ++ bytes
     ≡ flat_map unit_data units ++ (flat_map received (begun_with first) ++ bytes)

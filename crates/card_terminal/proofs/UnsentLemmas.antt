@@ -1,4 +1,4 @@
--- The command of an exchange of which nothing has gone is the one that it was begun with.
+-- The command that an exchange returns before its first character is the one that began it.
 use Rattle.std.proofs.Common.{◌≡◌, ◌≤◌, ℕ, zero, suc, List, [], ◌∷◌, refl, sym, subst, ◌∙◌, ap, arith, true, false, not, ◌&&◌, ◌==◌, Bool, Option, Some, None, length, inl, inr, ◌⊎◌, if◌then◌else◌}
 use Rattle.std.specs.Prelude.{SomeIff, IfSome}
 use Rattle.std.specs.List.{AllByRecursion}
@@ -25,7 +25,7 @@ use Rattle.card_terminal.specs.Talk.{AreTakenUpTo}
 use Rattle.card_terminal.specs.TerminalSide.{OperationOf, AreLeft, LeadsTo}
 use Rattle.card_terminal.specs.Unsent.{le_by, is_unsent, is_unsent_at, IsFirst, IsUnsent}
 
--- what is wanted tells Le
+-- what is wanted determines Le
 le_back : (le : Option ℕ) → IfSome le (λ n. (1 ≤ n) × (n ≤ 256)) → le_by (wanted_by le) ≡ le
 le_back None sizes = refl
 le_back (Some zero) sizes = absurd (omega (arith, sizes.0))
@@ -55,7 +55,7 @@ unsending ex is =
     by false false d e = absurd (cc)
     by true n d e = absurd (cc)
 
--- such an end neither is done nor has failed
+-- an end before its first character has neither ended nor failed
 not_done : (host : Hosting) (status : StatusWord) → is_due host ≡ true
     → turn_of host ≡ Done status → ⊥
 not_done host status due done =
@@ -169,7 +169,7 @@ first_is ex asked le first going one due le_is some =
         absurd (none (subst (λ (d : Command). IsCommand d) (sym same) is))
     there (Some d) parts c some same is = ap Some (some.1 ∙ same)
 
--- the first command of those that led there
+-- the first of the operation's commands
 first_of : (commands : List Command) (c : Command) (more : List Command) → c ∷ more ≡ commands
     → AllByRecursion IsCommand commands → IsCommand c
 first_of [] c more e are = absurd (cc)
@@ -180,14 +180,14 @@ second : (a b : Bool) → (a && b) ≡ true → (a ≡ true) × (b ≡ true)
 second true b e = (refl, e)
 second false b e = absurd (cc)
 
--- if none has gone, all are left
+-- if no exchange has ended, all commands are left
 taken : (commands : List Command) (gone : List (List UnitOf)) (left : List Command)
     → gone ≡ []
     → AreTakenUpTo commands gone left → left ≡ commands
 taken commands [] left none is = is
 taken commands (units ∷ gone) left none is = absurd (cc)
 
--- an operation's, whose first command it is
+-- the same for an operation, whose first command it is
 unsent_is : (o : OperationOf) (u : Unsent) → o.first ≡ true
     → IsFirst o.exchange (Some u.first) → u.p1 ≡ o.p1 → u.p2 ≡ o.p2 → u.rest.now ≡ o.rest
     → IsUnsent (Some o) (Some u)

@@ -17,14 +17,14 @@ get_data = record { cla = 0x00; ins = 0xCA; p1 = 0x5F; p2 = 0x20 }
 abbrev put_data : Header
 put_data = record { cla = 0x00; ins = 0xDA; p1 = 0x5F; p2 = 0x20 }
 
--- a GET DATA for so many bytes, and a PUT DATA of one
+-- a GET DATA for `n` bytes, and a PUT DATA of one
 abbrev get : ℕ → Command
 get n = record { header = get_data; content = []; le = Some n }
 
 abbrev put : Command
 put = record { header = put_data; content = 0x41 ∷ []; le = None }
 
--- a dialogue that asks for data: refused, or with these
+-- a dialogue that asks for data: refused, or with these data
 abbrev refused : Header → ℕ → StatusWord → Dialogue
 refused h p3 status = record {
   body = record { header = h; p3 = p3; direction = FromCard; segments = []; moved = [] };
@@ -45,7 +45,7 @@ given h p3 moved status =
       status = status;
     }
 
--- a count above what is wanted is not repeated, and one that is no more is
+-- a TPDU is repeated unless the count exceeds what is wanted
 above_what_is_wanted : Gathers (get 4)
     (Single (refused get_data 4 (0x6C, 0x06)) ∷ []) [] (0x6C, 0x06)
 above_what_is_wanted = record {
@@ -68,7 +68,7 @@ no_repetition_above : IsUnit (Bytes 4)
     (Repeated (refused get_data 4 (0x6C, 0x06)) (refused get_data 6 (0x90, 0x00))) → ⊥
 no_repetition_above (n, told, asks) = let e : None ≡ Some n = told in absurd (cc)
 
--- a repetition that is corrected again ends the exchange
+-- a repetition that gets 6CXX again ends the exchange
 corrected_twice : Gathers (get 256)
     (Repeated (refused get_data 0 (0x6C, 0x06)) (refused get_data 6 (0x6C, 0x05)) ∷ []) []
     (0x6C, 0x05)
@@ -93,7 +93,7 @@ corrected_twice = record {
   gathered_is = refl;
 }
 
--- one that a 6CXX asks for is not left out
+-- a repetition that 6CXX asks for is not left out
 no_correction_ignored : IsUnit Everything (Single (refused get_data 0 (0x6C, 0x06))) → ⊥
 no_correction_ignored none =
     let six : Option ℕ = Some 6 in let e : six ≡ None = none in absurd (cc)
@@ -141,7 +141,7 @@ no_fetch_of_five : IsFollowed (By_command (get 2)) (Bytes 2)
 no_fetch_of_five followed = let same = same_count 2 5 followed.fetched in
     absurd (omega (arith, same))
 
--- data to the card: nothing is wanted, and an announcement ends the exchange
+-- data to the card: nothing is wanted, so that 61XX ends the exchange
 nothing_is_wanted : Gathers put
     (Single (record {
       body =
@@ -182,14 +182,14 @@ nothing_is_wanted = record {
   gathered_is = refl;
 }
 
--- everything is wanted also past 256 bytes
+-- everything is wanted, even beyond 256 bytes
 more_is_fetched : fetched_after (less (wanted_by (Some 256)) 256) (0x61, 0x00) ≡ Some 256
 more_is_fetched = refl
 
 no_more_past_255 : fetched_after (less (wanted_by (Some 255)) 255) (0x61, 0x00) ≡ None
 no_more_past_255 = refl
 
--- a fetch that brings nothing, though more is announced, stalls
+-- an exchange stalls if a fetch brings nothing and more is announced
 second_stalls : Stall (get 256)
     (Single (refused get_data 0 (0x61, 0x05)) ∷ Single (refused get_response 5 (0x61, 0x05)) ∷ [])
 second_stalls = record {
@@ -229,7 +229,7 @@ no_fetch_after_nothing : IsFollowed (By_fetch 5) Everything
     (Single (refused get_response 5 (0x61, 0x05))) 5 → ⊥
 no_fetch_after_nothing followed = followed.brings refl
 
--- the first unit does not
+-- the first unit does not stall
 first_does_not_stall : Stall (get 256) (Single (refused get_data 0 (0x61, 0x05)) ∷ []) → ⊥
 first_does_not_stall stall = by stall.is_open.before stall.is_open.units_are stall.is_open.followed
   where

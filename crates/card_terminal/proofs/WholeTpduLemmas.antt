@@ -1,4 +1,4 @@
--- The answer to a whole TPDU takes an exchange as far as a dialogue that gives it.
+-- The answer to a whole TPDU has the effect of a dialogue that gives it.
 use Rattle.std.proofs.Common.{◌≡◌, ℕ, ◌+◌, ◌-◌, ◌<◌, List, [], ◌∷◌, ◌++◌, length, length-append, refl, sym, subst, ◌∙◌, ap, arith, inl, inr, ◌⊎◌, true, false, Bool, Option, Some, None, is_some, append-nil, append_assoc, if◌then◌else◌, ◌==◌, eq-eqb}
 use Rattle.std.specs.Prelude.{IsSome, ◌↔◌}
 use Rattle.std.specs.Option.{option_map}
@@ -32,7 +32,7 @@ use Rattle.card_terminal.proofs.UnitLemmas.{received_of}
 use Rattle.card_terminal.proofs.ExchangeLemmas.{IsSameRequest, opened_too, place_too, with_host, sending_is_going, seen_under_way}
 use Rattle.card_terminal.proofs.ComesToLemmas.{done_sends_nothing, failed_sends_nothing, over_turn, failed_turn}
 
--- the TPDU under way stands at another front, with the data that it has brought
+-- the current TPDU is at another front, with the data that it has brought
 pub stands_at : (c : Command) (ex : ExchangeOf) (host : Hosting) (units : List UnitOf)
     (first : Option Dialogue) (front : Front) (bytes : List ℕ) → UnderWay c ex units first fresh
     → IsSameRequest ex.host host → IsRequest host → IsFront front → HostStandsAt host front
@@ -67,7 +67,7 @@ up_to_sw2 c ex units first bytes sw d under gives stands =
     (record { header = refl; p3 = refl; direction = refl; content = refl }) under.request
     (whole_front d gives.is_dialogue) stands (sym gives.brings ∙ received_of d.body d.status)
 
--- an exchange to which a TPDU is due stands at the fresh front
+-- an exchange that returns a whole TPDU is at the fresh front
 pub due_front : (c : Command) (came : List Character) (ex : ExchangeOf) → IsKept ex
     → is_due ex.host ≡ true → ComesTo c came ex
     → (units : List UnitOf) × (first : Option Dialogue) × UnderWay c ex units first fresh
@@ -101,7 +101,7 @@ due_front c came ex kept due leads = by leads
     by (to_fault units first front before b fault under why final failed same is) =
         absurd (failed_sends_nothing sends.0 (exchange_turn ex) failed sends.1)
 
--- where the room is too small, the first character that is too much is the fault
+-- if the data exceed the room, the first character that exceeds it is the fault
 pub leads_too_long : (c : Command) (came : List Character) (ex new : ExchangeOf) (d : Dialogue)
     → IsKept ex → is_due ex.host ≡ true → ComesTo c came ex → IsOpenedBy ex.host d.body
     → IsDialogue d → ex.gather.limit < length ex.gather.bytes + length (received d)
@@ -148,7 +148,7 @@ leads_too_long c came ex new d kept due leads opened is over failed same =
           (ap (λ cs. cs ++ (Card, o.byte) ∷ []) came_is);
     }
 
--- ---- as the call says it
+-- ---- in the words of the call's contract
 
 -- The end has taken an answer with these data and this status.
 pub record TookAnswer (ex : ExchangeOf) (host : Hosting) (room : Room) (bytes : List ℕ)
@@ -239,7 +239,7 @@ under_took c ex seen host room units first bytes sw d is took gives under =
     (gives_inside ex seen bytes sw d is gives)
     (stood ex host room bytes sw d took (gives_inside ex seen bytes sw d is gives))))
 
--- where they led to the exchange before the answer, the TPDU is at its fresh front
+-- if characters led to the exchange before the answer, its TPDU is at the fresh front
 pub front_took : (c : Command) (came : List Character) (ex seen : ExchangeOf) (host : Hosting)
     (room : Room) (bytes : List ℕ) (sw : StatusWord) → ex ≡ seen
     → TookAnswer ex host room bytes sw → ComesTo c came seen
@@ -282,7 +282,7 @@ leads_all c came new host d bytes sw byte is gives leads =
     ∙ ap (λ cs. came ++ cs) (sym (ends_with (After_first d.body sw.0) byte d
     (ends_took host d bytes sw byte is gives)))) leads
 
--- ---- where the end refuses it
+-- ---- if the end refuses it
 
 over_room : (ex seen : ExchangeOf) (bytes : List ℕ) → ex ≡ seen
     → answer_fault ex.host ex.gather bytes ≡ Some AnswerTooLong
@@ -293,7 +293,7 @@ over_room ex seen bytes is e =
     (long_where _ _ _ ex.host.direction e).1 in
     subst P is (omega (arith, over))
 
--- a TPDU that is due is refused for want of room
+-- the answer to a whole TPDU is refused because the room is too small
 pub refused_ends : (c : Command) (ex seen : ExchangeOf) (units : List UnitOf)
     (first : Option Dialogue) (bytes : List ℕ) (fault : AnswerFault) → ex ≡ seen
     → UnderWay c seen units first fresh → (fault ≡ NotDue) ⊎ (fault ≡ AnswerTooLong)
@@ -341,7 +341,7 @@ refused_leads c came ex seen host bytes sw d fault is kept leads gives host_is (
           (ap (λ (r : Room). r.limit) (sym room_is)),
     )
 
--- ---- what is due
+-- ---- the next TPDU
 
 some_due : (o : Option WholeTpdu) (host : Hosting) → option_map asked_of o ≡ due_by host
     → is_some o ≡ is_due host
@@ -354,7 +354,7 @@ some_due o host e = some o ∙ ap is_some e ∙ some_where (is_due host) (asked_
   some_where true a = refl
   some_where false a = refl
 
--- it is due exactly where no character of the TPDU has gone
+-- there is a whole TPDU exactly if no character of it was sent
 pub due_where_fresh : (o : Option WholeTpdu) (c : Command) (ex : ExchangeOf)
     (units : List UnitOf) (first : Option Dialogue) (front : Front)
     → option_map asked_of o ≡ due_by ex.host → UnderWay c ex units first front

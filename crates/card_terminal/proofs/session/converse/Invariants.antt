@@ -3,7 +3,7 @@ use Rattle.apdu_core.specs.CommandBytes.{Command}
 use Rattle.card_terminal.specs.Line.{line, begun, Begins, left, IsDone, IsOneOf}
 use Rattle.card_terminal.proofs.session.converse.Given as goal
 
--- A TPDU is under way or the exchange is over, since whatever led to the beginning.
+-- The exchange is in progress or has ended, since its start.
 abbrev pub invariant-talk : goal.invariant-talk
 invariant-talk g l =
     let card = g.C.TpduCard in

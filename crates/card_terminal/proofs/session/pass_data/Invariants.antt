@@ -4,7 +4,8 @@ use Rattle.t0_core.specs.Plan.{Cursor, plain}
 use Rattle.card_terminal.specs.Line.{line, Keeps}
 use Rattle.card_terminal.proofs.session.pass_data.Given as goal
 
--- A TPDU that was under way still is, with no more characters left; an exchange that was over is.
+-- An exchange that was in progress still is, with no more characters left; one that had ended still
+-- has.
 abbrev pub invariant-data : goal.invariant-data
 invariant-data g l =
     let hearing = g.W.Watch.hearing in
@@ -12,6 +13,6 @@ invariant-data g l =
     (line l.fn.exchange l.fn.end cursor (hearing l.fn.watch))
     (line l.exchange l.end cursor (hearing l.watch))
 
--- each character of the terminal leaves the card's end fewer to go
+-- each character of the terminal leaves fewer for the card's end
 abbrev pub decreases-data : goal.decreases-data
 decreases-data g l = still_to_go l.end.stage plain

@@ -7,7 +7,7 @@ use Rattle.card_terminal.specs.ExchangeSide.{response_limit}
 use Rattle.card_terminal.proofs.RunLemmas.{HaveBeen}
 use Rattle.card_terminal.proofs.session.Session.chain.Given as goal
 
--- One command is over, and those before it, each answered 9000; the others are still to come.
+-- One command has ended, after those before it, each with the status 9000; the others follow.
 abbrev pub invariant-pieces : goal.invariant-pieces
 invariant-pieces g l =
     let card = g.C.TpduCard in

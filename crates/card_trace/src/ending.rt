@@ -10,7 +10,7 @@ use clap::error::ErrorKind;
 use std::io::Write;
 
 /// How the program ends.
-#[derive(Clone, Copy, Debug, PartialEq, Eq)]
+#[derive(Clone, Copy)]
 pub struct Ending {
     /// The exit status, 0 to 2.
     pub status: u8,

@@ -4,7 +4,7 @@ ghost use Rattle.card_trace.specs.declared.script.keyword.Keyword.{Keyword};
 ghost use Rattle.card_trace.specs.ScriptKeywords.{keyword_text};
 
 /// The first words of table lines that both subcommands have.
-#[derive(Clone, Copy, Debug, PartialEq, Eq)]
+#[derive(Clone, Copy)]
 pub enum TableWord {
     App,
     Object,
@@ -12,7 +12,7 @@ pub enum TableWord {
 }
 
 /// The first words of lines, of both subcommands.
-#[derive(Clone, Copy, Debug, PartialEq, Eq)]
+#[derive(Clone, Copy)]
 pub enum Keyword {
     Adds(TableWord),
     Atr,

@@ -8,7 +8,7 @@ use std::marker::Model;
 
 /// The lines of a script that are left. A line ends at LF, which the last may lack, and a CR right
 /// before LF is not part of it. Contracts see the list of these lines.
-#[derive(Debug, Drop)]
+#[derive(Drop)]
 pub struct Lines<'a> {
     rest: &'a [u8],
 }

@@ -5,7 +5,7 @@ use std::error::Error;
 use std::fmt;
 
 /// Why a line of a script is refused.
-#[derive(Clone, Copy, Debug, PartialEq, Eq, Hash)]
+#[derive(Clone, Copy, Debug, PartialEq, Eq)]
 pub enum Reason {
     /// No line of the subcommand starts with this word.
     UnknownWord,

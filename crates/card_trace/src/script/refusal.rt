@@ -5,7 +5,7 @@ use object_card::BuilderFault;
 use std::alloc::AllocError;
 
 /// Why a line of a script is not carried out.
-#[derive(Clone, Copy, Debug, PartialEq, Eq)]
+#[derive(Clone, Copy)]
 pub enum Refusal {
     /// The line is refused for this reason.
     Line(Reason),

@@ -281,12 +281,6 @@ pub is_false : (v : Bool) → (v ≡ true → ⊥) → v ≡ false
 is_false true h = absurd (h refl)
 is_false false h = refl
 
--- no characters are within what is asked for
-pub none_within : (most : Option ℕ) (none : List ℕ) → none ≡ [] → IfSome most (λ n. length none ≤ n)
-none_within None none is = tt
-none_within (Some n) none is = let no_length : length none ≡ 0 = ap length is in
-    omega (arith, no_length)
-
 pub within_by_one : (most : Option ℕ) (handed : ℕ) (items more : List ℕ) (byte : ℕ) (v : Bool) → v
     ≡ true
     → handed ≡ length items → more ≡ items ++ byte ∷ []

@@ -20,7 +20,7 @@ use Rattle.clap.specs.declared.error.kind.ErrorKind.{ErrorKind}
 use Rattle.clap.specs.declared.error.kind.ErrorKind.TheVariants.{OutOfMemory}
 use Rattle.card_trace.specs.declared.program_fault.ProgramFault.{ProgramFault}
 use Rattle.card_trace.specs.declared.program_fault.ProgramFault.TheVariants as fault
-use Rattle.card_trace.specs.CommandLine.{program, request_named, request_in, Asked, Play, Card, Objects, Stops, StopsAt, IsCall, AreRefused, IsUnanswered}
+use Rattle.card_trace.specs.CommandLine.{program, request_named, request_in, Asked, Play, Card, Objects, Stops, StopsAt, IsCall, AreRefused}
 
 -- both are empty
 or_else-nil : (a b : Kinds) → or_else a b ≡ [] → (a ≡ []) × (b ≡ [])
@@ -254,11 +254,6 @@ met app words m is kinds matches =
     let rows = (subst Matches_at is matches simple).1 in
     record { no_fault = none; rows = rows; named = subst IsNamed (sym rows) (taken words none) }
 
-pub some_if_named : {B : Type 0} (f : B → Text × List Row) (s : Option B) → IsNamed (option_map f s)
-    → is_some s ≡ true
-some_if_named f None h = absurd h
-some_if_named f (Some b) h = refl
-
 pub found_whole : {B : Type 0} (n : B → Text) (r : B → List Row) (s : Option B) (name : Text)
     (rows : List Row) → option_map n s ≡ Some name
     → option_map (λ (p : Text × List Row). p.1)
@@ -312,15 +307,6 @@ pub refused_for : (kinds : Kinds) (k : ErrorKind) → (k ≡ OutOfMemory) ⊎ Is
     → k ≢ OutOfMemory → AreRefused kinds
 refused_for kinds k (inl memory) call no_memory = absurd (no_memory memory)
 refused_for kinds k (inr among) call no_memory = (k, among, call, no_memory)
-
--- which fault is printed if the program answers neither with matches nor with a mistake in the
--- words
-pub unanswered_for : (kinds : Kinds) (k : ErrorKind) (IsPrinted : ProgramFault → Type 0)
-    → (k ≡ OutOfMemory) ⊎ IsAmong k kinds → (k ≡ OutOfMemory → IsPrinted fault.OutOfMemory)
-    → (k ≡ OutOfMemory) ⊎ (IsCall k × IsPrinted fault.Write) → IsUnanswered kinds IsPrinted
-unanswered_for kinds k IsPrinted (inl memory) printed ended = inr (printed memory)
-unanswered_for kinds k IsPrinted (inr among) printed (inl memory) = inr (printed memory)
-unanswered_for kinds k IsPrinted (inr among) printed (inr call) = inl ((k, among, call.0), call.1)
 
 -- after status 1 there is a fault, and it is printed
 pub has_fault : {T E : Type 0} (r : Result T E) (status : ℕ) (P IsPrinted : E → Type 0)

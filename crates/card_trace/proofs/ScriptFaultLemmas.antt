@@ -16,7 +16,7 @@ use Rattle.card_trace.specs.declared.script.refusal.Refusal.TheVariants.{Line, O
 use Rattle.card_trace.specs.ScriptReasons.{fault_at, OnReason}
 use Rattle.card_trace.specs.ScriptReading.{IsReadingFault}
 use Rattle.card_trace.specs.Script.{Script, Building}
-use Rattle.card_trace.specs.ScriptFaults.{IsLeftAfter, ScriptStops, IsNotBegun}
+use Rattle.card_trace.specs.ScriptFaults.{IsLeftAfter, ScriptStops}
 use Rattle.card_trace.specs.LineFaults.{IsFaultOfLine}
 
 -- what holds of the bytes read holds of the script
@@ -99,19 +99,3 @@ stops_unread s script old OutOfMemory is long = ([], Appends-nil old, of script)
   }
 stops_unread s script old (Refused line reason) is long = absurd is
 stops_unread s script old Write is long = absurd is
-
-pub not_begun : {T : Type 0} (r : Result T PlayFault) (fault : PlayFault)
-    (script old : Option (List ℕ)) → IsErrAnd r (λ e. e ≡ fault) → IsReadingFault fault
-    → IfSome script (λ bytes. SCRIPT_LIMIT < length bytes → IsNotBegun r old old)
-not_begun r fault None old same is = tt
-not_begun (Ok x) fault (Some bytes) old same is = λ long. absurd same
-not_begun (Err e) fault (Some bytes) old same is =
-    λ long. (subst IsReadingFault (sym same) is, refl)
-
--- a script that was read keeps to the limit
-pub within_limit : (script : Option (List ℕ)) (items : List ℕ) (P : Type 0)
-    → IfSome script (λ bytes. items ≡ bytes) → length items ≤ SCRIPT_LIMIT
-    → IfSome script (λ bytes. SCRIPT_LIMIT < length bytes → P)
-within_limit script items P read fits =
-    of_script script items (λ bytes. SCRIPT_LIMIT < length bytes → P) read
-    (λ long. absurd (omega (arith, long, fits)))

@@ -6,7 +6,6 @@ use Rattle.std.specs.Str.{bytes_eq}
 use Rattle.std.proofs.lemmas.Slice.Eq.{bytes_eq-Decides}
 use Rattle.std.proofs.lemmas.Bool.{lt-ltb, eqb-true}
 use Rattle.std.proofs.lemmas.List.Sums.{split_at_first}
-use Rattle.t0_core.specs.Plan.{Course}
 use Rattle.std.specs.Str.{IsAscii, IsUtf8}
 use Rattle.std.specs.Str.Parse.{AllDigits}
 use Rattle.std.specs.List.{position}
@@ -25,7 +24,7 @@ use Rattle.tlv_core.specs.AddressLaws.{named_is_tag}
 use Rattle.t0_core.specs.declared.plan.Step.{Step}
 use Rattle.t0_core.specs.declared.plan.Step.TheVariants.{Null, One, All}
 use Rattle.card_trace.proofs.ScriptWordLemmas.{first_place, no_place}
-use Rattle.card_trace.specs.ScriptFields.{IsHexText, IsNumberText, IsRepeatedText, IsValueText, no_bytes, plain, repeated, letter_of, IsStepsText, IsPlanText}
+use Rattle.card_trace.specs.ScriptFields.{IsHexText, IsNumberText, IsRepeatedText, IsValueText, no_bytes, plain, repeated, letter_of, IsStepsText}
 
 -- HEX spells one list of bytes
 pub same_bytes : (text a b : List ℕ) → IsHexText text a → IsHexText text b → a ≡ b
@@ -171,17 +170,6 @@ sized_of text byte h =
     let twice : length text ≡ 2 * 1 = (decode_of-ok text (byte ∷ []) h.digits).2 in
     decode_sized-twice text 1 twice ∙ h.digits
 
--- the value in an option
-pub some_of : {T : Type 0} (o : Option T) (x : T) (N : Type 0) (P : T → Type 0) → o ≡ Some x
-    → MatchOption o N P → P x
-some_of None x N P e h = cc e
-some_of (Some y) x N P e h = let same : y ≡ x = cc in subst P same h
-
-pub none_of : {T : Type 0} (o : Option T) (N : Type 0) (P : T → Type 0) → o ≡ None
-    → MatchOption o N P → N
-none_of None N P e h = h
-none_of (Some y) N P e h = cc e
-
 -- the test says that the text is not `-`
 pub differs : (text other : List ℕ) → other ≡ codes "-" → bytes_eq text other ≡ false
     → text ≢ codes "-"
@@ -278,11 +266,3 @@ same_value text a b (repeated digits times e h) (repeated digits' times' e' g) =
     same_repeated (take i text) (drop (i + 1) text) a b
     (value_cut text i a found (repeated digits times e h))
     (value_cut text i b found (repeated digits' times' e' g))
-
--- a number out of range is no cut
-pub no_plan : (a b : List ℕ) (cut : ℕ) → IsNumberText b cut → (cut ≡ 0) ⊎ (256 < cut)
-    → (plan : Course) → IsPlanText a b plan → ⊥
-no_plan a b cut is (inl z) plan h = let same = same_number b cut plan.cut is h.cut in
-    omega (arith, same, z, h.cut_in_range.0)
-no_plan a b cut is (inr big) plan h = let same = same_number b cut plan.cut is h.cut in
-    omega (arith, same, big, h.cut_in_range.1)

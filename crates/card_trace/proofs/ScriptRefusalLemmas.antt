@@ -21,14 +21,6 @@ passed_on (Err e) refusal P Q same f h =
     let R : Refusal → Type 0 = λ x. OnReason x Q in
     subst R (sym same) (reason_implies refusal P Q f h)
 
--- a reason that becomes a refusal
-pub refused_for : {T : Type 0} (r : Result T Refusal) (reason : Reason) (Q : Reason → Type 0)
-    → IsErrAnd r (λ e. e ≡ Line reason) → Q reason → IfErr r (λ e. OnReason e Q)
-refused_for (Ok x) reason Q same h = absurd same
-refused_for (Err e) reason Q same h =
-    let R : Refusal → Type 0 = λ x. OnReason x Q in
-    subst R (sym same) h
-
 pub refuses_more : {T : Type 0} (r : Result T Refusal) (P Q : Reason → Type 0)
     → ((reason : Reason) → P reason → Q reason) → IfErr r (λ e. OnReason e P)
     → IfErr r (λ e. OnReason e Q)

@@ -3,18 +3,10 @@ use Rattle.std.specs.Prelude.{codes, string_bytes, option_map}
 use Rattle.clap.specs.Walk.{rows_of}
 use Rattle.clap.specs.Matches.{found_of}
 use Rattle.clap.specs.Simple.{app_of}
-use Rattle.clap.specs.declared.parser.matches.ArgMatches.TheViews.{out-ArgMatches}
 use Rattle.clap.proofs.WalkLemmas.{first_value-rows}
 use Rattle.card_trace.specs.CommandLine.{asked_by, request_in, request_named}
-use Rattle.card_trace.proofs.CommandLineLemmas.{IsNamed, met, some_if_named, whole, named_asks, digits_read, some_of_map}
+use Rattle.card_trace.proofs.CommandLineLemmas.{IsNamed, met, whole, named_asks, digits_read, some_of_map}
 use Rattle.card_trace.proofs.command_line.parsed.Goals as goal
-
-pub unwrap-requires : goal.unwrap-requires
-unwrap-requires c =
-    let m = c.in_ok-matches.matches in
-    let known = met (app_of c.in_ok-command.field-0) (map string_bytes c.args.words.now) m
-    c.in_ok-command.ensures c.in_ok-matches.ensures.kinds c.in_ok-matches.ensures.matches in
-    c.subcommand.ensures.variant ∙ some_if_named _ (out-ArgMatches m).subcommand known.named
 
 pub unwrap-requires-2 : goal.unwrap-requires-2
 unwrap-requires-2 c =

@@ -1,15 +1,7 @@
-use Rattle.std.proofs.Common.{◌≡◌, ap, length, rules}
+use Rattle.std.proofs.Common.{◌≡◌, length, rules}
 use Rattle.t0_core.specs.declared.end.End.TheVariants.{Card}
-use Rattle.t0_core.specs.Character.{sent_by}
-use Rattle.card_trace.proofs.CardLemmas.{lead_one_more, lead_none, lead_same, none_within, within_by_one, enough_handed}
+use Rattle.card_trace.proofs.CardLemmas.{lead_one_more, lead_same, within_by_one, enough_handed}
 use Rattle.card_trace.proofs.lone_card.handed_out.Goals as goal
-
-pub turns-init : goal.turns-init
-turns-init g c = record {
-  led = lead_none (c.args.end.now, c.args.plans.now) (sent_by Card c.new-characters.result.items)
-      (ap (sent_by Card) c.new-characters.ensures.items);
-  within = none_within c.args.most c.new-characters.result.items c.new-characters.ensures.items;
-}
 
 pub turns-preserved : goal.turns-preserved
 turns-preserved g c = let count : c.len.result ≡ length c.turns.characters.items = search rules in

@@ -3,7 +3,7 @@ use Rattle.clap.specs.Faults.{fault_of}
 use Rattle.clap.specs.Values.{kind_of}
 use Rattle.card_trace.specs.CommandLine.{program, asked_by, Stops}
 use Rattle.card_trace.specs.FaultTexts.{Prints}
-use Rattle.card_trace.proofs.CommandLineLemmas.{refused_for, unanswered_for, has_fault, stops_unread}
+use Rattle.card_trace.proofs.CommandLineLemmas.{refused_for, has_fault, stops_unread}
 use Rattle.card_trace.proofs.main_status.ended.Goals as goal
 
 pub returns-in-Err-clause-refused : goal.returns-in-Err-clause-refused
@@ -11,13 +11,6 @@ returns-in-Err-clause-refused g c =
     λ two. let refused = c.ending_unparsed.ensures.refused two in
     refused_for (fault_of program (map string_bytes c.args.words.now))
     (kind_of c.in-Err.error) c.in-Err.ensures.err refused.0 refused.1
-
-pub returns-in-Err-clause-unanswered : goal.returns-in-Err-clause-unanswered
-returns-in-Err-clause-unanswered g c =
-    λ some one. unanswered_for (fault_of program (map string_bytes c.args.words.now))
-    (kind_of c.in-Err.error) (Prints c.ending_unparsed.result.is_printed _ _) c.in-Err.ensures.err
-    (λ memory. (c.ending_unparsed.ensures.memory memory).2)
-    (c.ending_unparsed.ensures.unanswered one)
 
 pub returns-in-Ok-clause-stops : goal.returns-in-Ok-clause-stops
 returns-in-Ok-clause-stops g c =

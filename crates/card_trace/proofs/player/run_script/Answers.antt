@@ -2,7 +2,7 @@ use Rattle.std.proofs.Common.{Err, refl, sym, ap, ◌≡◌, ◌∙◌}
 use Rattle.std.specs.Str.Lines.{lines}
 use Rattle.card_trace.specs.Script.{Building}
 use Rattle.card_trace.specs.ScriptFaults.{ScriptStops}
-use Rattle.card_trace.proofs.ScriptFaultLemmas.{few_lines, fault_passed, stops_unread, not_begun, within_limit}
+use Rattle.card_trace.proofs.ScriptFaultLemmas.{few_lines, fault_passed, stops_unread}
 use Rattle.card_trace.proofs.ScriptLoopLemmas.{none_yet, one_more, all_done, stops_at}
 use Rattle.card_trace.proofs.player.run_script.Goals as goal
 
@@ -64,18 +64,3 @@ returns-in_err-script-clause-stops g c =
     c.from_residual.ensures.1
     (stops_unread s script old c.in_err-script.field-0.0 c.in_err-script.ensures.fault
     (λ same. c.in_err-script.ensures.too_long (ap (λ f. Err f) same)))
-
-pub returns-in_err-script-clause-limited : goal.returns-in_err-script-clause-limited
-returns-in_err-script-clause-limited g c =
-    not_begun c.from_residual.result c.in_err-script.field-0.0 _ _ c.from_residual.ensures.1
-    c.in_err-script.ensures.fault
-
-pub returns-in_err-player-clause-limited : goal.returns-in_err-player-clause-limited
-returns-in_err-player-clause-limited g c =
-    within_limit _ c.in_ok-script.script.items _ c.in_ok-script.ensures.whole
-    c.in_ok-script.ensures.fits
-
-pub returns-clause-limited : goal.returns-clause-limited
-returns-clause-limited g c =
-    within_limit _ c.in_ok-script.script.items _ c.in_ok-script.ensures.whole
-    c.in_ok-script.ensures.fits

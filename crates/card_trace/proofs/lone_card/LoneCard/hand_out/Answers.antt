@@ -1,10 +1,8 @@
-use Rattle.std.proofs.Common.{ap, refl, sym, ◌∙◌, true≢false}
+use Rattle.std.proofs.Common.{ap, refl, ◌∙◌}
 use Rattle.t0_core.specs.declared.end.End.TheVariants.{Card}
 use Rattle.t0_core.specs.Character.{sent_by}
-use Rattle.card_trace.specs.AnswerToReset.{AnswerToReset}
 use Rattle.card_trace.specs.TraceText.{handed_out_text}
-use Rattle.card_trace.specs.CardScripts.{HandsOutNext, of_answer, of_end}
-use Rattle.card_trace.specs.CardPlaying.{end_at}
+use Rattle.card_trace.specs.CardScripts.{HandsOutNext, of_end}
 use Rattle.card_trace.proofs.ScriptRefusalLemmas.{ok_more}
 use Rattle.card_trace.proofs.CardLemmas.{leads_by}
 use Rattle.card_trace.proofs.lone_card.LoneCard.hand_out.Goals as goal
@@ -26,16 +24,3 @@ returns-then-is_over g c =
       prints = prints ∙ ap handed_out_text c.deref.ensures.value;
     }) refl))
     c.handed_out_text.ensures
-
-pub returns : goal.returns
-returns g c = λ past ready.
-    let now = c.args.self.now in (
-      past,
-      ready,
-      of_answer (λ none. true≢false (sym (c.is_over.ensures.1 none) ∙ c.if-is_over.false))
-          (c.in_ok-text.ensures ∙ ap handed_out_text c.next_characters.ensures)
-          (ap (λ (a : AnswerToReset). record {
-            answer = a;
-            end = end_at past (now.end, now.plans);
-          }) c.pass.ensures),
-    )

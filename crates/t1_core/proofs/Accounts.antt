@@ -1,4 +1,4 @@
--- A fault comes exactly when there is a reason, whatever any peer sends.
+-- A terminal is in a fault exactly if there is a reason, whatever any peer sends.
 use Rattle.std.proofs.Common.{◌≡◌, refl, sym, ap, subst, ℕ, zero, suc, ◌+◌, ◌≤◌, ◌<◌, Bool, true, false, List, [], ◌∷◌, ◌++◌, length, length-append, nat_lt, Option, Some, None, cond, ◌==◌, arith}
 use Rattle.t1_core.specs.declared.control.Control.{Control}
 use Rattle.t1_core.specs.declared.control.Control.TheVariants.{Resynch, Ifs, Abort, Wtx}
@@ -21,7 +21,7 @@ module _ (s : Settings) where
       (t.settings ≡ s) × (t.tries ≤ s.tries) × (t.extensions ≤ s.extensions)
       × (length t.got ≤ s.limit) × (is_size t.size ≡ true)
 
-  -- while a block is awaited
+  -- the terminal waits for a block
   abbrev Active : ℕ → Terminal → Account → Type 0
   Active aborts t a =
       (a.fruitless + t.tries ≡ s.tries) × (a.grants + t.extensions ≡ s.extensions)
@@ -41,45 +41,28 @@ module _ (s : Settings) where
 
   no_reason : (a : Account) → a.fruitless ≤ s.tries → a.grants ≤ s.extensions → a.arrived ≤ s.limit
       → a.aborts ≤ 1 → reason s a ≡ None
-  no_reason a f g l b =
-      let e : nat_lt s.tries a.fruitless ≡ false = grind (arith, f) in
-      let d : nat_lt s.extensions a.grants ≡ false = grind (arith, g) in
-      let c : nat_lt s.limit a.arrived ≡ false = grind (arith, l) in
-      let x : nat_lt 1 a.aborts ≡ false = grind (arith, b) in
-      rw (e, d, c, x) refl
+  no_reason a f g l b = grind (arith, f, g, l, b)
 
   tries_reason : (a : Account) → s.tries < a.fruitless → reason s a ≡ Some TriesSpent
-  tries_reason a f = let e : nat_lt s.tries a.fruitless ≡ true = grind (arith, f) in rw e refl
+  tries_reason a f = grind (arith, f)
 
   extensions_reason : (a : Account) → a.fruitless ≤ s.tries → s.extensions < a.grants
       → reason s a ≡ Some ExtensionsSpent
-  extensions_reason a f g =
-      let e : nat_lt s.tries a.fruitless ≡ false = grind (arith, f) in
-      let d : nat_lt s.extensions a.grants ≡ true = grind (arith, g) in
-      rw (e, d) refl
+  extensions_reason a f g = grind (arith, f, g)
 
   long_reason : (a : Account) → a.fruitless ≤ s.tries → a.grants ≤ s.extensions
       → s.limit < a.arrived → reason s a ≡ Some TooLong
-  long_reason a f g l =
-      let e : nat_lt s.tries a.fruitless ≡ false = grind (arith, f) in
-      let d : nat_lt s.extensions a.grants ≡ false = grind (arith, g) in
-      let c : nat_lt s.limit a.arrived ≡ true = grind (arith, l) in
-      rw (e, d, c) refl
+  long_reason a f g l = grind (arith, f, g, l)
 
   abort_reason : (a : Account) → a.fruitless ≤ s.tries → a.grants ≤ s.extensions
       → a.arrived ≤ s.limit → 1 < a.aborts → reason s a ≡ Some Aborted
-  abort_reason a f g l b =
-      let e : nat_lt s.tries a.fruitless ≡ false = grind (arith, f) in
-      let d : nat_lt s.extensions a.grants ≡ false = grind (arith, g) in
-      let c : nat_lt s.limit a.arrived ≡ false = grind (arith, l) in
-      let x : nat_lt 1 a.aborts ≡ true = grind (arith, b) in
-      rw (e, d, c, x) refl
+  abort_reason a f g l b = grind (arith, f, g, l, b)
 
-  -- one reception: whether N(S) and N(R) stay decides what counts
+  -- one reception: it counts by whether N(S) and N(R) stay the same
   abbrev Next : Option Block → (old new : Terminal) → Account → Type 0
   Next b old new a = (v : Bool) × (stays old new ≡ v) × Stands new (counted v old.phase b a)
 
-  -- no step forward, and what then counts
+  -- without progress, with these counts
   abbrev Stays : (old new : Terminal) → Account → Type 0
   Stays old new a = (stays old new ≡ true) × Stands new a
 
@@ -195,7 +178,7 @@ module _ (s : Settings) where
               },
             )
 
-  -- N(S) is no part of what stands
+  -- N(S) does not matter here
   renumbered : (t : Terminal) (a : Account) (number : Bool) → Stands t a
       → Stands (record t { number = number }) a
   renumbered t a number h = record { within = h.within; in_phase = again t.phase h.in_phase } where
@@ -373,10 +356,7 @@ module _ (s : Settings) where
   reception (GivenUp cause) t a b h = h
 
   is_ifsc : (n : ℕ) → 0 < n → n < 255 → is_size n ≡ true
-  is_ifsc n some few =
-      let zero_not : (n == 0) ≡ false = grind (arith, some) in
-      let full_not : (n == 255) ≡ false = grind (arith, few) in
-      rw (zero_not, full_not) refl
+  is_ifsc n some few = grind (arith, some, few)
 
   begun : (t : Terminal) (command : List ℕ) → Within t → Stands (begins command t) nothing
   begun t command h =

@@ -1,4 +1,4 @@
--- A block is spelled in one way, and read as it is spelled.
+-- Reading the bytes of a block gives the same block.
 use Rattle.std.proofs.Common.{◌≡◌, refl, sym, ap, subst, ◌∙◌, ℕ, ◌+◌, ◌≤◌, Bool, true, false, Option, None, List, [], ◌∷◌, ◌++◌, length, take, Some, slice_index, length-append, arith, nat_lt, ◌==◌, eq-eqb}
 use Rattle.std.specs.List.{slice_range}
 use Rattle.std.proofs.lemmas.Option.{same_Some}
@@ -13,7 +13,7 @@ use Rattle.t1_core.specs.declared.control.Control.TheVariants as control
 use Rattle.t1_core.specs.Block.{Block, I, R, Request, Response, is_filled}
 use Rattle.t1_core.specs.BlockBytes.{lrc, before_lrc, spelled, parts_of, block_in, block_of, bytes_of, pcb_for, info_of, control_of, controlled, field_of, subject_of}
 
--- of all PCBs
+-- each PCB is read back
 pub pcb_again : (p : Pcb) → pcb_of (pcb_byte p) ≡ Some p
 pcb_again (Information true true) = refl
 pcb_again (Information false true) = refl
@@ -23,7 +23,7 @@ pcb_again (Supervisory true Resynch) = refl
 pcb_again (Supervisory false Resynch) = refl
 pcb_again _ = refl
 
--- where each test holds
+-- the tests of `parts_of`, one premise each
 reads : (bytes info : List ℕ) (p : Pcb) (len : ℕ) → slice_index bytes 2 ≡ len → length bytes ≡
     len + 4 → len ≤ 254
     → slice_index bytes 0 ≡ 0 → slice_index bytes 1 ≡ pcb_byte p → slice_index bytes (len + 3) ≡
@@ -53,7 +53,7 @@ reads_spelled p info few =
     (ap (λ k. take k (info ++ lrc front ∷ [])) (omega arith) ∙ take-append_seam info
     (lrc front ∷ []))
 
--- a block is read as it is written
+-- each block is read back
 controls : (c : Control) → control_of (subject_of c) (field_of c) ≡ Some c
 controls control.Resynch = refl
 controls _ = refl
@@ -71,7 +71,7 @@ pub reads_written : (b : Block) (bytes : List ℕ) → length (info_of b) ≤ 25
 reads_written b bytes few filled is =
     ap block_of is ∙ ap block_in (reads_spelled (pcb_for b) (info_of b) few) ∙ block_again b filled
 
--- what is read has a field inside a chain
+-- a block that was read has a field if its more-data bit is set
 controlled_is_filled : (response : Bool) (c : Option Control) (b : Block)
     → controlled response c ≡ Some b → is_filled b ≡ true
 controlled_is_filled response None b e = absurd (cc)

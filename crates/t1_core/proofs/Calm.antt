@@ -1,4 +1,4 @@
--- With twice as many tries as blocks that do not arrive, the terminal does not give up.
+-- With twice as many tries as blocks that fail to arrive, the terminal does not give up.
 use Rattle.std.proofs.Common.{◌≡◌, ◌≢◌, refl, sym, ap, subst, ◌∙◌, ℕ, zero, suc, ◌+◌, ◌-◌, ◌*◌, ◌≤◌, Bool, true, false, List, [], ◌∷◌, ◌++◌, length, take, drop, nat_lt, length-append, Option, Some, None, arith, ◌⊎◌, inl, inr}
 use Rattle.std.proofs.lemmas.List.{take-append-drop}
 use Rattle.t1_core.specs.declared.line.Fate.{Fate}
@@ -13,7 +13,7 @@ use Rattle.t1_core.specs.Block.{other, is_size}
 use Rattle.t1_core.specs.CardSide.{Meaning}
 use Rattle.t1_core.specs.Mild.{bad_of, bad, Stays, IsMild, Enough, IsSize, count_of}
 use Rattle.t1_core.specs.World.{World, exchange, run, start}
-use Rattle.t1_core.proofs.Places.{Kept, Place, Opens, Behind, Taken, Waits, Grows, Answering, Between, Repeating, Given_up, Finished, uses, proceeds, starts, out_at, world_of, heard, misses, comes, comes_first, comes_next, is_long, IsHeard, is_heard, grows, flips, arrived, garbled, step, is_step}
+use Rattle.t1_core.proofs.Places.{Kept, Place, Opens, Behind, Taken, Waits, Grows, Answering, Between, Repeating, Given_up, Finished, uses, proceeds, starts, out_at, world_of, heard, misses, comes, comes_next, is_long, IsHeard, is_heard, grows, arrived, garbled, step, is_step}
 use Rattle.t1_core.proofs.Holding.{first, first_is}
 use Rattle.t1_core.proofs.Bits.{other_is_not}
 
@@ -31,7 +31,7 @@ abbrev one_if_not : Bool → ℕ
 one_if_not true = 0
 one_if_not false = 1
 
--- the place once the terminal has asked again
+-- the place after the terminal has asked again
 abbrev asking : Place → Place
 asking (Behind k collected rest answering tries extensions asks) =
     Behind k collected rest answering tries extensions true
@@ -51,7 +51,7 @@ module _ (m : Meaning) (before : List (List ℕ)) (f : ℕ) where
     pub enough : Enough m f settings
     pub fits : long ≤ settings.limit
 
-  -- so many blocks may fail to arrive before the next step forward
+  -- `left` blocks may fail to arrive before the next step
   abbrev pub Calm : ℕ → Place → Type 0
   Calm left (Opens k rest tries extensions asks) =
       Quiet left tries (2 * left) k.settings 0 × (k.settings.extensions ≤ extensions)
@@ -74,7 +74,7 @@ module _ (m : Meaning) (before : List (List ℕ)) (f : ℕ) where
   Calm left (Given_up w cause) = ⊥
   Calm left (Finished w) = Unit {0}
 
-  -- no step forward, and so many are still borne; or one, and all are
+  -- without progress `left` more may fail, with progress all `f`
   abbrev Goes : ℕ → Bool × Bool → Place → Type 0
   Goes left old p = ((numbers p ≡ old) × Calm left p) ⊎ ((numbers p ≡ old → ⊥) × Calm f p)
 
@@ -94,44 +94,47 @@ module _ (m : Meaning) (before : List (List ℕ)) (f : ℕ) where
   uses_calm cause zero left w again some h = absurd (omega (arith, some))
   uses_calm cause (suc n) left w again some h = h n (omega arith)
 
-  -- one block fewer
-  misses_calm : (out : Out) (p : Place) (left : ℕ) → Calm (left + 1) p → Calm left
-      (misses m before out p)
+  -- one block fails to arrive
+  fewer : {left tries most long : ℕ} {settings : Settings} (now need : ℕ) → need + 1 ≤ most
+      → tries ≤ now + 1 → Quiet (left + 1) tries most settings long
+      → Quiet left now need settings long
+  fewer now need le less q =
+      let t = q.tries_left in
+      let l = q.left_le in
+      quiet _ now need q (omega (arith, le, less, t)) (omega (arith, l))
+
+  tried : {left tries most long : ℕ} {settings : Settings} (w : World) (again : ℕ → Place)
+      (need : ℕ) → need + 1 ≤ most → Quiet (left + 1) tries most settings long
+      → ((i : ℕ) → Quiet left i need settings long → Calm left (again i))
+      → Calm left (uses TriesSpent tries w again)
+  tried w again need le q h =
+      let t = q.tries_left in
+      uses_calm TriesSpent _ _ w again (omega (arith, t, le))
+      (λ i e. h i (fewer i need le (omega (arith, e)) q))
+
+  misses_calm : (out : Out) (p : Place) (left : ℕ) → Calm (left + 1) p
+      → Calm left (misses m before out p)
   misses_calm out (Opens k rest tries extensions asks) left h =
-      uses_calm TriesSpent tries left _ _ (let q = h.0.tries_left in omega (arith, q))
-      (λ i e. let q = h.0.tries_left in let l = h.0.left_le in
-      (quiet left i (2 * left) h.0 (omega (arith, e, q)) (omega (arith, l)), h.1))
+      tried _ _ (2 * left) (omega arith) h.0 (λ i q. (q, h.1))
   misses_calm out (Behind k collected rest answering tries extensions asks) left h =
-      uses_calm TriesSpent tries left _ _ (let q = h.0.tries_left in omega (arith, q))
-      (λ i e. let q = h.0.tries_left in let l = h.0.left_le in
-      (quiet left i (2 * left + 1) h.0 (omega (arith, e, q)) (omega (arith, l)), h.1))
+      tried _ _ (2 * left + 1) (omega arith) h.0 (λ i q. (q, h.1))
   misses_calm out (Taken k collected b bytes tries extensions) left h =
-      uses_calm TriesSpent tries left _ _ (let q = h.0.tries_left in omega (arith, q))
-      (λ i e. let q = h.0.tries_left in let l = h.0.left_le in
-      (quiet left i (2 * left) h.0 (omega (arith, e, q)) (omega (arith, l)), h.1))
+      tried _ _ (2 * left) (omega arith) h.0 (λ i q. (q, h.1))
   misses_calm out (Waits k rest n size granted tries extensions) left h =
-      uses_calm TriesSpent tries left _ _ (let q = h.0.tries_left in omega (arith, q))
-      (λ i e. let q = h.0.tries_left in let l = h.0.left_le in let x = h.1 in
-      (quiet left i (2 * left) h.0 (omega (arith, e, q)) (omega (arith, l)), omega (arith, x), h.2))
+      let x = h.1 in
+      tried _ _ (2 * left) (omega arith) h.0 (λ i q. (q, omega (arith, x), h.2))
   misses_calm out (Grows k rest size granted tries extensions) left h =
-      uses_calm TriesSpent tries left _ _ (let q = h.0.tries_left in omega (arith, q))
-      (λ i e. let q = h.0.tries_left in let l = h.0.left_le in let x = h.1 in
-      (quiet left i (2 * left) h.0 (omega (arith, e, q)) (omega (arith, l)), omega (arith, x), h.2))
+      let x = h.1 in
+      tried _ _ (2 * left) (omega arith) h.0 (λ i q. (q, omega (arith, x), h.2))
   misses_calm out (Answering k rest tries extensions) left h =
-      uses_calm TriesSpent tries left _ _ (let q = h.tries_left in omega (arith, q))
-      (λ i e. let q = h.tries_left in let l = h.left_le in quiet left i (2 * left) h
-      (omega (arith, e, q)) (omega (arith, l)))
+      tried _ _ (2 * left) (omega arith) h (λ i q. q)
   misses_calm out (Between k got b bytes tries extensions) left h =
-      uses_calm TriesSpent tries left _ _ (let q = h.tries_left in omega (arith, q))
-      (λ i e. let q = h.tries_left in let l = h.left_le in quiet left i (2 * left) h
-      (omega (arith, e, q)) (omega (arith, l)))
+      tried _ _ (2 * left) (omega arith) h (λ i q. q)
   misses_calm out (Repeating k got rest tries extensions) left h =
-      uses_calm TriesSpent tries left _ _ (let q = h.tries_left in omega (arith, q))
-      (λ i e. let q = h.tries_left in let l = h.left_le in quiet left i (2 * left) h
-      (omega (arith, e, q)) (omega (arith, l)))
+      tried _ _ (2 * left) (omega arith) h (λ i q. q)
   misses_calm _ _ left h = h
 
-  -- a place from which nobody has moved
+  -- N(S) and N(R) stay the same
   uses_stays : (cause : Cause) (n : ℕ) (w : World) (again : ℕ → Place) (old : Bool × Bool)
       → (w.terminal.number, w.terminal.due) ≡ old → ((i : ℕ) → numbers (again i) ≡ old)
       → numbers (uses cause n w again) ≡ old
@@ -213,7 +216,7 @@ module _ (m : Meaning) (before : List (List ℕ)) (f : ℕ) where
       }
   heard_calm _ left h = h
 
-  -- to have asked again is the worse place
+  -- a terminal that has asked again has fewer tries, so the other case follows
   unasked : (p : Place) (left : ℕ) → Calm left (asking p) → Calm left p
   unasked (Behind k collected rest answering tries extensions false) left h =
       let q = h.0.tries_left in
@@ -224,32 +227,26 @@ module _ (m : Meaning) (before : List (List ℕ)) (f : ℕ) where
       let x = h.1 in (h.0, omega (arith, x), h.2)
   unasked _ left h = h
 
-  -- and it is borne with a block more
+  -- after one failure more the terminal may have asked again
   asked : (p : Place) (left : ℕ) → Calm (left + 1) p → Calm left (asking p)
   asked (Opens k rest tries extensions asks) left h =
-      let q = h.0.tries_left in let l = h.0.left_le in
-      (quiet left tries (2 * left) h.0 (omega (arith, q)) (omega (arith, l)), h.1)
+      (fewer tries (2 * left) (omega arith) (omega arith) h.0, h.1)
   asked (Behind k collected rest answering tries extensions asks) left h =
-      let q = h.0.tries_left in let l = h.0.left_le in
-      (quiet left tries (2 * left + 1) h.0 (omega (arith, q)) (omega (arith, l)), h.1)
+      (fewer tries (2 * left + 1) (omega arith) (omega arith) h.0, h.1)
   asked (Taken k collected b bytes tries extensions) left h =
-      let q = h.0.tries_left in let l = h.0.left_le in
-      (quiet left tries (2 * left) h.0 (omega (arith, q)) (omega (arith, l)), h.1)
+      (fewer tries (2 * left) (omega arith) (omega arith) h.0, h.1)
   asked (Waits k rest n size granted tries extensions) left h =
-      let q = h.0.tries_left in let l = h.0.left_le in let x = h.1 in
-      (quiet left tries (2 * left) h.0 (omega (arith, q)) (omega (arith, l)), omega (arith, x), h.2)
+      let x = h.1 in
+      (fewer tries (2 * left) (omega arith) (omega arith) h.0, omega (arith, x), h.2)
   asked (Grows k rest size granted tries extensions) left h =
-      let q = h.0.tries_left in let l = h.0.left_le in let x = h.1 in
-      (quiet left tries (2 * left) h.0 (omega (arith, q)) (omega (arith, l)), omega (arith, x), h.2)
+      let x = h.1 in
+      (fewer tries (2 * left) (omega arith) (omega arith) h.0, omega (arith, x), h.2)
   asked (Answering k rest tries extensions) left h =
-      let q = h.tries_left in let l = h.left_le in quiet left tries (2 * left) h
-      (omega (arith, q)) (omega (arith, l))
+      fewer tries (2 * left) (omega arith) (omega arith) h
   asked (Between k got b bytes tries extensions) left h =
-      let q = h.tries_left in let l = h.left_le in quiet left tries (2 * left) h
-      (omega (arith, q)) (omega (arith, l))
+      fewer tries (2 * left) (omega arith) (omega arith) h
   asked (Repeating k got rest tries extensions) left h =
-      let q = h.tries_left in let l = h.left_le in quiet left tries (2 * left) h
-      (omega (arith, q)) (omega (arith, l))
+      fewer tries (2 * left) (omega arith) (omega arith) h
   asked _ left h = h
 
   -- the card's block arrives
@@ -289,38 +286,25 @@ module _ (m : Meaning) (before : List (List ℕ)) (f : ℕ) where
   proceeds_numbers k [] w e = e
   proceeds_numbers k (c ∷ cs) w e = refl
 
-  -- no response of a mild line's card is too long
+  -- no response is too long
   not_long : (limit n : ℕ) → nat_lt limit n ≡ true → n ≤ limit → ⊥
   not_long limit n e le = absurd (grind (arith, e, le))
 
-  first_goes : (v : Bool) (out : Out) (k : Kept) (rest : List ℕ) (tries extensions left : ℕ)
-      → is_long m before k [] ≡ v
-      → Quiet left tries (2 * left) k.settings (length k.last + length rest)
-      → Goes left (k.number, k.due) (comes_first m before v out k rest tries extensions)
-  first_goes true out k rest tries extensions left e h =
-      let fits = h.fits in absurd (not_long _ _ e (omega (arith, fits)))
-  first_goes false out k [] tries extensions left e h = inr (
-    λ e. other_is_not k.number (ap (λ x. x.0) (sym (proceeds_numbers
-        (record (flips k) { answers = k.answers ++ k.last ∷ [] }) k.todo _ refl) ∙ e)),
-    proceeds_calm (record (flips k) { answers = k.answers ++ k.last ∷ [] }) k.todo _ h.enough,
-  )
-  first_goes false out k (b ∷ bytes) tries extensions left e h =
-      inr (λ e. other_is_not k.number (ap (λ x. x.0) e), afresh k.settings _ h.enough h.fits)
-
-  next_goes : (v : Bool) (out : Out) (k : Kept) (got rest : List ℕ) (tries extensions left : ℕ)
+  next_goes : (v : Bool) (out : Out) (k : Kept) (number : Bool) (got rest : List ℕ)
+      (tries extensions left : ℕ)
       → is_long m before k got ≡ v
       → Quiet left tries (2 * left) k.settings (length got + (length k.last + length rest))
-      → Goes left (k.number, k.due) (comes_next m before v out k got rest tries extensions)
-  next_goes true out k got rest tries extensions left e h =
+      → Goes left (number, k.due) (comes_next m before v out k got rest tries extensions)
+  next_goes true out k number got rest tries extensions left e h =
       let fits = h.fits in absurd (not_long _ _ e (omega (arith, fits)))
-  next_goes false out k got [] tries extensions left e h = inr (
+  next_goes false out k number got [] tries extensions left e h = inr (
     λ e. other_is_not k.due (ap (λ x. x.1) (sym (proceeds_numbers
         (record k { due = other k.due; answers = k.answers ++ (got ++ k.last) ∷ [] }) k.todo _
         refl) ∙ e)),
     proceeds_calm (record k { due = other k.due; answers = k.answers ++ (got ++ k.last) ∷ [] })
         k.todo _ h.enough,
   )
-  next_goes false out k got (b ∷ bytes) tries extensions left e h =
+  next_goes false out k number got (b ∷ bytes) tries extensions left e h =
       let fits = h.fits in
       let n = length-append got k.last in
       inr (
@@ -363,10 +347,17 @@ module _ (m : Meaning) (before : List (List ℕ)) (f : ℕ) where
   comes_goes out (Grows k rest size granted tries extensions) left a h =
       grows_goes (is_size size) out k rest size granted tries extensions left refl h
   comes_goes out (Answering k rest tries extensions) left a h =
-      first_goes (is_long m before k []) out k rest tries extensions left refl h
+      next_goes (is_long m before k []) out (record k { number = other k.number }) k.number [] rest
+      tries extensions left refl
+      (record {
+        tries_left = h.tries_left;
+        left_le = h.left_le;
+        enough = h.enough;
+        fits = let x = h.fits in omega (arith, x);
+      })
   comes_goes out (Between k got b bytes tries extensions) left a h = absurd a
   comes_goes out (Repeating k got rest tries extensions) left a h =
-      next_goes (is_long m before k got) out k got rest tries extensions left refl h
+      next_goes (is_long m before k got) out k k.number got rest tries extensions left refl h
   comes_goes out (Given_up w cause) left a h = absurd h
   comes_goes out (Finished w) left a h = inl (refl, tt)
 
@@ -394,7 +385,7 @@ module _ (m : Meaning) (before : List (List ℕ)) (f : ℕ) where
       arrived_goes up _ _ left tt h
   garbled_goes up p left h = missed (out_at p) p left h
 
-  -- so many of both blocks do not arrive
+  -- one exchange; `bad_of` counts the blocks that fail to arrive
   step_goes : (down up : Fate) (p : Place) (left : ℕ) → Calm (left + (bad_of down + bad_of up)) p
       → Goes left (numbers p) (step m before down up p)
   step_goes Delivers Delivers p left h =
@@ -411,7 +402,7 @@ module _ (m : Meaning) (before : List (List ℕ)) (f : ℕ) where
   step_goes Loses _ p left h =
       missed (out_at p) p left (weaker p (left + 1) (subst (λ l. Calm l p) (omega arith) h))
 
-  -- every world
+  -- all worlds
 
   abbrev pub IsCalm : ℕ → World → Type 0
   IsCalm left w = (p : Place) × (w ≡ world_of m before p) × Calm left p

@@ -1,4 +1,4 @@
--- Steps of the card's end, in which it carries out a command or none.
+-- Steps of the card's end with a command carried out, and after memory ran out.
 use Rattle.std.proofs.Common.{◌≡◌, refl, sym, ap, subst, ◌∙◌, ℕ, ◌<◌, false, List, [], ◌∷◌, ◌++◌, length, take, drop, Some}
 use Rattle.std.specs.Prelude.{Result, Ok, Err, OnErr}
 use Rattle.t1_core.specs.declared.applet.Applet.{Ghosts}
@@ -9,7 +9,7 @@ use Rattle.t1_core.specs.CardSide.{Card, Did, Turn, answers_with, carries_out, f
 use Rattle.t1_core.specs.Doing.{EndOf, Goes, Keeps, Steps, most_bytes}
 
 module _ {C : Type 0} (a : Ghosts C) (old mid new : EndOf C) (reply : Reply) where
-  -- a command is carried out, and its first block answers
+  -- the card carries out a command, and sends its first request or field
   pub carried : (d : Did) → a.Does (a.standing old.card) d (a.standing mid.card)
       → length d.response < most_bytes → d.command ≡ old.at.collected
       → mid.at ≡ record old.at {
@@ -60,7 +60,7 @@ module _ {C : Type 0} (a : Ghosts C) (old mid new : EndOf C) (before : ℕ) (f :
     answering = false;
   }) mid new
 
-  -- the field that came last is gone
+  -- the end drops the last field
   forgot : Cut → Keeps a forgets old new
   forgot (stands, kept) = (
     stands ∙ ap a.standing same,

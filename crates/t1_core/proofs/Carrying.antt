@@ -1,4 +1,4 @@
--- Commands one after another, each begun once the one before it has its answer.
+-- Commands one after another; each begins after the answer to the previous one.
 use Rattle.std.proofs.Common.{◌≡◌, refl, sym, ap, subst, ◌∙◌, ℕ, zero, suc, ◌+◌, ◌-◌, ◌*◌, ◌<◌, ◌≤◌, Bool, true, false, List, [], ◌∷◌, ◌++◌, length, map, take, drop, get_or, Option, Some, None, append_assoc, append-nil, length-append, arith, ◌⊎◌, inl, inr}
 use Rattle.std.proofs.lemmas.Bool.{cases_lt}
 use Rattle.std.proofs.lemmas.List.{length-map, map-append, take-append-drop, take_more}
@@ -41,7 +41,7 @@ pub none_yet : (p : Phase) (got : List ℕ) (answers : List (List ℕ)) → is_r
 none_yet Over got answers e = absurd (cc)
 none_yet _ got answers e = refl
 
--- ---- an exchange, with more commands behind
+-- ---- an exchange, with further commands to send
 
 abbrev world_with : Terminal → Card → (todo answers : List (List ℕ)) → World
 world_with t c todo answers = record { terminal = t; card = c; todo = todo; answers = answers }
@@ -91,7 +91,7 @@ pub run_more : (m : Meaning) (fates : List Fates) (x : Fates) (w : World)
 run_more m [] x w = refl
 run_more m (y ∷ ys) x w = run_more m ys x (exchange m y w)
 
--- ---- how many exchanges may come
+-- ---- a bound on the exchanges of one command
 
 few_blocks : (size n : ℕ) → blocks size n ≤ n + 1
 few_blocks size zero = omega arith
@@ -122,7 +122,7 @@ module _ (m : Meaning) (before commands : List (List ℕ))
       zero_times : 0 * k.settings.extensions ≡ 0
       zero_times = omega arith
 
-  -- with no command behind the one in progress
+  -- no command follows the one in progress
   sending_most : (k : Kept) (command rest : List ℕ) (tries extensions : ℕ) → k.todo ≡ []
       → weight m before commands k
       (ahead m before commands k command (more_blocks k.size (length rest))) tries extensions
@@ -200,7 +200,7 @@ most_more settings m commands cs =
     omega (arith, le, n)
 
 module _ {C : Type 0} (a : Ghosts C) where
-  -- ---- what led here leads on
+  -- ---- one step of the history
 
   pub carried_at_first : (settings : Settings) (card : C) (passed : List Fates) (e : EndsOf C)
       → e ≡ record {
@@ -221,7 +221,7 @@ module _ {C : Type 0} (a : Ghosts C) where
         few = λ m h. omega arith;
       })
 
-  -- where both ends are
+  -- the commands so far led to both ends
   here : (past : Past a.State) (now : List Fates) (e : EndsOf C) (h : HasCarried a past now e)
       (m : Meaning) → Agrees m [] h.did
       → run m h.fates (start past.settings [] past.commands) ≡ rest_of e h.did past.answers
@@ -233,7 +233,7 @@ module _ {C : Type 0} (a : Ghosts C) where
   abbrev pub begun : EndsOf C → List ℕ → EndsOf C
   begun e c = record { terminal = begins c e.terminal; card = e.card }
 
-  -- the next command, while none is in progress
+  -- the next command begins, while none is in progress
   abbrev pub and_now : Past a.State → List ℕ → Past a.State
   and_now past c = record past { commands = past.commands ++ c ∷ [] }
 
@@ -265,13 +265,13 @@ module _ {C : Type 0} (a : Ghosts C) where
       first_behind true t d cs answers = refl
       first_behind false t d cs answers = refl
 
-  -- the answers, with the newest if it has come
+  -- the answers, with the newest if its command has finished
   abbrev pub answered : Past a.State → Terminal → Past a.State
   answered past t = record past { answers = answers_in t.phase t.got past.answers }
 
   module _ (past : Past a.State) (now next : List Fates) (x : Fates) (e f : EndsOf C)
       (h : HasCarried a past now e) (moving : has_stopped e.terminal.phase ≡ false) where
-    -- as long as the terminal goes on, exchanges are left
+    -- while the terminal has not stopped, exchanges are left
     pub fewer : (m : Meaning) → Agrees m [] h.did
         → length h.fates < most_exchanges past.settings m [] past.commands
     fewer m g =
@@ -310,9 +310,9 @@ module _ {C : Type 0} (a : Ghosts C) where
           omega (arith, lt, e);
     }
 
-  -- ---- the loop
+  -- ---- the loop of `carry`
 
-  -- where both ends stand, and that no more exchanges come than so many
+  -- the place of both ends, and the bound on the exchanges left
   abbrev IsWithin : (most so_far : ℕ) → Past a.State → EndsOf C → List Did → Type 0
   IsWithin most so_far past e did = (m : Meaning) → Agrees m [] did
       → ((ran : List (List ℕ)) → length (m.does ran) ≤ most_bytes)
@@ -428,7 +428,7 @@ module _ {C : Type 0} (a : Ghosts C) where
         some_left m [] c.past.commands q (active m q (rest_of e did c.past.answers) is moving) in
         omega (arith, some, le, c.longer, counts_on)
 
-  -- ---- it is a dialogue, and a fault ends it for the commands behind
+  -- ---- the history is a dialogue; after a fault also of any further commands
 
   module _ (past : Past a.State) (now : List Fates) (e : EndsOf C) (all rest : List (List ℕ))
       (h : HasCarried a past now e) (stop : has_stopped e.terminal.phase ≡ true)
@@ -520,7 +520,7 @@ module _ {C : Type 0} (a : Ghosts C) where
 
   module _ {V : Type 0} (items : V → List ℕ) (settings : Settings) (first : a.State)
       (passed : List Fates) (vs : List V) where
-    -- the first n are carried, and these are the answers
+    -- both ends have carried the first `n` commands, with these answers
     abbrev pub first_of : ℕ → List V → Past a.State
     first_of n answers = record {
       settings = settings;

@@ -13,7 +13,7 @@ use Rattle.t1_core.specs.TerminalSide.{Terminal, spend, takes, takes_in, takes_o
 use Rattle.t1_core.proofs.BlockBytesFacts.{read_is_filled}
 use Rattle.t1_core.proofs.Measure.{weigh}
 
--- what a phase can still come to without a step forward
+-- the number of phases that can follow without progress
 abbrev room : Phase → ℕ
 room Opening = 2
 room Sending = 1
@@ -25,11 +25,11 @@ room (GivenUp cause) = 0
 abbrev left : Terminal → ℕ
 left t = t.tries + t.extensions + room t.phase + steps_left t * (t.settings.tries + 1)
 
--- an end, or less than before
+-- it has stopped, or fewer receptions are left
 abbrev Ends : Terminal → Terminal → Type 0
 Ends old new = (has_stopped new.phase ≡ true) ⊎ (left new + 1 ≤ left old)
 
--- what stays on the way
+-- the settings stay the same, and IFSC stays positive
 abbrev Stands : Terminal → Terminal → Type 0
 Stands old new = (new.settings ≡ old.settings) × (0 < new.size)
 

@@ -1,4 +1,4 @@
--- What holds wherever both ends stand: the commands done, in progress and to do are all commands.
+-- An invariant of every place: the commands done, in progress and to do are all commands.
 use Rattle.std.proofs.Common.{◌≡◌, refl, sym, ap, subst, ◌∙◌, ℕ, zero, suc, ◌+◌, ◌≤◌, Bool, true, false, List, [], ◌∷◌, ◌++◌, length, take, drop, Option, Some, append_assoc, append-nil, length-append, arith}
 use Rattle.std.proofs.lemmas.List.{take-append-drop}
 use Rattle.t1_core.specs.declared.line.Fate.{Fate}
@@ -13,13 +13,13 @@ use Rattle.t1_core.specs.Block.{is_size, other}
 use Rattle.t1_core.specs.CardSide.{Meaning, first_ifsd, card_after}
 use Rattle.t1_core.specs.TerminalSide.{longest, has_stopped, outcome_with, outcome_of, fresh}
 use Rattle.t1_core.specs.World.{World, responses, IsRight, IsTrue, IsAtMostOnce, next_command, exchange, run, start}
-use Rattle.t1_core.proofs.Places.{Kept, Place, Opens, Behind, Taken, Waits, Grows, Answering, Between, Repeating, Given_up, Finished, uses, proceeds, starts, out_at, world_of, runs, heard, misses, comes, comes_first, comes_next, is_long, IsHeard, is_heard, grows, flips, arrived, garbled, step, is_step}
+use Rattle.t1_core.proofs.Places.{Kept, Place, Opens, Behind, Taken, Waits, Grows, Answering, Between, Repeating, Given_up, Finished, uses, proceeds, starts, out_at, world_of, runs, heard, misses, comes, comes_next, is_long, IsHeard, is_heard, grows, arrived, garbled, step, is_step}
 
 module _ (m : Meaning) (before commands : List (List ℕ)) where
   abbrev answers_of : List (List ℕ) → List (List ℕ)
   answers_of done = responses m.does before done
 
-  -- a field of the command carries a byte at least, one of the response what IFSD says
+  -- IFSC is positive, and IFSD is the announced one
   abbrev pub Sizes : Kept → Type 0
   Sizes k = (1 ≤ k.size) × (k.ifsd ≡ longest)
 
@@ -29,7 +29,7 @@ module _ (m : Meaning) (before commands : List (List ℕ)) where
     pub answers : k.answers ≡ answers_of k.done
     pub sizes : Sizes k
 
-  -- the newest command has this response, and no answer yet
+  -- the card has carried out the newest command with this response, and it has no answer yet
   pub record Responds (k : Kept) (response : List ℕ) : Type 0 where
     pub whole : k.done ++ k.todo ≡ commands
     pub answers : k.answers ++ response ∷ [] ≡ answers_of k.done
@@ -47,7 +47,7 @@ module _ (m : Meaning) (before commands : List (List ℕ)) where
     pub each : done ≡ commands
     pub answers_are : w.answers ≡ answers_of done
 
-  -- what both ends keep once the card has taken S(IFS request)
+  -- the kept values after the card takes S(IFS request)
   abbrev pub opens_with : Kept → Kept
   opens_with k = record k { ifsd = longest }
 
@@ -132,7 +132,7 @@ module _ (m : Meaning) (before commands : List (List ℕ)) where
   responding_told [] done answers e = tt
   responding_told (b ∷ got) done answers e = e
 
-  -- a fault says what is true
+  -- the outcome in a fault is true
   ends_with : (w : World) (done answers : List (List ℕ)) (outcome : Outcome)
       → IsRight m.does before commands done answers → IsTrue outcome done answers
       → w.card.ran ≡ before ++ done → w.answers ≡ answers → outcome_of w.terminal ≡ outcome
@@ -260,16 +260,6 @@ module _ (m : Meaning) (before commands : List (List ℕ)) where
   grows_hold false out k rest size granted tries extensions e h =
       misses_hold out (Grows k rest size granted tries extensions) h
 
-  first_hold : (v : Bool) (out : Out) (k : Kept) (rest : List ℕ) (tries extensions : ℕ)
-      → Responds k (k.last ++ rest) → Holds (comes_first m before v out k rest tries extensions)
-  first_hold true out k rest tries extensions h = responding_ends _ k _ [] h refl refl refl
-  first_hold false out k [] tries extensions h =
-      proceeds_hold (record (flips k) { answers = k.answers ++ k.last ∷ [] }) k.todo _ h.sizes
-      h.whole
-      (ap (λ r. k.answers ++ r ∷ []) (sym (append-nil k.last)) ∙ h.answers) refl refl
-  first_hold false out k (b ∷ bytes) tries extensions h =
-      record { whole = h.whole; answers = h.answers; sizes = h.sizes }
-
   next_hold : (v : Bool) (out : Out) (k : Kept) (got rest : List ℕ) (tries extensions : ℕ)
       → Responds k (got ++ (k.last ++ rest))
       → Holds (comes_next m before v out k got rest tries extensions)
@@ -300,7 +290,8 @@ module _ (m : Meaning) (before commands : List (List ℕ)) where
   comes_hold out (Grows k rest size granted tries extensions) a h =
       grows_hold (is_size size) out k rest size granted tries extensions refl h
   comes_hold out (Answering k rest tries extensions) a h =
-      first_hold (is_long m before k []) out k rest tries extensions h
+      next_hold (is_long m before k []) out (record k { number = other k.number }) [] rest tries
+      extensions (record { whole = h.whole; answers = h.answers; sizes = h.sizes })
   comes_hold out (Between k got b bytes tries extensions) a h = absurd a
   comes_hold out (Repeating k got rest tries extensions) a h =
       next_hold (is_long m before k got) out k got rest tries extensions h
@@ -325,7 +316,7 @@ module _ (m : Meaning) (before commands : List (List ℕ)) where
   step_holds Damages up p h = garbled_holds up p h
   step_holds Loses up p h = misses_hold (out_at p) p h
 
-  -- every world
+  -- all worlds
 
   abbrev pub Stands : World → Type 0
   Stands w = (p : Place) × Holds p × (w ≡ world_of m before p)
@@ -387,7 +378,7 @@ module _ (m : Meaning) (before commands : List (List ℕ)) where
   pub stands_once : (w : World) → Stands w → IsAtMostOnce m before commands w
   stands_once w s = subst (λ v. IsAtMostOnce m before commands v) (sym s.2) (once_at s.0 s.1)
 
--- both ends after a reset: the first command waits behind S(IFS request)
+-- both ends after a reset: S(IFS request) precedes the first command
 abbrev pub first : (before : List (List ℕ)) → Settings → List (List ℕ) → Place
 first before settings [] =
     Finished (record {

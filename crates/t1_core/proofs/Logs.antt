@@ -19,7 +19,7 @@ abbrev pub log_with : List Did → Option Did → List Did
 log_with log None = log
 log_with log (Some d) = log ++ d ∷ []
 
--- a meaning agrees with what came before, and with what came now
+-- a meaning that agrees with a log agrees with its front and its last entry
 pub before_it : (m : Meaning) (log : List Did) (did : Option Did) → Agrees m [] (log_with log did)
     → Agrees m [] log × IsOfSome m (commands_of log) did
 before_it m log None h = (h, tt)

@@ -1,4 +1,4 @@
--- How many exchanges can still come, at most.
+-- A bound on the number of exchanges that are left.
 use Rattle.std.proofs.Common.{◌≡◌, refl, sym, ap, subst, ◌∙◌, ℕ, zero, suc, ◌+◌, ◌-◌, ◌*◌, ◌/◌, ◌≤◌, Bool, true, false, List, [], ◌∷◌, ◌++◌, length, take, drop, length-drop, Option, Some, append_assoc, append-nil, arith, ◌⊎◌, inl, inr}
 use Rattle.std.proofs.lemmas.List.{take-append-drop}
 use Rattle.std.proofs.Math.Nat.{suc-mul, mul-le-mul_right, div-eq-sub-div}
@@ -14,7 +14,7 @@ use Rattle.t1_core.specs.Block.{other, is_size}
 use Rattle.t1_core.specs.CardSide.{Meaning}
 use Rattle.t1_core.specs.TerminalSide.{longest, has_stopped}
 use Rattle.t1_core.specs.World.{World, exchange, run, start, blocks, size_after, all_blocks, most_exchanges}
-use Rattle.t1_core.proofs.Places.{Kept, Place, Opens, Behind, Taken, Waits, Grows, Answering, Between, Repeating, Given_up, Finished, uses, proceeds, starts, out_at, world_of, runs, heard, misses, comes, comes_first, comes_next, is_long, grows, flips, arrived, garbled, step, is_step, IsActive}
+use Rattle.t1_core.proofs.Places.{Kept, Place, Opens, Behind, Taken, Waits, Grows, Answering, Between, Repeating, Given_up, Finished, uses, proceeds, starts, out_at, world_of, runs, heard, misses, comes, comes_next, is_long, grows, arrived, garbled, step, is_step, IsActive}
 use Rattle.t1_core.proofs.Holding.{Holds, heard_holds, step_holds, first, first_is, first_holds}
 
 as_le : (x y : ℕ) → x ≡ y → x ≤ y
@@ -29,13 +29,13 @@ one_more x z = omega arith
 le_plus : (x y z : ℕ) → x ≤ y → x + z ≤ y + z
 le_plus x y z le = omega (arith, le)
 
--- one step less is a try for each reception less
+-- one step fewer saves all tries of that step
 pub weigh : (x y t : ℕ) → x + 1 ≤ y → x * t + t ≤ y * t
 weigh x y t le =
     let e : suc x * t ≡ x * t + t = suc-mul x t in
     subst (λ n. n ≤ y * t) e (mul-le-mul_right t (omega (arith, le)))
 
--- the blocks that so many more bytes need
+-- the number of blocks for these bytes; none for no bytes
 abbrev pub more_blocks : ℕ → ℕ → ℕ
 more_blocks size zero = 0
 more_blocks size (suc n) = blocks size (suc n)
@@ -58,21 +58,21 @@ cut_less size (suc n) (suc d) some e =
     (div-eq-sub-div (omega (arith, some)) (omega (arith, e)))
     (ap (λ k. k / size) (omega (arith, e)))
 
--- a field is one of them
+-- the first field is one of them
 drop_less : (size : ℕ) (bytes : List ℕ) → 1 ≤ size
     → more_blocks size (length (drop size bytes)) + 1 ≤ blocks size (length bytes)
 drop_less size bytes some =
     cut_less size (length bytes) (length (drop size bytes)) some (sym (length-drop size bytes))
 
 module _ (m : Meaning) (before commands : List (List ℕ)) where
-  -- blocks of a command in progress, and of all that follows
+  -- the blocks left of a command in progress, and of everything after it
   abbrev pub ahead : Kept → List ℕ → ℕ → ℕ
   ahead k command rest =
       rest + blocks longest (length (m.does (before ++ (k.done ++ command ∷ []))))
       + all_blocks m (size_after (m.asks (before ++ (k.done ++ command ∷ []))).size k.size)
       (before ++ (k.done ++ command ∷ [])) k.todo
 
-  -- and of a response
+  -- the same of a response
   abbrev pub behind : Kept → ℕ → ℕ → ℕ
   behind k size rest = rest + all_blocks m size (before ++ k.done) k.todo
 
@@ -114,7 +114,7 @@ module _ (m : Meaning) (before commands : List (List ℕ)) where
   less_weight k x y tries now extensions le t =
       let w = mul-le-mul_right (k.settings.tries + 1) le in omega (arith, w, t)
 
-  -- a step forward
+  -- progress
   step_weight : (k : Kept) (x y tries extensions : ℕ) → x + 1 ≤ y
       → weight k x k.settings.tries extensions + 1 ≤ weight k y tries extensions
   step_weight k x y tries extensions le =
@@ -166,7 +166,7 @@ module _ (m : Meaning) (before commands : List (List ℕ)) where
   starts_le k rest zero (Some size) tries extensions most le = le
   starts_le _ _ _ _ _ _ _ le = le
 
-  -- the response is counted once the command is carried out
+  -- the card has carried out the command, so its response counts
   runs_le : (ifsd later n : ℕ) (bytes : List ℕ) → ifsd ≡ longest
       → more_blocks ifsd (length (drop ifsd bytes)) + 1 + later
       ≤ 0 + blocks longest (length bytes) + later
@@ -211,7 +211,7 @@ module _ (m : Meaning) (before commands : List (List ℕ)) where
       (le_plus _ _ _ (drop_less k.ifsd (b ∷ bytes) (omega (arith, e)))) (omega arith)
   heard_le _ h = as_le _ _ refl
 
-  -- the next command, behind an answer
+  -- the next command, after an answer
   proceeds_less : (k : Kept) (todo : List (List ℕ)) (w : World) (tries extensions : ℕ) → 1 ≤ k.size
       → measure (proceeds k todo w) + 1
       ≤ (0 + 1 + all_blocks m k.size (before ++ k.done) todo) * (k.settings.tries + 1) + tries
@@ -247,18 +247,6 @@ module _ (m : Meaning) (before commands : List (List ℕ)) where
   grows_less false out k rest size granted tries extensions =
       misses_less out (Grows k rest size granted tries extensions) tt
 
-  first_less : (v : Bool) (out : Out) (k : Kept) (rest : List ℕ) (tries extensions : ℕ)
-      → 1 ≤ k.size → measure (comes_first m before v out k rest tries extensions) + 1
-      ≤ measure (Answering k rest tries extensions)
-  first_less true out k rest tries extensions some =
-      some_weight k _ tries extensions (some_behind _ _)
-  first_less false out k [] tries extensions some =
-      proceeds_less (record (flips k) { answers = k.answers ++ k.last ∷ [] }) k.todo _ tries
-      extensions some
-  first_less false out k (b ∷ bytes) tries extensions some =
-      step_weight k (behind k k.size (more_blocks k.ifsd (length (b ∷ bytes))))
-      (behind k k.size (response k (b ∷ bytes))) tries extensions (one_more _ _)
-
   next_less : (v : Bool) (out : Out) (k : Kept) (got rest : List ℕ) (tries extensions : ℕ)
       → 1 ≤ k.size → measure (comes_next m before v out k got rest tries extensions) + 1
       ≤ measure (Repeating k got rest tries extensions)
@@ -293,7 +281,8 @@ module _ (m : Meaning) (before commands : List (List ℕ)) where
   comes_less out (Grows k rest size granted tries extensions) a h =
       grows_less (is_size size) out k rest size granted tries extensions
   comes_less out (Answering k rest tries extensions) a h =
-      first_less (is_long m before k []) out k rest tries extensions h.sizes.0
+      next_less (is_long m before k []) out (record k { number = other k.number }) [] rest tries
+      extensions h.sizes.0
   comes_less out (Repeating k got rest tries extensions) a h =
       next_less (is_long m before k got) out k got rest tries extensions h.sizes.0
   comes_less out p a h = misses_less out p a
@@ -348,7 +337,7 @@ module _ (m : Meaning) (before commands : List (List ℕ)) where
   pub some_left : (p : Place) → IsActive m before p → measure p ≡ 0 → ⊥
   some_left p a none = let less = misses_less Asks p a in absurd (omega (arith, less, none))
 
-  -- every world
+  -- all worlds
 
   stays_stopped : (x : Fates) (p : Place) → has_stopped (world_of m before p).terminal.phase ≡ true
       → has_stopped (exchange m x (world_of m before p)).terminal.phase ≡ true

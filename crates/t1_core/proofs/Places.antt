@@ -1,4 +1,4 @@
--- Where both ends stand between two exchanges, and where an exchange takes them.
+-- The places of both ends between two exchanges, and the step of an exchange from each.
 use Rattle.std.proofs.Common.{◌≡◌, refl, ap, ◌∙◌, ℕ, zero, suc, Bool, true, false, List, [], ◌∷◌, ◌++◌, length, ◌+◌, nat_lt, take, drop, Option, Some, None, append_assoc}
 use Rattle.std.proofs.lemmas.Bool.{eq-eqb}
 use Rattle.t1_core.specs.declared.applet.Requests.{Requests}
@@ -18,13 +18,13 @@ use Rattle.t1_core.specs.TerminalSide.{Terminal, sends, takes, longest}
 use Rattle.t1_core.specs.World.{World, arrives, settled, next_command, exchange, exchanged}
 use Rattle.t1_core.proofs.Bits.{same_self, same_other, same_other_2, other_other}
 
--- what both ends keep, but for what an exchange goes by
+-- the values of both ends that most exchanges keep
 pub record Kept : Type 0 where
   pub settings : Settings
   pub todo : List (List ℕ)
   pub answers : List (List ℕ)
   pub done : List (List ℕ)  -- commands carried out since the start
-  pub field : List ℕ  -- the terminal's
+  pub field : List ℕ  -- the terminal's field
   pub size : ℕ  -- IFSC
   pub number : Bool
   pub due : Bool
@@ -62,26 +62,26 @@ abbrev pub idle : Kept → Requests
 idle k = requests 0 k.multiple None
 
 pub data Place : Type 0 where
-  -- S(IFS request), with a command behind it
+  -- the terminal sends S(IFS request), before a command
   Opens : (k : Kept) → (rest : List ℕ) → (tries extensions : ℕ) → (asks : Bool) → Place
-  -- the field in the air has not come to the card; the terminal sends it, or asks
+  -- the card has not received the current field; the terminal sends it, or asks
   Behind : (k : Kept) → (collected rest : List ℕ) → (answering : Bool) → (tries extensions : ℕ)
       → (asks : Bool) → Place
-  -- it has, and more follows
+  -- the card has received it, and more follows
   Taken : (k : Kept) → (collected : List ℕ) → (b : ℕ) → (bytes : List ℕ)
       → (tries extensions : ℕ) → Place
-  -- the command is carried out, S(WTX request) is out, and these requests follow
+  -- the card has carried out the command; S(WTX request) is in progress, and these requests follow
   Waits : (k : Kept) → (rest : List ℕ) → (n : ℕ) → (size : Option ℕ) → (granted : Bool)
       → (tries extensions : ℕ) → Place
-  -- S(IFS request) is out
+  -- S(IFS request) of the card is in progress
   Grows : (k : Kept) → (rest : List ℕ) → (size : ℕ) → (granted : Bool)
       → (tries extensions : ℕ) → Place
-  -- the first field of the response was sent
+  -- the card has sent the first field of the response
   Answering : (k : Kept) → (rest : List ℕ) → (tries extensions : ℕ) → Place
-  -- the next field of the response was not sent
+  -- the card has not sent the next field of the response
   Between : (k : Kept) → (got : List ℕ) → (b : ℕ) → (bytes : List ℕ)
       → (tries extensions : ℕ) → Place
-  -- it was
+  -- the card has sent it
   Repeating : (k : Kept) → (got rest : List ℕ) → (tries extensions : ℕ) → Place
   Given_up : (w : World) → (cause : Cause) → Place
   Finished : (w : World) → Place
@@ -96,20 +96,17 @@ out_at _ = Asks
 abbrev pub with_phase : Phase → World → World
 with_phase phase w = record w { terminal = record w.terminal { phase = phase } }
 
--- a terminal that uses one of n tries or extensions stands here
+-- one of `n` tries or extensions is used; without one the terminal gives up
 abbrev pub uses : Cause → ℕ → World → (ℕ → Place) → Place
 uses cause zero w again = Given_up w cause
 uses cause (suc n) w again = again n
 
--- behind an answered command
+-- after an answer the next command begins
 abbrev pub proceeds : Kept → List (List ℕ) → World → Place
 proceeds k [] w = Finished (record w { todo = [] })
 proceeds k (c ∷ cs) w =
     Behind (record k { todo = cs; field = take k.size c }) [] (drop k.size c) true
     k.settings.tries k.settings.extensions false
-
-abbrev pub flips : Kept → Kept
-flips k = record k { number = other k.number; due = other k.due }
 
 abbrev pub starts : Kept → List ℕ → ℕ → Option ℕ → (tries extensions : ℕ) → Place
 starts k rest (suc n) size tries extensions = Waits k rest n size false tries extensions
@@ -166,7 +163,7 @@ module _ (m : Meaning) (before : List (List ℕ)) where
   abbrev pub world_of : Place → World
   world_of p = world_at (out_at p) p
 
-  -- the card's block, once it has taken the terminal's
+  -- the card's reply, after it has taken the terminal's block
   abbrev pub reply_of : Place → Block
   reply_of (Opens k rest tries extensions asks) = Response (Ifs longest)
   reply_of (Taken k collected b bytes tries extensions) = R (other k.number)
@@ -205,7 +202,7 @@ module _ (m : Meaning) (before : List (List ℕ)) where
       extensions
   heard p = p
 
-  -- what a card that has taken the terminal's block is not
+  -- a place after the card has taken the terminal's block
   abbrev pub IsHeard : Place → Type 0
   IsHeard (Opens k rest tries extensions asks) = k.ifsd ≡ longest
   IsHeard (Between k got b bytes tries extensions) = ⊥
@@ -225,7 +222,7 @@ module _ (m : Meaning) (before : List (List ℕ)) where
   is_heard (Grows k rest size true tries extensions) = tt
   is_heard _ = tt
 
-  -- the card's block does not come
+  -- the card's block does not arrive
   abbrev pub misses : Out → Place → Place
   misses out (Opens k rest tries extensions asks) =
       uses TriesSpent tries (world_at out (Opens k rest tries extensions asks))
@@ -254,7 +251,7 @@ module _ (m : Meaning) (before : List (List ℕ)) where
   misses out (Given_up w cause) = Given_up w cause
   misses out (Finished w) = Finished w
 
-  -- a size that is none is no use to the terminal
+  -- the terminal ignores an invalid IFSC
   abbrev pub grows : Bool → Out → Kept → List ℕ → ℕ → Bool → (tries extensions : ℕ) → Place
   grows true out k rest size granted tries extensions =
       uses ExtensionsSpent extensions
@@ -263,25 +260,11 @@ module _ (m : Meaning) (before : List (List ℕ)) where
   grows false out k rest size granted tries extensions =
       misses out (Grows k rest size granted tries extensions)
 
-  -- with the card's field the response is longer than the limit
+  -- with the card's field the response exceeds the limit
   abbrev pub is_long : Kept → List ℕ → Bool
   is_long k got = nat_lt k.settings.limit (length got + length k.last)
 
-  -- the first field of the response comes
-  abbrev pub comes_first : Bool → Out → Kept → List ℕ → (tries extensions : ℕ) → Place
-  comes_first true out k rest tries extensions =
-      Given_up (world k
-      (terminal_at (flips k) [] [] true tries extensions Sending out)
-      (card_at k [] rest (other k.number) (other k.due) true (idle k))) TooLong
-  comes_first false out k [] tries extensions =
-      let now : Kept = record (flips k) { answers = k.answers ++ k.last ∷ [] } in
-      proceeds now k.todo (world now (terminal_at (flips k) [] k.last true tries extensions Over
-      out)
-      (card_at k [] [] (other k.number) (other k.due) true (idle k)))
-  comes_first false out k (b ∷ bytes) tries extensions =
-      Between (flips k) k.last b bytes k.settings.tries extensions
-
-  -- another one
+  -- a field of the response arrives
   abbrev pub comes_next : Bool → Out → Kept → (got rest : List ℕ) → (tries extensions : ℕ) → Place
   comes_next true out k got rest tries extensions =
       Given_up (world k
@@ -299,7 +282,7 @@ module _ (m : Meaning) (before : List (List ℕ)) where
   comes_next false out k got (b ∷ bytes) tries extensions =
       Between (record k { due = other k.due }) (got ++ k.last) b bytes k.settings.tries extensions
 
-  -- it comes
+  -- the card's block arrives
   abbrev pub comes : Out → Place → Place
   comes out (Opens k rest tries extensions asks) = Behind k [] rest false tries extensions false
   comes out (Behind k collected rest answering tries extensions asks) =
@@ -314,7 +297,7 @@ module _ (m : Meaning) (before : List (List ℕ)) where
   comes out (Grows k rest size granted tries extensions) =
       grows (is_size size) out k rest size granted tries extensions
   comes out (Answering k rest tries extensions) =
-      comes_first (is_long k []) out k rest tries extensions
+      comes_next (is_long k []) out (record k { number = other k.number }) [] rest tries extensions
   comes out (Repeating k got rest tries extensions) =
       comes_next (is_long k got) out k got rest tries extensions
   comes out p = misses out p
@@ -323,7 +306,7 @@ module _ (m : Meaning) (before : List (List ℕ)) where
   arrived out Delivers p = comes out p
   arrived out _ p = misses out p
 
-  -- the card has got a damaged block
+  -- the card has received a damaged block
   abbrev pub garbled : Fate → Place → Place
   garbled up (Behind k collected rest answering tries extensions asks) =
       arrived (out_of asks) up (Behind k collected rest answering tries extensions asks)
@@ -340,7 +323,7 @@ module _ (m : Meaning) (before : List (List ℕ)) where
   step Damages up p = garbled up p
   step Loses up p = misses (out_at p) p
 
-  -- the terminal takes what comes
+  -- the terminal takes a block, or none
 
   abbrev pub IsActive : Place → Type 0
   IsActive (Given_up w cause) = ⊥
@@ -394,10 +377,13 @@ module _ (m : Meaning) (before : List (List ℕ)) where
   first_is : (out : Out) (k : Kept) (rest : List ℕ) (tries extensions : ℕ) (v : Bool)
       → is_long k [] ≡ v
       → took out (Answering k rest tries extensions) (Some (I k.due (more rest) k.last))
-      ≡ world_of (comes_first v out k rest tries extensions)
+      ≡ world_of (comes_next v out (record k { number = other k.number }) [] rest tries extensions)
   first_is out k rest tries extensions true e = rw (same_self k.due) (rw e refl)
   first_is out k [] tries extensions false e =
-      rw (same_self k.due) (rw e (proceeds_is (flips k) k.todo k.todo out k.last tries extensions
+      rw (same_self k.due) (rw e (proceeds_is (record k {
+        number = other k.number;
+        due = other k.due;
+      }) k.todo k.todo out k.last tries extensions
       (k.answers ++ k.last ∷ [])))
   first_is out k (b ∷ bytes) tries extensions false e = rw (same_self k.due) (rw e refl)
 
@@ -437,18 +423,18 @@ module _ (m : Meaning) (before : List (List ℕ)) where
   ups out Delivers p a = comes_is out p a
   ups out _ p a = missed out p a
 
-  -- R is no use: the card has received a damaged block
+  -- the terminal ignores this R-block, which replies to a damaged block
   unread : (out : Out) (up : Fate) (p : Place) (number : Bool) → IsActive p
       → took out p (Some (R number)) ≡ took out p None
       → took out p (arrives up (Some (R number))) ≡ world_of (misses out p)
   unread out Delivers p number a e = e ∙ missed out p a
   unread out _ p number a e = missed out p a
 
-  -- a world after the card's turn
+  -- the world after the card's turn
   abbrev turned : Kept → Terminal → Fate → Turn → World
   turned k t up x = settled (world k (takes t (arrives up x.block)) x.card)
 
-  -- the card answers, or makes a request first
+  -- the card sends its next request, or its response
   answers_now : (out : Out) (up : Fate) (k : Kept) (rest : List ℕ) (n : ℕ) (size : Option ℕ)
       (tries extensions : ℕ)
       → turned k (terminal_at k [] [] true tries extensions Sending out) up
@@ -480,7 +466,7 @@ module _ (m : Meaning) (before : List (List ℕ)) where
       (m.asks (before ++ done)).extensions
       (m.asks (before ++ done)).size tries extensions)
 
-  -- nothing happens at the end
+  -- after the end nothing changes
   gone : (down up : Fate) (w : World) (cause : Cause)
       → After down up (Given_up w cause) ≡ world_of (step down up (Given_up w cause))
   gone Delivers Delivers w cause = refl
@@ -506,7 +492,7 @@ module _ (m : Meaning) (before : List (List ℕ)) where
       ap (exchanged m (record { down = Loses; up = up }) (world_of p)) (sends_some p a).1
       ∙ missed (out_at p) p a
 
-  -- the card answers a damaged block with this one
+  -- the card replies to a damaged block with this one
   garbles : (up : Fate) (p : Place) (b : Block) → IsActive p
       → card_damaged (world_of p).card ≡ turn (world_of p).card b
       → After Damages up p ≡ took (out_at p) p (arrives up (Some b))

@@ -1,4 +1,4 @@
--- A block of the code, as the definitions see it.
+-- The block of the definitions for a block of the code.
 use Rattle.t1_core.specs.declared.block.Block.TheVariants as code
 use Rattle.t1_core.specs.declared.block.Block as declared
 use Rattle.t1_core.specs.Block.{Block, I, R, Request, Response}

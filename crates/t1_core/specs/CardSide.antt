@@ -1,4 +1,4 @@
--- The card's end. It has no clock, and answers each block with one block (ISO/IEC 7816-3, clause
+-- The card's end. It has no clock, and replies to each block with one block (ISO/IEC 7816-3, clause
 -- 11, rules of operation).
 use Rattle.std.specs.Prelude.{ℕ, zero, suc, Bool, true, false, List, [], ◌∷◌, ◌++◌, take, drop, Option, Some, None, cond}
 use Rattle.t1_core.specs.declared.applet.Requests.{Requests}
@@ -8,13 +8,14 @@ use Rattle.t1_core.specs.declared.line.Fate.{Fate}
 use Rattle.t1_core.specs.declared.line.Fate.TheVariants.{Delivers, Damages, Loses}
 use Rattle.t1_core.specs.Block.{Block, I, R, Request, Response, other, same, more, answers, is_size}
 
--- What the card above the end does. After these commands, the newest last: its response to the
--- newest, and the S(WTX request) and S(IFS request) that it makes before that response.
+-- The behaviour of the card above the end, as a function of all its commands, the newest last.
+-- `does` is its response to the newest. `asks` are the S(WTX request) and S(IFS request) that it
+-- makes before that response.
 pub record Meaning : Type 0 where
   pub does : List (List ℕ) → List ℕ
   pub asks : List (List ℕ) → Requests
 
--- A command that a card has carried out, its response, and the requests before that.
+-- A command that a card has carried out, its response, and the requests before that response.
 pub record Did : Type 0 where
   pub command : List ℕ
   pub response : List ℕ
@@ -23,12 +24,12 @@ pub record Did : Type 0 where
 pub record Card : Type 0 where
   pub due : Bool  -- N(S) of the terminal's next I-block
   pub next : Bool  -- N(S) of its own next I-block
-  pub collected : List ℕ  -- of a command
-  pub field : List ℕ  -- of the response: the field of the newest I-block
-  pub rest : List ℕ  -- of the response: the bytes behind that field
-  pub answering : Bool  -- that I-block may be asked for again
+  pub collected : List ℕ  -- the bytes of a command so far
+  pub field : List ℕ  -- the field of the newest I-block of the response
+  pub rest : List ℕ  -- the bytes of the response after that field
+  pub answering : Bool  -- the terminal may ask for that I-block again
   pub size : ℕ  -- IFSD: the longest field that the terminal takes
-  pub left : Requests  -- requests that have no response yet; the first of them was sent
+  pub left : Requests  -- the requests without a response; the first was sent
   pub ran : List (List ℕ)  -- the commands that it has carried out
 
 -- IFSD until the terminal asks for another one (rule of the IFS)
@@ -60,7 +61,7 @@ pub record Turn : Type 0 where
 abbrev pub turn : Card → Block → Turn
 turn c b = record { card = c; block = Some b }
 
--- the request that is out
+-- the request in progress, if any
 abbrev pub request_in : ℕ → ℕ → Option ℕ → Option Control
 request_in (suc n) multiple size = Some (Wtx multiple)
 request_in zero multiple (Some size) = Some (Ifs size)
@@ -69,17 +70,17 @@ request_in zero multiple None = None
 abbrev pub request_of : Requests → Option Control
 request_of left = request_in left.extensions left.multiple left.size
 
--- the requests behind it
+-- the requests after the one in progress
 abbrev pub after_request : ℕ → Requests → Requests
 after_request (suc n) left = record left { extensions = n }
 after_request zero left = record left { size = None }
 
--- the block after one that is of no use (rules of error handling)
+-- the reply to an invalid or unexpected block (rules of error handling)
 abbrev pub again : Option Control → Card → Turn
 again None c = turn c (R c.due)
 again (Some control) c = turn c (Request control)
 
--- the first field of the response, behind the requests
+-- the next request, or the first field of the response
 abbrev pub answers_with : Option Control → Card → Turn
 answers_with None c =
     turn (record c { next = other c.next; answering = true }) (I c.next (more c.rest) c.field)
@@ -98,7 +99,7 @@ carries_out m c ran =
       left = m.asks ran;
     })
 
--- a field of a command: the response before it is over
+-- a field of a command, which ends the previous response
 abbrev pub collects : Meaning → List ℕ → Bool → Card → List ℕ → Turn
 collects m [] true c f =
     turn (record c {
@@ -118,7 +119,7 @@ goes_on (b ∷ bytes) c =
     let field : List ℕ = take c.size (b ∷ bytes) in
     turn (record c { field = field; rest = rest; next = other c.next }) (I c.next (more rest) field)
 
--- R asks for the newest I-block again, if there is one
+-- R asks for the newest I-block again, if a response is in progress
 abbrev pub repeats : Bool → Card → Turn
 repeats true c = turn c (I (other c.next) (more c.rest) c.field)
 repeats false c = turn c (R c.due)
@@ -145,13 +146,13 @@ takes_block m (R n) c = cond (same n c.next) (goes_on c.rest c) (repeats c.answe
 takes_block m (Request control) c = serves control c
 takes_block m (Response control) c = turn c (R c.due)
 
--- what the response to a request leads to
+-- the terminal has answered the request in progress
 abbrev pub granted : Card → Turn
 granted c =
     let left : Requests = after_request c.left.extensions c.left in
     answers_with (request_of left) (record c { left = left })
 
--- while a request is out
+-- a block while a request is in progress
 abbrev pub takes_waiting : Control → Block → Card → Turn
 takes_waiting control (Response response) c =
     cond (answers response control) (granted c) (turn c (Request control))
@@ -169,7 +170,7 @@ card_takes m b c = takes_at m (request_of c.left) b c
 abbrev pub card_damaged : Card → Turn
 card_damaged c = again (request_of c.left) c
 
--- a block, or an invalid one
+-- a block; `None` is an invalid one
 abbrev pub card_hears : Meaning → Option Block → Card → Turn
 card_hears m None c = card_damaged c
 card_hears m (Some b) c = card_takes m b c
@@ -179,7 +180,7 @@ card_meets m Delivers b c = card_takes m b c
 card_meets m Damages b c = card_damaged c
 card_meets m Loses b c = record { card = c; block = None }
 
--- Memory ran out in the course of a command: it is not carried out, and the response before it is
--- over.
+-- Memory ran out during a command. The card does not carry it out, and the previous response is
+-- lost.
 abbrev pub forgets : Card → Card
 forgets c = record c { field = []; rest = []; answering = false }

@@ -1,5 +1,5 @@
--- Commands one after another over a line, each begun once the one before it has its answer, so that
--- it may depend on that.
+-- Commands one after another over a line. Each begins after the answer to the previous one, and may
+-- depend on it.
 use Rattle.std.specs.Prelude.{◌≡◌, ◌<◌, ◌≤◌, List, ℕ, [], ◌∷◌, ◌++◌, length}
 use Rattle.std.specs.List.{AllByRecursion}
 use Rattle.t1_core.specs.declared.applet.Applet.{Ghosts}
@@ -17,15 +17,15 @@ pub record EndsOf (C : Type 0) : Type 0 where
   pub terminal : Terminal
   pub card : EndOf C
 
--- their world, if the card has carried out these commands, no others are to come, and these are the
--- answers
+-- the world of both ends with these answers and no further command
 abbrev pub at_rest : Terminal → Card → (answers : List (List ℕ)) → World
 at_rest t c answers = record { terminal = t; card = c; todo = []; answers = answers }
 
+-- the same after the card has carried out `did`
 abbrev pub world_of : {C : Type 0} → EndsOf C → List Did → (answers : List (List ℕ)) → World
 world_of e did answers = at_rest e.terminal (after e.card (commands_of did)) answers
 
--- more commands behind those that are to be sent
+-- adds commands: the first begins now if the terminal is ready, the others wait
 abbrev pub adds : Phase → List (List ℕ) → World → World
 adds Over commands w = next_command commands w
 adds _ commands w = record w { todo = w.todo ++ commands }
@@ -33,8 +33,8 @@ adds _ commands w = record w { todo = w.todo ++ commands }
 abbrev pub more : List (List ℕ) → World → World
 more commands w = adds w.terminal.phase commands w
 
--- what both ends come from: the commands since the reset, the answers, and what the line had done
--- before the reset
+-- The history of both ends: the settings, the first state of the card, the commands since the
+-- reset, the answers, and what the line had done before the reset.
 pub record Past (State : Type 0) : Type 0 where
   pub settings : Settings
   pub first : State
@@ -52,21 +52,21 @@ nothing_yet settings first passed = record {
   passed = passed;
 }
 
--- a command that is over has its answer
+-- a finished command adds its answer
 abbrev pub answers_in : Phase → List ℕ → List (List ℕ) → List (List ℕ)
 answers_in Over got answers = answers ++ got ∷ []
 answers_in _ got answers = answers
 
--- one more command, with the terminal's end as it is now
+-- the history with one more command, which led to this terminal's end
 abbrev pub with_command : {State : Type 0} → Past State → List ℕ → Terminal → Past State
 with_command past command t = record past {
   commands = past.commands ++ command ∷ [];
   answers = answers_in t.phase t.got past.answers;
 }
 
--- Both ends are where these commands lead, had they been given all at once, and more of them would
--- lead further. `did` is what the card has carried out, `fates` what the line has done since the
--- reset.
+-- The commands of `past` led to both ends. `did` is what the card has carried out, `fates` what the
+-- line has done since the reset. Further commands, given at once with these, would lead to the same
+-- ends with these further commands to send (`leads`).
 pub record HasCarried {C : Type 0} (a : Ghosts C) (past : Past a.State) (now : List Fates)
     (e : EndsOf C) : Type 0 where
   pub did : List Did

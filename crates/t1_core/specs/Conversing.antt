@@ -9,25 +9,25 @@ use Rattle.t1_core.specs.Doing.{DoesAll, commands_of, meaning_of, responses_of}
 use Rattle.t1_core.specs.Mild.{Enough, IsMild}
 use Rattle.t1_core.specs.World.{IsFrontOf, IsTrue, most_exchanges, start}
 
--- `did` is what the card has carried out in the dialogue, from the first of its states to the last;
--- `passed` is what the line has done in all, before the dialogue and after it
+-- `did` is what the card has carried out in the dialogue, between its states `first` and `last`.
+-- `passed_before` and `passed_after` are all that the line has done at the start and at the end.
 pub record Conversed {C : Type 0} (a : Ghosts C) (settings : Settings) (first last : a.State)
     (commands answers : List (List ℕ))
     (fault : Option Fault) (passed_before passed_after : List Fates) : Type 0 where
   pub did : List Did
   pub does : DoesAll a.Does first did last
-  -- the first of the commands, in order, each once
+  -- the card has carried out the first of the commands, in order, each once
   pub carried_out : IsFrontOf (commands_of did) commands
-  -- each answer is the card's response, and at most one command has no answer
+  -- each answer is the card's response; at most one carried-out command has no answer
   pub answered : IsFrontOf answers (responses_of did)
   pub all_but_one : length did ≤ length answers + 1
-  -- what a fault says is true
+  -- the outcome in a fault is true
   pub told : (f : Fault) → fault ≡ Some f → IsTrue f.outcome (commands_of did) answers
-  -- without a fault each command is answered
+  -- without a fault every command has its answer
   pub finished : fault ≡ None → (commands_of did ≡ commands) × (answers ≡ responses_of did)
   pub fates : List Fates
   pub passed : passed_after ≡ passed_before ++ fates
-  -- it ends
+  -- the dialogue ends
   pub few : length fates ≤ most_exchanges settings (meaning_of did) [] commands
   -- on a mild line there is no fault
   pub survived : (f : ℕ) → Enough (meaning_of did) f settings

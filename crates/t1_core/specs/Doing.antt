@@ -1,5 +1,5 @@
--- What a card carries out: the card may choose (a put may be answered 6581), so its commands go by
--- relations from state to state. A meaning agrees if it chooses the same.
+-- What a card carries out. The card may choose, for instance `6581` for a put, so a command is a
+-- relation between two states. A meaning agrees if it makes the same choices.
 use Rattle.std.specs.Prelude.{◌≡◌, ◌<◌, ◌^◌, List, ℕ, [], ◌∷◌, ◌++◌, length, map, Option, Some, None}
 use Rattle.t1_core.specs.declared.applet.Applet.{Ghosts}
 use Rattle.t1_core.specs.declared.card.Reply.{Reply}
@@ -12,14 +12,14 @@ commands_of dids = map (λ (d : Did). d.command) dids
 abbrev pub responses_of : List Did → List (List ℕ)
 responses_of dids = map (λ (d : Did). d.response) dids
 
--- the card goes from state to state
+-- these commands, in order, lead from the state `old` to `new`
 abbrev pub DoesAll : {State : Type 0} → (State → Did → State → Type 0) → State → List Did → State
     → Type 0
 DoesAll Does old [] new = new ≡ old
 DoesAll {State = State} Does old (d ∷ dids) new =
     (mid : State) × Does old d mid × DoesAll Does mid dids new
 
--- after these commands the meaning does this
+-- after the commands `ran` the meaning does this
 abbrev pub IsOf : Meaning → List (List ℕ) → Did → Type 0
 IsOf m ran d =
     (m.does (ran ++ d.command ∷ []) ≡ d.response) × (m.asks (ran ++ d.command ∷ []) ≡ d.asks)
@@ -28,7 +28,7 @@ abbrev pub Agrees : Meaning → List (List ℕ) → List Did → Type 0
 Agrees m ran [] = Unit {0}
 Agrees m ran (d ∷ dids) = IsOf m ran d × Agrees m (ran ++ d.command ∷ []) dids
 
--- The meaning of a log: what stands there after these commands, else nothing.
+-- The meaning of a log: its entry after these commands, or nothing if it has none.
 abbrev pub entry : List Did → List (List ℕ) → Did
 entry [] ran = record { command = []; response = []; asks = no_requests }
 entry (d ∷ dids) [] = record { command = []; response = []; asks = no_requests }
@@ -39,19 +39,19 @@ abbrev pub meaning_of : List Did → Meaning
 meaning_of log =
     record { does = λ ran. (entry log ran).response; asks = λ ran. (entry log ran).asks }
 
--- The card's end: its card, and the end of the definitions, without commands so far.
+-- The card's end: the card, and the end of the definitions with `ran` empty.
 pub record EndOf (C : Type 0) : Type 0 where
   pub card : C
   pub at : Card
 
--- the end of the definitions, if these are all commands so far
+-- the end of the definitions, if the card has carried out these commands
 abbrev pub after : {C : Type 0} → EndOf C → List (List ℕ) → Card
 after e ran = record e.at { ran = ran }
 
 abbrev pub with_end : {C : Type 0} → (Card → Card) → EndOf C → EndOf C
 with_end f e = record { card = e.card; at = f e.at }
 
--- no response has more bytes than a list in memory can have
+-- no response has more bytes than memory
 abbrev pub most_bytes : ℕ
 most_bytes = 2 ^ 63
 
@@ -68,8 +68,8 @@ abbrev pub ran_with : List (List ℕ) → Option Did → List (List ℕ)
 ran_with ran None = ran
 ran_with ran (Some d) = ran ++ d.command ∷ []
 
--- The end makes this step, in which the card carries out a command or none: the step of each
--- meaning that agrees, whatever was carried out before.
+-- The end makes this step, and the card carries out one command or none. It is the step of each
+-- meaning that agrees, whatever the card carried out before.
 abbrev pub Steps : {C : Type 0} (a : Ghosts C) → (Meaning → Card → Turn) → EndOf C → Reply
     → EndOf C → Type 0
 Steps a step old reply new = (did : Option Did)
@@ -77,11 +77,11 @@ Steps a step old reply new = (did : Option Did)
     × ((m : Meaning) (ran : List (List ℕ)) → IsOfSome m ran did
     → step m (after old ran) ≡ turn (after new (ran_with ran did)) (replies reply new.at))
 
--- no command is carried out
+-- the end makes this step, and the card carries out no command
 abbrev pub Goes : {C : Type 0} → (Card → Turn) → EndOf C → Reply → EndOf C → Type 0
 Goes step old reply new = (new.card ≡ old.card) × ((ran : List (List ℕ))
     → step (after old ran) ≡ turn (after new ran) (replies reply new.at))
 
--- memory ran out, and the card stands as before
+-- memory ran out: the card is unchanged, and `f` changes the end
 abbrev pub Keeps : {C : Type 0} (a : Ghosts C) → (Card → Card) → EndOf C → EndOf C → Type 0
 Keeps a f old new = (a.standing new.card ≡ a.standing old.card) × (new.at ≡ f old.at)

@@ -1,4 +1,4 @@
--- All that a terminal's end has met, from any peer, and the fault that this leads to.
+-- All that has happened to a terminal's end, from any peer, and the resulting fault.
 use Rattle.std.specs.Prelude.{◌≡◌, ◌≤◌, ℕ, ◌+◌, ◌==◌, Bool, true, false, List, [], ◌∷◌, length, Option, Some, None, nat_lt, cond, if◌then◌else◌}
 use Rattle.t1_core.specs.declared.control.Control.TheVariants.{Ifs, Abort, Wtx}
 use Rattle.t1_core.specs.declared.settings.Settings.{Settings}
@@ -10,7 +10,7 @@ use Rattle.t1_core.specs.Block.{Block, I, Request, Response, same, is_size}
 use Rattle.t1_core.specs.BlockBytes.{block_of}
 use Rattle.t1_core.specs.TerminalSide.{Terminal, longest, fresh, begins, takes, is_ready, has_stopped}
 
--- a call of the end that changes it
+-- a call that changes the end
 pub data Event : Type 0 where
   Begins : (command : List ℕ) → Event
   Takes : (bytes : List ℕ) → Event
@@ -23,17 +23,17 @@ happens (Takes bytes) t = takes t (block_of bytes)
 happens Misses t = takes t None
 happens Resets t = fresh t.settings
 
--- What counts since the command began or the end was reset.
+-- The counts since the command began or the end was reset.
 pub record Account : Type 0 where
-  pub fruitless : ℕ  -- receptions in a row without a step forward
+  pub fruitless : ℕ  -- receptions in a row without progress
   pub grants : ℕ  -- requests of the card for more time or another IFSC
-  pub arrived : ℕ  -- bytes of the response, with those of the newest field
+  pub arrived : ℕ  -- bytes of the response, with the newest field
   pub aborts : ℕ  -- receptions from S(ABORT request) on
 
 abbrev pub nothing : Account
 nothing = record { fruitless = 0; grants = 0; arrived = 0; aborts = 0 }
 
--- N(S) and N(R) stay: no step forward
+-- N(S) and N(R) stay the same: no progress
 abbrev pub stays : (old new : Terminal) → Bool
 stays old new = cond (same old.number new.number) (same old.due new.due) false
 
@@ -41,8 +41,8 @@ abbrev pub field_bytes : Option Block → ℕ
 field_bytes (Some (I number more field)) = length field
 field_bytes _ = 0
 
--- A reception that is no step forward. Requests that can be granted, S(ABORT request) and the
--- response that opens are not fruitless.
+-- A reception without progress. Requests that the terminal can grant, S(ABORT request) and the
+-- expected S(IFS response) are not fruitless.
 abbrev pub without_step : Phase → Option Block → Account → Account
 without_step Aborting b a = record a { aborts = a.aborts + 1 }
 without_step phase (Some (Request (Wtx multiple))) a = record a { grants = a.grants + 1 }
@@ -58,7 +58,7 @@ abbrev pub counted : Bool → Phase → Option Block → Account → Account
 counted true phase b a = without_step phase b a
 counted false phase b a = record a { fruitless = 0; arrived = a.arrived + field_bytes b }
 
--- nothing counts but what comes while a block is awaited
+-- a reception counts only while the terminal waits for a block
 abbrev pub counts : Terminal → Option Block → Account → Account
 counts t b a = cond (has_stopped t.phase) a (counted (stays t (takes t b)) t.phase b a)
 

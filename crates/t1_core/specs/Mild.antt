@@ -14,16 +14,16 @@ abbrev pub bad_of : Fate → ℕ
 bad_of Delivers = 0
 bad_of _ = 1
 
--- how many of both blocks do not arrive
+-- the number of blocks of an exchange that fail to arrive
 abbrev pub bad : Fates → ℕ
 bad fates = bad_of fates.down + bad_of fates.up
 
--- no step forward: N(S) and N(R) stay
+-- no progress: N(S) and N(R) stay the same
 abbrev pub Stays : Terminal → Terminal → Type 0
 Stays old new = (new.number ≡ old.number) × (new.due ≡ old.due)
 
--- While N(S) and N(R) of the terminal stay, at most f blocks do not arrive; `left` of these may
--- still.
+-- While N(S) and N(R) of the terminal stay the same, at most `f` blocks fail to arrive. `left` is
+-- the rest of these.
 abbrev pub IsMild : Meaning → (f left : ℕ) → World → List Fates → Type 0
 IsMild m f left w [] = Unit {0}
 IsMild m f left w (x ∷ xs) =
@@ -39,8 +39,9 @@ abbrev pub IsSize : Option ℕ → Type 0
 IsSize None = Unit {0}
 IsSize (Some size) = is_size size ≡ true
 
--- the settings survive f of them: twice as many tries, and an extension for each request of the
--- card and for each of the f; each IFSC that the card announces is one; no response is too long
+-- The settings survive `f` failures between two steps: 2 `f` tries, and an extension for each
+-- request of the card and for each failure. Each IFSC of the card is valid, and no response is too
+-- long.
 pub record Enough (m : Meaning) (f : ℕ) (settings : Settings) : Type 0 where
   pub tries : 2 * f ≤ settings.tries
   pub extensions : (ran : List (List ℕ))
@@ -48,18 +49,18 @@ pub record Enough (m : Meaning) (f : ℕ) (settings : Settings) : Type 0 where
   pub sizes : (ran : List (List ℕ)) → IsSize (m.asks ran).size
   pub fits : (ran : List (List ℕ)) → length (m.does ran) ≤ settings.limit
 
--- the bytes that the command's rest and a response within the limit still have: each can be a step
--- forward
+-- The bytes of the command after its current field, and of the response up to the limit. Each can
+-- be one step of progress.
 abbrev pub steps_left : Terminal → ℕ
 steps_left t = length t.rest + (t.settings.limit - length t.got)
 
--- After so many receptions a terminal has stopped: its tries and extensions and two more, and for
--- each of those steps all tries again and one more.
+-- After this number of receptions a terminal has stopped. It counts the tries and extensions left,
+-- two more, and for each step left all tries and one more.
 abbrev pub most_receptions : Terminal → ℕ
 most_receptions t =
     t.tries + t.extensions + 2 + steps_left t * (t.settings.tries + 1)
 
--- a terminal that meets what any peer sends: the bytes of a block, or none in time
+-- a terminal after receptions from any peer: the bytes of a block, or `None` for a time-out
 abbrev pub meets_all : Terminal → List (Option (List ℕ)) → Terminal
 meets_all t [] = t
 meets_all t (None ∷ xs) = meets_all (takes t None) xs

@@ -1,4 +1,4 @@
--- A block of the terminal and the card's answer, over the line.
+-- A block of the terminal and the card's reply, over the line.
 use Rattle.std.specs.Prelude.{◌≡◌, ℕ, List, Option, Some, None}
 use Rattle.std.specs.Option.{option_map}
 use Rattle.t1_core.specs.declared.applet.Applet.{Ghosts}
@@ -12,7 +12,7 @@ use Rattle.t1_core.specs.Doing.{EndOf, after, DoesSome, IsOfSome, ran_with}
 use Rattle.t1_core.specs.TerminalSide.{Terminal, sends, takes}
 use Rattle.t1_core.specs.World.{arrives}
 
--- the card meets a block, and replies
+-- the line delivers, damages or loses a block; the card replies
 abbrev pub Hears : {C : Type 0} (a : Ghosts C) → Fate → Block → EndOf C → Option Reply → EndOf C
     → Type 0
 Hears a fate b old reply new = (did : Option Did)
@@ -30,7 +30,7 @@ PassesWith m fates (Some b) old new before later =
     let t = card_meets m fates.down b before in
     (new ≡ takes old (arrives fates.up t.block)) × (later ≡ t.card)
 
--- the ends make the steps of each meaning that agrees with what the card carries out
+-- both ends make the steps of each meaning that agrees with what the card carries out
 abbrev pub Passes : {C : Type 0} (a : Ghosts C) → Fates → (old new : Terminal)
     → (before later : EndOf C) → Type 0
 Passes a fates old new before later = (did : Option Did)

@@ -22,8 +22,8 @@ subject_code Ifs = 1
 subject_code Abort = 2
 subject_code Wtx = 3
 
--- an I-block has N(S) in bit 7 and the more-data bit in bit 6; an R-block has N(R) in bit 5; bit 6
--- of an S-block marks a response
+-- An I-block has N(S) in bit 7 and the more-data bit in bit 6. An R-block has N(R) in bit 5. Bit 6
+-- of an S-block marks a response.
 abbrev pub pcb_byte : Pcb → ℕ
 pcb_byte (Information number more) = 64 * bit number + 32 * bit more
 pcb_byte (Ready number reason) = 128 + 16 * bit number + reason_code reason
@@ -47,7 +47,7 @@ abbrev pub supervisory_of : Bool → Option Subject → Option Pcb
 supervisory_of response None = None
 supervisory_of response (Some subject) = Some (Supervisory response subject)
 
--- what a byte says
+-- the PCB of a byte, if it is valid
 abbrev pub pcb_of : ℕ → Option Pcb
 pcb_of byte =
     if nat_lt byte 128 then

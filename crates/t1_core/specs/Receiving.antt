@@ -1,4 +1,4 @@
--- Where a block ends: LEN, the third byte, counts its field.
+-- The end of a block: LEN, the third byte, is the length of its field.
 use Rattle.std.specs.Prelude.{ℕ, ◌+◌, Bool, false, List, [], ◌∷◌, ◌++◌, length, slice_index, nat_lt, if◌then◌else◌, not}
 use Rattle.t1_core.specs.declared.receiver.Received.{Received}
 use Rattle.t1_core.specs.declared.receiver.Received.TheVariants.{More, Whole, TooMany}

@@ -1,4 +1,4 @@
--- What a terminal's end can be set to.
+-- The settings of a terminal's end: which EDC and IFSC are refused.
 use Rattle.std.specs.Prelude.{ℕ, ◌==◌, Option, Some, None, if◌then◌else◌}
 use Rattle.t1_core.specs.declared.settings.Edc.{Edc}
 use Rattle.t1_core.specs.declared.settings.Edc.TheVariants.{Lrc, Crc}

@@ -16,10 +16,10 @@ use Rattle.t1_core.specs.TerminalSide.{Terminal, longest, fresh, begins, sends, 
 pub record World : Type 0 where
   pub terminal : Terminal
   pub card : Card
-  pub todo : List (List ℕ)  -- the commands behind the one in progress
+  pub todo : List (List ℕ)  -- the commands after the one in progress
   pub answers : List (List ℕ)
 
--- the block that the terminal takes
+-- the block that arrives at the terminal, if any
 abbrev pub came : Fate → Block → Option Block
 came Delivers b = Some b
 came _ b = None
@@ -32,7 +32,7 @@ abbrev pub next_command : List (List ℕ) → World → World
 next_command [] w = record w { todo = [] }
 next_command (c ∷ cs) w = record w { terminal = begins c w.terminal; todo = cs }
 
--- the next command follows an answer
+-- after an answer the next command begins
 abbrev pub settle : Phase → World → World
 settle Over w = next_command w.todo (record w { answers = w.answers ++ w.terminal.got ∷ [] })
 settle _ w = w
@@ -46,7 +46,7 @@ exchanged m fates w (Some b) =
     let t = card_meets m fates.down b w.card in
     settled (record w { terminal = takes w.terminal (arrives fates.up t.block); card = t.card })
 
--- a block of the terminal, and the card's answer
+-- one exchange: a block of the terminal, and the card's reply
 abbrev pub exchange : Meaning → Fates → World → World
 exchange m fates w = exchanged m fates w (sends w.terminal)
 
@@ -54,7 +54,7 @@ abbrev pub run : Meaning → List Fates → World → World
 run m [] w = w
 run m (f ∷ fs) w = run m fs (exchange m f w)
 
--- both ends after a reset, with commands to send to a card that has carried out others before
+-- both ends after a reset, with commands to send; the card has carried out others before
 abbrev pub start : Settings → List (List ℕ) → List (List ℕ) → World
 start settings before commands =
     next_command commands (record {
@@ -64,7 +64,7 @@ start settings before commands =
       answers = [];
     })
 
--- the card's responses to these commands, after those before
+-- the card's responses to these commands, after the commands `before`
 abbrev pub responses : (List (List ℕ) → List ℕ) → List (List ℕ) → List (List ℕ) → List (List ℕ)
 responses does before [] = []
 responses does before (c ∷ cs) =
@@ -73,21 +73,21 @@ responses does before (c ∷ cs) =
 abbrev pub IsFrontOf : List (List ℕ) → List (List ℕ) → Type 0
 IsFrontOf xs ys = (rest : List (List ℕ)) × (xs ++ rest ≡ ys)
 
--- Whatever the line did: the card has carried out the first of the commands, in order, each once.
--- The answers are its responses to the first of those, and at most one of those has no answer.
+-- The card has carried out the first of the commands (`ran`), in order, each once. The answers are
+-- its responses to the first of `ran`. At most one command of `ran` has no answer.
 pub record IsRight (does : List (List ℕ) → List ℕ) (before commands ran answers : List (List ℕ))
     : Type 0 where
   pub carried_out : IsFrontOf ran commands
   pub answered : IsFrontOf answers (responses does before ran)
   pub all_but_one : length ran ≤ length answers + 1
 
--- What a terminal that has given up says of the command in progress is true.
+-- the outcome in a fault is true of the command in progress
 abbrev pub IsTrue : Outcome → (ran answers : List (List ℕ)) → Type 0
 IsTrue NotCarriedOut ran answers = length ran ≡ length answers
 IsTrue InPart ran answers = length ran ≡ length answers + 1
 IsTrue _ ran answers = Unit {0}
 
--- a world in which all of this holds
+-- all of this holds in this world
 pub record IsAtMostOnce (m : Meaning) (before commands : List (List ℕ)) (w : World) : Type 0 where
   pub ran : List (List ℕ)
   pub ran_is : w.card.ran ≡ before ++ ran
@@ -97,25 +97,25 @@ pub record IsAtMostOnce (m : Meaning) (before commands : List (List ℕ)) (w : W
   pub finished : w.terminal.phase ≡ Over
       → (ran ≡ commands) × (w.answers ≡ responses m.does before ran)
 
--- the I-blocks of a chain of so many bytes, in fields of `size` bytes: at least one
+-- the number of I-blocks for a chain of `bytes` bytes in fields of `size` bytes: at least one
 abbrev pub blocks : (size bytes : ℕ) → ℕ
 blocks size zero = 1
 blocks size (suc n) = n / size + 1
 
--- IFSC after the card's request, if it makes one
+-- IFSC after the card's S(IFS request), if any
 abbrev pub size_after : Option ℕ → ℕ → ℕ
 size_after None size = size
 size_after (Some other) size = other
 
--- the I-blocks of these commands and of the card's responses; `size` is IFSC before them
+-- the number of I-blocks for these commands and their responses; `size` is IFSC before them
 abbrev pub all_blocks : Meaning → (size : ℕ) → (before commands : List (List ℕ)) → ℕ
 all_blocks m size before [] = 0
 all_blocks m size before (c ∷ cs) =
     blocks size (length c) + blocks longest (length (m.does (before ++ c ∷ [])))
     + all_blocks m (size_after (m.asks (before ++ c ∷ [])).size size) (before ++ c ∷ []) cs
 
--- After so many exchanges there are all answers, or a fault. Each I-block takes one and at most
--- `tries` more, and each command has its extensions.
+-- After this number of exchanges the terminal has all answers, or a fault. Each I-block takes one
+-- exchange and at most `tries` more. Each command may take its extensions.
 abbrev pub most_exchanges : Settings → Meaning → (before commands : List (List ℕ)) → ℕ
 most_exchanges settings m before commands =
     all_blocks m settings.ifsc before commands * (settings.tries + 1)

@@ -1,4 +1,4 @@
--- The answer to a command, from what the call that responds says.
+-- The response of the card to a command, from the contract of `respond`.
 use Rattle.std.proofs.Common.{◌≡◌, ℕ, ◌≤◌, List, [], ◌++◌, length, refl, sym, ap, ◌∙◌, subst}
 use Rattle.apdu_core.specs.StatusWord.{StatusWord, IsStatusWord}
 use Rattle.apdu_core.specs.CommandBytes.{Command}
@@ -12,7 +12,7 @@ use Rattle.apdu_terminal.specs.Apdus.{may_bring}
 use Rattle.apdu_terminal.specs.CardApdu.{Responds}
 use Rattle.t1_terminal.specs.CardCommand.{Answers, status_bytes}
 
--- what the call says of the exchange that it returns
+-- the contract of `respond` for the returned exchange
 abbrev pub Refused : {C : Type 0} → Command → EndOf C → EndOf C → List ℕ → Stage → Type 0
 Refused c end end' bytes stage = (IsAgreed MayReceive MaySend c → ⊥)
     → (end' ≡ end) × ((stage ≡ Done (0x67, 0x00)) × (bytes ≡ []))
@@ -23,7 +23,7 @@ Carried Does old c new bytes stage = IsAgreed MayReceive MaySend c
     → (s : StatusWord) × (stage ≡ Done s)
     × Responds Does old (record { command = c; content = bytes; status = s }) new
 
--- it is over
+-- the exchange has ended
 pub is_over : {C State : Type 0} (Does : State → ℕ → Tpdu → State → Type 0) (old new : State)
     (c : Command) (end end' : EndOf C) (bytes : List ℕ) (stage : Stage)
     → Refused c end end' bytes stage → Carried Does old c new bytes stage

@@ -1,4 +1,4 @@
--- What went over the line, as the card's pairs of commands and responses.
+-- A dialogue as pairs of commands and responses, which the card has carried out.
 use Rattle.std.proofs.Common.{◌≡◌, refl, sym, ap, subst, ◌∙◌, ℕ, suc, ◌+◌, ◌*◌, ◌≤◌, ◌==◌, Bool, true, false, List, [], ◌∷◌, ◌++◌, length, Option, Some, None, length-append, arith, ◌⊎◌, inl, inr}
 use Rattle.std.specs.Prelude.{IfSome, if◌then◌else◌}
 use Rattle.std.specs.List.{AllByRecursion}
@@ -101,7 +101,7 @@ module _ {State : Type 0} (Own : State → ℕ → Tpdu → State → Type 0) wh
       let Q : Pair → Type 0 = λ x. Responds Own old x new in
       subst Q (same_pair q p it.of (sym it.response ∙ bytes)) it.goes
 
-  -- a response more than those that have come: the newest command was carried out
+  -- the card has carried out the newest command, whose response has not arrived
   pub record IsMore (first last : State) (did : List Did) (pairs : List Pair) (c : Command)
       (p : Pair) : Type 0 where
     pub of : p.command ≡ c
@@ -249,31 +249,19 @@ pub gave_up : (p : Phase) (t : Terminal) (why : Fault) → fault_in p t ≡ Some
     → (has_stopped p ≡ true)
     × ((got : List ℕ) (answers : List (List ℕ)) → answers_in p got answers ≡ answers)
 gave_up (GivenUp cause) t why e = (refl, λ got answers. refl)
-gave_up Opening t why e = absurd (cc)
-gave_up Sending t why e = absurd (cc)
-gave_up Receiving t why e = absurd (cc)
-gave_up Aborting t why e = absurd (cc)
-gave_up Over t why e = absurd (cc)
+gave_up _ t why e = absurd (cc)
 
 pub is_over : (p : Phase) (t : Terminal) → has_stopped p ≡ true → fault_in p t ≡ None
     → p ≡ Over
 is_over Over t stopped none = refl
-is_over (GivenUp cause) t stopped none = absurd (cc)
-is_over Opening t stopped none = absurd (cc)
-is_over Sending t stopped none = absurd (cc)
-is_over Receiving t stopped none = absurd (cc)
-is_over Aborting t stopped none = absurd (cc)
+is_over _ t stopped none = absurd (cc)
 
 pub ready_stops : (p : Phase) (t : Terminal) → is_ready p ≡ true
     → (has_stopped p ≡ true) × (fault_in p t ≡ None)
 ready_stops Over t e = (refl, refl)
-ready_stops (GivenUp cause) t e = absurd (cc)
-ready_stops Opening t e = absurd (cc)
-ready_stops Sending t e = absurd (cc)
-ready_stops Receiving t e = absurd (cc)
-ready_stops Aborting t e = absurd (cc)
+ready_stops _ t e = absurd (cc)
 
--- ---- what a fault says
+-- ---- the outcome of a fault
 
 left_by_case : (h : Header) (outcome : Outcome) (old new : CardState) (o : Operation)
     (fetches more : Bool) → is_get_response h ≡ fetches → (h.cla == 0x10) ≡ more
@@ -298,7 +286,7 @@ pub left_by : (h : Header) (outcome : Outcome) (old new : CardState) (o : Operat
 left_by h outcome old new o which =
     left_by_case h outcome old new o (is_get_response h) (h.cla == 0x10) refl refl which
 
--- what is told of the newest command
+-- the outcome of the newest command
 pub not_before : (outcome : Outcome) (ran answers : List (List ℕ)) → length ran ≡ length answers
     → IsTrue outcome ran answers → outcome ≡ InPart → ⊥
 not_before outcome ran answers same told is =

@@ -1,4 +1,4 @@
--- One operation over T=1: the card has responded to each command that both ends have carried.
+-- One operation over T=1: both ends carry its commands, and the card responds to each.
 use Rattle.std.proofs.Common.{◌≡◌, refl, sym, ap, subst, ◌∙◌, ℕ, ◌+◌, Bool, true, false, List, [], ◌∷◌, ◌++◌, length, Option, Some, None, append_assoc, append-nil, length-append, arith, inl, inr, Result}
 use Rattle.std.specs.Prelude.{Err, IsOk, MatchOption, MatchResult, Ok, is_some, option_map, if◌then◌else◌}
 use Rattle.std.proofs.lemmas.List.{length-map, map-append}
@@ -38,7 +38,7 @@ module _ {X State : Type 0} (Own : State → ℕ → Tpdu → State → Type 0) 
   abbrev pub applet : Ghosts X
   applet = record { State = State; standing = standing; Does = DoesAt Own }
 
-  -- what both ends have carried is a dialogue
+  -- law: the carried commands are a dialogue
   abbrev pub Dialogues : Type 0
   Dialogues = (past : Past State) (now : List Fates) (e : EndsOf X) → HasCarried applet past now e
       → has_stopped e.terminal.phase ≡ true
@@ -55,7 +55,7 @@ module _ {X State : Type 0} (Own : State → ℕ → Tpdu → State → Type 0) 
       all_responded Own s.first (standing e.card.card) c.did pairs c.does done.0 (sym done.1)
       taken.1
 
-  -- ---- a command more
+  -- ---- one more command
 
   module _ (law : Dialogues) (s : Start State) (pairs : List Pair) (c : Command)
       (now : List Fates) (e : EndsOf X) (all : AreSent pairs) (sent : IsSent c)
@@ -118,7 +118,7 @@ module _ {X State : Type 0} (Own : State → ℕ → Tpdu → State → Type 0) 
           sent_both pairs (p ∷ []) all (subst IsSent (sym of) sent, tt),
         )
 
-  -- after whatever came before
+  -- the same after any pairs before
   pub takes_on : Dialogues → (before mid after : List Fates) (old at new : EndsOf X)
       (here : List Pair) (c : Command) (p : Pair)
       → Takes applet before old here mid at → IsSent c
@@ -134,7 +134,7 @@ module _ {X State : Type 0} (Own : State → ℕ → Tpdu → State → Type 0) 
       (takes_more law s (pairs ++ here) c after new h.1 sent
       (led (past_of s (pairs ++ here)) h.0) stopped none p of bytes)
 
--- ---- the operation under way
+-- ---- the operation in progress
 
 pub none_taken : {X : Type 0} (a : Ghosts X) (now : List Fates) (e : EndsOf X)
     → Takes a now e [] now e
@@ -148,7 +148,7 @@ under_way operation commands here None due are leads is = absurd leads
 under_way operation commands here (Some o) due are leads is =
     record { commands = commands; are = are; at = o; led = leads; due_is = is }
 
--- the command that is due, with this response
+-- the next command with this response is the new pair
 pub due_pair : (t : Option ApduOperationOf) (commands : List Command) (here : List Pair)
     (due : Command) (content : List ℕ) (status : StatusWord) → LeadsTo commands here t
     → operation_due t ≡ Some due
@@ -170,7 +170,7 @@ module _ {State : Type 0} (Own : State → ℕ → Tpdu → State → Type 0) (s
     → RespondsToAll Does (state_of old) pairs (state_of new))
     (sound_law : (old new : CardState) (pairs : List Pair) → IsCardState old
     → RespondsToAll Does old pairs new → IsCardState new) where
-  -- the response is taken
+  -- the operation takes the response
   pub is_taken : ((old mid new : CardState) (commands : List Command) (pairs : List Pair)
       (o : ApduOperationOf) (due : Command) (content : List ℕ) (status : StatusWord)
       (result : Result (Unit {0}) AnswerFault) (then_at : Option ApduOperationOf)
@@ -205,7 +205,7 @@ module _ {State : Type 0} (Own : State → ℕ → Tpdu → State → Type 0) (s
       (any m1 m2 here now)
       (subst (λ x. Responds Does (state_of m2) x (state_of last)) (same ∙ sym q) one) step room
 
-  -- when no command is due it is over
+  -- without a next command the operation has its answer
   pub over_then : ((old new : CardState) (commands : List Command) (pairs : List Pair)
       (o : ApduOperationOf) → IsCardState old → LeadsTo commands pairs (Some o)
       → o.exchange.gather.limit ≡ response_limit → RespondsToAll Does old pairs new
@@ -231,7 +231,7 @@ module _ {State : Type 0} (Own : State → ℕ → Tpdu → State → Type 0) (s
           (sound_law (state_of first) (state_of m1) pairs sound (any first m1 pairs before)) leads
           room (any m1 last here now) is)
 
--- an answer that is there
+-- the answer exists
 pub is_there : {A B : Type 0} (f : A → B) (r : Option A) → ((x : A) → r ≡ Some x → ⊥)
     → is_some (option_map f r) ≡ true → ⊥
 is_there f None never some = absurd (cc)
@@ -239,7 +239,7 @@ is_there f (Some x) never some = absurd (never x refl)
 
 -- ---- the calls of the loop
 
--- what is known before the operation
+-- what the caller knows before the operation
 pub record HasStarted {X State : Type 0} (Own : State → ℕ → Tpdu → State → Type 0)
     (standing : X → State) (state_of : State → CardState) (now : List Fates) (e : EndsOf X)
     : Type 0 where
@@ -263,14 +263,14 @@ started_so Own standing state_of state own means now e (s, pairs, card, same, so
       taken = taken;
     }
 
--- what has come of the operation
+-- the pairs of the operation so far
 abbrev pub HasHad : {X State : Type 0} (Own : State → ℕ → Tpdu → State → Type 0)
     (standing : X → State) → List Fates → EndsOf X → List Command → Option ApduOperationOf
     → List Fates → EndsOf X → Type 0
 HasHad Own standing before old commands t now e = (here : List Pair)
     × LeadsTo commands here t × Takes (applet Own standing) before old here now e
 
--- a command may be carried
+-- the next command may begin
 pub may_carry : {X State : Type 0} (Own : State → ℕ → Tpdu → State → Type 0)
     (standing : X → State) (state_of : State → CardState) (before mid : List Fates)
     (old at : EndsOf X) (commands : List Command) (t : Option ApduOperationOf)
@@ -348,7 +348,7 @@ module _ {X State : Type 0} (Own : State → ℕ → Tpdu → State → Type 0) 
 
     module _ (law : Dialogues Own standing) (stopped : has_stopped new.terminal.phase ≡ true)
         (none : None ≡ fault_of new.terminal) where
-      -- the response is one of the card
+      -- the response of the card to the command
       pub pair_now : (state_of : State → CardState)
           → (start : HasStarted Own standing state_of before old) → (p : Pair)
           × (p.command ≡ due)
@@ -360,7 +360,7 @@ module _ {X State : Type 0} (Own : State → ℕ → Tpdu → State → Type 0) 
           new_pair Own standing law start.s (start.pairs ++ had.0) due after new h.1 sent
           (led_so (past_of start.s (start.pairs ++ had.0)) h.0) stopped (sym none)
 
-      -- and what has come leads on
+      -- it leads to the next state of the operation
       pub leads_on : (content : List ℕ) (status : StatusWord) (then_at : Option ApduOperationOf)
           → new.terminal.got ≡ content ++ status_bytes status
           → LeadsTo commands (had.0 ++ pair_of t content status) then_at

@@ -1,4 +1,4 @@
--- Operations over T=1, one after another.
+-- The loop over the operations.
 use Rattle.std.proofs.Common.{◌≡◌, refl, sym, ap, subst, ◌∙◌, ℕ, zero, suc, ◌+◌, ◌≤◌, true, List, [], ◌∷◌, ◌++◌, length, map, take, drop, Option, Some, None, append_assoc, arith, ◌⊎◌, inl, inr}
 use Rattle.std.specs.List.{flat_map}
 use Rattle.std.proofs.lemmas.List.{length-map}
@@ -34,7 +34,7 @@ drop_map f zero xs = refl
 drop_map f (suc n) [] = refl
 drop_map f (suc n) (x ∷ xs) = drop_map f n xs
 
--- by what each state of the card stands for
+-- the same by the states of the cards themselves
 pub of_cards : {C X State : Type 0} (Own : State → ℕ → Tpdu → State → Type 0)
     (standing : X → State) (state_of : State → CardState) (state : C → CardState)
     (own : C → State) → ((card : C) → state_of (own card) ≡ state card) → (settings : Settings)
@@ -53,7 +53,7 @@ of_cards Own standing state_of state own means settings first last operations an
     (subst (λ new. R (state_of (own first)) new) (means last) ran)
 
 module _ {X State : Type 0} (Own : State → ℕ → Tpdu → State → Type 0) (standing : X → State) where
-  -- these talks of operations have come
+  -- both ends have carried talks of these operations with these replies
   abbrev pub Come : Start State → List Fates → EndsOf X → List Operation → List Reply → Type 0
   Come s now e done replies = (talks : List (List (List Pair)))
       × AreApduTalksOf done talks replies
@@ -91,7 +91,7 @@ module _ {X State : Type 0} (Own : State → ℕ → Tpdu → State → Type 0) 
     abbrev done_by : List Reply → List Operation
     done_by given = take (length given) (map operation_of ops)
 
-    -- all operations are answered
+    -- all operations have their answers
     pub all_run : (now : List Fates) (e : EndsOf X) (n : ℕ) (given : List Reply)
         → HaveReplies (λ done replies. Come s now e done replies) ops [] n given
         → is_ready e.terminal.phase ≡ true → n ≡ length ops
@@ -127,7 +127,7 @@ module _ {X State : Type 0} (Own : State → ℕ → Tpdu → State → Type 0) 
           survived = λ f tries extensions limit mild. refl;
         }
 
-    -- the terminal gives up in the next one
+    -- the terminal gives up in the next operation
     module _ (before after : List Fates) (old new : EndsOf X) (n : ℕ) (given : List Reply)
         (op : Op A) (fault : Fault)
         (have : HaveReplies (λ done replies. Come s before old done replies) ops [] n given)
@@ -143,7 +143,7 @@ module _ {X State : Type 0} (Own : State → ℕ → Tpdu → State → Type 0) 
       abbrev last : State
       last = standing new.card.card
 
-      -- the tables after the answered ones, and what this one leaves
+      -- the tables after the answered operations, and after this one
       abbrev Leaves : Outcome → Type 0
       Leaves outcome = (mid : CardState) × AnswersAll (state_of s.first) (done_by given) given mid
           × IsLeft (told_of g.due.header outcome) mid (operation_of op) (state_of last)

@@ -1,5 +1,5 @@
--- What a command at T=1 does to a card of data objects (ISO/IEC 7816-4, 5.1; the refusals: this
--- project's profile).
+-- What a command at T=1 does to a card of data objects (ISO/IEC 7816-4, 5.1; the refusals are
+-- profile).
 use Rattle.std.specs.Prelude.{◌≡◌, ℕ, ◌≤◌, List, [], ◌∷◌, ◌++◌, length}
 use Rattle.apdu_core.specs.CommandBytes.{Command, IsCommand, HasForm, HasInvalidIns, command_bytes}
 use Rattle.apdu_core.specs.StatusWord.{StatusWord, IsStatusWord}
@@ -17,8 +17,8 @@ status_bytes sw = sw.0 ∷ sw.1 ∷ []
 abbrev pub Refuses : {State : Type 0} → StatusWord → State → List ℕ → State → Type 0
 Refuses sw old response new = (response ≡ status_bytes sw) × (new ≡ old)
 
--- A command that is agreed with the card goes as its own TPDUs, with at most Le bytes; to any other
--- the response is 6700, wrong length.
+-- The card carries out an agreed command as its own TPDUs, and returns at most Le bytes. To any
+-- other it responds 6700, wrong length.
 pub record Answers {State : Type 0} (Does : State → ℕ → Tpdu → State → Type 0) (old : State)
     (c : Command) (response : List ℕ) (new : State) : Type 0 where
   pub refuses : (IsAgreed MayReceive MaySend c → ⊥) → Refuses (0x67, 0x00) old response new
@@ -26,8 +26,8 @@ pub record Answers {State : Type 0} (Does : State → ℕ → Tpdu → State →
       × (length p.content ≤ may_bring c.le) × Responds Does old p new
       × (response ≡ p.content ++ status_bytes p.status) × IsStatusWord p.status
 
--- What the card does: 6700 to bytes in none of the four forms, 6D00 to an invalid INS. It asks for
--- nothing before a response.
+-- What the card does. It responds 6700 to bytes in none of the four forms, and 6D00 to an invalid
+-- INS. It makes no request before a response.
 pub record DoesAt {State : Type 0} (Does : State → ℕ → Tpdu → State → Type 0) (old : State)
     (d : Did) (new : State) : Type 0 where
   pub no_form : (HasForm d.command → ⊥) → Refuses (0x67, 0x00) old d.response new

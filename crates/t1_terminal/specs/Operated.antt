@@ -25,7 +25,7 @@ use Rattle.t1_core.specs.TerminalSide.{fault_of}
 use Rattle.t1_core.specs.World.{start}
 use Rattle.t1_terminal.specs.CardCommand.{status_bytes}
 
--- ---- what goes over the line
+-- ---- pairs of commands and responses
 
 abbrev pub response_bytes : Pair → List ℕ
 response_bytes p = p.content ++ status_bytes p.status
@@ -36,7 +36,7 @@ commands_in pairs = map (λ (p : Pair). command_bytes p.command) pairs
 abbrev pub responses_in : List Pair → List (List ℕ)
 responses_in pairs = map response_bytes pairs
 
--- where both ends began: a reset, and what the line had done before it
+-- the start of both ends: a reset, and what the line had done before it
 pub record Start (State : Type 0) : Type 0 where
   pub settings : Settings
   pub first : State
@@ -51,7 +51,7 @@ past_of s pairs = record {
   passed = s.passed;
 }
 
--- a command that the card may be sent
+-- a command that the terminal may send
 abbrev pub IsSent : Command → Type 0
 IsSent c = IsCommand c × IsAgreed MayReceive MaySend c
 
@@ -63,7 +63,7 @@ abbrev pub HasTaken : {X : Type 0} (a : Ghosts X) → Start a.State → List Pai
     → EndsOf X → Type 0
 HasTaken a s pairs now e = HasCarried a (past_of s pairs) now e × AreSent pairs
 
--- these are carried after whatever was carried before
+-- both ends carry the pairs `here`, after any pairs before
 abbrev pub Takes : {X : Type 0} (a : Ghosts X) → List Fates → EndsOf X → List Pair → List Fates
     → EndsOf X → Type 0
 Takes a before old here after new = (s : Start a.State) (pairs : List Pair)
@@ -71,20 +71,20 @@ Takes a before old here after new = (s : Start a.State) (pairs : List Pair)
 
 -- ---- what is known of an operation that stops
 
--- By the command in progress: a GET RESPONSE follows an operation that is carried out, and the last
--- piece of a put alone stores its value.
+-- The outcome of the operation, by the command in progress. GET RESPONSE follows only an operation
+-- that the card has carried out. Only the last piece of a put stores its value.
 abbrev pub told_of : Header → Outcome → Outcome
 told_of h outcome =
     if is_get_response h then InPart else if h.cla == 0x10 then NotCarriedOut else outcome
 
--- the tables that a fault leaves
+-- the tables after a fault with this outcome
 abbrev pub IsLeft : Outcome → CardState → Operation → CardState → Type 0
 IsLeft NotCarriedOut old operation new = SameTables old new
 IsLeft Unknown old operation new = SameTables old new ⊎ IsDone old operation new
 IsLeft InPart old operation new = IsDone old operation new
 
--- The terminal has given up: before, these pairs of the operation were carried, and this command
--- was in progress.
+-- The terminal has given up in the operation, after the pairs `here`, with the command `due` in
+-- progress.
 pub record GivesUp {X : Type 0} (a : Ghosts X) (before : List Fates) (old : EndsOf X)
     (operation : Operation) (fault : Fault) (after : List Fates) (new : EndsOf X) : Type 0 where
   pub here : List Pair
@@ -100,22 +100,22 @@ pub record GivesUp {X : Type 0} (a : Ghosts X) (before : List Fates) (old : Ends
 
 -- ---- all operations
 
--- after these pairs some of the operation's own, and its command that was in progress
+-- after the pairs `before` some of the operation's own, and its command in progress
 abbrev pub StopsIn : Operation → List Pair → (commands responses : List (List ℕ)) → Type 0
 StopsIn operation before commands responses = (here : List Pair) × (due : Command)
     × IsUnderWay operation here due
     × (commands ≡ commands_in (before ++ here) ++ command_bytes due ∷ [])
     × (responses ≡ responses_in (before ++ here))
 
--- the most bytes of a response
+-- the longest response in bytes
 abbrev pub most_response : ℕ
 most_response = 258
 
 -- Operations in turn, whatever the line did. The answers are the first of those of the card that
--- answers each operation in one step. Without a fault all are answered, the tables are those after
--- them, and no chain is pending. With one, they are those after the answered operations and at most
--- the next one, of which the fault says what is true. What went over the line for these operations
--- is a dialogue, which ends; if it was mild enough for the settings, there is no fault.
+-- answers each operation in one step. Without a fault every operation has its answer, the tables
+-- are those after all operations, and no chain is pending. After a fault they are those after the
+-- answered operations and at most the next one; the outcome in the fault is true of that one. The
+-- commands and responses are a dialogue, which ends. On a mild line there is no fault.
 pub record HasRun {X : Type 0} (a : Ghosts X) (settings : Settings) (first last : a.State)
     (old new : CardState) (operations : List Operation) (answers : List Reply)
     (fault : Option Fault) (passed_before passed_after : List Fates) : Type 0 where

@@ -1,4 +1,5 @@
 //! A card of data objects above its end of a line at T=1.
+
 ghost use Rattle.std.specs.Prelude.{◌≡◌, ◌+◌, ◌≤◌, [], ◌++◌, length, true, IfOk, MatchResult, vec_capacity};
 ghost use Rattle.apdu_core.specs.StatusWord.{StatusWord, IsStatusWord};
 ghost use Rattle.t0_core.specs.CardTpdu.{rests};
@@ -13,13 +14,14 @@ use std::marker::Model;
 use t0_core::CardEnd;
 use t1_core::{Applet, Requests};
 
-/// The most bytes of a response: 256 of data, and the status.
+/// The longest response in bytes: 256 of data, and the status.
 pub const RESPONSE_ROOM: usize = 258;
 
 /// A card of data objects above its end of a line at T=1. It carries out each command as
-/// `apdu_terminal::respond` does, and asks for nothing before a response (profile).
+/// `apdu_terminal::respond` does, and makes no request before a response (profile).
 ///
-/// What is no short command is answered `6700`, an invalid INS `6D00`; nothing changes then.
+/// It responds `6700` to bytes that are no short command, and `6D00` to an invalid INS. The card is
+/// unchanged after both.
 #[derive(Drop)]
 pub struct DataApplet<C: DataCard> {
     alloc: Global,
@@ -39,7 +41,7 @@ impl<C: DataCard> Model for DataApplet<C> {
 }
 
 impl<C: DataCard> DataApplet<C> {
-    /// The card of an end at which no TPDU is in progress.
+    /// Makes the card from an end at T=0 at which no TPDU is in progress.
     pub fn new(alloc: Global, end: CardEnd<C>) -> DataApplet<C>
         requires { rests end.stage ≡ true }
         ensures { result ≡ end }
@@ -47,14 +49,14 @@ impl<C: DataCard> DataApplet<C> {
         DataApplet { alloc, end }
     }
 
-    /// The card.
+    /// Returns the card of data objects.
     pub fn card(&self) -> &C
         ensures { result.now ≡ self.now.card }
     {
         self.end.card()
     }
 
-    /// Hands the end back.
+    /// Returns the end.
     pub fn into_end(self) -> CardEnd<C>
         ensures end { result ≡ self }
         ensures rests { rests result.stage ≡ true }
@@ -62,7 +64,7 @@ impl<C: DataCard> DataApplet<C> {
         self.end
     }
 
-    /// Carries out a command, with room for its response.
+    /// Carries out a command, and writes its response, for which there is room.
     fn respond(&mut self, command: Command<'_>, response: &mut Vec<u8>) -> Result<(), AllocError>
         requires { (response.old.items ≡ []) × (RESPONSE_ROOM ≤ vec_capacity response.old) }
         ensures { MatchResult result
@@ -95,7 +97,7 @@ fn write(content: &[u8], status: Status, response: &mut Vec<u8>)
     response.push_reserved(status.sw2());
 }
 
-/// The card asks for no time, and announces no other IFSC.
+/// The card asks for no more time, and announces no other IFSC.
 const NO_REQUESTS: Requests = Requests {
     extensions: 0,
     multiple: 0,
@@ -125,7 +127,7 @@ impl<C: DataCard> Applet for DataApplet<C> {
     }
 }
 
-/// The status with this SW1, and SW2 00.
+/// Returns the status with this SW1, and SW2 00.
 fn status(sw1: u8) -> Status
     requires { (0x61 ≤ sw1) × (sw1 ≤ 0x6F) }
     ensures { result ≡ (sw1, 0x00) }

@@ -1,9 +1,19 @@
 //! Operations with a card of data objects over T=1 (ISO/IEC 7816-3, clause 11).
 //!
-//! - `DataApplet` is the card above its end of the line.
-//! - `run` carries out operations over a `Line`, and says what is known of one that stops.
+//! A [`DataApplet`] is the card above its end of a line. [`run`] carries out a list of operations
+//! over a `Line` of `t1_core`, under its `Settings`. [`Operated`] is the result: the card, the
+//! answers and the fault, if the terminal gave up. Operations with a new card:
 //!
-//! Proved is that the answers are those of a card that answers each in one step (`operations.rt`).
+//! ```rust
+//! // crates/terminal_tests/src/line_tests.rt
+//! let card = DataApplet::new(rt.alloc(), end);
+//! assert!(rt; card.card().is_idle());
+//! run(rt.alloc(), card, line, settings, ops).expect(rt, "memory")
+//! ```
+//!
+//! Proved: over any line that delivers, damages or loses blocks, the answers are the first of those
+//! of the card that answers each operation in one step, and the outcome in a fault is true. The
+//! README lists the claims; start with `HasRun` in `specs/Operated`.
 #![tactic(auto)]
 
 mod data_applet;

@@ -1,4 +1,4 @@
-//! One operation over T=1: the commands of a terminal, carried by both ends.
+//! One operation over T=1: a terminal runs its commands over both ends of a line.
 
 ghost use Rattle.std.specs.Prelude.{◌≡◌, ◌++◌, ◌∷◌, [], ℕ, List, true, None, IfOk, OnOk, MatchResult, MatchOption, is_some};
 ghost use Rattle.apdu_core.specs.CommandBytes as spec;
@@ -27,10 +27,10 @@ use object_card::DataCard;
 use std::alloc::{AllocError, Allocator, Global};
 use t1_core::{Applet, Ends, Fault, Line, Outcome, carried_commands_are_a_dialogue};
 
-/// Carries out one operation. Returns its answer, or the fault after which nothing more goes.
+/// Carries out one operation. Returns its answer, or the fault, after which no command begins.
 ///
 /// # Errors
-/// - `AllocError`: memory ran out; each end is somewhere in a command.
+/// - `AllocError`: memory ran out; a command may be in progress at either end.
 pub fn operate<C: DataCard, L: Line, V: Allocator>(
     alloc: Global,
     ends: &mut Ends<DataApplet<C>>,
@@ -60,8 +60,11 @@ pub fn operate<C: DataCard, L: Line, V: Allocator>(
     Ok(Ok(answer))
 }
 
-/// Carries the commands of an operation that has begun, until it is over or the terminal's end
-/// gives up. Returns the fault then.
+/// Carries the commands of an operation that has begun, until the operation ends or the terminal's
+/// end gives up. Returns the fault, if any.
+///
+/// # Errors
+/// - `AllocError`: memory ran out; a command may be in progress at either end.
 fn go_through<C: DataCard, L: Line>(
     alloc: Global,
     ends: &mut Ends<DataApplet<C>>,
@@ -105,7 +108,7 @@ fn go_through<C: DataCard, L: Line>(
     Ok(None)
 }
 
-/// What is known of an operation, by the header of the command in progress.
+/// Returns the fault of the operation, whose outcome also depends on the command in progress.
 fn told(header: Header, fault: Fault) -> Fault
     ensures { result ≡ record {
       cause = fault.cause;
@@ -123,7 +126,7 @@ fn told(header: Header, fault: Fault) -> Fault
     }
 }
 
-/// The data and the status of a response.
+/// Splits a response into data and status.
 fn parts(response: &[u8]) -> (&[u8], Status)
     requires { (content : List ℕ) × (status : StatusWord) × IsStatusWord status
         × (response.now ≡ content ++ status_bytes status) }

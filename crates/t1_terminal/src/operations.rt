@@ -1,4 +1,4 @@
-//! Operations over T=1, and what is known if they stop.
+//! A list of operations over T=1, and the result if the terminal gives up.
 
 ghost use Rattle.std.specs.Prelude.{◌≡◌, map, true, IfOk};
 ghost use Rattle.card_terminal.specs.Operations.{operation_of};
@@ -14,7 +14,7 @@ use object_card::DataCard;
 use std::alloc::{AllocError, Allocator, Global};
 use t1_core::{Applet, Ends, Fault, Line, Settings, carried_commands_are_a_dialogue};
 
-/// What operations over T=1 lead to.
+/// The result of operations over T=1.
 #[derive(Drop)]
 pub struct Operated<C: DataCard> {
     /// The card.
@@ -25,11 +25,16 @@ pub struct Operated<C: DataCard> {
     pub fault: Option<Fault>,
 }
 
-/// Carries out operations with a card of data objects over a line, from a reset on, until all are
-/// answered or the terminal gives up.
+/// Carries out operations with a card of data objects over a line, from a reset on, until all have
+/// answers or the terminal gives up.
+///
+/// Whatever the line damages or loses, the answers are the first of those of the card that answers
+/// each operation in one step. The outcome in a fault is true of the next operation. On a mild line
+/// there is no fault: with at most f failed blocks between two steps, `tries` at least 2 f,
+/// `extensions` at least f, `limit` at least 258.
 ///
 /// # Errors
-/// - `AllocError`: memory ran out; both ends are gone.
+/// - `AllocError`: memory ran out; both ends and the card are dropped.
 pub fn run<C: DataCard + Drop, L: Line, V: Allocator>(
     alloc: Global,
     card: DataApplet<C>,

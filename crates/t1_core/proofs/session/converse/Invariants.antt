@@ -4,7 +4,7 @@ use Rattle.t1_core.specs.TerminalSide.{is_ready}
 use Rattle.t1_core.proofs.Carrying.{first_of}
 use Rattle.t1_core.proofs.session.converse.Given as goal
 
--- the commands before this one are carried and answered
+-- both ends have carried the commands before this one, with these answers
 abbrev pub invariant-loop-command : goal.invariant-loop-command
 invariant-loop-command g l = record {
   ready : is_ready l.ends.terminal.phase ≡ true;

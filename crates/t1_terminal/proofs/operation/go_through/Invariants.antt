@@ -6,7 +6,7 @@ use Rattle.t1_core.specs.TerminalSide.{is_ready}
 use Rattle.t1_terminal.proofs.OperateLemmas.{HasHad}
 use Rattle.t1_terminal.proofs.operation.go_through.Given as goal
 
--- both ends have carried what led to the operation
+-- both ends have carried the pairs that led to the operation
 abbrev pub invariant-talk : goal.invariant-talk
 invariant-talk g l = record {
   ready : is_ready l.ends.terminal.phase ≡ true;

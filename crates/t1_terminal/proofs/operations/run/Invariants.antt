@@ -5,7 +5,7 @@ use Rattle.t1_core.specs.TerminalSide.{is_ready}
 use Rattle.t1_terminal.proofs.RunLemmas.{Come}
 use Rattle.t1_terminal.proofs.operations.run.Given as goal
 
--- the operations before this one are answered
+-- the operations before this one have their answers
 abbrev pub invariant-loop-op : goal.invariant-loop-op
 invariant-loop-op g l = record {
   ready : is_ready l.ends.terminal.phase ≡ true;

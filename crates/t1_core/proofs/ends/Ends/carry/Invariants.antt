@@ -3,13 +3,13 @@ use Rattle.t1_core.specs.TerminalSide.{begins}
 use Rattle.t1_core.proofs.Carrying.{InCourse, most_at}
 use Rattle.t1_core.proofs.ends.Ends.carry.Given as goal
 
--- the line has led from the command's beginning to where both ends are
+-- the exchanges since the command began led to both ends
 abbrev pub invariant-exchanges : goal.invariant-exchanges
 invariant-exchanges g l =
     InCourse g.C.Applet l.command (g.L.Line.passed l.fn.line) (g.L.Line.passed l.line)
     l.fn.self l.self
 
--- the exchanges that may still come
+-- a bound on the exchanges left
 abbrev pub decreases-exchanges : goal.decreases-exchanges
 decreases-exchanges g l =
     most_at (begins l.command l.fn.self.terminal) l.fn.self.card.at

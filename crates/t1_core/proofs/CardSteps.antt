@@ -52,25 +52,17 @@ module _ {C : Type 0} (a : Ghosts C) (old mid new : EndOf C) (before : ℕ) (f :
     (same : mid.card ≡ old.card)
     (is : mid.at ≡ record (forgets old.at) { collected = old.at.collected ++ f })
     (many : before ≡ length old.at.collected) where
+  abbrev cut_to : ℕ → Card → Card
+  cut_to n c = record (forgets c) { collected = take n c.collected }
+
   abbrev Cut : Type 0
-  Cut = Keeps a (λ c. record c {
-    collected = take before c.collected;
-    field = [];
-    rest = [];
-    answering = false;
-  }) mid new
+  Cut = Keeps a (λ c. cut_to before c) mid new
 
   -- the end drops the last field
   forgot : Cut → Keeps a forgets old new
   forgot (stands, kept) = (
     stands ∙ ap a.standing same,
-    kept
-        ∙ ap (λ (k : Card). record k {
-          collected = take before k.collected;
-          field = [];
-          rest = [];
-          answering = false;
-        }) is
+    kept ∙ ap (λ k. cut_to before k) is
         ∙ ap (λ (n : ℕ). record (forgets old.at) {
           collected = take n (old.at.collected ++ f);
         }) many

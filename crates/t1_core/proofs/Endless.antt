@@ -1,5 +1,5 @@
 -- A terminal stops, whatever any peer sends.
-use Rattle.std.proofs.Common.{◌≡◌, refl, ap, ℕ, zero, suc, ◌+◌, ◌*◌, ◌≤◌, ◌<◌, Bool, true, false, List, [], ◌∷◌, length, length-append, length-drop, nat_lt, Option, Some, None, cond, ◌==◌, arith, ◌⊎◌, inl, inr}
+use Rattle.std.proofs.Common.{◌≡◌, refl, ap, subst, ℕ, zero, suc, ◌+◌, ◌*◌, ◌≤◌, ◌<◌, Bool, true, false, List, [], ◌∷◌, length, length-append, length-drop, nat_lt, Option, Some, None, cond, ◌==◌, arith, ◌⊎◌, inl, inr}
 use Rattle.t1_core.specs.declared.control.Control.{Control}
 use Rattle.t1_core.specs.declared.control.Control.TheVariants.{Resynch, Ifs, Abort, Wtx}
 use Rattle.t1_core.specs.declared.terminal.Out.{Out}
@@ -174,29 +174,31 @@ are_filled t sized (Some bytes) = Of (block_of bytes) refl where
   Of None e = tt
   Of (Some b) e = read_is_filled bytes b e
 
-all_stopped : (xs : List (Option (List ℕ))) (t : Terminal) → has_stopped t.phase ≡ true
-    → has_stopped (meets_all t xs).phase ≡ true
+abbrev Has_stopped : Terminal → Type 0
+Has_stopped t = has_stopped t.phase ≡ true
+
+met : (x : Option (List ℕ)) (xs : List (Option (List ℕ))) (t : Terminal)
+    → meets_all (takes t (block x)) xs ≡ meets_all t (x ∷ xs)
+met None xs t = refl
+met (Some bytes) xs t = refl
+
+all_stopped : (xs : List (Option (List ℕ))) (t : Terminal) → Has_stopped t
+    → Has_stopped (meets_all t xs)
 all_stopped [] t h = h
-all_stopped (None ∷ xs) t h = all_stopped xs (takes t None) (stays_stopped t None t.phase refl h)
-all_stopped (Some bytes ∷ xs) t h =
-    all_stopped xs (takes t (block_of bytes)) (stays_stopped t (block_of bytes) t.phase refl h)
+all_stopped (x ∷ xs) t h =
+    subst Has_stopped (met x xs t)
+    (all_stopped xs (takes t (block x)) (stays_stopped t (block x) t.phase refl h))
 
 ends : (xs : List (Option (List ℕ))) (t : Terminal) → 0 < t.size → left t < length xs
     → has_stopped (meets_all t xs).phase ≡ true
 ends [] t sized few = absurd (omega (arith, few))
-ends (None ∷ xs) t sized few =
-    let step = takes_spends t sized None t.phase tt refl in
-    elim step.1 [
-      | inl h ↦ all_stopped xs (takes t None) h
-      | inr less ↦ ends xs (takes t None) step.0.1 (omega (arith, less, few))
-    ]
-ends (Some bytes ∷ xs) t sized few =
-    let b : Option Block = block_of bytes in
-    let step = takes_spends t sized b t.phase (are_filled t sized (Some bytes)) refl in
-    elim step.1 [
-      | inl h ↦ all_stopped xs (takes t b) h
-      | inr less ↦ ends xs (takes t b) step.0.1 (omega (arith, less, few))
-    ]
+ends (x ∷ xs) t sized few =
+    let u : Terminal = takes t (block x) in
+    let step = takes_spends t sized (block x) t.phase (are_filled t sized x) refl in
+    subst Has_stopped (met x xs t) (elim step.1 [
+      | inl h ↦ all_stopped xs u h
+      | inr less ↦ ends xs u step.0.1 (omega (arith, less, few))
+    ])
 
 room_le : (p : Phase) → room p ≤ 2
 room_le Opening = omega arith

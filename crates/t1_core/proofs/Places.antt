@@ -509,8 +509,6 @@ module _ (m : Meaning) (before : List (List ℕ)) where
   is_step down up (Finished w) = over down up w
   is_step Delivers up (Opens k rest tries extensions true) =
       ups Asks up (Opens (record k { ifsd = longest }) rest tries extensions true) tt
-  is_step Delivers up (Opens k rest tries extensions false) =
-      ups Own up (Opens (record k { ifsd = longest }) rest tries extensions false) tt
   is_step Delivers up (Behind k collected [] answering tries extensions true) =
       rw (same_self k.due) (ups Asks up (Behind k collected [] answering tries extensions true) tt)
   is_step Delivers up (Behind k collected (b ∷ bytes) answering tries extensions true) =
@@ -526,12 +524,8 @@ module _ (m : Meaning) (before : List (List ℕ)) where
   is_step Delivers up (Waits k rest n size true tries extensions) =
       rw (eq-eqb k.multiple k.multiple refl)
       (answers_now (Grants (Wtx k.multiple)) up k rest n size tries extensions)
-  is_step Delivers up (Waits k rest n size false tries extensions) =
-      ups Asks up (Waits k rest n size false tries extensions) tt
   is_step Delivers up (Grows k rest size true tries extensions) =
       rw (eq-eqb size size refl) (ups (Grants (Ifs size)) up (Answering k rest tries extensions) tt)
-  is_step Delivers up (Grows k rest size false tries extensions) =
-      ups Asks up (Grows k rest size false tries extensions) tt
   is_step Delivers up (Answering k rest tries extensions) =
       rw (same_other_2 k.due) (rw (other_other k.due)
       (ups Asks up (Answering k rest tries extensions) tt))
@@ -542,6 +536,7 @@ module _ (m : Meaning) (before : List (List ℕ)) where
   is_step Delivers up (Repeating k got rest tries extensions) =
       rw (same_other_2 k.due) (rw (other_other k.due)
       (ups Asks up (Repeating k got rest tries extensions) tt))
+  is_step Delivers up p = ups (out_at p) up (heard p) tt
   is_step Damages up (Opens k rest tries extensions asks) =
       let p = Opens k rest tries extensions asks in
       garbles up p _ tt refl ∙ unread (out_of asks) up p k.number tt refl

@@ -1,4 +1,5 @@
-use Rattle.std.proofs.Common.{ap, ◌∙◌, ◌++◌, arith, [], length, take, drop}
+use Rattle.std.proofs.Common.{ap, ◌∙◌, ℕ, List, ◌++◌, arith, [], length, take, drop}
+use Rattle.t1_core.specs.CardSide.{Card}
 use Rattle.t1_core.proofs.CardSteps.{forgets_field}
 use Rattle.t1_core.proofs.card.CardEnd.collect.Goals as goal
 
@@ -6,33 +7,21 @@ pub returns-clause-err : goal.returns-clause-err
 returns-clause-err g c =
     let s = c.self.inside in
     let seen = c.self.view_is ∙ c.drop_response.ensures in
-    forgets_field g.C.Applet c.args.self.now
-    (record {
-      card = s.applet;
-      at = record {
-        due = s.due;
-        next = s.next;
-        collected = c.extend_from_slice.new.self.items;
-        field = take s.cut (drop s.place s.response.items);
-        rest = drop s.cut (drop s.place s.response.items);
-        answering = s.answering;
-        size = s.size;
-        left = s.left;
-        ran = [];
-      };
-    })
-    c.carry_out.new.self c.len-before.result c.args.field.now (ap (λ e. e.card) seen)
-    (ap (λ l. record {
+    let at : List ℕ → Card = λ collected. record {
       due = s.due;
       next = s.next;
-      collected = l;
+      collected = collected;
       field = take s.cut (drop s.place s.response.items);
       rest = drop s.cut (drop s.place s.response.items);
       answering = s.answering;
       size = s.size;
       left = s.left;
       ran = [];
-    }) c.in_ok-extend_from_slice.ensures.items
+    } in
+    forgets_field g.C.Applet c.args.self.now
+    (record { card = s.applet; at = at c.extend_from_slice.new.self.items }) c.carry_out.new.self
+    c.len-before.result c.args.field.now (ap (λ e. e.card) seen)
+    (ap at c.in_ok-extend_from_slice.ensures.items
     ∙ ap (λ e. record e.at { collected = e.at.collected ++ c.args.field.now }) seen)
     (let many = ap (λ e. length e.at.collected) seen in let ok = s.collected.ok in
     omega (arith, c.len-before.ensures, ok.0, many))

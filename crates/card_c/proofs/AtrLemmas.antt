@@ -1,4 +1,4 @@
--- How many protocols an answer offers, and that its historical bytes and TCK stand at its end.
+-- The number of protocols of an answer, and that it ends in its historical bytes and TCK.
 use Rattle.std.proofs.Common.{◌≡◌, ℕ, ◌+◌, ◌*◌, ◌-◌, ◌≤◌, Bool, true, false, List, [], ◌∷◌, ◌++◌, length, drop, Option, Some, None, refl, ap, ◌∙◌, arith, tests}
 use Rattle.std.proofs.lemmas.List.{drop_at, length-append}
 use Rattle.atr_core.specs.Answer.{Answer, AreInOrder, IsAnswer, before, announcing, characters, check_field, from_indicator, group_before, ts}
@@ -32,7 +32,7 @@ few_protocols a h = few a.others h.in_order
         split true e few = rw e (omega (arith, few))
         split false e few = rw e (omega (arith, few))
 
--- what stands in front of other characters does not hang on them
+-- what precedes characters does not depend on them
 before_is : (byte : Option ℕ) (near rest : List ℕ)
     → before byte (near ++ rest) ≡ before byte near ++ rest
 before_is None near rest = refl

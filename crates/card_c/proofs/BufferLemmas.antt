@@ -1,4 +1,4 @@
--- Characters of a card that pass by a buffer: one more, and all.
+-- Characters of a card that pass through a buffer: one more, and all.
 use Rattle.std.proofs.Common.{◌≡◌, ◌<◌, ◌+◌, ◌++◌, ℕ, List, [], ◌∷◌, length, take, drop, set, refl, sym, subst, ap, ◌∙◌, arith}
 use Rattle.std.proofs.lemmas.List.{take_more_set, drop-set-lt, drop-drop}
 use Rattle.t0_core.specs.Buffers.{Steps, HandsOut}
@@ -12,7 +12,7 @@ module _ {State : Type 0} (Step : State → ℕ → State → Type 0) where
   one_more (c ∷ bs) s last next b steps step =
       (steps.0, steps.1, one_more bs steps.0 last next b steps.2 step)
 
--- one more is handed out
+-- one more is written
 pub one_handed : (old s next : Driven) (before after : List ℕ) (at b : ℕ) → at < length after
     → length after ≡ length before → HandsOut HandsOutOne old before after at s
     → HandsOutOne s b next → HandsOut HandsOutOne old before (set after at b) (at + 1) next

@@ -1,4 +1,4 @@
--- A whole command at a card, from what the call that responds says.
+-- A whole command at a card, from the clauses of the call that responds.
 use Rattle.std.proofs.Common.{◌≡◌, ℕ, ◌+◌, ◌≤◌, List, [], ◌∷◌, ◌++◌, length, drop, refl, sym, ◌∙◌, subst, inr, true, Option, Some, None}
 use Rattle.std.specs.Prelude.{unwrap_or}
 use Rattle.apdu_core.specs.StatusWord.{StatusWord}
@@ -20,7 +20,7 @@ pub unwrapped : (le : Option ℕ) → unwrap_or le 0 ≡ may_bring le
 unwrapped None = refl
 unwrapped (Some n) = refl
 
--- what the call says of the exchange that it returns
+-- what the call promises of the exchange that it returns
 abbrev pub Refuses : Command → EndOf CardView → EndOf CardView → List ℕ → Stage → Type 0
 Refuses c end end' bytes stage = (IsAgreed MayReceive MaySend c → ⊥)
     → (end' ≡ end) × ((stage ≡ Done (0x67, 0x00)) × (bytes ≡ []))
@@ -30,7 +30,7 @@ Answers c end end' bytes stage = IsAgreed MayReceive MaySend c
     → (s : StatusWord) × (stage ≡ Done s) × Responds Does end.card.state
     (record { command = c; content = bytes; status = s }) end'.card.state
 
--- it is over
+-- it has ended
 pub is_over : (c : Command) (end end' : EndOf CardView) (bytes : List ℕ) (stage : Stage)
     → Refuses c end end' bytes stage → Answers c end end' bytes stage
     → ((s : StatusWord) → stage ≡ Done s → ⊥) → ⊥
@@ -58,7 +58,7 @@ responds c end end' bytes stage status refuses answers done rest = record {
   rests_again = rest;
 }
 
--- it goes out
+-- its response is written
 pub goes_out : (c : Command) (end end' : EndOf CardView) (status : StatusWord)
     (bytes given room room' : List ℕ) (len len' : ℕ)
     → IsResponse end (record { command = c; content = bytes; status = status }) end'

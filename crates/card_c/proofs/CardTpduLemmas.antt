@@ -1,4 +1,4 @@
--- A whole TPDU at a card, from what the call of its end says.
+-- A whole TPDU at a card, from the clauses of the call of its end.
 use Rattle.std.proofs.Common.{◌≡◌, ℕ, ◌+◌, List, ◌∷◌, ◌++◌, length, drop, true, false, Option, Some, Result, Ok, Err, refl, sym, ◌∙◌, ap, subst, inl, inr}
 use Rattle.std.specs.Prelude.{IsSome}
 use Rattle.apdu_core.specs.StatusWord.{StatusWord}
@@ -12,7 +12,7 @@ use Rattle.object_card.specs.CardView.{CardView}
 use Rattle.card_c.specs.Codes.{gt_ok, tpdu_code}
 use Rattle.card_c.specs.CardTpduCalls.{IsCarriedOut, object_card}
 
--- what has gone of what these bytes ask
+-- the characters that were sent of this TPDU
 abbrev pub HasGoneOf : List ℕ → EndOf CardView → Cursor → Room → Result StatusWord TpduFault
     → EndOf CardView → Cursor → Room → Type 0
 HasGoneOf tpdu old plans room result new plans' room' =
@@ -32,7 +32,7 @@ goes tpdu old plans room result new plans' room' (inr (inl none)) rests some =
 goes tpdu old plans room result new plans' room' (inr (inr gone)) rests some =
     (gone.1, gone.2, gone.3)
 
--- it has, and the queue of plans, with the first of them taken off, is where the cursor over it is
+-- the same, and the queue without its first plan is where the cursor over it is
 pub in_queue : (tpdu : List ℕ) (old : EndOf CardView) (cursor plans plans' kept : Cursor)
     (room : Room) (result : Result StatusWord TpduFault) (new : EndOf CardView) (room' : Room)
     → rests old.stage ≡ true → IsSome (asked_in tpdu) → cursor ≡ plans → kept ≡ advanced plans

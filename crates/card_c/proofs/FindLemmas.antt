@@ -15,7 +15,7 @@ use Rattle.card_c.specs.Codes.{gt_not_found, reason_code}
 use Rattle.card_c.specs.TagNumbers.{tag_number, IsTagNumber, AreTagNumbers}
 use Rattle.card_c.specs.Reading.{Finds, FindsOn}
 
--- The tags of the numbers before this place, at the front of the cells as long as there is room.
+-- The tags of the numbers before this place, at the front of the cells while they fit.
 pub record Numbered (path : List ℕ) (at : ℕ) (cells : List (List ℕ)) : Type 0 where
   pub tags : List (List ℕ)
   pub numbered : AreTagNumbers (take at path) tags
@@ -80,7 +80,7 @@ numbered_all path at cells e h =
       λ few. subst (λ (n : ℕ). take n cells ≡ h.tags) e (h.kept (omega arith)),
     )
 
--- where one of them is the number of no tag, they are those of no tags
+-- if one of them is the number of no tag, there are no tags with these numbers
 none_there : (tags : List (List ℕ)) (at : ℕ) → at < length (map tag_number tags)
     → ((tag : List ℕ) → ¬ IsTagNumber (get_or (map tag_number tags) at 0) tag) → ¬ All IsTag tags
 none_there [] at low none all = omega (arith, low)
@@ -114,7 +114,7 @@ on_no_step bytes path object object' place place' code e h =
     let none : path ≡ [] = no_step path e in
     inr ([], subst (λ (ns : List ℕ). AreTagNumbers ns []) (sym none) (no_tags, refl), h)
 
--- the cells have the tags of the path at their front, where they have room
+-- the tags of the path are at the front of the cells, if they fit
 abbrev pub HoldsTags : List ℕ → List (List ℕ) → Type 0
 HoldsTags path cells = (tags : List (List ℕ)) × AreTagNumbers path tags × (length cells ≡ deepest)
     × (length path ≤ deepest → take (length path) cells ≡ tags)

@@ -1,7 +1,7 @@
 -- `HeldExchange` as a kind of handle.
 use Rattle.std.proofs.Common.{refl}
 use Rattle.card_c.proofs.HeldKind.{Kind}
-use Rattle.card_c.specs.contracts.terminal_side.TerminalSide as side
+use Rattle.card_c.specs.contracts.exchange_side.ExchangeSide as side
 use Rattle.card_c.specs.contracts.held_exchange.HeldExchange as held
 
 abbrev pub kind : Kind

@@ -1,4 +1,4 @@
--- What differs between the handles.
+-- What differs between the kinds of handles.
 use Rattle.std.proofs.Common.{◌≡◌, List, []}
 use lib.Dec.{T}
 use mir.Syntax.{Sym}
@@ -21,8 +21,9 @@ Z = heap.the_row
 abbrev pub LZ : Laws Z
 LZ = heap_laws.the_row_laws
 
--- A kind of handle: what it points to, and the struct that C sees, with its name, how a value of it
--- is made and seen, what it owns, and that nothing is left of one that is used up.
+-- A kind of handle. `content` is what it points to. The rest is about the struct that C sees: its
+-- name and row, and how a value is made, seen and used up. `owns_some` and `owns_none` say what it
+-- owns, `none_left` that nothing is left of a used value.
 pub record Kind : Type 1 where
   pub content : RattleType
   pub name : Sym

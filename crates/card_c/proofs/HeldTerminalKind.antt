@@ -1,7 +1,7 @@
 -- `HeldTerminal` as a kind of handle.
 use Rattle.std.proofs.Common.{refl}
 use Rattle.card_c.proofs.HeldKind.{Kind}
-use Rattle.card_c.specs.contracts.operating_side.OperatingSide as side
+use Rattle.card_c.specs.contracts.terminal_side.TerminalSide as side
 use Rattle.card_c.specs.contracts.held_terminal.HeldTerminal as held
 
 abbrev pub kind : Kind

@@ -1,5 +1,5 @@
--- The three functions over a handle's pointer, for each kind of handle: `of` hides what it points
--- to, `into_loose` says it again, and `empty` puts null there. Assumes `Logic`.
+-- The three functions over a handle's pointer, for each kind of handle: `of` hides the type that it
+-- points to, `into_loose` names it again, and `empty` writes null. Assumes `Logic`.
 use Rattle.std.proofs.Common.{◌≡◌, ℕ, List, [], ◌∷◌, ◌++◌, refl, sym, subst}
 use mathlib.Core.Bool.{true, ◌&&◌, false≢true}
 use lib.Dec.{T, lit<}
@@ -130,8 +130,8 @@ module _ {M : Type 1} (𝓤 : Ura M) (𝓛 : Logic 𝓤) (𝓜 : Model 𝓤 𝓛
     abbrev Met : Callee → Type 1
     Met k = Meets 𝓛 (Turns P Q).signature (𝓡.run (𝓡.env k)) (closing 𝓛 (Turns P Q) promises)
 
-    -- Code that runs from a value of P, and what it needs, to one of Q of which this is said,
-    -- beside all else, meets the contract.
+    -- Code meets the contract if it runs from a value of P, with what it needs, to one of Q with
+    -- this property, and keeps everything else.
     turned : ((d : P.Denot) → Last (P.exit yes) d)
         → Goes 𝓛 0 (plain (λ _. P)) yes (stay_dropped (plain (λ _. P)) yes)
         → (k : Callee) (fn : Fn) → Is k fn

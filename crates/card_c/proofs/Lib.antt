@@ -4,7 +4,9 @@ pub mod CardApduLemmas
 pub mod CardHeldKind
 pub mod CardT1Lemmas
 pub mod CardTpduLemmas
+pub mod CodeLemmas
 pub mod FindLemmas
+pub mod HandleLemmas
 pub mod HeldExchangeKind
 pub mod HeldKind
 pub mod HeldSend
@@ -14,4 +16,3 @@ pub mod HeldWalks
 pub mod Listing
 pub mod PlanLemmas
 pub mod PointerValues
-pub mod SessionLemmas

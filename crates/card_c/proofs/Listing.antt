@@ -65,7 +65,7 @@ put_more old objects before count done xs counted filled =
     rw at (rw filled (with_more old before (map recorded done) (map recorded xs)
     ∙ ap (with_from old before) (sym (recorded_both done xs))))
 
--- A list has been gone through as far as `now`, and the objects so far are in the array.
+-- The list was read as far as `now`, and the objects so far are in the array.
 pub record Going (first now : ObjectList) (end : ℕ) (old objects : List ObjectRecord)
     (before count : ℕ) : Type 0 where
   pub done : List Placed

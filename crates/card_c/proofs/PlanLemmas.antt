@@ -5,7 +5,7 @@ use Rattle.t0_core.specs.declared.plan.Step.TheVariants.{Null, One, All}
 use Rattle.t0_core.specs.Plan.{Course}
 use Rattle.card_c.specs.PlanLetters.{AreSteps, IsSpelt, IsRefused, letter_of, plan_limit}
 use Rattle.card_c.specs.Codes.{gt_memory, gt_argument, gt_plans}
-use Rattle.card_c.proofs.SessionLemmas.{as_it_is}
+use Rattle.card_c.proofs.CodeLemmas.{as_it_is}
 
 abbrev IsLetter : ℕ → Type 0
 IsLetter b = (b ≡ 0x6E) ⊎ ((b ≡ 0x6F) ⊎ (b ≡ 0x61))
@@ -25,7 +25,7 @@ is_letter letters k lt (steps, e) =
     let P : List ℕ → Type 0 = λ xs. k < length xs → IsLetter (get_or xs k 0) in
     subst P (sym e) (letter_at steps k) lt
 
--- where another letter stands there are no steps
+-- with another letter there are no steps
 pub no_steps : (letters : List ℕ) (k : ℕ) → k < length letters → get_or letters k 0 ≢ 0x6E
     → get_or letters k 0 ≢ 0x6F
     → get_or letters k 0 ≢ 0x61 → AreSteps letters → ⊥
@@ -64,25 +64,25 @@ one_more letters k lt letter h =
     let next : suc k ≡ k + 1 = omega arith in
     subst (λ (n : ℕ). AreSteps (take n letters)) next (one_letter letters k lt letter h)
 
--- the plan that these letters and this cut are
+-- the plan with these letters and this cut
 spelt : (letters : List ℕ) (cut : ℕ) → AreSteps letters → 1 ≤ cut → cut ≤ 256
     → (plan : Course) × IsSpelt letters cut plan
 spelt letters cut (steps, e) low high =
     (record { steps = steps; cut = cut }, (e, refl, (low, high)))
 
--- memory ran out for a plan that is one
+-- memory ran out for a valid plan
 pub wanting : (letters : List ℕ) (cut waiting : ℕ) → AreSteps letters → 1 ≤ cut → cut ≤ 256
     → waiting < plan_limit → IsRefused letters cut waiting gt_memory
 wanting letters cut waiting are low high fits =
     let plan = spelt letters cut are low high in inr (inr (plan.0, plan.1, fits, refl))
 
--- as many wait as may
+-- the most plans wait
 pub full : (letters : List ℕ) (cut waiting : ℕ) → AreSteps letters → 1 ≤ cut → cut ≤ 256
     → plan_limit ≤ waiting → IsRefused letters cut waiting gt_plans
 full letters cut waiting are low high many =
     let plan = spelt letters cut are low high in inr (inl (plan.0, plan.1, many, refl))
 
--- the code of what refuses a plan goes through a register as it is
+-- the code of a refused plan stays as it is in a register
 pub refused_code : (letters : List ℕ) (cut waiting : ℕ) (code : ℤ)
     → IsRefused letters cut waiting code → to_z w32 (of_z w32 code) ≡ code
 refused_code letters cut waiting code (inl (none, is)) =

@@ -1,5 +1,4 @@
--- What the exports on whole commands answer, and the level at which an operation goes. A refusal
--- changes nothing.
+-- What the exports for whole commands return and change. A refusal changes nothing.
 use Rattle.std.specs.Prelude.{◌≡◌, ◌⊎◌, ℕ, ℤ, ◌<◌, List, [], ◌++◌, drop, length, Option, Some, None, Result, Ok, Err, IsSome, Bool, true, if◌then◌else◌}
 use Rattle.apdu_core.specs.StatusWord.{StatusWord}
 use Rattle.apdu_core.specs.CommandBytes.{Command, command_bytes}
@@ -12,8 +11,8 @@ use Rattle.card_c.specs.declared.apdu_side.ApduSide.{ApduSide}
 use Rattle.card_c.specs.Codes.{gt_ok, gt_buffer, gt_memory, gt_no_status, gt_not_due, gt_state}
 use Rattle.card_c.specs.TpduCalls.{AreAnswer, answered_code}
 
--- The command that is due goes out, and how many bytes may come back. If none is due, or there is
--- too little room, nothing changes.
+-- The next command is written, and the most bytes of its response. Without one, or if it does not
+-- fit, nothing changes.
 abbrev pub TellsApdu : Option Command → List ℕ → ℕ → ℕ → ℤ → List ℕ → ℕ → ℕ → Type 0
 TellsApdu None room len most code room' len' most' =
     (code ≡ gt_not_due) × (room' ≡ room) × (len' ≡ len) × (most' ≡ most)
@@ -29,12 +28,12 @@ TellsDue room len most room' len' most' old code new =
     TellsApdu (operation_due old.terminal.operation) room len most code room' len' most'
     × (new ≡ old)
 
--- the operation goes by whole commands with the first response that is taken or ends it
+-- the operation goes by whole commands from the first response that is taken or ends it
 abbrev pub leads_after : Bool → Result (Unit {0}) AnswerFault → Bool
 leads_after leads (Ok _) = true
 leads_after leads (Err fault) = if fails_with fault then true else leads
 
--- These bytes are taken as the response, where they end in a status.
+-- These bytes are taken as the response, if they end in a status.
 abbrev pub TakesResponse : List ℕ → ApduSide → ℤ → ApduSide → Type 0
 TakesResponse response old code new =
     (((bytes : List ℕ) (status : StatusWord) → AreAnswer response bytes status → ⊥)
@@ -59,9 +58,9 @@ IsOpened (Some u) old None new = HasOpened u old new
 IsOpened None old (Some code) new = (code ≡ gt_state) × (new ≡ old)
 IsOpened (Some u) old (Some code) new = (code ≡ gt_memory) × (new ≡ old)
 
--- A call at the level of whole commands on an operation that has no level yet. If something of it
--- has gone, or none has begun, nothing is unsent, and the call is refused. Else it begins by whole
--- commands, and then the call does this.
+-- A call by whole commands on an operation that does not go by them yet. The call is refused if
+-- nothing is unsent: no operation has begun, or some of it was sent. Otherwise the operation begins
+-- by whole commands, and then the call does this.
 abbrev pub Opens : (ApduSide → ℤ → ApduSide → Type 0) → Option Unsent → ApduSide → ℤ → ApduSide
     → Type 0
 Opens Does None old code new = (code ≡ gt_state) × (new ≡ old)

@@ -1,4 +1,4 @@
--- What the export on answers to reset tells.
+-- What the export for answers to reset returns and writes.
 use Rattle.std.specs.Prelude.{◌≡◌, ◌⊎◌, ℕ, ℤ, ◌+◌, ◌*◌, ◌-◌, List, ◌++◌, drop, length, replicate, Some, Result, Ok, Err, Bool, if◌then◌else◌}
 use Rattle.atr_core.specs.Answer.{Answer, IsAnswer, characters, check_field}
 use Rattle.atr_core.specs.BlockValues.{block_guard_time, block_waiting_integer, block_waiting_time, character_waiting_integer, character_waiting_time, edc_code, edc_of, ifsc}
@@ -46,7 +46,7 @@ clock_stop_number stop.AtEither = 3
 abbrev pub flag : Bool → ℕ
 flag holds = if holds then 1 else 0
 
--- a value, or 0 where its code is reserved
+-- a value, or 0 if its code is reserved
 abbrev pub value_or_0 : Result ℕ Rfu → ℕ
 value_or_0 (Ok value) = value
 value_or_0 (Err _) = 0
@@ -64,7 +64,7 @@ abbrev pub class_bits : Result Classes Rfu → ℕ
 class_bits (Ok classes) = flag classes.a + 2 * flag classes.b + 4 * flag classes.c
 class_bits (Err _) = 0
 
--- how many bytes an error detection code has
+-- the length of an error detection code in bytes
 abbrev pub edc_size : Result Edc Rfu → ℕ
 edc_size (Ok Lrc) = 1
 edc_size (Ok Crc) = 2
@@ -84,15 +84,15 @@ abbrev pub mode_numbers : Mode → ℕ × ℕ × ℕ × ℕ
 mode_numbers Negotiable = (0, 0, 0, 0)
 mode_numbers (Specific t can_change implicit) = (1, t, flag can_change, flag implicit)
 
--- where the historical bytes begin: behind them stands nothing but TCK
+-- where the historical bytes begin; only TCK follows them
 abbrev pub historical_place : Answer → ℕ
 historical_place a = length (characters a) - (length a.historical + length (check_field a))
 
--- protocols, with zeros behind them up to 15 in all
+-- protocols, followed by zeros, 15 numbers in all
 abbrev pub with_zeros : List ℕ → List ℕ
 with_zeros protocols = protocols ++ drop (length protocols) (replicate 15 0)
 
--- what an answer says of T=1, as C has it
+-- what an answer says about T=1, as C sees it
 abbrev pub blocks_recorded : Answer → BlockRecord
 blocks_recorded a = record {
   ifsc = value_or_0 (ifsc a);
@@ -105,7 +105,7 @@ blocks_recorded a = record {
   bwt_cycles = bwt_cycles (block_waiting_time a 1);
 }
 
--- what an answer says, as C has it
+-- what an answer says, as C sees it
 abbrev pub atr_recorded : Answer → AtrRecord
 atr_recorded a =
     let mode : ℕ × ℕ × ℕ × ℕ = mode_numbers (mode_of (second a.others).ta) in
@@ -137,9 +137,9 @@ atr_recorded a =
       t1 = blocks_recorded a;
     }
 
--- The bytes are an answer, and what it says is told: its historical bytes stand at the place that
--- is told, and behind them nothing but TCK. Or this is their first fault, whose place is told, and
--- nothing else.
+-- The bytes are an answer, and its record is written: the historical bytes begin at the written
+-- place, and only TCK follows them. Otherwise this is the first fault, and only its place is
+-- written.
 abbrev pub ReadsAtr : List ℕ → AtrRecord → ℕ → ℤ → AtrRecord → ℕ → Type 0
 ReadsAtr bytes atr place code atr' place' =
     ((a : Answer) × IsAnswer a × (bytes ≡ characters a) × (code ≡ gt_ok)

@@ -1,4 +1,4 @@
--- What the calls by buffers do to what a handle holds: so many steps of one character each.
+-- What the calls by buffers do: steps of one character each, and their number.
 use Rattle.std.specs.Prelude.{◌≡◌, ◌⊎◌, ◌<◌, ℕ, ℤ, List, length, take, true, false, Option, Some, None}
 use Rattle.t0_core.specs.declared.host_end.HostTurn.{HostTurn}
 use Rattle.t0_core.specs.declared.line_fault.LineFault.TheVariants.{NotListening}
@@ -19,24 +19,24 @@ use Rattle.card_c.specs.Codes.{gt_ok, gt_sends, gt_state, line_code}
 use Rattle.card_c.specs.ExchangeCalls.{turn_code, taking_code}
 use Rattle.card_c.specs.CardCalls.{TakesCharacter, HandsOutCharacter}
 
--- why no more is handed out: the array is full, or this is what the terminal does next
+-- why the terminal stops: the array is full, or this is what it does next
 abbrev pub stop_code : Option HostTurn → ℤ
 stop_code None = gt_sends
 stop_code (Some turn) = turn_code turn
 
--- An exchange hands its characters out into an array; C is told how many, and why no more.
+-- An exchange writes its characters to an array, and their number; the code says why it stops.
 abbrev pub SendsBytes : List ℕ → List ℕ → ℕ → ExchangeOf → ℤ → ExchangeOf → Type 0
 SendsBytes room room' n' old code new = (handed : HandedOut)
     × (code ≡ stop_code handed.stop) × (n' ≡ handed.count)
     × IsHandingOut IsTurn old room room' handed new
 
--- An exchange takes the characters of an array; C is told how many, and the fault that stopped it.
+-- An exchange takes the characters of an array, and writes their number; the code is the fault.
 abbrev pub ReceivesBytes : List ℕ → ℕ → ExchangeOf → ℤ → ExchangeOf → Type 0
 ReceivesBytes bytes n' old code new = (taken : Taken)
     × (code ≡ taking_code taken.outcome) × (n' ≡ taken.count)
     × IsTakingAll IsTaking old bytes taken new
 
--- the same of a terminal; where it has begun no operation, it hands out nothing
+-- the same for a terminal; if it has begun no operation, it sends nothing
 abbrev pub TellsHanded : Option HandedOut → ℕ → ℤ → ℕ → Type 0
 TellsHanded None n code n' = (code ≡ gt_state) × (n' ≡ n)
 TellsHanded (Some handed) n code n' = (code ≡ stop_code handed.stop) × (n' ≡ handed.count)
@@ -51,14 +51,14 @@ TerminalReceives bytes n' old code new = (taken : Taken)
     × (code ≡ taking_code taken.outcome) × (n' ≡ taken.count)
     × IsTakingAll IsTerminalTaking old bytes taken new
 
--- a card's end, with the plans for it
+-- a card's end, with its plans
 abbrev pub Driven : Type 0
 Driven = EndOf CardView × Cursor
 
 abbrev pub HandsOutOne : Driven → ℕ → Driven → Type 0
 HandsOutOne s byte t = HandsOutCharacter s.0 s.1 byte t.0 t.1
 
--- It hands so many characters out into an array: until that is full, or the card listens.
+-- It writes this number of characters to an array: until that is full, or the card listens.
 abbrev pub HandsOutAll : EndOf CardView → Cursor → List ℕ → List ℕ → ℕ → EndOf CardView → Cursor
     → Type 0
 HandsOutAll end plans room room' n' next left =
@@ -77,7 +77,7 @@ CardSends room n room' n' (Standing end plans) code new =
     × HandsOutAll end plans room room' n' next left
     × (n' ≡ length room → code ≡ gt_sends) × (n' < length room → code ≡ gt_ok)
 
--- A card's end takes so many characters of an array: all, or up to where it does not listen.
+-- A card's end takes this number of characters of an array: all, or until it does not listen.
 abbrev pub TakesAll : EndOf CardView → List ℕ → ℕ → EndOf CardView → Type 0
 TakesAll end bytes n' next = Steps TakesCharacter end (take n' bytes) next
     × ((n' ≡ length bytes) ⊎ ((n' < length bytes) × (listens next.stage ≡ false)))

@@ -1,4 +1,4 @@
--- What the call that carries out a whole command does to what a card's handle holds.
+-- What the call that carries out a whole command does to a card.
 use Rattle.std.specs.Prelude.{◌≡◌, ◌≢◌, ◌⊎◌, ℕ, ℤ, ◌+◌, ◌<◌, ◌≤◌, List, [], length, true, false, Ok}
 use Rattle.apdu_core.specs.declared.command.ApduFault.{ApduFault}
 use Rattle.apdu_core.specs.declared.command.ApduFault.TheVariants.{BadLength}
@@ -22,11 +22,11 @@ use Rattle.card_c.specs.CardTpduCalls.{TellsAnswer}
 abbrev pub wrong_length : StatusWord
 wrong_length = (0x67, 0x00)
 
--- nothing goes out, with this code
+-- nothing is written, and this is the code
 abbrev pub TellsNothing : ℤ → List ℕ → ℕ → ℤ → List ℕ → ℕ → Type 0
 TellsNothing why room len code room' len' = (code ≡ why) × (room' ≡ room) × (len' ≡ len)
 
--- it is answered 6700, where there is room for that
+-- the response is 6700, if that fits
 abbrev pub RefusesLength : List ℕ → ℕ → ℤ → List ℕ → ℕ → Type 0
 RefusesLength room len code room' len' =
     ((length room < 2) × TellsNothing gt_buffer room len code room' len')
@@ -36,8 +36,8 @@ RefusesLength room len code room' len' =
 abbrev pub longest_response : Command → ℕ
 longest_response c = may_bring c.le + 2
 
--- The response of a card that rests, which then rests again: 6700 to a command that is not agreed
--- with it, and nothing changes; to every other one what its own TPDUs bring.
+-- The response of a card at rest, which is then at rest again. To a command that is not agreed with
+-- it the response is 6700, and nothing changes. To any other it is what its own TPDUs bring.
 pub record IsResponse (end : EndOf CardView) (p : Pair) (end' : EndOf CardView) : Type 0 where
   pub refuses : (¬ IsAgreed MayReceive MaySend p.command)
       → (p.status ≡ wrong_length) × (p.content ≡ []) × (end' ≡ end)
@@ -45,8 +45,8 @@ pub record IsResponse (end : EndOf CardView) (p : Pair) (end' : EndOf CardView) 
       → Responds Does end.card.state p end'.card.state
   pub rests_again : rests end'.stage ≡ true
 
--- A command at a card that rests: there is too little room, or memory ran out, and nothing changes;
--- or the response goes out.
+-- A command at a card at rest: the array is too small, or memory ran out, and nothing changes; or
+-- the response is written.
 abbrev pub RespondsToCommand : Command → EndOf CardView → List ℕ → ℕ → ℤ
     → EndOf CardView → List ℕ → ℕ → Type 0
 RespondsToCommand c end room len code end' room' len' =
@@ -57,8 +57,8 @@ RespondsToCommand c end room len code end' room' len' =
     ⊎ ((p : Pair) × (longest_response c ≤ length room) × (p.command ≡ c) × IsResponse end p end'
     × TellsAnswer (Ok p.status) p.content room len code room' len')
 
--- Bytes at a card: characters of a TPDU have gone; or the bytes are no command, of which those with
--- wrong lengths are answered 6700, extended ones among them; or they are this command.
+-- Bytes at a card. A TPDU may have begun. The bytes may not be a command: then wrong lengths,
+-- extended ones too, get 6700. Or they are this command.
 abbrev pub RespondsTo : List ℕ → List ℕ → ℕ → List ℕ → ℕ → CardSide → ℤ → CardSide → Type 0
 RespondsTo apdu room len room' len' (Building applications) code new =
     TellsNothing gt_state room len code room' len' × (new ≡ Building applications)

@@ -1,4 +1,4 @@
--- What the calls on a card's handle do to what it holds. A refusal leaves it as it was.
+-- What the calls on the handle of a card do to its content. A refusal changes nothing.
 use Rattle.std.specs.Prelude.{◌≡◌, ◌⊎◌, ℕ, ℤ, List, [], ◌∷◌, ◌++◌, Bool, true, false, Option, Some, None, if◌then◌else◌}
 use Rattle.t0_core.specs.Character.{Character}
 use Rattle.t0_core.specs.declared.end.End.TheVariants.{Terminal, Card}
@@ -18,7 +18,7 @@ use Rattle.card_c.specs.declared.card_side.CardSide.TheVariants.{Building, Stand
 use Rattle.card_c.specs.Codes.{gt_ok, gt_sends, gt_state, gt_memory, gt_argument, builder_code, line_code}
 use Rattle.card_c.specs.TagNumbers.{IsNumbered}
 
--- A new card: without applications, where the handle held nothing and memory is not wanting.
+-- A card without applications, if the handle was empty and memory did not run out.
 abbrev pub Begins : Option CardSide → ℤ → Option CardSide → Type 0
 Begins (Some old) code new = (code ≡ gt_state) × (new ≡ Some old)
 Begins None code new = ((code ≡ gt_ok) × (new ≡ Some (Building [])))
@@ -70,7 +70,7 @@ HaveLedUnder first came taken end =
 abbrev pub no_plans : Cursor
 no_plans = record { rest = []; kept = None }
 
--- The card stands, with nothing selected, and has heard nothing; or memory is wanting, and it is
+-- The card is built, with nothing selected, and has received nothing; or memory ran out, and it is
 -- still being built.
 abbrev pub Finishes : CardSide → ℤ → CardSide → Type 0
 Finishes (Standing end plans) code new = (code ≡ gt_state) × (new ≡ Standing end plans)
@@ -96,7 +96,7 @@ TakesCharacter end byte next = (listens end.stage ≡ true)
     → HaveLedUnder first came taken end
     → HaveLedUnder first (came ++ (Terminal, byte) ∷ []) taken next)
 
--- A character of the terminal is taken where the card listens.
+-- A character of the terminal is taken if the card listens.
 abbrev pub TakesOne : ℕ → CardSide → ℤ → CardSide → Type 0
 TakesOne byte (Building applications) code new = (code ≡ gt_state) × (new ≡ Building applications)
 TakesOne byte (Joined session) code new = (code ≡ gt_state) × (new ≡ Joined session)
@@ -106,8 +106,8 @@ TakesOne byte (Standing end plans) code new =
     ⊎ ((next : EndOf CardView) × (code ≡ gt_ok) × (new ≡ Standing next plans)
     × TakesCharacter end byte next)
 
--- A card that does not listen hands out this character, under the plan kept, or the next one where
--- it begins to answer.
+-- A card that does not listen sends this character, under its plan, or the next one if it begins to
+-- answer.
 abbrev pub HandsOutCharacter : EndOf CardView → Cursor → ℕ → EndOf CardView → Cursor → Type 0
 HandsOutCharacter end plans byte next left = (listens end.stage ≡ false)
     × (left ≡ (if takes_plan end.stage then advanced plans else plans))
@@ -118,7 +118,7 @@ HandsOutCharacter end plans byte next left = (listens end.stage ≡ false)
     → HaveLedUnder first (came ++ (Card, byte) ∷ [])
     (if takes_plan end.stage then taken ++ plan_kept left ∷ [] else taken) next)
 
--- The card's next character, where it does not listen.
+-- The card's next character, if it does not listen.
 abbrev pub Turns : ℕ → ℕ → CardSide → ℤ → CardSide → Type 0
 Turns before byte (Building applications) code new =
     (code ≡ gt_state) × (new ≡ Building applications) × (byte ≡ before)

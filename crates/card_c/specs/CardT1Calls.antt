@@ -1,5 +1,4 @@
--- What the calls on a card's end of a line at T=1 do to what its handle holds. A refusal leaves it
--- as it was.
+-- What the calls on a card at T=1 do to it. A refusal changes nothing.
 use Rattle.std.specs.Prelude.{◌≡◌, ◌⊎◌, ℕ, ℤ, ◌<◌, true, false, List, [], ◌++◌, take, length, Option, Some, None}
 use Rattle.t0_core.specs.CardSide.{EndOf}
 use Rattle.t0_core.specs.CardTpdu.{rests}
@@ -29,7 +28,7 @@ applet = record {
   Does = DoesAt Does;
 }
 
--- A card that rests speaks T=1, as after a reset: it has sent no block.
+-- A card at rest begins to speak T=1: it has sent no block.
 abbrev pub IsFresh : EndOf CardView → Cursor → CardT1Side → Type 0
 IsFresh end plans at = at ≡ record {
   end = record { card = end; at = card_after [] };
@@ -54,7 +53,7 @@ at_t0 (Joined session) = Joined session
 at_t0 (Standing end plans) = Standing end plans
 at_t0 (AtT1 at) = Standing at.end.card at.plans
 
--- A call on a card at T=1 does this; at any other there is nothing to tell, and nothing changes.
+-- A call on a card at T=1 does this. On any other it writes nothing, and nothing changes.
 abbrev pub OnLine : (CardT1Side → ℤ → CardT1Side → Type 0) → Type 0 → CardSide → ℤ → CardSide
     → Type 0
 OnLine Calls Untold (Building applications) code new =
@@ -65,8 +64,8 @@ OnLine Calls Untold (Standing end plans) code new =
 OnLine Calls Untold (AtT1 at) code new =
     (next : CardT1Side) × (new ≡ AtT1 next) × Calls at code next
 
--- The block of the reply goes out; there is none before the first block of the terminal, and after
--- memory ran out.
+-- The block of the reply is written. Before the terminal's first block, and after memory ran out,
+-- no block is.
 abbrev pub SendsOf : Option Reply → List ℕ → ℕ → List ℕ → ℕ → CardT1Side → ℤ → Type 0
 SendsOf None room n room' n' at code = (code ≡ gt_done) × (room' ≡ room) × (n' ≡ n)
 SendsOf (Some reply) room n room' n' at code =
@@ -78,9 +77,8 @@ abbrev pub SendsReply : List ℕ → ℕ → List ℕ → ℕ → CardT1Side →
 SendsReply room n room' n' old code new =
     SendsOf old.reply room n room' n' old code × (new ≡ old)
 
--- Bytes of the terminal are taken up to the end of its block, and with that the block: the end
--- makes its step, and replies. If memory runs out, no command is carried out, and the block is
--- dropped.
+-- Bytes of the terminal are taken up to the end of its block. With a whole block the end makes its
+-- step, and replies. If memory runs out, no command is carried out, and the block is dropped.
 abbrev pub HearsBytes : List ℕ → ℕ → CardT1Side → ℤ → CardT1Side → Type 0
 HearsBytes bytes n' old code new = (block : List ℕ) × (block ≡ old.block ++ take n' bytes)
     × ((k : ℕ) → k < n' → is_whole (old.block ++ take k bytes) ≡ false)
@@ -93,7 +91,7 @@ HearsBytes bytes n' old code new = (block : List ℕ) × (block ≡ old.block ++
     ⊎ ((is_whole block ≡ true) × (code ≡ gt_memory) × (new.block ≡ []) × (new.reply ≡ None)
     × Keeps applet forgets old.end new.end))
 
--- no valid block came
+-- no valid block arrived
 abbrev pub MissesBlock : CardT1Side → CardT1Side → Type 0
 MissesBlock old new = (reply : Reply)
     × (new ≡ record old { block = []; reply = Some reply })

@@ -1,4 +1,4 @@
--- What the call that carries out a whole TPDU does to what a card's handle holds.
+-- What the call that carries out a whole TPDU does to a card.
 use Rattle.std.specs.Prelude.{◌≡◌, ◌⊎◌, ℕ, ℤ, ◌+◌, ◌<◌, ◌≤◌, List, [], ◌∷◌, ◌++◌, length, drop, true, false, None, Some, Result, Ok, Err}
 use Rattle.apdu_core.specs.StatusWord.{StatusWord}
 use Rattle.t0_core.specs.declared.tpdu_card.TpduCard.{Ghosts}
@@ -28,7 +28,7 @@ object_card = record {
   prepared = λ card. card.prepared;
 }
 
--- The answer goes out: data, and then the status. With a fault nothing does.
+-- The answer is written: data, then the status. With a fault nothing is written.
 abbrev pub TellsAnswer : Result StatusWord TpduFault → List ℕ → List ℕ → ℕ → ℤ → List ℕ → ℕ
     → Type 0
 TellsAnswer (Ok status) bytes room len code room' len' =
@@ -37,7 +37,7 @@ TellsAnswer (Ok status) bytes room len code room' len' =
 TellsAnswer (Err fault) bytes room len code room' len' =
     (code ≡ tpdu_code fault) × (len' ≡ len) × (room' ≡ room)
 
--- what the bytes ask is carried out, with room for all data that may come
+-- the TPDU is carried out, with room for all data that it may bring
 abbrev pub IsCarriedOut : List ℕ → EndOf CardView → Cursor → Room → List ℕ → ℕ → ℤ
     → EndOf CardView → Cursor → List ℕ → ℕ → Type 0
 IsCarriedOut tpdu end plans gather room len code end' plans' room' len' =
@@ -46,12 +46,12 @@ IsCarriedOut tpdu end plans gather room len code end' plans' room' len' =
     × HasGone object_card asked end plans gather result end' plans' gathered
     × TellsAnswer result gathered.bytes room len code room' len'
 
--- the most bytes that come back: the data that may come, and the status
+-- the most bytes of an answer: data and status
 abbrev pub longest_answer : Asked → ℕ
 longest_answer asked = asked.may_come + 2
 
--- why nothing is carried out: characters of a TPDU have gone; the bytes are no TPDU; there is less
--- room than its answer may need; memory ran out
+-- why nothing is carried out: a TPDU has begun; the bytes are not a TPDU; the array is too small
+-- for its longest answer; memory ran out
 abbrev pub IsRefusal : List ℕ → EndOf CardView → List ℕ → ℤ → Type 0
 IsRefusal tpdu end room code =
     ((rests end.stage ≡ false) × (code ≡ gt_state))

@@ -1,4 +1,4 @@
--- The numbers of the codes that exports answer.
+-- The numbers of the codes that exports return.
 use Rattle.std.specs.Prelude.{ℤ, pos, negsuc}
 use Rattle.atr_core.specs.declared.fault.Reason as atr
 use Rattle.atr_core.specs.declared.pps.PpsFault as pps

@@ -1,10 +1,9 @@
--- What is copied out into an array of C's.
+-- What is copied to an array of C.
 use Rattle.std.specs.Prelude.{◌≡◌, ◌⊎◌, ℕ, ℤ, ◌+◌, ◌*◌, List, ◌++◌, drop, length, ◌≤◌, ◌<◌}
 use Rattle.apdu_core.specs.StatusWord.{StatusWord}
 use Rattle.card_c.specs.Codes.{gt_ok, gt_buffer}
 
--- all of the bytes stand at the array's front where there is room for them, else the array is as it
--- was
+-- all bytes are at the array's front if they fit, otherwise the array is as it was
 abbrev pub IsCopied : List ℕ → List ℕ → ℤ → List ℕ → Type 0
 IsCopied from room code after =
     ((length from ≤ length room) × (code ≡ gt_ok) × (after ≡ from ++ drop (length from) room))
@@ -14,7 +13,7 @@ IsCopied from room code after =
 abbrev pub status_number : StatusWord → ℕ
 status_number word = word.0 * 256 + word.1
 
--- An answer goes out: its status, how many data bytes it has, and these as far as there is room.
+-- An answer is written: its status, the number of its data bytes, and these if they fit.
 abbrev pub GoesOut : StatusWord → List ℕ → List ℕ → ℤ → ℕ → List ℕ → ℕ → Type 0
 GoesOut word bytes room code status' room' len' =
     (status' ≡ status_number word) × (len' ≡ length bytes) × IsCopied bytes room code room'

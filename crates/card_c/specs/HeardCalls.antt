@@ -1,4 +1,4 @@
--- How somebody listens to a session, and what it tells of the characters of its last operation.
+-- How a session records characters, and what it writes of those of its last operation.
 use Rattle.std.specs.Prelude.{◌≡◌, ◌⊎◌, ℕ, ℤ, List, ◌++◌, drop, length, map, ◌≤◌, ◌<◌, true, false}
 use Rattle.t0_core.specs.declared.end.End.{End}
 use Rattle.t0_core.specs.declared.end.End.TheVariants.{Terminal, Card}
@@ -11,7 +11,7 @@ use Rattle.card_c.specs.declared.character_record.CharacterRecord.{CharacterReco
 use Rattle.card_c.specs.Codes.{gt_ok, gt_state, gt_memory, gt_buffer}
 use Rattle.card_c.specs.SessionCalls.{beginning}
 
--- Somebody listens, and has heard nothing yet; the rest stays.
+-- The session listens, and has recorded nothing yet; the rest stays.
 pub record IsHeard (old new : SessionSide) : Type 0 where
   pub session_is : new.session ≡ old.session
   pub plans_are : new.plans ≡ old.plans
@@ -26,17 +26,17 @@ Listens (AtT1 at) code new = (code ≡ gt_state) × (new ≡ AtT1 at)
 Listens (Joined session) code new =
     (next : SessionSide) × (code ≡ gt_ok) × (new ≡ Joined next) × IsHeard session next
 
--- an end as C has it
+-- an end as C sees it
 abbrev pub end_number : End → ℕ
 end_number Terminal = 0
 end_number Card = 1
 
--- a character as C has it
+-- a character as C sees it
 abbrev pub character_record : Character → CharacterRecord
 character_record c = record { from = end_number c.0; byte = c.1 }
 
--- Where some were lost for want of memory, nothing is told. Else it is how many there are, and all
--- of them where there is room for them.
+-- If memory ran out and some were lost, nothing is written. Otherwise their number is, and all of
+-- them if they fit.
 abbrev pub TellsHearing : Hearing → List CharacterRecord → ℕ → List CharacterRecord → ℕ → ℤ → Type 0
 TellsHearing hearing room count room' count' code =
     ((hearing.lost ≡ true) × (code ≡ gt_memory) × (room' ≡ room) × (count' ≡ count))
@@ -45,7 +45,7 @@ TellsHearing hearing room count room' count' code =
     × (room' ≡ map character_record hearing.heard ++ drop (length hearing.heard) room))
     ⊎ ((length room < length hearing.heard) × (code ≡ gt_buffer) × (room' ≡ room))))
 
--- what the session's last operation was heard to say, if somebody listens
+-- the characters of the session's last operation, if it listens
 abbrev pub TellsHeard : List CharacterRecord → ℕ → List CharacterRecord → ℕ → CardSide → ℤ → Type 0
 TellsHeard room count room' count' (Building applications) code =
     (code ≡ gt_state) × (room' ≡ room) × (count' ≡ count)

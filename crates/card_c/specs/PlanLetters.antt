@@ -1,4 +1,4 @@
--- A plan as letters: n, o and a for its steps, and its cut.
+-- Plans as C spells them: letters n, o and a for steps, and the cut.
 use Rattle.std.specs.Prelude.{◌≡◌, ◌<◌, ◌≤◌, ◌⊎◌, ℕ, ℤ, List, map}
 use Rattle.t0_core.specs.declared.plan.Step.{Step}
 use Rattle.t0_core.specs.declared.plan.Step.TheVariants.{Null, One, All}
@@ -18,11 +18,11 @@ AreSteps letters = (steps : List Step) × (letters ≡ map letter_of steps)
 abbrev pub IsSpelt : List ℕ → ℕ → Course → Type 0
 IsSpelt letters cut plan = (letters ≡ map letter_of plan.steps) × (plan.cut ≡ cut) × IsCut cut
 
--- the most plans that wait for the TPDUs to come
+-- the most plans that wait for later TPDUs
 abbrev pub plan_limit : ℕ
 plan_limit = 1048576
 
--- Why no plan joins those that wait: these letters and this cut are no plan; as many wait as may;
+-- Why no plan joins those that wait: these letters and this cut spell none; the most plans wait;
 -- memory ran out.
 abbrev pub IsRefused : List ℕ → ℕ → ℕ → ℤ → Type 0
 IsRefused letters cut waiting code =

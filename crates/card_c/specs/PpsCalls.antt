@@ -1,4 +1,4 @@
--- What the exports on PPS answer.
+-- What the exports for PPS return and write.
 use Rattle.std.specs.Prelude.{◌≡◌, ◌⊎◌, ℕ, ℤ, pos, ◌<◌, ◌≤◌, List, length, Option, Some, None, nat_lt, if◌then◌else◌}
 use Rattle.atr_core.specs.PpsBytes.{pps_characters, pps_fault, agreed}
 use Rattle.atr_core.specs.declared.pps.Pps.{Pps}
@@ -6,7 +6,7 @@ use Rattle.atr_core.specs.declared.pps.PpsFault.{PpsFault}
 use Rattle.card_c.specs.Codes.{gt_argument, pps_code}
 use Rattle.card_c.specs.Copying.{IsCopied}
 
--- a character as C gives it: a number below 256, and 256 where it is not there
+-- a character as C gives it: a number below 256, or 256 if it is missing
 abbrev pub given : ℕ → Option ℕ
 given number = if nat_lt number 256 then Some number else None
 
@@ -19,7 +19,7 @@ pps_given t pps1 pps2 pps3 =
 abbrev pub AreOfRequest : ℕ → ℕ → ℕ → ℕ → Type 0
 AreOfRequest t pps1 pps2 pps3 = (t < 16) × (pps1 ≤ 256) × (pps2 ≤ 256) × (pps3 ≤ 256)
 
--- The request goes out, where the numbers are those of one; else nothing changes.
+-- The request is written if the numbers are those of one; otherwise nothing changes.
 abbrev pub AsksPps : ℕ → ℕ → ℕ → ℕ → List ℕ → ℕ → ℤ → List ℕ → ℕ → Type 0
 AsksPps t pps1 pps2 pps3 room len code room' len' =
     let request : List ℕ = pps_characters (pps_given t pps1 pps2 pps3) in
@@ -37,7 +37,8 @@ AnswersPps request response code =
     ⊎ ((answered : Pps) × IsPps response answered
     × (code ≡ (if agreed request answered then pos 1 else pos 0)))
 
--- The same of a request in its bytes. One that is none is a bad argument, whatever the response is.
+-- The same for the bytes of a request. If they are invalid, the code is gt_argument, whatever the
+-- response is.
 abbrev pub AgreesPps : List ℕ → List ℕ → ℤ → Type 0
 AgreesPps request response code =
     ((fault : PpsFault) × (pps_fault request ≡ Some fault) × (code ≡ gt_argument))

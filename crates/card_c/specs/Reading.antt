@@ -1,4 +1,4 @@
--- What the exports on objects answer.
+-- What the exports for objects return and write.
 use Rattle.std.specs.Prelude.{◌≡◌, ◌⊎◌, ℕ, ℤ, zero, suc, List, [], ◌∷◌, if◌then◌else◌}
 use Rattle.tlv_core.specs.TagForm.{is_constructed}
 use Rattle.tlv_core.specs.Listing.{Placed, placed}
@@ -11,7 +11,7 @@ use Rattle.card_c.specs.declared.reader.ObjectRecord.{ObjectRecord}
 use Rattle.card_c.specs.Codes.{gt_ok, gt_argument, gt_not_found, reason_code}
 use Rattle.card_c.specs.TagNumbers.{tag_number, AreTagNumbers}
 
--- an object as C has it
+-- an object as C sees it
 abbrev pub recorded : Placed → ObjectRecord
 recorded o =
     record {
@@ -24,7 +24,7 @@ recorded o =
       length = o.value_size;
     }
 
--- an array with these at its front, as many as there is room for
+-- an array with these at its front, as many as fit
 abbrev pub with_front : List ObjectRecord → List ObjectRecord → List ObjectRecord
 with_front [] all = []
 with_front (cell ∷ room) [] = cell ∷ room
@@ -36,8 +36,8 @@ with_from room zero all = with_front room all
 with_from [] (suc at) all = []
 with_from (cell ∷ room) (suc at) all = cell ∷ with_from room at all
 
--- The first object on a path of tags, told with its places, where the bytes are objects and one is
--- on it; else why there is none, which is the first fault with its place, or that none is there.
+-- The first object on a path of tags is written, with its places. Or the bytes are not objects, and
+-- the first fault and its place are returned. Or no object is on the path.
 abbrev pub FindsOn : List ℕ → List (List ℕ) → ObjectRecord → ℕ → ℤ → ObjectRecord → ℕ → Type 0
 FindsOn bytes tags object place code object' place' =
     ((reason : Reason) × IsFirstFault bytes 1 place' reason × (code ≡ reason_code reason)
@@ -49,7 +49,7 @@ FindsOn bytes tags object place code object' place' =
     × (object' ≡ recorded (placed start found.tag found.size found.value found.level))
     × (place' ≡ place))
 
--- the same for a path of numbers, where they are those of tags
+-- the same for a path of numbers, if they are those of tags
 abbrev pub Finds : List ℕ → List ℕ → ObjectRecord → ℕ → ℤ → ObjectRecord → ℕ → Type 0
 Finds bytes numbers object place code object' place' =
     (((tags : List (List ℕ)) → ¬ AreTagNumbers numbers tags) × (code ≡ gt_argument)

@@ -1,4 +1,4 @@
--- What the call that sends any one command does to a session. A refusal leaves it as it was.
+-- What the call that sends any one command does to a session. A refusal changes nothing.
 use Rattle.std.specs.Prelude.{◌≡◌, ◌⊎◌, ℕ, ℤ, List, [], Some}
 use Rattle.std.specs.List.{flat_map}
 use Rattle.apdu_core.specs.declared.command.ApduFault.{ApduFault}
@@ -17,8 +17,8 @@ use Rattle.card_c.specs.Codes.{gt_ok, gt_state, gt_memory, gt_argument, command_
 use Rattle.card_c.specs.ExchangeCalls.{AreNone}
 use Rattle.card_c.specs.SessionCalls.{IsAsBefore, beginning}
 
--- The command has its answer, gathered from units that have gone over the line, under the plans,
--- which are then used up.
+-- The command has its answer, gathered from units on the line under the plans, which are then used
+-- up.
 pub record HasBeenSent (c : Command) (old new : SessionSide) : Type 0 where
   pub reply : Reply
   pub answer_is : new.answer ≡ Some reply
@@ -30,7 +30,7 @@ pub record HasBeenSent (c : Command) (old new : SessionSide) : Type 0 where
   pub gone : HaveGone Does (point old.session.state old.plans.items (beginning old.listens))
       (flat_map dialogues_of units) (point new.session.state left new.heard)
 
--- one command that is agreed with the card: none where memory is wanting
+-- one command that is agreed with the card; if memory runs out, nothing is sent
 abbrev pub SendsAgreed : Command → SessionSide → ℤ → SessionSide → Type 0
 SendsAgreed c old code new =
     ((code ≡ gt_memory) × IsAsBefore old new) ⊎ ((code ≡ gt_ok) × HasBeenSent c old new)

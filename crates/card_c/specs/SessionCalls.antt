@@ -1,4 +1,4 @@
--- What the calls on a session's handle do to what it holds. A refusal leaves it as it was.
+-- What the calls on the handle of a session do to its content. A refusal changes nothing.
 use Rattle.std.specs.Prelude.{◌≡◌, ◌⊎◌, ℕ, ℤ, List, [], ◌∷◌, Bool, true, false, not, Option, Some, None, pos, if◌then◌else◌}
 use Rattle.t0_core.specs.Character.{Character}
 use Rattle.t0_core.specs.Plan.{Course}
@@ -18,12 +18,12 @@ use Rattle.card_c.specs.Copying.{GoesOut}
 use Rattle.card_c.specs.TagNumbers.{IsNumbered}
 use Rattle.card_c.specs.CardCalls.{HaveLed, HaveLedUnder, no_plans}
 
--- How the hearing of an operation begins: where nobody listens, all is lost from the start.
+-- How the recording of an operation begins. A session that does not listen has lost a character.
 abbrev pub beginning : Bool → Hearing
 beginning listens = record { heard = []; lost = not listens }
 
--- A card that stands is reset, and a session with it begins, to which nobody listens; any other is
--- as it was.
+-- A card at T=0 is reset, and a session with it begins, which does not listen. Any other stays as
+-- it was.
 abbrev pub Joins : CardSide → Bool → CardSide → Type 0
 Joins (Building applications) joined new = (joined ≡ false) × (new ≡ Building applications)
 Joins (Joined session) joined new = (joined ≡ false) × (new ≡ Joined session)
@@ -33,7 +33,7 @@ Joins (Standing end plans) joined new =
     × (session.session.state ≡ after_reset end.card.state)
     × (session.plans.items ≡ []) × (session.answer ≡ None) × (session.listens ≡ false)
 
--- A session ends, and its card is reset and stands; any other is as it was.
+-- A session ends, and its card is reset and speaks T=0. Anything else stays as it was.
 abbrev pub Parts : CardSide → Bool → CardSide → Type 0
 Parts (Building applications) parted new = (parted ≡ false) × (new ≡ Building applications)
 Parts (Standing end plans) parted new = (parted ≡ false) × (new ≡ Standing end plans)
@@ -43,7 +43,7 @@ Parts (Joined session) parted new =
     × (end.card.state ≡ after_reset session.session.state) × (end.stage ≡ Taking_header [])
     × HaveLed end.card.state [] end × HaveLedUnder end.card.state [] [] end
 
--- A session begins with a card that stands, and resets it; the card's handle holds nothing then.
+-- A session begins with a card at T=0, and resets it. The card's handle is empty then.
 abbrev pub Starts : Option CardSide → Option CardSide → ℤ → Option CardSide → Option CardSide
     → Type 0
 Starts (Some other) card code new left =
@@ -54,7 +54,7 @@ Starts None (Some side) code new left =
     × (left ≡ None))
     ⊎ (Joins side false side × (code ≡ gt_state) × (new ≡ None) × (left ≡ Some side))
 
--- A session ends, and its card, reset, stands in a card's handle that held nothing.
+-- A session ends, and its card, reset, is in a handle that was empty.
 abbrev pub Finishes : Option CardSide → Option CardSide → ℤ → Option CardSide → Option CardSide
     → Type 0
 Finishes old (Some other) code new card =
@@ -82,8 +82,8 @@ ResetsSession (Joined session) code new =
     (next : SessionSide) × (code ≡ gt_ok) × (new ≡ Joined next) × IsReset session next
 
 -- The operation has its answer, and the tables are those of the card that answers it in one step.
--- What was heard, if somebody listens, is a talk of it with the card, under the plans, which are
--- then used up.
+-- The recorded characters, if the session listens, are a talk of the operation with the card under
+-- the plans, which are then used up.
 pub record HasAnswered (operation : Operation) (old new : SessionSide) : Type 0 where
   pub reply : Reply
   pub answer_is : new.answer ≡ Some reply
@@ -96,7 +96,7 @@ pub record HasAnswered (operation : Operation) (old new : SessionSide) : Type 0 
   pub listens_is : new.listens ≡ old.listens
   pub heard : Hears (beginning old.listens) line new.heard
 
--- nothing was sent, and what is held is as it was
+-- nothing was sent, and the session is as it was
 pub record IsAsBefore (old new : SessionSide) : Type 0 where
   pub state_is : new.session.state ≡ old.session.state
   pub plans_are : new.plans ≡ old.plans
@@ -104,7 +104,7 @@ pub record IsAsBefore (old new : SessionSide) : Type 0 where
   pub listens_is : new.listens ≡ old.listens
   pub heard_is : new.heard ≡ old.heard
 
--- one operation: none while a chain is pending, none where memory is wanting
+-- one operation; none while a chain is pending, and none if memory runs out
 abbrev pub Performs : Operation → SessionSide → ℤ → SessionSide → Type 0
 Performs operation old code new =
     ((is_idle old.session.state.pending ≡ false) × (code ≡ gt_busy) × (new ≡ old))
@@ -145,7 +145,7 @@ Puts number value (Joined session) code new =
     ⊎ ((next : SessionSide) × (tag : List ℕ) × IsNumbered number tag × (new ≡ Joined next)
     × Performs (Put tag value) session code next)
 
--- The last answer goes out, if there is one; where there is none, nothing changes.
+-- The last answer is written. Without one, nothing changes.
 abbrev pub Tells : Option Reply → ℕ → List ℕ → ℕ → ℤ → ℕ → List ℕ → ℕ → Type 0
 Tells None status room len code status' room' len' =
     (code ≡ gt_not_found) × (status' ≡ status) × (room' ≡ room) × (len' ≡ len)

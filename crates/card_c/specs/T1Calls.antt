@@ -1,5 +1,4 @@
--- What the calls on the terminal's end of a line at T=1 do to what its handle holds. A refusal
--- leaves it as it was.
+-- What the calls on the handle of a terminal's end at T=1 do to it. A refusal changes nothing.
 use Rattle.std.specs.Prelude.{◌≡◌, ◌⊎◌, ℕ, ℤ, ◌+◌, ◌≤◌, ◌<◌, ◌==◌, Bool, true, false, List, [], ◌++◌, take, length, Option, Some, None, MatchOption, pos, if◌then◌else◌}
 use Rattle.t1_core.specs.declared.control.Control.{Control}
 use Rattle.t1_core.specs.declared.control.Control.TheVariants.{Resynch, Ifs, Abort, Wtx}
@@ -15,12 +14,6 @@ use Rattle.card_c.specs.declared.t1_side.T1Side.{T1Side}
 use Rattle.card_c.specs.Codes.{gt_ok, gt_sends, gt_done, gt_empty, gt_state, gt_memory, gt_argument, gt_not_found, gt_failed, cause_code, outcome_number}
 use Rattle.card_c.specs.Copying.{IsCopied}
 
--- A call on a handle: one that holds nothing says so, and stays so; what another holds is as this
--- says, and it stays live.
-abbrev pub OnT1 : (T1Side → ℤ → T1Side → Type 0) → Option T1Side → ℤ → Option T1Side → Type 0
-OnT1 Does None code new = (code ≡ gt_empty) × (new ≡ None)
-OnT1 Does (Some old) code new = MatchOption new ⊥ (λ side. Does old code side)
-
 -- an error detection code and an IFSC that the end takes: 1 is LRC
 abbrev pub IsTaken : ℕ → ℕ → Type 0
 IsTaken edc ifsc = (edc ≡ 1) × (settings.fault_of Lrc ifsc ≡ None)
@@ -29,7 +22,7 @@ abbrev pub HasSettings : ℕ → ℕ → ℕ → ℕ → Settings → Type 0
 HasSettings ifsc tries extensions limit s = (s.ifsc ≡ ifsc) × (s.tries ≡ tries)
     × (s.extensions ≡ extensions) × (s.limit ≡ limit)
 
--- an end after a reset, in a handle that held nothing
+-- an end as after a reset, in a handle that was empty
 abbrev pub HasBegun : ℕ → ℕ → ℕ → ℕ → ℕ → Option T1Side → ℤ → Option T1Side → Type 0
 HasBegun edc ifsc tries extensions limit (Some old) code new =
     (code ≡ gt_state) × (new ≡ Some old)
@@ -47,7 +40,8 @@ Begins apdu old code new =
     ⊎ ((is_ready old.end.phase ≡ true) × (code ≡ gt_ok)
     × (new ≡ record old { end = begins apdu old.end }))
 
--- how many times BWT the card has for its answer to this block: what it has asked for, or 1
+-- the card's time for its answer to this block, as a multiple of BWT: the multiple that it asked
+-- for, or 1
 abbrev pub times_of : Control → ℕ
 times_of (Wtx multiple) = if multiple == 0 then 1 else multiple
 times_of Resynch = 1
@@ -60,8 +54,8 @@ waits_for (I number more field) = 1
 waits_for (R number) = 1
 waits_for (Request control) = 1
 
--- The block to send now. If there is none, the command is answered, none has begun, or the end gave
--- up; then, and if memory runs out, nothing goes out.
+-- The next block is written. If no command is in progress, if the end gave up, or if memory runs
+-- out, nothing is written.
 abbrev pub SendsOf : Option Block → Bool → List ℕ → ℕ → ℕ → ℤ → List ℕ → ℕ → ℕ → Type 0
 SendsOf None ready room n waits code room' n' waits' =
     (code ≡ (if ready then gt_done else gt_failed)) × (room' ≡ room) × (n' ≡ n) × (waits' ≡ waits)
@@ -75,8 +69,8 @@ SendsBlock room n waits room' n' waits' old code new =
     SendsOf (sends old.end) (is_ready old.end.phase) room n waits code room' n' waits'
     × (new ≡ old)
 
--- Bytes of the card are taken up to the end of its block, and with that the block. If memory runs
--- out, its bytes are kept, and the next call takes it.
+-- Bytes of the card are taken up to the end of its block, and then the block. If memory runs out,
+-- the bytes stay, and the next call takes the block.
 abbrev pub ReceivesBytes : List ℕ → ℕ → ℕ → T1Side → ℤ → T1Side → Type 0
 ReceivesBytes bytes n n' old code new =
     ((has_stopped old.end.phase ≡ true) × (code ≡ gt_state) × (n' ≡ n) × (new ≡ old))
@@ -89,7 +83,7 @@ ReceivesBytes bytes n n' old code new =
     ⊎ ((is_whole block ≡ true) × (code ≡ gt_sends)
     × (new ≡ record { end = takes old.end (block_of block); block = [] }))))
 
--- no valid block came, while one is awaited
+-- no valid block arrived, while one is expected
 abbrev pub Misses : T1Side → ℤ → T1Side → Type 0
 Misses old code new =
     ((has_stopped old.end.phase ≡ true) × (code ≡ gt_state) × (new ≡ old))
@@ -100,7 +94,7 @@ abbrev pub Resets : T1Side → ℤ → T1Side → Type 0
 Resets old code new = (code ≡ gt_ok)
     × (new ≡ record { end = fresh old.end.settings; block = [] })
 
--- the response goes out, unless a command is in progress or the end gave up
+-- the response is written, unless a command is in progress or the end gave up
 abbrev pub TellsResponse : List ℕ → ℕ → List ℕ → ℕ → T1Side → ℤ → T1Side → Type 0
 TellsResponse room n room' n' old code new =
     (((is_ready old.end.phase ≡ false) × (code ≡ gt_state) × (room' ≡ room) × (n' ≡ n))

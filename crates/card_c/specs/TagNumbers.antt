@@ -3,7 +3,7 @@ use Rattle.std.specs.Prelude.{◌≡◌, ℕ, ◌+◌, ◌*◌, List, [], ◌∷
 use Rattle.tlv_core.specs.TagForm.{IsTag}
 use Rattle.tlv_core.specs.Address.{IsAddressable}
 
--- the bytes of a tag as one number, the first byte the highest: 0x50, 0x5F20, 0x9F8101
+-- the bytes of a tag as one number, most significant first: 0x50, 0x5F20, 0x9F8101
 abbrev pub tag_number : List ℕ → ℕ
 tag_number [] = 0
 tag_number (a ∷ []) = a

@@ -1,4 +1,4 @@
--- What the calls on a terminal's handle do to what it holds. A refusal leaves it as it was.
+-- What the calls on the handle of a terminal do to its content. A refusal changes nothing.
 use Rattle.std.specs.Prelude.{◌≡◌, ◌<◌, ◌≤◌, ◌⊎◌, ℕ, ℤ, List, [], ◌∷◌, Option, Some, None, Result, Ok, Err, MatchOption, Bool, true, false, ◌&&◌, if◌then◌else◌}
 use Rattle.apdu_core.specs.declared.command.ApduFault.{ApduFault}
 use Rattle.apdu_core.specs.CommandBytes.{Command, IsCommand, command_bytes}
@@ -14,7 +14,7 @@ use Rattle.card_terminal.specs.Talk.{AreCommandsOf}
 use Rattle.card_terminal.specs.ExchangeSide.{response_limit}
 use Rattle.card_terminal.specs.TerminalSide.{TerminalOf, OperationOf, KeepsLimit, at_rest, is_going}
 use Rattle.card_terminal.specs.TerminalSteps.{IsBeginning, IsTerminalTurn, IsTerminalTaking, IsTerminalAnswering, IsTerminalAnswer, terminal_due}
-use Rattle.card_c.specs.declared.operating_side.OperatingSide.{OperatingSide}
+use Rattle.card_c.specs.declared.terminal_side.TerminalSide.{TerminalSide}
 use Rattle.card_terminal.specs.declared.unsent.Unsent.{Unsent}
 use Rattle.card_terminal.specs.Unsent.{IsUnsent}
 use Rattle.apdu_terminal.specs.ApduOperations as apdu
@@ -26,22 +26,14 @@ use Rattle.card_c.specs.ExchangeCalls.{AreNone, turn_code, turn_byte, taking_cod
 use Rattle.card_c.specs.TagNumbers.{IsNumbered}
 use Rattle.card_c.specs.TpduCalls.{AreAnswer, TellsTpdu, answered_code}
 
--- The limit on responses stays, and is the room of the operation's exchange; or nothing changes at
--- all.
+-- The limit on responses stays, and is the room of the operation's exchange; or nothing changes.
 abbrev pub KeepsRoom : TerminalOf → TerminalOf → Type 0
 KeepsRoom old new = KeepsLimit old new ⊎ (new ≡ old)
 
--- A call on a handle: one that holds nothing says so, and stays so; what another holds is as this
--- says, and it stays live.
-abbrev pub OnTerminal : (OperatingSide → ℤ → OperatingSide → Type 0)
-    → Option OperatingSide → ℤ → Option OperatingSide → Type 0
-OnTerminal Does None code new = (code ≡ gt_empty) × (new ≡ None)
-OnTerminal Does (Some old) code new = MatchOption new ⊥ (λ side. Does old code side)
-
--- A call by characters or TPDUs is refused if the operation goes by whole commands; else it does
--- this.
+-- A call by characters or TPDUs is refused if the operation goes by whole commands, and otherwise
+-- does this.
 pub record OnTpdus (Does : Option OperationOf → ℤ → Option OperationOf → Type 0)
-    (old : OperatingSide) (code : ℤ) (new : OperatingSide) : Type 0 where
+    (old : TerminalSide) (code : ℤ) (new : TerminalSide) : Type 0 where
   pub refused : old.apdus.leads ≡ true → (code ≡ gt_state) × (new ≡ old)
   pub does : old.apdus.leads ≡ false
       → Does old.terminal.operation code new.terminal.operation
@@ -49,13 +41,14 @@ pub record OnTpdus (Does : Option OperationOf → ℤ → Option OperationOf →
   pub apdus : new.apdus ≡ old.apdus
 
 -- an operation is in progress by whole commands
-abbrev pub is_led : OperatingSide → Bool
+abbrev pub is_led : TerminalSide → Bool
 is_led side = side.apdus.leads && is_under_way side.apdus.terminal.operation
 
--- A call that begins an operation is refused while one is in progress by whole commands; else it
--- does this. One that has begun has no level yet. If it is refused, the last answer stays.
+-- A call that begins an operation is refused while one is in progress by whole commands, and
+-- otherwise does this. One that has begun goes neither by TPDUs nor by whole commands yet. If it is
+-- refused, the last answer stays.
 pub record OnBegin (Does : Option OperationOf → ℤ → Option OperationOf → Type 0)
-    (old : OperatingSide) (code : ℤ) (new : OperatingSide) : Type 0 where
+    (old : TerminalSide) (code : ℤ) (new : TerminalSide) : Type 0 where
   pub refused : is_led old ≡ true → (code ≡ gt_state) × (new ≡ old)
   pub does : is_led old ≡ false → Does old.terminal.operation code new.terminal.operation
   pub room : KeepsRoom old.terminal new.terminal
@@ -63,25 +56,24 @@ pub record OnBegin (Does : Option OperationOf → ℤ → Option OperationOf →
   pub begun : code ≡ gt_ok → new.apdus.leads ≡ false
   pub stays : (code ≡ gt_ok → ⊥) → new.apdus.leads ≡ old.apdus.leads
 
--- A call by whole commands does this, on an operation that goes so, or that has no level yet and
--- begins so. Once it goes so, the terminal of TPDUs is at rest.
-pub record OnApdus (Does : ApduSide → ℤ → ApduSide → Type 0) (old : OperatingSide) (code : ℤ)
-    (new : OperatingSide) : Type 0 where
+-- A call by whole commands does this, on an operation that goes by them, or that begins by them
+-- now. Once it goes by them, the terminal of TPDUs is at rest.
+pub record OnApdus (Does : ApduSide → ℤ → ApduSide → Type 0) (old : TerminalSide) (code : ℤ)
+    (new : TerminalSide) : Type 0 where
   pub goes_so : old.apdus.leads ≡ true → Does old.apdus code new.apdus
   pub opens : old.apdus.leads ≡ false → (unsent : Option Unsent)
       × IsUnsent old.terminal.operation unsent × Opens Does unsent old.apdus code new.apdus
   pub terminal : (new.terminal ≡ old.terminal)
       ⊎ ((new.apdus.leads ≡ true) × (new.terminal ≡ at_rest old.terminal.limit))
 
--- no operation has begun, at either level
-pub record IsAtRest (limit : ℕ) (side : OperatingSide) : Type 0 where
+-- no operation has begun, by TPDUs or by whole commands
+pub record IsAtRest (limit : ℕ) (side : TerminalSide) : Type 0 where
   pub terminal : side.terminal ≡ at_rest limit
   pub apdus : side.apdus.terminal ≡ apdu.at_rest limit
   pub leads : side.apdus.leads ≡ false
 
--- a terminal in a handle that held nothing, which has begun no operation, with this limit on
--- responses
-abbrev pub HasBegun : ℕ → Option OperatingSide → ℤ → Option OperatingSide → Type 0
+-- a terminal with this limit on responses, in a handle that was empty; it has begun no operation
+abbrev pub HasBegun : ℕ → Option TerminalSide → ℤ → Option TerminalSide → Type 0
 HasBegun limit (Some old) code new = (code ≡ gt_state) × (new ≡ Some old)
 HasBegun limit None code new =
     ((response_limit < limit) × (code ≡ gt_argument) × (new ≡ None))
@@ -89,8 +81,8 @@ HasBegun limit None code new =
     ⊎ ((limit ≤ response_limit) × (code ≡ gt_ok)
     × MatchOption new ⊥ (λ side. IsAtRest limit side))
 
--- the operation in progress is dropped, at either level
-abbrev pub Resets : OperatingSide → ℤ → OperatingSide → Type 0
+-- the operation in progress is dropped, by TPDUs or by whole commands
+abbrev pub Resets : TerminalSide → ℤ → TerminalSide → Type 0
 Resets old code new = (code ≡ gt_ok) × (new.terminal ≡ at_rest old.terminal.limit)
     × (new.apdus.terminal ≡ apdu.at_rest old.apdus.terminal.limit) × (new.apdus.leads ≡ false)
 
@@ -104,7 +96,7 @@ abbrev pub Begins : (List Command → Type 0) → Option OperationOf → ℤ →
 Begins AreIts old code new = (begun : Result (Unit {0}) BeginFault) × (code ≡ begin_code begun)
     × IsBeginning AreIts old begun new
 
--- what can't be begun, since this is no argument, where none is under way
+-- why no operation begins: one is in progress, or else an argument is invalid
 abbrev pub IsRefusedWith : ℤ → Option OperationOf → ℤ → Option OperationOf → Type 0
 IsRefusedWith fault old code new =
     (code ≡ (if is_going old then gt_state else fault)) × (new ≡ old)
@@ -132,7 +124,7 @@ BeginsSend bytes old code new =
     ⊎ ((c : Command) × IsCommand c × (bytes ≡ command_bytes c)
     × Begins (λ commands. commands ≡ c ∷ []) old code new)
 
--- a turn of the terminal; where no operation has begun it has none
+-- the terminal's turn; if no operation has begun, it has none
 abbrev pub told_turn : Option HostTurn → ℤ
 told_turn None = gt_state
 told_turn (Some turn) = turn_code turn
@@ -157,16 +149,16 @@ TakesAnswer answer old code new =
     × (taken : Result (Unit {0}) AnswerFault) × (code ≡ answered_code taken)
     × IsTerminalAnswering old bytes status taken new)
 
--- The answer of an operation goes out, if there is one.
-abbrev pub TellsAnswer : OperatingSide → ℕ → List ℕ → ℕ → ℤ → ℕ → List ℕ → ℕ → Type 0
+-- The answer of an operation is written, if there is one.
+abbrev pub TellsAnswer : TerminalSide → ℕ → List ℕ → ℕ → ℤ → ℕ → List ℕ → ℕ → Type 0
 TellsAnswer side status room len code status' room' len' =
     (answer : Option (StatusWord × List ℕ))
     × (side.apdus.leads ≡ false → IsTerminalAnswer side.terminal.operation answer)
     × (side.apdus.leads ≡ true → IsOperationAnswer side.apdus.terminal.operation answer)
     × TellsEnd answer status room len code status' room' len'
 
--- the whole TPDU that is due, unless the operation goes by whole commands
-pub record TellsTpduOf (side : OperatingSide) (room : List ℕ) (len most : ℕ) (code : ℤ)
+-- the next whole TPDU, unless the operation goes by whole commands
+pub record TellsTpduOf (side : TerminalSide) (room : List ℕ) (len most : ℕ) (code : ℤ)
     (room' : List ℕ) (len' most' : ℕ) : Type 0 where
   pub refused : side.apdus.leads ≡ true
       → (code ≡ gt_state) × (room' ≡ room) × (len' ≡ len) × (most' ≡ most)

@@ -1,4 +1,4 @@
--- What the exports on whole TPDUs answer.
+-- What the exports for whole TPDUs return and write.
 use Rattle.std.specs.Prelude.{◌≡◌, ◌⊎◌, ℕ, ℤ, ◌<◌, List, [], ◌∷◌, ◌++◌, drop, length, Option, Some, None, Result, Ok, Err}
 use Rattle.apdu_core.specs.StatusWord.{StatusWord, IsStatusWord}
 use Rattle.t0_core.specs.declared.answer_fault.AnswerFault.{AnswerFault}
@@ -7,8 +7,8 @@ use Rattle.card_terminal.specs.ExchangeSide.{ExchangeOf}
 use Rattle.card_terminal.specs.ExchangeSteps.{IsAnswering}
 use Rattle.card_c.specs.Codes.{gt_ok, gt_buffer, gt_not_due, gt_no_status, answer_code}
 
--- The TPDU that is due goes out, and how many bytes may come back. Where none is, or there is too
--- little room, nothing changes.
+-- The next TPDU is written, and the most bytes of its answer. Without one, or if it does not fit,
+-- nothing changes.
 abbrev pub TellsTpdu : Option Asked → List ℕ → ℕ → ℕ → ℤ → List ℕ → ℕ → ℕ → Type 0
 TellsTpdu None room len most code room' len' most' =
     (code ≡ gt_not_due) × (room' ≡ room) × (len' ≡ len) × (most' ≡ most)
@@ -19,7 +19,7 @@ TellsTpdu (Some asked) room len most code room' len' most' =
     × (room' ≡ tpdu_bytes asked ++ drop (length (tpdu_bytes asked)) room)
     × (len' ≡ length (tpdu_bytes asked)) × (most' ≡ asked.may_come))
 
--- an answer: data, and then a status
+-- an answer: data, then a status
 abbrev pub AreAnswer : List ℕ → List ℕ → StatusWord → Type 0
 AreAnswer answer bytes status =
     (answer ≡ bytes ++ status.0 ∷ status.1 ∷ []) × IsStatusWord status
@@ -29,7 +29,7 @@ abbrev pub answered_code : Result (Unit {0}) AnswerFault → ℤ
 answered_code (Ok _) = gt_ok
 answered_code (Err fault) = answer_code fault
 
--- These bytes are taken as the answer to the TPDU that is due, where they end in a status.
+-- These bytes are taken as the answer to the next TPDU, if they end in a status.
 abbrev pub IsAnswered : List ℕ → ExchangeOf → ℤ → ExchangeOf → Type 0
 IsAnswered answer old code new =
     (((bytes : List ℕ) (status : StatusWord) → AreAnswer answer bytes status → ⊥)

@@ -1,10 +1,10 @@
-//! The level of whole commands of a handle.
+//! The part of an exchange or a terminal that goes by whole commands.
 use apdu_terminal::ApduTerminal;
 
-/// What a handle has for an operation that goes by whole commands.
+/// Carries out an operation by whole commands, for the handle of an exchange or a terminal.
 #[derive(Drop)]
 pub struct ApduSide {
     pub terminal: ApduTerminal,
-    /// The operation goes so: a response was taken.
+    /// Whether the operation goes by whole commands: it has taken a response.
     pub leads: bool,
 }

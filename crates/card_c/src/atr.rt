@@ -1,4 +1,4 @@
-//! Answers to reset for C.
+//! Answers to reset: the exports that read them.
 ghost use Rattle.std.specs.Prelude.{◌≡◌, ◌≤◌, ◌+◌, ◌++◌, drop, length, replicate};
 ghost use Rattle.atr_core.specs.Answer.{IsAnswer, characters, check_field, names_other_than_0};
 ghost use Rattle.card_c.specs.AtrCalls.{ReadsAtr, atr_recorded, blocks_recorded, bwt_cycles, bwt_etu, category_number, class_bits, clock_stop_number, convention_number, edc_size, fi_value, fi_max_khz, historical_place, mode_numbers};
@@ -10,11 +10,14 @@ use atr_core::{
     TypedGroup, block_guard_time,
 };
 
-/// How many protocols an answer offers at most: T=0 to T=14.
+/// The most protocols that an answer offers: T=0 to T=14.
 const MOST_PROTOCOLS: usize = 15;
 
-/// What the answer to reset says that these bytes are, all of them; or the first fault's code and
-/// its place, and nothing else is written then.
+/// Reads an answer to reset, which is all of `bytes`.
+///
+/// # Errors
+/// - a code of [`code::of_atr`]: the first fault. Its place goes to the place argument, and nothing
+///   else is written.
 #[unsafe(no_mangle)]
 pub extern "C" fn galliumtoad_atr_read(bytes: &[u8], atr: &mut AtrRecord, place: &mut usize) -> i32
     ensures { ReadsAtr bytes.now atr.old place.old result atr.new place.new }
@@ -31,7 +34,7 @@ pub extern "C" fn galliumtoad_atr_read(bytes: &[u8], atr: &mut AtrRecord, place:
     }
 }
 
-/// What an answer with so many bytes says.
+/// Returns what an answer of `size` bytes says.
 fn recorded(answer: &Atr, size: usize) -> AtrRecord
     requires answer { IsAnswer answer.now }
     requires size { length (characters answer.now) ≡ size }
@@ -70,7 +73,7 @@ fn recorded(answer: &Atr, size: usize) -> AtrRecord
     }
 }
 
-/// What an answer says of T=1.
+/// Returns what an answer says about T=1.
 fn blocks(answer: &Atr) -> BlockRecord
     ensures { result ≡ blocks_recorded answer.now }
 {
@@ -87,8 +90,7 @@ fn blocks(answer: &Atr) -> BlockRecord
     }
 }
 
-/// Where the historical bytes of an answer with so many bytes begin: behind them stands nothing but
-/// TCK.
+/// Returns where the historical bytes of an answer begin. Only TCK follows them.
 fn historical_place(answer: &Atr, size: usize) -> usize
     requires { length (characters answer.now) ≡ size }
     ensures { result ≡ historical_place answer.now }
@@ -96,7 +98,7 @@ fn historical_place(answer: &Atr, size: usize) -> usize
     size - (answer.historical().len() + check_size(answer))
 }
 
-/// How many check bytes stand at the end.
+/// Returns the number of check bytes at the end.
 fn check_size(answer: &Atr) -> usize
     ensures { result ≡ length (check_field answer.now) }
 {
@@ -107,14 +109,14 @@ fn check_size(answer: &Atr) -> usize
     }
 }
 
-/// Whether a T other than 0 is named, so that TCK is there.
+/// Returns whether the answer names a T other than 0, so that it ends in TCK.
 fn names_other_than_0(others: &[TypedGroup]) -> bool
     ensures { result ≡ names_other_than_0 others.now }
 {
     others.iter().any(|named| named.t != 0)
 }
 
-/// These protocols, with zeros behind them.
+/// Returns these protocols, and zeros after them.
 fn listed(protocols: &[u8]) -> [u8; MOST_PROTOCOLS]
     requires few { length protocols.now ≤ 15 }
     ensures { result ≡ protocols.now ++ drop (length protocols.now) (replicate 15 0) }
@@ -124,7 +126,7 @@ fn listed(protocols: &[u8]) -> [u8; MOST_PROTOCOLS]
     list
 }
 
-/// The number of a category.
+/// Returns the number of a category.
 fn category_number(category: Category) -> u8
     ensures { result ≡ category_number category }
 {
@@ -138,7 +140,7 @@ fn category_number(category: Category) -> u8
     }
 }
 
-/// The number of a convention.
+/// Returns the number of a convention.
 fn convention_number(convention: Convention) -> u8
     ensures { result ≡ convention_number convention }
 {
@@ -148,7 +150,7 @@ fn convention_number(convention: Convention) -> u8
     }
 }
 
-/// Fi and the highest clock frequency, or zeros.
+/// Returns Fi and the highest clock frequency, or zeros.
 fn fi_parts(fi: Result<Fi, Rfu>) -> (u16, u16)
     ensures { result ≡ (fi_value fi, fi_max_khz fi) }
 {
@@ -158,7 +160,7 @@ fn fi_parts(fi: Result<Fi, Rfu>) -> (u16, u16)
     }
 }
 
-/// The numbers of a mode: 1 in specific mode, and what is said there.
+/// Returns the numbers of a mode: 1 for specific mode, and its values.
 fn mode_parts(mode: Mode) -> (u8, u8, u8, u8)
     ensures { result ≡ mode_numbers mode }
 {
@@ -172,7 +174,7 @@ fn mode_parts(mode: Mode) -> (u8, u8, u8, u8)
     }
 }
 
-/// The number of whether the clock may stop.
+/// Returns the number for whether the clock may stop.
 fn clock_stop_number(stop: ClockStop) -> u8
     ensures { result ≡ clock_stop_number stop }
 {
@@ -184,7 +186,7 @@ fn clock_stop_number(stop: ClockStop) -> u8
     }
 }
 
-/// The bits of classes.
+/// Returns the bits of classes.
 fn class_bits(classes: Result<Classes, Rfu>) -> u8
     ensures { result ≡ class_bits classes }
 {
@@ -194,7 +196,7 @@ fn class_bits(classes: Result<Classes, Rfu>) -> u8
     }
 }
 
-/// How many bytes an error detection code has, or 0.
+/// Returns the length of an error detection code in bytes, or 0.
 fn edc_size(edc: Result<Edc, Rfu>) -> u8
     ensures { result ≡ edc_size edc }
 {
@@ -205,7 +207,7 @@ fn edc_size(edc: Result<Edc, Rfu>) -> u8
     }
 }
 
-/// The etu and the clock cycles of BWT, or zeros.
+/// Returns the etu and the clock cycles of BWT, or zeros.
 fn block_parts(time: Result<BlockWaitingTime, Rfu>) -> (u16, u64)
     ensures { result ≡ (bwt_etu time, bwt_cycles time) }
 {

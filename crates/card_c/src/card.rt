@@ -1,7 +1,7 @@
-//! A card, which C builds and then drives character by character.
+//! The exports of a card: C builds it, and then passes it characters.
 ghost use Rattle.std.specs.Prelude.{◌≡◌, ◌≢◌, ◌==◌, not, pos, true, None, MatchOption};
 ghost use Rattle.t0_core.specs.CardSide.{listens};
-ghost use Rattle.card_c.specs.CardHandle.{held_by, OnHandle};
+ghost use Rattle.card_c.specs.Handles.{held_by, OnHandle};
 ghost use Rattle.card_c.specs.CardT1Calls.{at_t0};
 ghost use Rattle.card_c.specs.CardCalls.{Begins, AddsApplication, AddsObject, Finishes, TakesOne, HandsOutCharacter, Turns, Resets};
 
@@ -9,13 +9,18 @@ use crate::card_held::GtCard;
 use crate::card_side::CardSide;
 use crate::card_t1::leave;
 use crate::code;
+use crate::handle::{Handle, with};
 use crate::tag_number::tag_of;
 use object_card::{Aid, CardBuilder, ObjectCard};
 use std::alloc::Global;
 use std::mem;
 use t0_core::{CardEnd, LineFault, PlanQueue, Turn};
 
-/// Begins a card without applications.
+/// Starts to build a card, which has no applications yet.
+///
+/// # Errors
+/// - `STATE`: the handle is live, and stays as it was.
+/// - `MEMORY`: memory ran out; the handle stays empty.
 #[unsafe(no_mangle)]
 pub extern "C" fn galliumtoad_card_new(alloc: Global, card: &mut GtCard) -> i32
     ensures { Begins (held_by card.old) result (held_by card.new) }
@@ -32,7 +37,7 @@ pub extern "C" fn galliumtoad_card_new(alloc: Global, card: &mut GtCard) -> i32
     }
 }
 
-/// Gives all memory back, and the handle holds nothing. One that holds nothing stays so.
+/// Frees the memory of a handle, which is empty then.
 #[unsafe(no_mangle)]
 pub extern "C" fn galliumtoad_card_free(alloc: Global, card: &mut GtCard)
     ensures { held_by card.new ≡ None }
@@ -40,17 +45,18 @@ pub extern "C" fn galliumtoad_card_free(alloc: Global, card: &mut GtCard)
     drop(card.take_out(alloc));
 }
 
-/// Adds an application without data objects.
+/// Adds an application without data objects. `aid` is its identifier, of 5 to 16 bytes.
+///
+/// # Errors
+/// The card stays as it was.
+/// - `STATE`: the card is built.
+/// - `ARGUMENT`: `aid` is no identifier.
+/// - a code of [`code::of_builder`]: the builder refuses it.
 #[unsafe(no_mangle)]
 pub extern "C" fn galliumtoad_card_app(alloc: Global, card: &mut GtCard, aid: &[u8]) -> i32
     ensures { OnHandle (AddsApplication aid.now) (held_by card.old) result (held_by card.new) }
 {
-    let Some(mut side) = card.take_out(alloc) else {
-        return code::EMPTY;
-    };
-    let answer = add_app(&mut side, aid);
-    card.put(side);
-    answer
+    with(alloc, card, |side| add_app(side, aid))
 }
 
 fn add_app(side: &mut CardSide, aid: &[u8]) -> i32
@@ -68,7 +74,13 @@ fn add_app(side: &mut CardSide, aid: &[u8]) -> i32
     }
 }
 
-/// Adds a data object to the last application. No command changes it where `locked` is not 0.
+/// Adds a data object to the last application. If `locked`, no command changes it.
+///
+/// # Errors
+/// The card stays as it was.
+/// - `STATE`: the card is built.
+/// - `ARGUMENT`: no tag of an object has this number.
+/// - a code of [`code::of_builder`]: the builder refuses it.
 #[unsafe(no_mangle)]
 pub extern "C" fn galliumtoad_card_object(
     alloc: Global,
@@ -80,12 +92,7 @@ pub extern "C" fn galliumtoad_card_object(
     ensures { OnHandle (AddsObject tag value.now locked)
         (held_by card.old) result (held_by card.new) }
 {
-    let Some(mut side) = card.take_out(alloc) else {
-        return code::EMPTY;
-    };
-    let answer = add_object(&mut side, tag, value, locked);
-    card.put(side);
-    answer
+    with(alloc, card, |side| add_object(side, tag, value, locked))
 }
 
 fn add_object(side: &mut CardSide, number: u32, value: &[u8], locked: bool) -> i32
@@ -108,23 +115,22 @@ fn add_object(side: &mut CardSide, number: u32, value: &[u8], locked: bool) -> i
     }
 }
 
-/// The card stands, with nothing selected, and listens.
+/// Ends the building of a card. It listens, with nothing selected.
+///
+/// # Errors
+/// - `STATE`: the card is built already, and stays as it was.
+/// - `MEMORY`: memory ran out; the card is still being built.
 #[unsafe(no_mangle)]
 pub extern "C" fn galliumtoad_card_finish(alloc: Global, card: &mut GtCard) -> i32
     ensures { OnHandle Finishes (held_by card.old) result (held_by card.new) }
 {
-    let Some(mut side) = card.take_out(alloc) else {
-        return code::EMPTY;
-    };
-    let answer = finish(alloc, &mut side);
-    card.put(side);
-    answer
+    with(alloc, card, |side| finish(alloc, side))
 }
 
 fn finish(alloc: Global, side: &mut CardSide) -> i32
     ensures { Finishes side.old result side.new }
 {
-    // A builder of nothing takes no memory, and keeps the place meanwhile.
+    // An empty builder takes no memory. It fills the place until the function writes it.
     let before = mem::replace(side, CardSide::Building(CardBuilder::new(alloc)));
     let CardSide::Building(builder) = before else {
         *side = before;
@@ -143,16 +149,16 @@ fn finish(alloc: Global, side: &mut CardSide) -> i32
 }
 
 /// Takes a character of the terminal.
+///
+/// # Errors
+/// The card stays as it was.
+/// - `STATE`: the card is not built, speaks T=1 or is in a session.
+/// - the code of `NotListening`: the card has a character to send.
 #[unsafe(no_mangle)]
 pub extern "C" fn galliumtoad_card_take(alloc: Global, card: &mut GtCard, byte: u8) -> i32
     ensures { OnHandle (TakesOne byte) (held_by card.old) result (held_by card.new) }
 {
-    let Some(mut side) = card.take_out(alloc) else {
-        return code::EMPTY;
-    };
-    let answer = take(&mut side, byte);
-    card.put(side);
-    answer
+    with(alloc, card, |side| take(side, byte))
 }
 
 fn take(side: &mut CardSide, byte: u8) -> i32
@@ -167,7 +173,11 @@ fn take(side: &mut CardSide, byte: u8) -> i32
     }
 }
 
-/// Hands out the card's next character, where it is the card's turn; else the card listens.
+/// Writes the card's next character to `byte` and returns `SENDS`, or returns `OK` if the card
+/// listens.
+///
+/// # Errors
+/// - `STATE`: the card is not built, speaks T=1 or is in a session. Nothing changes.
 #[unsafe(no_mangle)]
 pub extern "C" fn galliumtoad_card_turn(alloc: Global, card: &mut GtCard, byte: &mut u8) -> i32
     ensures empty { held_by card.old ≡ None → byte.new ≡ byte.old }
@@ -195,7 +205,7 @@ fn turn(side: &mut CardSide, byte: &mut u8) -> i32
     code::SENDS
 }
 
-/// The next character of a card's end, under the plans for it; `None` where it listens.
+/// Returns the next character of a card's end, under its plans, or `None` if the card listens.
 #[inline(always)]
 pub(crate) fn next_of(end: &mut CardEnd<ObjectCard>, plans: &mut PlanQueue) -> Option<u8>
     ensures { MatchOption result
@@ -210,17 +220,15 @@ pub(crate) fn next_of(end: &mut CardEnd<ObjectCard>, plans: &mut PlanQueue) -> O
     Some(byte)
 }
 
-/// Resets the card, at any time, and drops the TPDU under way. It speaks T=0 then.
+/// Resets the card, and drops the TPDU in progress. The card speaks T=0 then, and its plans stay.
+///
+/// # Errors
+/// - `STATE`: the card is not built, or is in a session. It stays as it was.
 #[unsafe(no_mangle)]
 pub extern "C" fn galliumtoad_card_reset(alloc: Global, card: &mut GtCard) -> i32
     ensures { OnHandle Resets (held_by card.old) result (held_by card.new) }
 {
-    let Some(mut side) = card.take_out(alloc) else {
-        return code::EMPTY;
-    };
-    let answer = reset(alloc, &mut side);
-    card.put(side);
-    answer
+    with(alloc, card, |side| reset(alloc, side))
 }
 
 fn reset(alloc: Global, side: &mut CardSide) -> i32

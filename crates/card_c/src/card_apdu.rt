@@ -1,12 +1,13 @@
-//! A whole command at a card, as a card at T=1 or without contacts takes it.
+//! The export that gives a card a whole command, as at T=1 or without contacts.
 ghost use Rattle.std.specs.Prelude.{◌≡◌, true, None};
 ghost use Rattle.t0_core.specs.CardTpdu.{rests};
-ghost use Rattle.card_c.specs.CardHandle.{held_by, OnHandle};
+ghost use Rattle.card_c.specs.Handles.{held_by, OnHandle};
 ghost use Rattle.card_c.specs.CardApduCalls.{RespondsTo, RespondsToCommand, RefusesLength};
 
 use crate::card_held::GtCard;
 use crate::card_side::CardSide;
 use crate::code;
+use crate::handle::Handle;
 use crate::whole_tpdu::hand_out;
 use apdu_core::{ApduFault, Command, Status};
 use apdu_terminal::respond;
@@ -14,8 +15,8 @@ use object_card::ObjectCard;
 use std::alloc::Global;
 use t0_core::CardEnd;
 
-/// Carries out a whole command. A command that is not agreed with the card, and bytes whose lengths
-/// fit none of the four cases, are answered `6700`, and nothing changes.
+/// Carries out a whole command, and writes the response to `response`. The response is `6700`, and
+/// the card stays as it was, if the bytes fit no case or the command is not agreed with the card.
 #[unsafe(no_mangle)]
 pub extern "C" fn galliumtoad_card_apdu(
     alloc: Global,
@@ -60,7 +61,7 @@ fn respond_to(
     }
 }
 
-/// Answers `6700`, wrong length.
+/// Writes the response `6700`, wrong length.
 fn refuse(response: &mut [u8], len: &mut usize) -> i32
     ensures { RefusesLength response.old len.old result response.new len.new }
 {
@@ -71,7 +72,7 @@ fn refuse(response: &mut [u8], len: &mut usize) -> i32
     code::OK
 }
 
-/// Has a card's end that can carry out a command, and hands the response out to C.
+/// Lets a card's end carry out a command, and writes its response.
 fn carry_out(
     alloc: Global,
     end: &mut CardEnd<ObjectCard>,

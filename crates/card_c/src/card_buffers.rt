@@ -1,17 +1,19 @@
-//! Characters of a card that pass by buffers.
+//! The exports that pass several characters to and from a card.
 ghost use Rattle.std.specs.Prelude.{◌≡◌, None};
-ghost use Rattle.card_c.specs.CardHandle.{held_by, OnHandle};
+ghost use Rattle.card_c.specs.Handles.{held_by, OnHandle};
 ghost use Rattle.card_c.specs.BufferCalls.{CardSends, CardReceives, HandsOutAll, TakesAll};
 
 use crate::card::next_of;
 use crate::card_held::GtCard;
 use crate::card_side::CardSide;
 use crate::code;
+use crate::handle::Handle;
 use object_card::ObjectCard;
 use std::alloc::Global;
 use t0_core::{CardEnd, LineFault, PlanQueue};
 
-/// Hands out the card's characters up to where it listens, or as many as there is room for.
+/// Writes the card's characters to `bytes` until it listens or `bytes` is full, and their number to
+/// `count`.
 #[unsafe(no_mangle)]
 pub extern "C" fn galliumtoad_card_send_bytes(
     alloc: Global,
@@ -47,7 +49,7 @@ fn send(side: &mut CardSide, bytes: &mut [u8], count: &mut usize) -> i32
     }
 }
 
-/// Hands characters out into a buffer, until it is full or the card listens. Says how many.
+/// Writes characters until the card listens or the buffer is full, and returns their number.
 fn hand_out(end: &mut CardEnd<ObjectCard>, plans: &mut PlanQueue, bytes: &mut [u8]) -> usize
     ensures { HandsOutAll end.old plans.old bytes.old bytes.new result end.new plans.new }
 {
@@ -60,7 +62,7 @@ fn hand_out(end: &mut CardEnd<ObjectCard>, plans: &mut PlanQueue, bytes: &mut [u
     bytes.len()
 }
 
-/// Takes characters of the terminal, as many as the card listens to.
+/// Takes characters of the terminal while the card listens, and writes their number to `count`.
 #[unsafe(no_mangle)]
 pub extern "C" fn galliumtoad_card_receive_bytes(
     alloc: Global,
@@ -95,7 +97,7 @@ fn receive(side: &mut CardSide, bytes: &[u8], count: &mut usize) -> i32
     }
 }
 
-/// Takes the characters of a buffer, up to where the card does not listen. Says how many.
+/// Takes the characters of a buffer while the card listens, and returns their number.
 fn take_all(end: &mut CardEnd<ObjectCard>, bytes: &[u8]) -> usize
     ensures { TakesAll end.old bytes.now result end.new }
 {

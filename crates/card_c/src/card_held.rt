@@ -1,15 +1,13 @@
-//! The handle that C keeps.
+//! The handle of a card that C keeps.
 ghost use Rattle.std.specs.Prelude.{◌≡◌, true, Option, Some, None, IsSome};
 ghost use Rattle.card_c.specs.declared.card_side.CardSide.{CardSide};
-
-mod handle;
 
 use crate::card_side::CardSide;
 use crate::loose::Loose;
 use std::alloc::Global;
 use std::marker::Model;
 
-/// A pointer to a box, whose type C does not see; null where there is none.
+/// A pointer to a box, or null. C does not see the type in the box.
 #[repr(C)]
 #[derive(Drop)]
 pub struct CardHeld {
@@ -19,16 +17,17 @@ pub struct CardHeld {
 }
 
 impl Model for CardHeld {
-    ghost use Rattle.card_c.specs.CardHeldOwned.{held_owns};
+    ghost use Rattle.card_c.specs.HeldOwned.{held_owns};
+    ghost use Rattle.card_c.specs.contracts.card_side.CardSide.{the_row};
 
-    ghost also_owns = { λ h. held_owns h.at h.alloc h.value };
+    ghost also_owns = { λ h. held_owns the_row h.at h.alloc h.value };
 }
 
-// What it holds names no thread, and neither does what frees it.
+// Neither its content nor the function that frees it names a thread.
 unsafe impl Send for CardHeld {}
 
 impl CardHeld {
-    fn of(value: Loose<CardSide, Global>) -> CardHeld
+    pub(crate) fn of(value: Loose<CardSide, Global>) -> CardHeld
         ensures { result.value ≡ Some value.value }
     {
         let Loose { at, alloc } = value;
@@ -38,7 +37,7 @@ impl CardHeld {
         }
     }
 
-    fn into_loose(self) -> Loose<CardSide, Global>
+    pub(crate) fn into_loose(self) -> Loose<CardSide, Global>
         requires { IsSome self.value }
         ensures { Some result.value ≡ self.value }
     {
@@ -49,7 +48,7 @@ impl CardHeld {
         }
     }
 
-    fn empty(alloc: Global) -> CardHeld
+    pub(crate) fn empty(alloc: Global) -> CardHeld
         ensures { result.value ≡ None }
     {
         CardHeld {
@@ -59,11 +58,11 @@ impl CardHeld {
     }
 }
 
-/// What C keeps of it: all zero where it holds nothing.
+/// The handle of a card, or of a session with one. Empty, all its bytes are zero.
 #[repr(C)]
 #[derive(Drop)]
 pub struct GtCard {
-    live: bool,
-    held: CardHeld,
+    pub(crate) live: bool,
+    pub(crate) held: CardHeld,
     ghost tells: { live ≡ true → IsSome held.value },
 }

@@ -1,19 +1,18 @@
-//! The card that a handle holds: one that is built, one that stands, at T=0 or at T=1, or one in a
-//! session.
+//! What the handle of a card or a session holds.
 use crate::card_t1_side::CardT1Side;
 use crate::session_side::SessionSide;
 use object_card::{CardBuilder, ObjectCard};
 use t0_core::{CardEnd, PlanQueue};
 
-/// A card on its way: what the handle of a card, or of a session with one, holds.
+/// A card in one of four states.
 #[derive(Drop)]
 pub enum CardSide {
-    /// What it is to hold.
+    /// It is being built.
     Building(CardBuilder),
-    /// Its end of the line, with the plans for it.
+    /// It speaks T=0: its end of the line, with its plans.
     Standing(CardEnd<ObjectCard>, PlanQueue),
-    /// A session with it.
+    /// It is in a session.
     Joined(SessionSide),
-    /// It speaks T=1.
+    /// It speaks T=1, until its next reset.
     AtT1(CardT1Side),
 }

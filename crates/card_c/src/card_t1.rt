@@ -1,7 +1,7 @@
-//! The card's end of a line at T=1.
+//! The exports of a card at T=1.
 ghost use Rattle.std.specs.Prelude.{◌≡◌, None, ⊤, true};
 ghost use Rattle.t0_core.specs.CardTpdu.{rests};
-ghost use Rattle.card_c.specs.CardHandle.{held_by, OnHandle};
+ghost use Rattle.card_c.specs.Handles.{held_by, OnHandle};
 ghost use Rattle.card_c.specs.CardT1Calls.{BeginsT1, HearsBytes, IsFresh, Misses, MissesBlock, OnLine, SendsReply, at_t0};
 
 use crate::card_held::GtCard;
@@ -9,6 +9,7 @@ use crate::card_side::CardSide;
 use crate::card_t1_side::CardT1Side;
 use crate::code;
 use crate::copied::copied;
+use crate::handle::{Handle, with};
 use object_card::{CardBuilder, ObjectCard};
 use std::alloc::Global;
 use std::mem;
@@ -17,23 +18,22 @@ use t1_core::spelling::write;
 use t1_core::{CardEnd, Receiver};
 use t1_terminal::DataApplet;
 
-/// The card speaks T=1, up to its next reset.
+/// Lets the card speak T=1, until its next reset.
+///
+/// # Errors
+/// - `STATE`: the card is not built, speaks T=1, is in a session, or has begun a TPDU. Nothing
+///   changes.
 #[unsafe(no_mangle)]
 pub extern "C" fn galliumtoad_card_t1_begin(alloc: Global, card: &mut GtCard) -> i32
     ensures { OnHandle BeginsT1 (held_by card.old) result (held_by card.new) }
 {
-    let Some(mut side) = card.take_out(alloc) else {
-        return code::EMPTY;
-    };
-    let answer = begin(alloc, &mut side);
-    card.put(side);
-    answer
+    with(alloc, card, |side| begin(alloc, side))
 }
 
 fn begin(alloc: Global, side: &mut CardSide) -> i32
     ensures { BeginsT1 side.old result side.new }
 {
-    // A builder of nothing takes no memory, and keeps the place meanwhile.
+    // An empty builder takes no memory. It fills the place until the function writes it.
     let before = mem::replace(side, CardSide::Building(CardBuilder::new(alloc)));
     let CardSide::Standing(end, plans) = before else {
         *side = before;
@@ -59,7 +59,7 @@ fn fresh(alloc: Global, end: t0_core::CardEnd<ObjectCard>, plans: PlanQueue) -> 
     }
 }
 
-/// Has a card at T=1 speak T=0 again.
+/// Lets a card at T=1 speak T=0 again.
 pub(crate) fn leave(alloc: Global, side: &mut CardSide)
     ensures { side.new ≡ at_t0 side.old }
 {
@@ -72,7 +72,8 @@ pub(crate) fn leave(alloc: Global, side: &mut CardSide)
     *side = CardSide::Standing(end.into_applet().into_end(), plans);
 }
 
-/// The block to send now.
+/// Writes the next block to `bytes`, and its length to `count`. Returns `DONE` if there is no
+/// block to send.
 #[unsafe(no_mangle)]
 pub extern "C" fn galliumtoad_card_t1_send_bytes(
     alloc: Global,
@@ -116,7 +117,7 @@ fn sent(alloc: Global, at: &CardT1Side, bytes: &mut [u8], count: &mut usize) -> 
     }
 }
 
-/// Takes bytes of the terminal, up to the end of its block.
+/// Takes bytes of the terminal up to the end of its block, and writes their number to `count`.
 #[unsafe(no_mangle)]
 pub extern "C" fn galliumtoad_card_t1_receive_bytes(
     alloc: Global,
@@ -167,17 +168,13 @@ fn heard(at: &mut CardT1Side, bytes: &[u8], count: &mut usize) -> i32
     answer
 }
 
-/// No valid block of the terminal came: one stopped, or a character was damaged.
+/// Reports that the terminal's block stopped, or that a character was damaged. The card then has a
+/// block to send.
 #[unsafe(no_mangle)]
 pub extern "C" fn galliumtoad_card_t1_missed(alloc: Global, card: &mut GtCard) -> i32
     ensures { OnHandle (OnLine Misses ⊤) (held_by card.old) result (held_by card.new) }
 {
-    let Some(mut side) = card.take_out(alloc) else {
-        return code::EMPTY;
-    };
-    let answer = miss(&mut side);
-    card.put(side);
-    answer
+    with(alloc, card, |side| miss(side))
 }
 
 fn miss(side: &mut CardSide) -> i32

@@ -1,17 +1,17 @@
-//! The card's end of a line at T=1 that a handle holds.
+//! A card at T=1, as a handle holds it.
 use object_card::ObjectCard;
 use t0_core::PlanQueue;
 use t1_core::{CardEnd, Receiver, Reply};
 use t1_terminal::DataApplet;
 
-/// A card at T=1, up to its next reset.
+/// A card at T=1, until its next reset.
 #[derive(Drop)]
 pub struct CardT1Side {
     pub end: CardEnd<DataApplet<ObjectCard>>,
-    /// The bytes of the terminal's block so far.
+    /// The received bytes of the terminal's block.
     pub block: Receiver,
     /// The answer to its last block.
     pub reply: Option<Reply>,
-    /// The plans for the card at T=0, which wait meanwhile.
+    /// The plans that the card follows at T=0 after its next reset.
     pub plans: PlanQueue,
 }

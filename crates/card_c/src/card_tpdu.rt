@@ -1,20 +1,21 @@
-//! A whole TPDU at a card, as a reader carries it out.
+//! The export that gives a card a whole TPDU.
 ghost use Rattle.std.specs.Prelude.{◌≡◌, ◌+◌, ◌≤◌, length, true, None, IsSome};
 ghost use Rattle.t0_core.specs.CardTpdu.{rests};
 ghost use Rattle.t0_core.specs.TpduBytes.{asked_in};
-ghost use Rattle.card_c.specs.CardHandle.{held_by, OnHandle};
+ghost use Rattle.card_c.specs.Handles.{held_by, OnHandle};
 ghost use Rattle.card_c.specs.CardTpduCalls.{CarriesOut, IsCarriedOut};
 
 use crate::card_held::GtCard;
 use crate::card_side::CardSide;
 use crate::code;
+use crate::handle::Handle;
 use crate::whole_tpdu::hand_out;
 use object_card::ObjectCard;
 use std::alloc::Global;
 use t0_core::{CardEnd, Gather, PlanQueue, WholeTpdu};
 
-/// Carries out a whole TPDU under the next of the card's plans. The array has room for the longest
-/// answer to it, or nothing changes.
+/// Carries out a whole TPDU under the card's next plan, and writes its answer. Nothing changes if
+/// the array is too small for the longest answer to it.
 #[unsafe(no_mangle)]
 pub extern "C" fn galliumtoad_card_tpdu(
     alloc: Global,
@@ -64,7 +65,7 @@ fn carry_out(
     }
 }
 
-/// Carries out a TPDU at a card's end that can, and hands its answer out to C.
+/// Lets a card's end carry out a TPDU, and writes its answer.
 fn pass(
     end: &mut CardEnd<ObjectCard>,
     plans: &mut PlanQueue,

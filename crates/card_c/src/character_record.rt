@@ -1,6 +1,6 @@
-//! Characters of the line.
+//! A character of the line, as C sees it.
 
-/// A character that has gone over the line. C sees it as `gt_character`.
+/// A character that an end sent. C sees it as `gt_character`.
 #[repr(C)]
 #[derive(Clone, Copy)]
 pub struct CharacterRecord {

@@ -1,4 +1,6 @@
-//! The codes that exports answer: one list, whose numbers are fixed. The header has it too.
+//! The codes that exports return, with fixed numbers, which the header repeats.
+//!
+//! What a handle holds stays as it was after `EMPTY`, `STATE`, `ARGUMENT`, `BUSY` and `PLANS`.
 ghost use Rattle.std.specs.Prelude.{◌≡◌};
 ghost use Rattle.card_c.specs.Codes.{answer_code, atr_code, begin_code, builder_code, cause_code, command_code, line_code, outcome_number, pps_code, reason_code, tpdu_code};
 ghost use Rattle.card_c.specs.ExchangeCalls.{turn_code, taking_code};
@@ -11,54 +13,54 @@ use t0_core::{AnswerFault, HostTurn, LineFault, TpduFault};
 use t1_core::{BeginFault, Cause, Outcome};
 use tlv_core::Reason;
 
-/// It went well; of a turn, the end listens.
+/// Success. Of a turn: the end listens.
 pub const OK: i32 = 0;
 
-/// A character is handed out.
+/// The end sends a character.
 pub const SENDS: i32 = 1;
 
-/// The exchange is over, and has an answer.
+/// The exchange has ended with an answer.
 pub const DONE: i32 = 2;
 
-// -1 is `GT_NULL`, which the header's functions answer.
+// -1 is `GT_NULL`, which only the header's functions return.
 
-/// The handle holds nothing.
+/// The handle is empty, and stays empty.
 pub const EMPTY: i32 = -2;
 
-/// Not now: the handle's state has no place for the call.
+/// The call does not fit the state of the handle, which stays as it was.
 pub const STATE: i32 = -3;
 
-/// Memory is wanting.
+/// Memory ran out.
 pub const MEMORY: i32 = -4;
 
-/// An argument is out of its range.
+/// An argument is invalid.
 pub const ARGUMENT: i32 = -5;
 
-/// There is too little room for what is to be copied out.
+/// The buffer is too small for the bytes.
 pub const BUFFER: i32 = -6;
 
-/// A chain is pending at the card.
+/// A chain is pending at the card. No operation begins.
 pub const BUSY: i32 = -7;
 
-/// What was asked for is not there.
+/// There is no such thing, such as an object, an answer or a fault.
 pub const NOT_FOUND: i32 = -8;
 
 /// The exchange has failed for good.
 pub const FAILED: i32 = -9;
 
-/// As many plans wait as may.
+/// The most plans wait already.
 pub const PLANS: i32 = -10;
 
-/// No whole TPDU is about to begin.
+/// No whole TPDU or command is next.
 pub const NOT_DUE: i32 = -60;
 
-/// The answer to a whole TPDU ends in no status word.
+/// The answer does not end in a status word.
 pub const NO_STATUS: i32 = -61;
 
-/// Bytes are no whole TPDU.
+/// The bytes are not a whole TPDU.
 pub const NO_TPDU: i32 = -64;
 
-/// Why a builder refuses.
+/// Returns why a builder refuses.
 pub fn of_builder(fault: BuilderFault) -> i32
     ensures { result ≡ builder_code fault }
 {
@@ -73,7 +75,7 @@ pub fn of_builder(fault: BuilderFault) -> i32
     }
 }
 
-/// What a terminal does that has a turn.
+/// Returns what a terminal does next.
 pub fn of_turn(turn: HostTurn) -> i32
     ensures { result ≡ turn_code turn }
 {
@@ -85,7 +87,7 @@ pub fn of_turn(turn: HostTurn) -> i32
     }
 }
 
-/// Why a terminal hands no more into a buffer.
+/// Returns why a terminal stopped sending; `SENDS` means that the buffer is full.
 pub fn of_stop(stop: Option<HostTurn>) -> i32
     ensures { result ≡ stop_code stop }
 {
@@ -95,7 +97,7 @@ pub fn of_stop(stop: Option<HostTurn>) -> i32
     }
 }
 
-/// How characters are taken.
+/// Returns whether a character was taken, or why not.
 pub fn of_taking(taken: Result<(), LineFault>) -> i32
     ensures { result ≡ taking_code taken }
 {
@@ -105,7 +107,7 @@ pub fn of_taking(taken: Result<(), LineFault>) -> i32
     }
 }
 
-/// Why a line refuses a character.
+/// Returns why an end refuses a character. After -31 to -33 the exchange has failed for good.
 pub fn of_line(fault: LineFault) -> i32
     ensures { result ≡ line_code fault }
 {
@@ -118,7 +120,7 @@ pub fn of_line(fault: LineFault) -> i32
     }
 }
 
-/// Why no object stands at a place.
+/// Returns why no object is at a place.
 pub fn of_reason(reason: Reason) -> i32
     ensures { result ≡ reason_code reason }
 {
@@ -132,7 +134,7 @@ pub fn of_reason(reason: Reason) -> i32
     }
 }
 
-/// Why bytes are no command.
+/// Returns why bytes are not a command.
 pub fn of_command(fault: ApduFault) -> i32
     ensures { result ≡ command_code fault }
 {
@@ -143,7 +145,8 @@ pub fn of_command(fault: ApduFault) -> i32
     }
 }
 
-/// Why a terminal does not take the answer to a whole TPDU.
+/// Returns why a terminal refuses the answer to a whole TPDU. After -32 and -33 the exchange has
+/// failed for good.
 pub fn of_answer(fault: AnswerFault) -> i32
     ensures { result ≡ answer_code fault }
 {
@@ -156,7 +159,7 @@ pub fn of_answer(fault: AnswerFault) -> i32
     }
 }
 
-/// Why a card's end does not carry out a whole TPDU.
+/// Returns why a card's end refuses a whole TPDU.
 pub fn of_tpdu(fault: TpduFault) -> i32
     ensures { result ≡ tpdu_code fault }
 {
@@ -169,7 +172,7 @@ pub fn of_tpdu(fault: TpduFault) -> i32
     }
 }
 
-/// Why bytes are no answer to reset.
+/// Returns why bytes are not an answer to reset.
 pub fn of_atr(reason: AtrReason) -> i32
     ensures { result ≡ atr_code reason }
 {
@@ -185,7 +188,7 @@ pub fn of_atr(reason: AtrReason) -> i32
     }
 }
 
-/// Why bytes are no PPS response.
+/// Returns why bytes are not a PPS response.
 pub fn of_pps(fault: PpsFault) -> i32
     ensures { result ≡ pps_code fault }
 {
@@ -198,7 +201,7 @@ pub fn of_pps(fault: PpsFault) -> i32
     }
 }
 
-/// Why a command does not begin at T=1.
+/// Returns why a command does not begin at T=1.
 pub fn of_t1_begin(fault: BeginFault) -> i32
     ensures { result ≡ begin_code fault }
 {
@@ -208,7 +211,7 @@ pub fn of_t1_begin(fault: BeginFault) -> i32
     }
 }
 
-/// Why a terminal's end at T=1 gave up.
+/// Returns why a terminal's end at T=1 gave up.
 pub fn of_t1_cause(cause: Cause) -> i32
     ensures { result ≡ cause_code cause }
 {
@@ -220,7 +223,7 @@ pub fn of_t1_cause(cause: Cause) -> i32
     }
 }
 
-/// What is known of the command then.
+/// Returns what is known of the command then.
 pub fn of_t1_outcome(outcome: Outcome) -> i32
     ensures { result ≡ outcome_number outcome }
 {

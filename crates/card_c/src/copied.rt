@@ -1,10 +1,10 @@
-//! Bytes that go out to C.
+//! Copies bytes into a buffer of C.
 ghost use Rattle.std.specs.Prelude.{◌≡◌, length};
 ghost use Rattle.card_c.specs.Copying.{IsCopied};
 
 use crate::code;
 
-/// Copies bytes out where there is room for them, and says how many there are in either case.
+/// Copies bytes if they fit, and writes their number to `len` in any case.
 pub fn copied(from: &[u8], to: &mut [u8], len: &mut usize) -> i32
     ensures copied { IsCopied from.now to.old result to.new }
     ensures counted { len.new ≡ length from.now }

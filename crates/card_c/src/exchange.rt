@@ -1,18 +1,19 @@
-//! A terminal's exchange of one command, character by character.
+//! The exports of a terminal's exchange of one command, character by character.
 ghost use Rattle.std.specs.Prelude.{◌≡◌, Some, None, IsSome, IfSome, IfOk, IfErr, true, false, ℕ, List, Option};
 ghost use Rattle.card_terminal.specs.ExchangeSide.{response_limit};
 ghost use Rattle.apdu_core.specs.StatusWord.{StatusWord};
 ghost use Rattle.card_terminal.specs.ExchangeSteps.{IsAnswer};
 ghost use Rattle.card_c.specs.Codes.{gt_ok, gt_empty, gt_state};
-ghost use Rattle.card_c.specs.declared.terminal_side.TerminalSide.{TerminalSide};
-ghost use Rattle.card_c.specs.ExchangeHandle.{exchange_in};
-ghost use Rattle.card_c.specs.ExchangeCalls.{IsRefused, HasBegun, OnExchange, ByTpdus, TurnsTo, TakesByte, TellsAnswerOf, TellsEnd};
+ghost use Rattle.card_c.specs.declared.exchange_side.ExchangeSide.{ExchangeSide};
+ghost use Rattle.card_c.specs.Handles.{exchange_in, OnHandle};
+ghost use Rattle.card_c.specs.ExchangeCalls.{IsRefused, HasBegun, Starts, ByTpdus, TurnsTo, TakesByte, TellsAnswerOf, TellsEnd};
 
 use crate::apdu_side::ApduSide;
 use crate::code;
 use crate::copied::copied;
+use crate::exchange_side::ExchangeSide;
+use crate::handle::{Handle, with};
 use crate::held_exchange::ExchangeHandle;
-use crate::terminal_side::TerminalSide;
 use crate::whole_apdu::ended;
 use apdu_core::Command;
 use apdu_terminal::ApduTerminal;
@@ -20,24 +21,29 @@ use card_terminal::{OwnedExchange, RESPONSE_LIMIT, StartFault};
 use std::alloc::Global;
 use t0_core::HostTurn;
 
-/// Begins the exchange of a command in a handle that holds nothing.
+/// Begins the exchange of a command in an empty handle.
+///
+/// # Errors
+/// - `STATE`: the handle is live, and stays as it was.
+/// - a code of [`code::of_command`]: the bytes are not a command; the handle stays empty.
+/// - `MEMORY`: memory ran out; the handle stays empty.
 #[unsafe(no_mangle)]
 pub extern "C" fn galliumtoad_exchange_start(
     alloc: Global,
     exchange: &mut ExchangeHandle,
     command: &[u8],
 ) -> i32
-    ensures held { IsSome (exchange_in exchange.old)
-        → (result ≡ gt_state) × (exchange_in exchange.new ≡ exchange_in exchange.old) }
-    ensures refused { exchange_in exchange.old ≡ None → exchange_in exchange.new ≡ None
-        → IsRefused command.now response_limit result }
-    ensures begun { exchange_in exchange.old ≡ None → IfSome (exchange_in exchange.new)
-        (λ side. (result ≡ gt_ok) × HasBegun command.now response_limit side) }
+    ensures { Starts command.now response_limit (exchange_in exchange.old) result
+        (exchange_in exchange.new) }
 {
     start(alloc, exchange, command, RESPONSE_LIMIT)
 }
 
-/// Begins the exchange of a command whose response may have so many bytes.
+/// Does the same for a response of at most `limit` bytes, from 0 to 16,384.
+///
+/// # Errors
+/// Those of `galliumtoad_exchange_start`, and
+/// - `ARGUMENT`: `limit` exceeds 16,384; the handle stays empty.
 #[unsafe(no_mangle)]
 pub extern "C" fn galliumtoad_exchange_start_within(
     alloc: Global,
@@ -45,23 +51,15 @@ pub extern "C" fn galliumtoad_exchange_start_within(
     command: &[u8],
     limit: usize,
 ) -> i32
-    ensures held { IsSome (exchange_in exchange.old)
-        → (result ≡ gt_state) × (exchange_in exchange.new ≡ exchange_in exchange.old) }
-    ensures refused { exchange_in exchange.old ≡ None → exchange_in exchange.new ≡ None
-        → IsRefused command.now limit result }
-    ensures begun { exchange_in exchange.old ≡ None → IfSome (exchange_in exchange.new)
-        (λ side. (result ≡ gt_ok) × HasBegun command.now limit side) }
+    ensures { Starts command.now limit (exchange_in exchange.old) result
+        (exchange_in exchange.new) }
 {
     start(alloc, exchange, command, limit)
 }
 
 fn start(alloc: Global, exchange: &mut ExchangeHandle, command: &[u8], limit: usize) -> i32
-    ensures held { IsSome (exchange_in exchange.old)
-        → (result ≡ gt_state) × (exchange_in exchange.new ≡ exchange_in exchange.old) }
-    ensures refused { exchange_in exchange.old ≡ None → exchange_in exchange.new ≡ None
-        → IsRefused command.now limit result }
-    ensures begun { exchange_in exchange.old ≡ None → IfSome (exchange_in exchange.new)
-        (λ side. (result ≡ gt_ok) × HasBegun command.now limit side) }
+    ensures { Starts command.now limit (exchange_in exchange.old) result
+        (exchange_in exchange.new) }
 {
     if exchange.is_live() {
         return code::STATE;
@@ -75,8 +73,8 @@ fn start(alloc: Global, exchange: &mut ExchangeHandle, command: &[u8], limit: us
     }
 }
 
-/// An exchange of the command that the bytes are, or the code of what refuses it.
-fn begun(alloc: Global, command: &[u8], limit: usize) -> Result<Box<TerminalSide>, i32>
+/// Begins the exchange of the command with these bytes, or returns the code of the fault.
+fn begun(alloc: Global, command: &[u8], limit: usize) -> Result<Box<ExchangeSide>, i32>
     ensures begun { IfOk result (λ side. HasBegun command.now limit side.value) }
     ensures refused { IfErr result (λ code. IsRefused command.now limit code) }
 {
@@ -92,7 +90,7 @@ fn begun(alloc: Global, command: &[u8], limit: usize) -> Result<Box<TerminalSide
         leads: false,
     };
     match OwnedExchange::start_within(alloc, command, limit) {
-        Ok(exchange) => match Box::new(alloc, TerminalSide { exchange, apdus }) {
+        Ok(exchange) => match Box::new(alloc, ExchangeSide { exchange, apdus }) {
             Ok(side) => Ok(side),
             Err(_) => Err(code::MEMORY),
         },
@@ -101,7 +99,11 @@ fn begun(alloc: Global, command: &[u8], limit: usize) -> Result<Box<TerminalSide
     }
 }
 
-/// What the terminal does now: it hands out a character, listens, has an answer, or has failed.
+/// Returns what the terminal does next, and writes the character that it sends to `byte`.
+///
+/// # Errors
+/// - `STATE`: the exchange goes by whole commands. Nothing changes.
+/// - `FAILED`: the exchange has failed for good.
 #[unsafe(no_mangle)]
 pub extern "C" fn galliumtoad_exchange_next(
     alloc: Global,
@@ -109,9 +111,9 @@ pub extern "C" fn galliumtoad_exchange_next(
     byte: &mut u8,
 ) -> i32
     ensures empty { exchange_in exchange.old ≡ None → byte.new ≡ byte.old }
-    ensures still { (side : TerminalSide) → exchange_in exchange.old ≡ Some side
+    ensures still { (side : ExchangeSide) → exchange_in exchange.old ≡ Some side
         → side.apdus.leads ≡ true → byte.new ≡ byte.old }
-    ensures turn { OnExchange (ByTpdus (TurnsTo byte.old byte.new))
+    ensures turn { OnHandle (ByTpdus (TurnsTo byte.old byte.new))
         (exchange_in exchange.old) result (exchange_in exchange.new) }
 {
     let Some(mut side) = exchange.take_out(alloc) else {
@@ -122,14 +124,10 @@ pub extern "C" fn galliumtoad_exchange_next(
     answer
 }
 
-/// A turn of the terminal, as C is told of it.
-fn turned(side: &mut TerminalSide, byte: &mut u8) -> i32
+/// Takes the terminal's turn, and returns its code.
+fn turned(side: &mut ExchangeSide, byte: &mut u8) -> i32
     ensures still { side.old.apdus.leads ≡ true → byte.new ≡ byte.old }
-    ensures refused { side.old.apdus.leads ≡ true
-        → (result ≡ gt_state) × (side.new ≡ side.old) }
-    ensures does { side.old.apdus.leads ≡ false
-        → TurnsTo byte.old byte.new side.old.exchange result side.new.exchange }
-    ensures apdus { side.new.apdus ≡ side.old.apdus }
+    ensures does { ByTpdus (TurnsTo byte.old byte.new) side.old result side.new }
 {
     if side.apdus.leads {
         return code::STATE;
@@ -142,30 +140,25 @@ fn turned(side: &mut TerminalSide, byte: &mut u8) -> i32
 }
 
 /// Takes a character of the card.
+///
+/// # Errors
+/// - `STATE`: the exchange goes by whole commands. Nothing changes.
+/// - a code of [`code::of_line`]: the exchange refuses the character.
 #[unsafe(no_mangle)]
 pub extern "C" fn galliumtoad_exchange_take(
     alloc: Global,
     exchange: &mut ExchangeHandle,
     byte: u8,
 ) -> i32
-    ensures { OnExchange (ByTpdus (TakesByte byte))
+    ensures { OnHandle (ByTpdus (TakesByte byte))
         (exchange_in exchange.old) result (exchange_in exchange.new) }
 {
-    let Some(mut side) = exchange.take_out(alloc) else {
-        return code::EMPTY;
-    };
-    let answer = taken(&mut side, byte);
-    exchange.put(side);
-    answer
+    with(alloc, exchange, |side| taken(side, byte))
 }
 
-/// A character of the card, as C is told of it.
-fn taken(side: &mut TerminalSide, byte: u8) -> i32
-    ensures refused { side.old.apdus.leads ≡ true
-        → (result ≡ gt_state) × (side.new ≡ side.old) }
-    ensures does { side.old.apdus.leads ≡ false
-        → TakesByte byte side.old.exchange result side.new.exchange }
-    ensures apdus { side.new.apdus ≡ side.old.apdus }
+/// Takes a character of the card, and returns its code.
+fn taken(side: &mut ExchangeSide, byte: u8) -> i32
+    ensures { ByTpdus (TakesByte byte) side.old result side.new }
 {
     if side.apdus.leads {
         return code::STATE;
@@ -173,7 +166,11 @@ fn taken(side: &mut TerminalSide, byte: u8) -> i32
     code::of_taking(side.exchange.take(byte))
 }
 
-/// The status and the data of an exchange that is over. They can be asked for again.
+/// Writes the status and the data of an exchange that has ended. The exchange keeps them.
+///
+/// # Errors
+/// - `STATE`: it has no answer. Nothing changes.
+/// - `BUFFER`: the data do not fit. `status` and `len` are written.
 #[unsafe(no_mangle)]
 pub extern "C" fn galliumtoad_exchange_answer(
     alloc: Global,
@@ -185,7 +182,7 @@ pub extern "C" fn galliumtoad_exchange_answer(
     ensures kept { exchange_in exchange.new ≡ exchange_in exchange.old }
     ensures empty { exchange_in exchange.old ≡ None → (result ≡ gt_empty)
         × (status.new ≡ status.old) × (content.new ≡ content.old) × (len.new ≡ len.old) }
-    ensures answer { (side : TerminalSide) → exchange_in exchange.old ≡ Some side
+    ensures answer { (side : ExchangeSide) → exchange_in exchange.old ≡ Some side
         → TellsAnswerOf side status.old content.old len.old
         result status.new content.new len.new }
 {
@@ -197,8 +194,8 @@ pub extern "C" fn galliumtoad_exchange_answer(
     answer
 }
 
-/// The answer, if there is one, goes out to C.
-fn given(side: &TerminalSide, status: &mut u16, content: &mut [u8], len: &mut usize) -> i32
+/// Writes the answer, if there is one.
+fn given(side: &ExchangeSide, status: &mut u16, content: &mut [u8], len: &mut usize) -> i32
     ensures { TellsAnswerOf side.now status.old content.old len.old
         result status.new content.new len.new }
 {
@@ -224,7 +221,7 @@ fn ended_by_tpdus(
     copied(bytes, content, len)
 }
 
-/// Gives all memory back. A handle that holds nothing stays so.
+/// Frees the memory of a handle, which is empty then.
 #[unsafe(no_mangle)]
 pub extern "C" fn galliumtoad_exchange_free(alloc: Global, exchange: &mut ExchangeHandle)
     ensures { exchange_in exchange.new ≡ None }

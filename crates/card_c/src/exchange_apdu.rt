@@ -1,18 +1,19 @@
-//! An exchange that is driven by whole commands.
+//! The exports that carry out an exchange by whole commands.
 ghost use Rattle.std.specs.Prelude.{◌≡◌};
-ghost use Rattle.card_c.specs.ExchangeHandle.{exchange_in};
+ghost use Rattle.card_c.specs.Handles.{exchange_in, OnHandle};
 ghost use Rattle.card_c.specs.Codes.{gt_ok};
 ghost use Rattle.card_c.specs.ApduCalls.{TellsDue, TakesResponse};
-ghost use Rattle.card_c.specs.ExchangeCalls.{OnExchange, ByApdus, IsUnsentOf};
+ghost use Rattle.card_c.specs.ExchangeCalls.{ByApdus, IsUnsentOf};
 
 use crate::code;
+use crate::exchange_side::ExchangeSide;
+use crate::handle::{Handle, with};
 use crate::held_exchange::ExchangeHandle;
-use crate::terminal_side::TerminalSide;
 use crate::whole_apdu::{opened, responded, responded_first, told};
 use card_terminal::{OwnedExchange, Unsent};
 use std::alloc::Global;
 
-/// The whole command that is due, and how many bytes may come back.
+/// Writes the next whole command, its length, and the most bytes of its response.
 #[unsafe(no_mangle)]
 pub extern "C" fn galliumtoad_exchange_apdu(
     alloc: Global,
@@ -23,7 +24,7 @@ pub extern "C" fn galliumtoad_exchange_apdu(
 ) -> i32
     ensures still { (result ≡ gt_ok → ⊥) → (apdu.new ≡ apdu.old) × (len.new ≡ len.old)
         × (most.new ≡ most.old) }
-    ensures told { OnExchange (ByApdus (TellsDue apdu.old len.old most.old apdu.new len.new
+    ensures told { OnHandle (ByApdus (TellsDue apdu.old len.old most.old apdu.new len.new
         most.new))
         (exchange_in exchange.old) result (exchange_in exchange.new) }
 {
@@ -35,7 +36,7 @@ pub extern "C" fn galliumtoad_exchange_apdu(
     answer
 }
 
-fn due(side: &mut TerminalSide, apdu: &mut [u8], len: &mut usize, most: &mut usize) -> i32
+fn due(side: &mut ExchangeSide, apdu: &mut [u8], len: &mut usize, most: &mut usize) -> i32
     ensures still { (result ≡ gt_ok → ⊥) → (apdu.new ≡ apdu.old) × (len.new ≡ len.old)
         × (most.new ≡ most.old) }
     ensures told { ByApdus (TellsDue apdu.old len.old most.old apdu.new len.new most.new)
@@ -49,25 +50,20 @@ fn due(side: &mut TerminalSide, apdu: &mut [u8], len: &mut usize, most: &mut usi
     told(side.apdus.terminal.apdu(), apdu, len, most)
 }
 
-/// Takes the response to that command: data, and then the status.
+/// Takes the response to that command: data, then the status.
 #[unsafe(no_mangle)]
 pub extern "C" fn galliumtoad_exchange_responded(
     alloc: Global,
     exchange: &mut ExchangeHandle,
     response: &[u8],
 ) -> i32
-    ensures { OnExchange (ByApdus (TakesResponse response.now))
+    ensures { OnHandle (ByApdus (TakesResponse response.now))
         (exchange_in exchange.old) result (exchange_in exchange.new) }
 {
-    let Some(mut side) = exchange.take_out(alloc) else {
-        return code::EMPTY;
-    };
-    let answer = taken(&mut side, response);
-    exchange.put(side);
-    answer
+    with(alloc, exchange, |side| taken(side, response))
 }
 
-fn taken(side: &mut TerminalSide, response: &[u8]) -> i32
+fn taken(side: &mut ExchangeSide, response: &[u8]) -> i32
     ensures { ByApdus (TakesResponse response.now) side.old result side.new }
 {
     if side.apdus.leads {
@@ -76,7 +72,7 @@ fn taken(side: &mut TerminalSide, response: &[u8]) -> i32
     responded_first(&mut side.apdus, unsent_of(&side.exchange), response)
 }
 
-/// What an exchange is to send of which nothing has gone.
+/// Returns what an exchange has to send, if nothing of it was sent.
 fn unsent_of(exchange: &OwnedExchange) -> Option<Unsent<'_>>
     ensures { IsUnsentOf exchange.now result }
 {

@@ -1,18 +1,19 @@
-//! Characters of a terminal's exchange that pass by buffers.
+//! The exports that pass several characters to and from an exchange.
 ghost use Rattle.std.specs.Prelude.{◌≡◌, None, Some, true, false};
 ghost use Rattle.card_c.specs.Codes.{gt_state};
-ghost use Rattle.card_c.specs.declared.terminal_side.TerminalSide.{TerminalSide};
-ghost use Rattle.card_c.specs.ExchangeCalls.{OnExchange, ByTpdus};
-ghost use Rattle.card_c.specs.ExchangeHandle.{exchange_in};
+ghost use Rattle.card_c.specs.declared.exchange_side.ExchangeSide.{ExchangeSide};
+ghost use Rattle.card_c.specs.ExchangeCalls.{ByTpdus};
+ghost use Rattle.card_c.specs.Handles.{exchange_in, OnHandle};
 ghost use Rattle.card_c.specs.BufferCalls.{SendsBytes, ReceivesBytes};
 
 use crate::code;
+use crate::exchange_side::ExchangeSide;
+use crate::handle::Handle;
 use crate::held_exchange::ExchangeHandle;
-use crate::terminal_side::TerminalSide;
 use std::alloc::Global;
 
-/// Hands out the terminal's characters up to where it does not send, or as many as there is room
-/// for.
+/// Writes the terminal's characters to `bytes` until it stops sending or `bytes` is full, and their
+/// number to `count`.
 #[unsafe(no_mangle)]
 pub extern "C" fn galliumtoad_exchange_send_bytes(
     alloc: Global,
@@ -22,9 +23,9 @@ pub extern "C" fn galliumtoad_exchange_send_bytes(
 ) -> i32
     ensures empty { exchange_in exchange.old ≡ None
         → (bytes.new ≡ bytes.old) × (count.new ≡ count.old) }
-    ensures still { (side : TerminalSide) → exchange_in exchange.old ≡ Some side
+    ensures still { (side : ExchangeSide) → exchange_in exchange.old ≡ Some side
         → side.apdus.leads ≡ true → (bytes.new ≡ bytes.old) × (count.new ≡ count.old) }
-    ensures sends { OnExchange (ByTpdus (SendsBytes bytes.old bytes.new count.new))
+    ensures sends { OnHandle (ByTpdus (SendsBytes bytes.old bytes.new count.new))
         (exchange_in exchange.old) result (exchange_in exchange.new) }
 {
     let Some(mut side) = exchange.take_out(alloc) else {
@@ -35,15 +36,11 @@ pub extern "C" fn galliumtoad_exchange_send_bytes(
     answer
 }
 
-/// The characters that the terminal hands out, as C is told of them.
-fn sent(side: &mut TerminalSide, bytes: &mut [u8], count: &mut usize) -> i32
+/// Writes the terminal's characters, and returns why it stopped.
+fn sent(side: &mut ExchangeSide, bytes: &mut [u8], count: &mut usize) -> i32
     ensures still { side.old.apdus.leads ≡ true
         → (bytes.new ≡ bytes.old) × (count.new ≡ count.old) }
-    ensures refused { side.old.apdus.leads ≡ true
-        → (result ≡ gt_state) × (side.new ≡ side.old) }
-    ensures does { side.old.apdus.leads ≡ false
-        → SendsBytes bytes.old bytes.new count.new side.old.exchange result side.new.exchange }
-    ensures apdus { side.new.apdus ≡ side.old.apdus }
+    ensures does { ByTpdus (SendsBytes bytes.old bytes.new count.new) side.old result side.new }
 {
     if side.apdus.leads {
         return code::STATE;
@@ -53,7 +50,7 @@ fn sent(side: &mut TerminalSide, bytes: &mut [u8], count: &mut usize) -> i32
     code::of_stop(handed.stop)
 }
 
-/// Takes characters of the card, all of them, or up to the first that is a fault.
+/// Takes characters of the card until one is a fault, and writes their number to `count`.
 #[unsafe(no_mangle)]
 pub extern "C" fn galliumtoad_exchange_receive_bytes(
     alloc: Global,
@@ -62,9 +59,9 @@ pub extern "C" fn galliumtoad_exchange_receive_bytes(
     count: &mut usize,
 ) -> i32
     ensures empty { exchange_in exchange.old ≡ None → count.new ≡ count.old }
-    ensures still { (side : TerminalSide) → exchange_in exchange.old ≡ Some side
+    ensures still { (side : ExchangeSide) → exchange_in exchange.old ≡ Some side
         → side.apdus.leads ≡ true → count.new ≡ count.old }
-    ensures receives { OnExchange (ByTpdus (ReceivesBytes bytes.now count.new))
+    ensures receives { OnHandle (ByTpdus (ReceivesBytes bytes.now count.new))
         (exchange_in exchange.old) result (exchange_in exchange.new) }
 {
     let Some(mut side) = exchange.take_out(alloc) else {
@@ -75,14 +72,10 @@ pub extern "C" fn galliumtoad_exchange_receive_bytes(
     answer
 }
 
-/// The characters that the terminal takes, as C is told of them.
-fn received(side: &mut TerminalSide, bytes: &[u8], count: &mut usize) -> i32
+/// Takes characters, and returns why it stopped.
+fn received(side: &mut ExchangeSide, bytes: &[u8], count: &mut usize) -> i32
     ensures still { side.old.apdus.leads ≡ true → count.new ≡ count.old }
-    ensures refused { side.old.apdus.leads ≡ true
-        → (result ≡ gt_state) × (side.new ≡ side.old) }
-    ensures does { side.old.apdus.leads ≡ false
-        → ReceivesBytes bytes.now count.new side.old.exchange result side.new.exchange }
-    ensures apdus { side.new.apdus ≡ side.old.apdus }
+    ensures does { ByTpdus (ReceivesBytes bytes.now count.new) side.old result side.new }
 {
     if side.apdus.leads {
         return code::STATE;

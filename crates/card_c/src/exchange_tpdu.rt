@@ -1,19 +1,20 @@
-//! An exchange that is driven by whole TPDUs.
+//! The exports that carry out an exchange by whole TPDUs.
 ghost use Rattle.std.specs.Prelude.{◌≡◌, Some, None, true, false};
 ghost use Rattle.t0_core.specs.TpduBytes.{due_by};
 ghost use Rattle.card_c.specs.Codes.{gt_empty, gt_state};
-ghost use Rattle.card_c.specs.declared.terminal_side.TerminalSide.{TerminalSide};
-ghost use Rattle.card_c.specs.ExchangeHandle.{exchange_in};
-ghost use Rattle.card_c.specs.ExchangeCalls.{OnExchange, ByTpdus, TellsTpduOf};
+ghost use Rattle.card_c.specs.declared.exchange_side.ExchangeSide.{ExchangeSide};
+ghost use Rattle.card_c.specs.Handles.{exchange_in, OnHandle};
+ghost use Rattle.card_c.specs.ExchangeCalls.{ByTpdus, TellsTpduOf};
 ghost use Rattle.card_c.specs.TpduCalls.{TellsTpdu, IsAnswered};
 
 use crate::code;
+use crate::exchange_side::ExchangeSide;
+use crate::handle::{Handle, with};
 use crate::held_exchange::ExchangeHandle;
-use crate::terminal_side::TerminalSide;
 use crate::whole_tpdu::{answer_of, told};
 use std::alloc::Global;
 
-/// The whole TPDU that is due, and how many bytes may come back.
+/// Writes the next whole TPDU, its length, and the most bytes of its answer.
 #[unsafe(no_mangle)]
 pub extern "C" fn galliumtoad_exchange_tpdu(
     alloc: Global,
@@ -25,7 +26,7 @@ pub extern "C" fn galliumtoad_exchange_tpdu(
     ensures kept { exchange_in exchange.new ≡ exchange_in exchange.old }
     ensures empty { exchange_in exchange.old ≡ None → (result ≡ gt_empty)
         × (tpdu.new ≡ tpdu.old) × (len.new ≡ len.old) × (most.new ≡ most.old) }
-    ensures told { (side : TerminalSide) → exchange_in exchange.old ≡ Some side
+    ensures told { (side : ExchangeSide) → exchange_in exchange.old ≡ Some side
         → TellsTpduOf side tpdu.old len.old most.old result tpdu.new len.new most.new }
 {
     let Some(side) = exchange.take_out(alloc) else {
@@ -36,8 +37,8 @@ pub extern "C" fn galliumtoad_exchange_tpdu(
     answer
 }
 
-/// The TPDU that is due goes out to C.
-fn due(side: &TerminalSide, tpdu: &mut [u8], len: &mut usize, most: &mut usize) -> i32
+/// Writes the next TPDU.
+fn due(side: &ExchangeSide, tpdu: &mut [u8], len: &mut usize, most: &mut usize) -> i32
     ensures refused { side.now.apdus.leads ≡ true → (result ≡ gt_state)
         × (tpdu.new ≡ tpdu.old) × (len.new ≡ len.old) × (most.new ≡ most.old) }
     ensures told { side.now.apdus.leads ≡ false → TellsTpdu (due_by side.now.exchange.host)
@@ -49,31 +50,22 @@ fn due(side: &TerminalSide, tpdu: &mut [u8], len: &mut usize, most: &mut usize) 
     told(side.exchange.tpdu(), tpdu, len, most)
 }
 
-/// Takes the answer to that TPDU: data, and then the status.
+/// Takes the answer to that TPDU: data, then the status.
 #[unsafe(no_mangle)]
 pub extern "C" fn galliumtoad_exchange_answered(
     alloc: Global,
     exchange: &mut ExchangeHandle,
     answer: &[u8],
 ) -> i32
-    ensures { OnExchange (ByTpdus (IsAnswered answer.now))
+    ensures { OnHandle (ByTpdus (IsAnswered answer.now))
         (exchange_in exchange.old) result (exchange_in exchange.new) }
 {
-    let Some(mut side) = exchange.take_out(alloc) else {
-        return code::EMPTY;
-    };
-    let code = taken(&mut side, answer);
-    exchange.put(side);
-    code
+    with(alloc, exchange, |side| taken(side, answer))
 }
 
-/// An answer, as C is told of it.
-fn taken(side: &mut TerminalSide, answer: &[u8]) -> i32
-    ensures refused { side.old.apdus.leads ≡ true
-        → (result ≡ gt_state) × (side.new ≡ side.old) }
-    ensures does { side.old.apdus.leads ≡ false
-        → IsAnswered answer.now side.old.exchange result side.new.exchange }
-    ensures apdus { side.new.apdus ≡ side.old.apdus }
+/// Takes an answer, and returns its code.
+fn taken(side: &mut ExchangeSide, answer: &[u8]) -> i32
+    ensures { ByTpdus (IsAnswered answer.now) side.old result side.new }
 {
     if side.apdus.leads {
         return code::STATE;

@@ -1,4 +1,4 @@
-//! The object at a path of tags, for C.
+//! The export that finds an object by a path of tags.
 ghost use Rattle.std.specs.Prelude.{◌≡◌, ◌⊎◌, ◌<◌, ◌≤◌, ℕ, List, length, take, MatchOption};
 ghost use Rattle.tlv_core.specs.FirstFault.{IsFirstFault};
 ghost use Rattle.tlv_core.specs.Spelling.{AreObjects, deepest};
@@ -13,11 +13,17 @@ use crate::reader::ObjectRecord;
 use crate::tag_number::tag_with;
 use tlv_core::{Objects, Tag, find_placed};
 
-/// The deepest level of an object, and so the most steps of a path that leads to one.
+/// The deepest level of an object. No longer path leads to one.
 const DEEPEST: usize = 16;
 
-/// The first object, in the order of the bytes, whose tags from level 1 down to its own have these
-/// numbers; or the first fault and its place.
+/// Finds the first object, in the order of the bytes, whose tags from level 1 down to its own have
+/// these numbers.
+///
+/// # Errors
+/// Nothing else is written.
+/// - `ARGUMENT`: a step is the number of no tag.
+/// - a code of [`code::of_reason`]: the first fault of the bytes, with its place.
+/// - `NOT_FOUND`: there is no such object.
 #[unsafe(no_mangle)]
 pub extern "C" fn galliumtoad_find(
     bytes: &[u8],
@@ -39,8 +45,8 @@ pub extern "C" fn galliumtoad_find(
     find_on(bytes, &tags[..path.len()], object, place)
 }
 
-/// The tags with these numbers, at the front of an array, where they have room; None where a number
-/// is that of no tag.
+/// Returns the tags with these numbers at the front of an array, or `None` if one is the number of
+/// no tag.
 fn tags_of(path: &[u32]) -> Option<[Tag; DEEPEST]>
     requires { 0 < length path.now }
     ensures { MatchOption result ((tags : List (List ℕ)) → ¬ AreTagNumbers path.now tags)
@@ -57,7 +63,7 @@ fn tags_of(path: &[u32]) -> Option<[Tag; DEEPEST]>
     Some(tags)
 }
 
-/// The first object on a path of tags.
+/// Finds the first object on a path of tags.
 fn find_on(bytes: &[u8], path: &[Tag], object: &mut ObjectRecord, place: &mut usize) -> i32
     ensures { FindsOn bytes.now path.now object.old place.old result object.new place.new }
 {
@@ -74,7 +80,7 @@ fn find_on(bytes: &[u8], path: &[Tag], object: &mut ObjectRecord, place: &mut us
     }
 }
 
-/// Why there is no object on a path that is longer than objects are deep.
+/// Returns why no object is on a path that is longer than the deepest level.
 fn find_none(bytes: &[u8], place: &mut usize) -> i32
     ensures { ((reason : Reason) × IsFirstFault bytes.now 1 place.new reason
         × (result ≡ reason_code reason))

@@ -1,4 +1,4 @@
-//! The head of an object for C.
+//! The export that spells the head of an object.
 ghost use Rattle.std.specs.Prelude.{◌≡◌, ◌⊎◌, ◌++◌, ℕ, List, length};
 ghost use Rattle.tlv_core.specs.Length.{shortest};
 ghost use Rattle.card_c.specs.Codes.{gt_argument};
@@ -10,7 +10,11 @@ use crate::copied::copied;
 use crate::tag_number::tag_with;
 use tlv_core::head;
 
-/// The tag with this number, and this length in its shortest spelling.
+/// Writes the tag with this number, and this length in its shortest spelling.
+///
+/// # Errors
+/// - `ARGUMENT`: no tag has this number. Nothing is written.
+/// - `BUFFER`: the head does not fit. Only its size is written.
 #[unsafe(no_mangle)]
 pub extern "C" fn galliumtoad_head(number: u32, size: u16, out: &mut [u8], len: &mut usize) -> i32
     ensures { ((tag : List ℕ) × IsTagNumber number tag

@@ -1,29 +1,28 @@
-//! What went over the line in the last operation of a session.
+//! The exports that record the characters of a session.
 ghost use Rattle.std.specs.Prelude.{◌≡◌, ◌≤◌, ◌++◌, drop, length, map, MatchOption};
 ghost use Rattle.card_c.specs.Codes.{gt_empty};
-ghost use Rattle.card_c.specs.CardHandle.{held_by, OnHandle};
+ghost use Rattle.card_c.specs.Handles.{held_by, OnHandle};
 ghost use Rattle.card_c.specs.HeardCalls.{Listens, IsHeard, TellsHearing, TellsHeard, character_record};
 
 use crate::card_held::GtCard;
 use crate::card_side::CardSide;
 use crate::character_record::CharacterRecord;
 use crate::code;
+use crate::handle::{Handle, with};
 use crate::listener::Listener;
 use crate::session_side::SessionSide;
 use std::alloc::Global;
 use t0_core::End;
 
-/// Notes the characters of each operation from now on. What was heard is dropped.
+/// Records the characters of each later operation, and drops those recorded before.
+///
+/// # Errors
+/// - `STATE`: the handle holds no session. Nothing changes.
 #[unsafe(no_mangle)]
 pub extern "C" fn galliumtoad_session_listen(alloc: Global, session: &mut GtCard) -> i32
     ensures { OnHandle Listens (held_by session.old) result (held_by session.new) }
 {
-    let Some(mut side) = session.take_out(alloc) else {
-        return code::EMPTY;
-    };
-    let answer = listen(alloc, &mut side);
-    session.put(side);
-    answer
+    with(alloc, session, |side| listen(alloc, side))
 }
 
 fn listen(alloc: Global, side: &mut CardSide) -> i32
@@ -43,8 +42,12 @@ fn hear(alloc: Global, joined: &mut SessionSide)
     joined.heard = Listener::new(alloc, true);
 }
 
-/// The characters of the last operation, each with its sender, where there is room for them all,
-/// and how many there are.
+/// Writes the characters of the last operation, each with its sender, and their number.
+///
+/// # Errors
+/// - `STATE`: the handle holds no session, or it does not record. Nothing is written.
+/// - `MEMORY`: memory ran out, so that some characters are lost. Nothing is written.
+/// - `BUFFER`: they do not all fit. Only their number is written.
 #[unsafe(no_mangle)]
 pub extern "C" fn galliumtoad_session_heard(
     alloc: Global,
@@ -92,7 +95,7 @@ fn tell_hearing(listener: &Listener, line: &mut [CharacterRecord], count: &mut u
     code::OK
 }
 
-/// Puts the characters at the front of the array.
+/// Writes the characters to the front of the array.
 fn put_all(heard: &[(End, u8)], line: &mut [CharacterRecord])
     requires { length heard.now ≤ length line.old }
     ensures { line.new ≡ map character_record heard.now ++ drop (length heard.now) line.old }

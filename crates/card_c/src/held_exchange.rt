@@ -1,32 +1,33 @@
-//! The handle that C keeps.
+//! The handle of an exchange that C keeps.
 ghost use Rattle.std.specs.Prelude.{◌≡◌, true, Option, Some, None, IsSome};
-ghost use Rattle.card_c.specs.declared.terminal_side.TerminalSide.{TerminalSide};
+ghost use Rattle.card_c.specs.declared.exchange_side.ExchangeSide.{ExchangeSide};
 
+use crate::exchange_side::ExchangeSide;
 use crate::loose::Loose;
-use crate::terminal_side::TerminalSide;
 use std::alloc::Global;
 use std::marker::Model;
 
-/// A pointer to a box, whose type C does not see; null where there is none.
+/// A pointer to a box, or null. C does not see the type in the box.
 #[repr(C)]
 #[derive(Drop)]
 pub struct HeldExchange {
     at: *mut u8,
     alloc: Global,
-    ghost value: { Option TerminalSide },
+    ghost value: { Option ExchangeSide },
 }
 
 impl Model for HeldExchange {
-    ghost use Rattle.card_c.specs.HeldExchangeOwned.{held_owns};
+    ghost use Rattle.card_c.specs.HeldOwned.{held_owns};
+    ghost use Rattle.card_c.specs.contracts.exchange_side.ExchangeSide.{the_row};
 
-    ghost also_owns = { λ h. held_owns h.at h.alloc h.value };
+    ghost also_owns = { λ h. held_owns the_row h.at h.alloc h.value };
 }
 
-// What it holds names no thread, and neither does what frees it.
+// Neither its content nor the function that frees it names a thread.
 unsafe impl Send for HeldExchange {}
 
 impl HeldExchange {
-    pub(crate) fn of(value: Loose<TerminalSide, Global>) -> HeldExchange
+    pub(crate) fn of(value: Loose<ExchangeSide, Global>) -> HeldExchange
         ensures { result.value ≡ Some value.value }
     {
         let Loose { at, alloc } = value;
@@ -36,13 +37,13 @@ impl HeldExchange {
         }
     }
 
-    pub(crate) fn into_loose(self) -> Loose<TerminalSide, Global>
+    pub(crate) fn into_loose(self) -> Loose<ExchangeSide, Global>
         requires { IsSome self.value }
         ensures { Some result.value ≡ self.value }
     {
         let HeldExchange { at, alloc } = self;
         Loose {
-            at: at as *mut TerminalSide,
+            at: at as *mut ExchangeSide,
             alloc,
         }
     }
@@ -57,7 +58,7 @@ impl HeldExchange {
     }
 }
 
-/// What C keeps of an exchange: all zero where it holds nothing.
+/// The handle of an exchange. Empty, all its bytes are zero.
 #[repr(C)]
 #[derive(Drop)]
 pub struct ExchangeHandle {

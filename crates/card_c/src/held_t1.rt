@@ -1,4 +1,4 @@
-//! The handle that C keeps.
+//! The handle of an end at T=1 that C keeps.
 ghost use Rattle.std.specs.Prelude.{◌≡◌, true, Option, Some, None, IsSome};
 ghost use Rattle.card_c.specs.declared.t1_side.T1Side.{T1Side};
 
@@ -7,7 +7,7 @@ use crate::t1_side::T1Side;
 use std::alloc::Global;
 use std::marker::Model;
 
-/// A pointer to a box, whose type C does not see; null where there is none.
+/// A pointer to a box, or null. C does not see the type in the box.
 #[repr(C)]
 #[derive(Drop)]
 pub struct HeldT1 {
@@ -17,12 +17,13 @@ pub struct HeldT1 {
 }
 
 impl Model for HeldT1 {
-    ghost use Rattle.card_c.specs.HeldT1Owned.{held_owns};
+    ghost use Rattle.card_c.specs.HeldOwned.{held_owns};
+    ghost use Rattle.card_c.specs.contracts.t1_side.T1Side.{the_row};
 
-    ghost also_owns = { λ h. held_owns h.at h.alloc h.value };
+    ghost also_owns = { λ h. held_owns the_row h.at h.alloc h.value };
 }
 
-// What it holds names no thread, and neither does what frees it.
+// Neither its content nor the function that frees it names a thread.
 unsafe impl Send for HeldT1 {}
 
 impl HeldT1 {
@@ -57,7 +58,7 @@ impl HeldT1 {
     }
 }
 
-/// What C keeps of an end at T=1: all zero where it holds nothing.
+/// The handle of an end at T=1. Empty, all its bytes are zero.
 #[repr(C)]
 #[derive(Drop)]
 pub struct T1Handle {

@@ -1,32 +1,33 @@
-//! The handle that C keeps.
+//! The handle of a terminal that C keeps.
 ghost use Rattle.std.specs.Prelude.{◌≡◌, true, Option, Some, None, IsSome};
-ghost use Rattle.card_c.specs.declared.operating_side.OperatingSide.{OperatingSide};
+ghost use Rattle.card_c.specs.declared.terminal_side.TerminalSide.{TerminalSide};
 
 use crate::loose::Loose;
-use crate::operating_side::OperatingSide;
+use crate::terminal_side::TerminalSide;
 use std::alloc::Global;
 use std::marker::Model;
 
-/// A pointer to a box, whose type C does not see; null where there is none.
+/// A pointer to a box, or null. C does not see the type in the box.
 #[repr(C)]
 #[derive(Drop)]
 pub struct HeldTerminal {
     at: *mut u8,
     alloc: Global,
-    ghost value: { Option OperatingSide },
+    ghost value: { Option TerminalSide },
 }
 
 impl Model for HeldTerminal {
-    ghost use Rattle.card_c.specs.HeldTerminalOwned.{held_owns};
+    ghost use Rattle.card_c.specs.HeldOwned.{held_owns};
+    ghost use Rattle.card_c.specs.contracts.terminal_side.TerminalSide.{the_row};
 
-    ghost also_owns = { λ h. held_owns h.at h.alloc h.value };
+    ghost also_owns = { λ h. held_owns the_row h.at h.alloc h.value };
 }
 
-// What it holds names no thread, and neither does what frees it.
+// Neither its content nor the function that frees it names a thread.
 unsafe impl Send for HeldTerminal {}
 
 impl HeldTerminal {
-    pub(crate) fn of(value: Loose<OperatingSide, Global>) -> HeldTerminal
+    pub(crate) fn of(value: Loose<TerminalSide, Global>) -> HeldTerminal
         ensures { result.value ≡ Some value.value }
     {
         let Loose { at, alloc } = value;
@@ -36,13 +37,13 @@ impl HeldTerminal {
         }
     }
 
-    pub(crate) fn into_loose(self) -> Loose<OperatingSide, Global>
+    pub(crate) fn into_loose(self) -> Loose<TerminalSide, Global>
         requires { IsSome self.value }
         ensures { Some result.value ≡ self.value }
     {
         let HeldTerminal { at, alloc } = self;
         Loose {
-            at: at as *mut OperatingSide,
+            at: at as *mut TerminalSide,
             alloc,
         }
     }
@@ -57,7 +58,7 @@ impl HeldTerminal {
     }
 }
 
-/// What C keeps of a terminal: all zero where it holds nothing.
+/// The handle of a terminal. Empty, all its bytes are zero.
 #[repr(C)]
 #[derive(Drop)]
 pub struct TerminalHandle {

@@ -1,9 +1,16 @@
-//! The library for C: the object reader, answers to reset, a terminal's exchange, a card and a
-//! session with it.
-//! `bindings/c/include/galliumtoad.h` declares it.
+//! The static library for C, with one export `galliumtoad_..` for each call of the crates below.
 //!
-//! Each export is named `galliumtoad_..`; the header's function `gt_..` of the same name tests for
-//! NULL, which nothing here can, and then calls it.
+//! The header `bindings/c/include/galliumtoad.h` declares it. Its function `gt_..` of the same name
+//! tests for NULL, which no export can, and then calls the export.
+//!
+//! - Without a handle: `objects` and `find` read data objects, `atr` and `pps` answers to reset.
+//! - [`card_held::GtCard`]: a card that C builds and drives, or a session with one.
+//! - [`held_exchange::ExchangeHandle`]: a terminal's exchange of one command.
+//! - [`held_terminal::TerminalHandle`]: a terminal, operation by operation.
+//! - [`held_t1::T1Handle`]: the terminal's end of a line at T=1.
+//!
+//! A call on a handle returns a code (`code`). Proved: each export does what the call below it
+//! does, and an empty handle stays empty. README.md lists the clauses file by file.
 #![tactic(auto)]
 
 mod apdu_side;
@@ -23,9 +30,11 @@ mod copied;
 mod exchange;
 mod exchange_apdu;
 mod exchange_buffers;
-mod exchange_handle;
+mod exchange_side;
 mod exchange_tpdu;
 mod find;
+mod handle;
+mod handles;
 mod head;
 mod heard;
 mod held_exchange;
@@ -34,7 +43,6 @@ mod held_terminal;
 mod listener;
 mod loose;
 mod objects;
-mod operating_side;
 mod plan_letters;
 mod plans;
 mod pps;
@@ -44,14 +52,12 @@ mod session;
 mod session_side;
 mod t1;
 mod t1_bytes;
-mod t1_handle;
 mod t1_side;
 mod tables;
 mod tag_number;
 mod terminal;
 mod terminal_apdu;
 mod terminal_buffers;
-mod terminal_handle;
 mod terminal_side;
 mod threads;
 mod version;

@@ -1,4 +1,4 @@
-//! What a session notes of its line, if somebody listens.
+//! A watch that records the characters of a session, if C asked for it.
 ghost use Rattle.std.specs.Prelude.{◌≡◌, []};
 ghost use Rattle.t0_core.specs.Watch.{Hearing};
 
@@ -6,11 +6,11 @@ use std::alloc::Global;
 use std::marker::Model;
 use t0_core::{End, Watch};
 
-/// Room for the characters of a short operation, so that the list of it does not grow.
+/// Room for the characters of a short operation, in characters.
 const ROOM: usize = 64;
 
-/// A watch that notes each character while there is memory, or no character if nobody listens.
-/// A `Recorder` would always listen, and would take its room in small steps.
+/// Records each character while memory lasts, or none if it does not listen. A `Recorder` of
+/// `t0_core` always listens, and takes its room in small steps.
 #[derive(Drop)]
 pub struct Listener {
     heard: Vec<(End, u8)>,
@@ -26,7 +26,7 @@ impl Model for Listener {
 impl Listener {
     ghost use Rattle.card_c.specs.SessionCalls.{beginning};
 
-    /// Has heard nothing yet.
+    /// Makes a listener that has recorded nothing.
     pub fn new(alloc: Global, listens: bool) -> Listener
         ensures { result ≡ beginning listens }
     {
@@ -36,14 +36,14 @@ impl Listener {
         }
     }
 
-    /// The characters noted, in order, each with its sender.
+    /// Returns the recorded characters in order, each with its sender.
     pub fn heard(&self) -> &[(End, u8)]
         ensures { result.now ≡ self.now.heard }
     {
         self.heard.as_slice()
     }
 
-    /// Whether a character was not noted, since memory ran out or nobody listens.
+    /// Returns whether it loses characters: memory ran out, or it does not listen.
     pub fn lost(&self) -> bool
         ensures { result ≡ self.now.lost }
     {
@@ -51,7 +51,7 @@ impl Listener {
     }
 }
 
-/// An empty list. Without memory for its room it takes that when it grows.
+/// Returns an empty list. If memory for its room is missing, the list takes it when it grows.
 fn room(alloc: Global, listens: bool) -> Vec<(End, u8)>
     ensures { result.items ≡ [] }
 {

@@ -1,4 +1,4 @@
-//! All objects of a list for C.
+//! The export that lists all objects of some bytes.
 ghost use Rattle.std.specs.Prelude.{◌≡◌, ◌+◌, ◌-◌, ◌≤◌, ◌<◌, ◌⊎◌, List, [], ◌∷◌, length, map};
 ghost use Rattle.tlv_core.specs.Listing.{Placed, Lists};
 ghost use Rattle.tlv_core.specs.declared.fault.Reason.{Reason};
@@ -11,8 +11,11 @@ use crate::reader::ObjectRecord;
 use crate::tag_number::number;
 use tlv_core::{Obj, Objects};
 
-/// All objects of all levels in the order of their bytes, as many as there is room for, and how
-/// many there are; or the first fault and its place. Without an array they are checked and counted.
+/// Writes the objects of all levels in the order of their bytes, as many as fit, and their number.
+/// With an empty array it only checks and counts them.
+///
+/// # Errors
+/// - a code of [`code::of_reason`]: the first fault, with its place. Nothing else is written.
 #[unsafe(no_mangle)]
 pub extern "C" fn galliumtoad_objects(
     bytes: &[u8],
@@ -45,7 +48,7 @@ pub extern "C" fn galliumtoad_objects(
     }
 }
 
-/// Puts all objects of the bytes into the array, as many as there is room for, and counts them.
+/// Writes all objects of the bytes, as many as fit, and returns their number.
 fn counted(bytes: &[u8], list: Objects<'_>, objects: &mut [ObjectRecord]) -> usize
     requires { list ≡ record { bytes = bytes.now; level = 1 } }
     ensures { (all : List Placed) × Lists bytes.now 0 1 all × (result ≡ length all)
@@ -54,8 +57,8 @@ fn counted(bytes: &[u8], list: Objects<'_>, objects: &mut [ObjectRecord]) -> usi
     listed(list, bytes.len(), objects, 0)
 }
 
-/// Puts the objects of a list, and those in them, into the array from a place on, and answers the
-/// place after them. The list ends at a place of the bytes.
+/// Writes the objects of a list, and those in them, from a place of the array on, and returns the
+/// place after them. `end` is where the list ends in the bytes.
 fn listed(list: Objects<'_>, end: usize, objects: &mut [ObjectRecord], before: usize) -> usize
     requires inside { before + length list.bytes ≤ end }
     ensures { (all : List Placed)
@@ -77,7 +80,7 @@ fn listed(list: Objects<'_>, end: usize, objects: &mut [ObjectRecord], before: u
     count
 }
 
-/// An object that ends at this place.
+/// Returns the record of an object that ends at this place.
 pub fn record(object: &Obj<'_>, after: usize) -> ObjectRecord
     requires { length object.now.tag + length object.now.size + length object.now.value ≤ after }
     ensures { result ≡ recorded (record {
@@ -102,7 +105,7 @@ pub fn record(object: &Obj<'_>, after: usize) -> ObjectRecord
     }
 }
 
-/// Puts an object at this place of the array, where there is room.
+/// Writes an object at this place of the array, if it is inside.
 fn put(objects: &mut [ObjectRecord], at: usize, object: ObjectRecord)
     ensures { objects.new ≡ with_from objects.old at (object ∷ []) }
 {

@@ -1,4 +1,4 @@
-//! A plan as C gives it: letters for its steps, and its cut.
+//! Reads a plan of C: letters for its steps, and its cut.
 ghost use Rattle.std.specs.Prelude.{◌≡◌, ◌<◌, ◌↔◌, IsTrue, IfOk, IfErr, map};
 ghost use Rattle.card_c.specs.PlanLetters.{AreSteps, IsSpelt, IsRefused, letter_of, plan_limit};
 
@@ -6,11 +6,15 @@ use crate::code;
 use std::alloc::{AllocError, Global};
 use t0_core::{Plan, Step};
 
-/// The most plans that wait for the TPDUs to come.
+/// The most plans that wait for later TPDUs.
 const PLAN_LIMIT: usize = 1_048_576;
 
-/// The plan that these letters and this cut are, behind the plans that wait, or the code of what
-/// refuses it.
+/// Reads the plan with these letters and this cut. `waiting` is the number of plans before it.
+///
+/// # Errors
+/// - `ARGUMENT`: letters and cut spell no plan.
+/// - `PLANS`: the most plans wait already.
+/// - `MEMORY`: memory ran out.
 pub fn plan_of(alloc: Global, letters: &[u8], cut: u16, waiting: usize) -> Result<Plan, i32>
     ensures spelt { IfOk result (λ plan. IsSpelt letters.now cut plan) }
     ensures fits { IfOk result (λ _. waiting < plan_limit) }
@@ -28,7 +32,7 @@ pub fn plan_of(alloc: Global, letters: &[u8], cut: u16, waiting: usize) -> Resul
     }
 }
 
-/// Whether each is the letter of a step.
+/// Returns whether each byte is the letter of a step.
 fn are_steps(letters: &[u8]) -> bool
     ensures { IsTrue result ↔ AreSteps letters.now }
 {
@@ -40,7 +44,7 @@ fn are_steps(letters: &[u8]) -> bool
     true
 }
 
-/// The steps of these letters. Its error is want of memory.
+/// Returns the steps of these letters, or `AllocError` if memory runs out.
 fn steps_of(alloc: Global, letters: &[u8]) -> Result<Vec<Step>, AllocError>
     requires { AreSteps letters.now }
     ensures { IfOk result (λ steps. letters.now ≡ map letter_of steps.items) }

@@ -1,17 +1,23 @@
-//! The plans that C gives: how the card answers the TPDUs to come.
+//! The exports that give a card or a session plans for later TPDUs.
 ghost use Rattle.std.specs.Prelude.{◌≡◌, [], ◌∷◌, ◌++◌, OnOk, OnErr};
-ghost use Rattle.card_c.specs.CardHandle.{held_by, OnHandle};
+ghost use Rattle.card_c.specs.Handles.{held_by, OnHandle};
 ghost use Rattle.card_c.specs.PlanCalls.{IsButPlans, QueuesAtCard, QueuesInSession};
 
 use crate::card_held::GtCard;
 use crate::card_side::CardSide;
 use crate::code;
+use crate::handle::with;
 use crate::plan_letters::plan_of;
 use crate::session_side::SessionSide;
 use std::alloc::{AllocError, Global};
 use t0_core::Plan;
 
-/// Gives a card that stands one more plan, after those before it.
+/// Gives a card at T=0 one more plan, after those that wait.
+///
+/// # Errors
+/// The plans stay as they were.
+/// - `STATE`: the card is not built, speaks T=1 or is in a session.
+/// - `ARGUMENT`, `PLANS`, `MEMORY`: those of [`plan_of`], or memory for the list ran out.
 #[unsafe(no_mangle)]
 pub extern "C" fn galliumtoad_card_plan(
     alloc: Global,
@@ -21,12 +27,7 @@ pub extern "C" fn galliumtoad_card_plan(
 ) -> i32
     ensures { OnHandle (QueuesAtCard steps.now cut) (held_by card.old) result (held_by card.new) }
 {
-    let Some(mut side) = card.take_out(alloc) else {
-        return code::EMPTY;
-    };
-    let answer = queue_at_card(alloc, &mut side, steps, cut);
-    card.put(side);
-    answer
+    with(alloc, card, |side| queue_at_card(alloc, side, steps, cut))
 }
 
 fn queue_at_card(alloc: Global, side: &mut CardSide, steps: &[u8], cut: u16) -> i32
@@ -44,7 +45,12 @@ fn queue_at_card(alloc: Global, side: &mut CardSide, steps: &[u8], cut: u16) -> 
     }
 }
 
-/// Gives a session one more plan for its next operation, after those before it.
+/// Gives a session one more plan for its next operation, after those that wait.
+///
+/// # Errors
+/// The plans stay as they were.
+/// - `STATE`: the handle holds no session.
+/// - `ARGUMENT`, `PLANS`, `MEMORY`: those of [`plan_of`], or memory for the list ran out.
 #[unsafe(no_mangle)]
 pub extern "C" fn galliumtoad_session_plan(
     alloc: Global,
@@ -55,12 +61,11 @@ pub extern "C" fn galliumtoad_session_plan(
     ensures { OnHandle (QueuesInSession steps.now cut)
         (held_by session.old) result (held_by session.new) }
 {
-    let Some(mut side) = session.take_out(alloc) else {
-        return code::EMPTY;
-    };
-    let answer = queue_in_session(alloc, &mut side, steps, cut);
-    session.put(side);
-    answer
+    with(
+        alloc,
+        session,
+        |side| queue_in_session(alloc, side, steps, cut),
+    )
 }
 
 fn queue_in_session(alloc: Global, side: &mut CardSide, steps: &[u8], cut: u16) -> i32
@@ -78,7 +83,7 @@ fn queue_in_session(alloc: Global, side: &mut CardSide, steps: &[u8], cut: u16) 
     }
 }
 
-/// One more plan, after those before it. Its error is want of memory.
+/// Adds a plan after those that wait, or returns `AllocError` if memory runs out.
 fn queue(joined: &mut SessionSide, plan: Plan) -> Result<(), AllocError>
     ensures ok { OnOk result (joined.new.plans.items ≡ joined.old.plans.items ++ plan ∷ []) }
     ensures stays { OnErr result (joined.new.plans.items ≡ joined.old.plans.items) }

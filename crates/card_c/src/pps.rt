@@ -1,4 +1,4 @@
-//! PPS for C: a terminal's request, and whether a response agrees.
+//! The exports for PPS: a terminal's request, and whether a response agrees.
 ghost use Rattle.card_c.specs.PpsCalls.{AgreesPps, AnswersPps, AsksPps, given};
 ghost use Rattle.std.specs.Prelude.{◌≡◌};
 
@@ -6,10 +6,14 @@ use crate::code;
 use crate::copied::copied;
 use atr_core::{Pps, agreed};
 
-/// What stands for a character that is not there.
+/// The number for a missing character.
 const ABSENT: u16 = 256;
 
-/// The request for this protocol and these of PPS1 to PPS3, of which 256 is none.
+/// Writes the request for this protocol with PPS1 to PPS3; 256 leaves one out.
+///
+/// # Errors
+/// - `ARGUMENT`: these numbers make no request. Nothing is written.
+/// - `BUFFER`: the request does not fit. Only its length is written.
 #[unsafe(no_mangle)]
 pub extern "C" fn galliumtoad_pps_request(
     t: u8,
@@ -33,7 +37,7 @@ pub extern "C" fn galliumtoad_pps_request(
     copied(&request.write(), out, len)
 }
 
-/// The character with this number, if it is there.
+/// Returns the character with this number, unless it is missing.
 fn given(number: u16) -> Option<u8>
     ensures { result ≡ given number }
 {
@@ -44,8 +48,12 @@ fn given(number: u16) -> Option<u8>
     }
 }
 
-/// 1 where the response accepts what the request asks for, or all but what it leaves out, else 0;
-/// or why it is no response. A request that is none is a bad argument.
+/// Returns 1 if the response accepts what the request asks for, except what it leaves out, and
+/// otherwise 0.
+///
+/// # Errors
+/// - `ARGUMENT`: `request` is not a PPS request.
+/// - a code of [`code::of_pps`]: `response` is not a PPS response.
 #[unsafe(no_mangle)]
 pub extern "C" fn galliumtoad_pps_agreed(request: &[u8], response: &[u8]) -> i32
     ensures { AgreesPps request.now response.now result }
@@ -56,7 +64,7 @@ pub extern "C" fn galliumtoad_pps_agreed(request: &[u8], response: &[u8]) -> i32
     }
 }
 
-/// The same of a request that has been read.
+/// Does the same for a request that was read.
 fn answered(request: &Pps, response: &[u8]) -> i32
     ensures { AnswersPps request.now response.now result }
 {

@@ -1,6 +1,6 @@
-//! The object reader.
+//! An object that the exports list, as C sees it.
 
-/// One object of a list, with its places in the bytes that C has passed. C sees it as `gt_object`.
+/// One object, with its places in the bytes that C passed. C sees it as `gt_object`.
 #[repr(C)]
 #[derive(Clone, Copy)]
 pub struct ObjectRecord {
@@ -8,12 +8,12 @@ pub struct ObjectRecord {
     pub tag: u32,
     /// The level, from 1.
     pub level: u8,
-    /// 1 where the value is a list of objects, else 0.
+    /// 1 if the value is a list of objects, otherwise 0.
     pub constructed: u8,
-    /// Where its first byte stands, and how many bytes it has.
+    /// The place of its first byte, and its size in bytes.
     pub place: usize,
     pub size: usize,
-    /// Where its value begins, and how many bytes that has.
+    /// The place of its value, and the size of the value in bytes.
     pub value: usize,
     pub length: usize,
 }

@@ -1,12 +1,13 @@
-//! Any one command, sent to the card of a session.
+//! The export that sends any one command to the card of a session.
 ghost use Rattle.object_card.specs.Agreed.{IsAgreed};
 ghost use Rattle.object_card.specs.Instructions.{MayReceive, MaySend};
-ghost use Rattle.card_c.specs.CardHandle.{held_by, OnHandle};
+ghost use Rattle.card_c.specs.Handles.{held_by, OnHandle};
 ghost use Rattle.card_c.specs.SendCalls.{SendsAgreed, SendsBytes};
 
 use crate::card_held::GtCard;
 use crate::card_side::CardSide;
 use crate::code;
+use crate::handle::with;
 use crate::listener::Listener;
 use crate::session_side::{SessionSide, room_for_next};
 use apdu_core::Command;
@@ -14,7 +15,14 @@ use object_card::is_agreed;
 use std::alloc::Global;
 use t0_core::Plans;
 
-/// Sends a command, which may begin a chain or go on with one.
+/// Sends a command, which may begin or continue a chain.
+///
+/// # Errors
+/// The card and the last answer stay as they were.
+/// - `STATE`: the handle holds no session.
+/// - a code of [`code::of_command`]: the bytes are not a command.
+/// - `ARGUMENT`: the command is not agreed with the card.
+/// - `MEMORY`: memory ran out before the command began.
 #[unsafe(no_mangle)]
 pub extern "C" fn galliumtoad_session_send(
     alloc: Global,
@@ -24,12 +32,7 @@ pub extern "C" fn galliumtoad_session_send(
     ensures { OnHandle (SendsBytes command.now) (held_by session.old) result
         (held_by session.new) }
 {
-    let Some(mut side) = session.take_out(alloc) else {
-        return code::EMPTY;
-    };
-    let answer = send(alloc, &mut side, command);
-    session.put(side);
-    answer
+    with(alloc, session, |side| send(alloc, side, command))
 }
 
 fn send(alloc: Global, side: &mut CardSide, bytes: &[u8]) -> i32

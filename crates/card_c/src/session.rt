@@ -1,15 +1,16 @@
-//! A session with a card: operations, each carried out to its answer.
+//! The exports of a session with a card, which carries out whole operations.
 ghost use Rattle.std.specs.Prelude.{◌≡◌, None, MatchOption};
 ghost use Rattle.card_terminal.specs.Operations.{operation_of};
 ghost use Rattle.object_card.specs.OneStep.{Put};
 ghost use Rattle.card_c.specs.Codes.{gt_empty};
-ghost use Rattle.card_c.specs.CardHandle.{held_by, OnHandle};
+ghost use Rattle.card_c.specs.Handles.{held_by, OnHandle};
 ghost use Rattle.card_c.specs.SessionCalls.{Starts, Finishes, Joins, Parts, Performs, Selects, Gets, Puts, TellsAnswer, TellsIdle, IsReset, ResetsSession};
 
 use crate::card_held::GtCard;
 use crate::card_side::CardSide;
 use crate::code;
 use crate::copied::copied;
+use crate::handle::{Handle, with};
 use crate::listener::Listener;
 use crate::session_side::{SessionSide, room_for_next};
 use crate::tag_number::tag_of;
@@ -20,7 +21,12 @@ use std::mem;
 use t0_core::{PlanQueue, Plans};
 use tlv_core::ObjectTag;
 
-/// Takes a card that stands, and begins a session with it. The card is reset.
+/// Takes the card out of its handle, and begins a session with it. The card is reset.
+///
+/// # Errors
+/// Both handles stay as they were.
+/// - `STATE`: `session` is live, or the card is not built, speaks T=1 or is in a session.
+/// - `EMPTY`: `card` is empty.
 #[unsafe(no_mangle)]
 pub extern "C" fn galliumtoad_session_start(
     alloc: Global,
@@ -48,7 +54,7 @@ pub extern "C" fn galliumtoad_session_start(
 fn join(alloc: Global, side: &mut CardSide) -> bool
     ensures { Joins side.old result side.new }
 {
-    // A builder of nothing takes no memory, and keeps the place meanwhile.
+    // An empty builder takes no memory. It fills the place until the function writes it.
     let before = mem::replace(side, CardSide::Building(CardBuilder::new(alloc)));
     let CardSide::Standing(end, _) = before else {
         *side = before;
@@ -64,7 +70,12 @@ fn join(alloc: Global, side: &mut CardSide) -> bool
     true
 }
 
-/// Ends a session, and gives its card back, reset.
+/// Ends a session, and puts its card into `card`, as it stands after a reset.
+///
+/// # Errors
+/// Both handles stay as they were.
+/// - `STATE`: `card` is live, or `session` holds no session.
+/// - `EMPTY`: `session` is empty.
 #[unsafe(no_mangle)]
 pub extern "C" fn galliumtoad_session_end(
     alloc: Global,
@@ -101,7 +112,7 @@ fn part(alloc: Global, side: &mut CardSide) -> bool
     true
 }
 
-/// Gives all memory back, the card's too, and the handle holds nothing.
+/// Frees the memory of a session and of its card. The handle is empty then.
 #[unsafe(no_mangle)]
 pub extern "C" fn galliumtoad_session_free(alloc: Global, session: &mut GtCard)
     ensures { held_by session.new ≡ None }
@@ -109,17 +120,15 @@ pub extern "C" fn galliumtoad_session_free(alloc: Global, session: &mut GtCard)
     drop(session.take_out(alloc));
 }
 
-/// Resets the card, at any time. The last answer stays.
+/// Resets the card. The last answer stays.
+///
+/// # Errors
+/// - `STATE`: the handle holds no session. Nothing changes.
 #[unsafe(no_mangle)]
 pub extern "C" fn galliumtoad_session_reset(alloc: Global, session: &mut GtCard) -> i32
     ensures { OnHandle ResetsSession (held_by session.old) result (held_by session.new) }
 {
-    let Some(mut side) = session.take_out(alloc) else {
-        return code::EMPTY;
-    };
-    let answer = reset(&mut side);
-    session.put(side);
-    answer
+    with(alloc, session, |side| reset(side))
 }
 
 fn reset(side: &mut CardSide) -> i32
@@ -138,17 +147,19 @@ fn reset_session(joined: &mut SessionSide)
     joined.session.reset();
 }
 
-/// Carries out SELECT of the application with this identifier.
+/// Carries out SELECT of the application with this identifier, of 5 to 16 bytes.
+///
+/// # Errors
+/// The card and the last answer stay as they were.
+/// - `STATE`: the handle holds no session.
+/// - `ARGUMENT`: `aid` is no identifier.
+/// - `BUSY`: a chain is pending.
+/// - `MEMORY`: memory ran out before the operation began.
 #[unsafe(no_mangle)]
 pub extern "C" fn galliumtoad_session_select(alloc: Global, session: &mut GtCard, aid: &[u8]) -> i32
     ensures { OnHandle (Selects aid.now) (held_by session.old) result (held_by session.new) }
 {
-    let Some(mut side) = session.take_out(alloc) else {
-        return code::EMPTY;
-    };
-    let answer = select(alloc, &mut side, aid);
-    session.put(side);
-    answer
+    with(alloc, session, |side| select(alloc, side, aid))
 }
 
 fn select(alloc: Global, side: &mut CardSide, aid: &[u8]) -> i32
@@ -163,17 +174,13 @@ fn select(alloc: Global, side: &mut CardSide, aid: &[u8]) -> i32
     }
 }
 
-/// Carries out GET DATA of this tag.
+/// Carries out GET DATA of the object with this tag. Its errors are those of
+/// `galliumtoad_session_select`; `ARGUMENT` means that no tag of an object has this number.
 #[unsafe(no_mangle)]
 pub extern "C" fn galliumtoad_session_get(alloc: Global, session: &mut GtCard, tag: u32) -> i32
     ensures { OnHandle (Gets tag) (held_by session.old) result (held_by session.new) }
 {
-    let Some(mut side) = session.take_out(alloc) else {
-        return code::EMPTY;
-    };
-    let answer = get(alloc, &mut side, tag);
-    session.put(side);
-    answer
+    with(alloc, session, |side| get(alloc, side, tag))
 }
 
 fn get(alloc: Global, side: &mut CardSide, number: u32) -> i32
@@ -188,7 +195,7 @@ fn get(alloc: Global, side: &mut CardSide, number: u32) -> i32
     }
 }
 
-/// Carries out PUT DATA of this value under the tag.
+/// Carries out PUT DATA of this value. Its errors are those of `galliumtoad_session_get`.
 #[unsafe(no_mangle)]
 pub extern "C" fn galliumtoad_session_put(
     alloc: Global,
@@ -198,12 +205,7 @@ pub extern "C" fn galliumtoad_session_put(
 ) -> i32
     ensures { OnHandle (Puts tag value.now) (held_by session.old) result (held_by session.new) }
 {
-    let Some(mut side) = session.take_out(alloc) else {
-        return code::EMPTY;
-    };
-    let answer = put(alloc, &mut side, tag, value);
-    session.put(side);
-    answer
+    with(alloc, session, |side| put(alloc, side, tag, value))
 }
 
 fn put(alloc: Global, side: &mut CardSide, number: u32, value: &[u8]) -> i32
@@ -218,8 +220,7 @@ fn put(alloc: Global, side: &mut CardSide, number: u32, value: &[u8]) -> i32
     }
 }
 
-/// Carries out PUT DATA of a copy of the value. A pending chain comes before memory, as it does for
-/// the other operations.
+/// Carries out PUT DATA of a copy of the value. As in [`perform`], `BUSY` comes before `MEMORY`.
 fn store(alloc: Global, joined: &mut SessionSide, tag: ObjectTag, value: &[u8]) -> i32
     ensures { Performs (Put tag value.now) joined.old result joined.new }
 {
@@ -232,8 +233,12 @@ fn store(alloc: Global, joined: &mut SessionSide, tag: ObjectTag, value: &[u8]) 
     }
 }
 
-/// Tells the answer of the last operation: its status, and its data where there is room for them.
-/// It may be asked for again.
+/// Writes the status and the data of the last operation. The session keeps them.
+///
+/// # Errors
+/// - `STATE`: the handle holds no session. Nothing is written.
+/// - `NOT_FOUND`: there was no operation. Nothing is written.
+/// - `BUFFER`: the data do not fit. `status` and `len` are written.
 #[unsafe(no_mangle)]
 pub extern "C" fn galliumtoad_session_answer(
     alloc: Global,
@@ -272,19 +277,17 @@ fn tell(side: &CardSide, status: &mut u16, content: &mut [u8], len: &mut usize) 
     copied(answer.data(), content, len)
 }
 
-/// Whether no chain is pending at the card: 1, or 0.
+/// Returns 1 if no chain is pending at the card, and otherwise 0.
+///
+/// # Errors
+/// - `STATE`: the handle holds no session.
 #[unsafe(no_mangle)]
 pub extern "C" fn galliumtoad_session_idle(alloc: Global, session: &mut GtCard) -> i32
     ensures stays { held_by session.new ≡ held_by session.old }
     ensures told { MatchOption (held_by session.old) (result ≡ gt_empty)
         (λ side. TellsIdle side result) }
 {
-    let Some(side) = session.take_out(alloc) else {
-        return code::EMPTY;
-    };
-    let answer = idle(&side);
-    session.put(side);
-    answer
+    with(alloc, session, |side| idle(side))
 }
 
 fn idle(side: &CardSide) -> i32
@@ -297,6 +300,11 @@ fn idle(side: &CardSide) -> i32
 }
 
 /// Carries out one operation.
+///
+/// # Errors
+/// The card and the last answer stay as they were.
+/// - `BUSY`: a chain is pending.
+/// - `MEMORY`: memory ran out.
 fn perform(alloc: Global, joined: &mut SessionSide, operation: Op) -> i32
     ensures { Performs (operation_of operation) joined.old result joined.new }
 {

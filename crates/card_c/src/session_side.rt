@@ -1,4 +1,4 @@
-//! The session that a handle holds, with what is kept of its last operation.
+//! A session with a card, as a handle holds it.
 ghost use Rattle.std.specs.Prelude.{◌≡◌, [], IfOk, OnErr};
 ghost use Rattle.card_terminal.specs.ExchangeSide.{response_limit};
 
@@ -8,8 +8,8 @@ use object_card::ObjectCard;
 use std::alloc::{AllocError, Global};
 use t0_core::{Gather, Plan};
 
-/// A session with a card, the plans for its next operation, and what is kept of its last one: its
-/// answer, in the room that the next one has, and its characters only if somebody listens.
+/// A session with a card, and the plans for its next operation. Of the last operation it keeps the
+/// answer, whose memory the next one uses again, and the characters, if it listens.
 #[derive(Drop)]
 pub struct SessionSide {
     pub session: Session<ObjectCard>,
@@ -19,7 +19,7 @@ pub struct SessionSide {
     pub heard: Listener,
 }
 
-/// Room for the response of an operation: that of the last answer, or else new memory.
+/// Returns room for the response of an operation: that of the last answer, or else new memory.
 pub fn room_for_next(alloc: Global, answer: &mut Option<HeldAnswer>) -> Result<Gather, AllocError>
     ensures room { IfOk result (λ room. room ≡ record { bytes = []; limit = response_limit }) }
     ensures stays { OnErr result (answer.new ≡ answer.old) }

@@ -1,20 +1,28 @@
-//! The terminal's end of a line at T=1.
+//! The exports of a terminal's end of a line at T=1.
 ghost use Rattle.std.specs.Prelude.{◌≡◌, Option, Some, None, is_some, MatchOption};
 ghost use Rattle.t1_core.specs.declared.settings.Settings.{Settings};
-ghost use Rattle.card_c.specs.T1Handle.{t1_in};
-ghost use Rattle.card_c.specs.T1Calls.{OnT1, HasBegun, IsTaken, HasSettings, Begins, Misses, Resets, TellsResponse, TellsFault};
+ghost use Rattle.card_c.specs.Handles.{t1_in, OnHandle};
+ghost use Rattle.card_c.specs.T1Calls.{HasBegun, IsTaken, HasSettings, Begins, Misses, Resets, TellsResponse, TellsFault};
 
 use crate::code;
 use crate::copied::copied;
+use crate::handle::{Handle, with};
 use crate::held_t1::T1Handle;
 use crate::t1_side::T1Side;
 use std::alloc::Global;
 use t1_core::{Edc, Receiver, Settings, TerminalEnd};
 
-/// The number of an error detection code that is an LRC.
+/// The number of LRC, an error detection code.
 const LRC: u8 = 1;
 
-/// An end after a reset, in a handle that holds nothing.
+/// Makes an end as after a reset, in an empty handle. `edc` is 1, which means LRC. `ifsc`, from 1
+/// to 254, is the longest field of a block to the card. `tries`, `extensions` and `limit` are those
+/// of `Settings` of `t1_core`.
+///
+/// # Errors
+/// - `STATE`: the handle is live, and stays as it was.
+/// - `ARGUMENT`: `edc` or `ifsc` is out of its range; the handle stays empty.
+/// - `MEMORY`: memory ran out; the handle stays empty.
 #[unsafe(no_mangle)]
 pub extern "C" fn galliumtoad_t1_new(
     alloc: Global,
@@ -44,7 +52,7 @@ pub extern "C" fn galliumtoad_t1_new(
     }
 }
 
-/// The settings that these numbers are, if the end takes them.
+/// Returns the settings with these numbers, or `None` if one is out of its range.
 fn settings(edc: u8, ifsc: u8, tries: u8, extensions: u8, limit: usize) -> Option<Settings>
     ensures { MatchOption result (IsTaken edc ifsc → ⊥)
         (λ s. IsTaken edc ifsc × HasSettings ifsc tries extensions limit s) }
@@ -58,7 +66,7 @@ fn settings(edc: u8, ifsc: u8, tries: u8, extensions: u8, limit: usize) -> Optio
     }
 }
 
-/// Gives all memory back. A handle that holds nothing stays so.
+/// Frees the memory of a handle, which is empty then.
 #[unsafe(no_mangle)]
 pub extern "C" fn galliumtoad_t1_free(alloc: Global, t1: &mut T1Handle)
     ensures { t1_in t1.new ≡ None }
@@ -66,17 +74,17 @@ pub extern "C" fn galliumtoad_t1_free(alloc: Global, t1: &mut T1Handle)
     drop(t1.take_out(alloc));
 }
 
-/// Begins a command, which is copied.
+/// Begins a command, and copies it.
+///
+/// # Errors
+/// The end stays as it was.
+/// - `STATE`: a command is in progress, or the end gave up.
+/// - `MEMORY`: memory ran out.
 #[unsafe(no_mangle)]
 pub extern "C" fn galliumtoad_t1_begin(alloc: Global, t1: &mut T1Handle, apdu: &[u8]) -> i32
-    ensures { OnT1 (Begins apdu.now) (t1_in t1.old) result (t1_in t1.new) }
+    ensures { OnHandle (Begins apdu.now) (t1_in t1.old) result (t1_in t1.new) }
 {
-    let Some(mut side) = t1.take_out(alloc) else {
-        return code::EMPTY;
-    };
-    let answer = begin(&mut side, apdu);
-    t1.put(side);
-    answer
+    with(alloc, t1, |side| begin(side, apdu))
 }
 
 fn begin(side: &mut T1Side, apdu: &[u8]) -> i32
@@ -88,17 +96,16 @@ fn begin(side: &mut T1Side, apdu: &[u8]) -> i32
     }
 }
 
-/// No valid block of the card came: none began in time, one stopped, or a character was damaged.
+/// Reports that no valid block of the card arrived: none began in time, one stopped, or a character
+/// was damaged.
+///
+/// # Errors
+/// - `STATE`: no block is expected. Nothing changes.
 #[unsafe(no_mangle)]
 pub extern "C" fn galliumtoad_t1_missed(alloc: Global, t1: &mut T1Handle) -> i32
-    ensures { OnT1 Misses (t1_in t1.old) result (t1_in t1.new) }
+    ensures { OnHandle Misses (t1_in t1.old) result (t1_in t1.new) }
 {
-    let Some(mut side) = t1.take_out(alloc) else {
-        return code::EMPTY;
-    };
-    let answer = miss(&mut side);
-    t1.put(side);
-    answer
+    with(alloc, t1, |side| miss(side))
 }
 
 fn miss(side: &mut T1Side) -> i32
@@ -112,22 +119,24 @@ fn miss(side: &mut T1Side) -> i32
     code::OK
 }
 
-/// Makes the end as it was after the reset.
+/// Makes the end as it was at first, with the same settings.
 #[unsafe(no_mangle)]
 pub extern "C" fn galliumtoad_t1_reset(alloc: Global, t1: &mut T1Handle) -> i32
-    ensures { OnT1 Resets (t1_in t1.old) result (t1_in t1.new) }
+    ensures { OnHandle Resets (t1_in t1.old) result (t1_in t1.new) }
 {
-    let Some(mut side) = t1.take_out(alloc) else {
-        return code::EMPTY;
-    };
-    side.end.reset();
-    // What it has held is overwritten.
-    side.block = Receiver::new();
-    t1.put(side);
-    code::OK
+    with(alloc, t1, |side| {
+        side.end.reset();
+        // Overwrites the bytes of the block.
+        side.block = Receiver::new();
+        code::OK
+    })
 }
 
-/// The response goes out to C, once the command is answered.
+/// Writes the response to the last command.
+///
+/// # Errors
+/// - `STATE`: a command is in progress, or the end gave up. Nothing is written.
+/// - `BUFFER`: the response does not fit. Only its length is written.
 #[unsafe(no_mangle)]
 pub extern "C" fn galliumtoad_t1_response(
     alloc: Global,
@@ -136,7 +145,7 @@ pub extern "C" fn galliumtoad_t1_response(
     len: &mut usize,
 ) -> i32
     ensures empty { t1_in t1.old ≡ None → (response.new ≡ response.old) × (len.new ≡ len.old) }
-    ensures told { OnT1 (TellsResponse response.old len.old response.new len.new)
+    ensures told { OnHandle (TellsResponse response.old len.old response.new len.new)
         (t1_in t1.old) result (t1_in t1.new) }
 {
     let Some(side) = t1.take_out(alloc) else {
@@ -156,7 +165,10 @@ fn told(side: &T1Side, response: &mut [u8], len: &mut usize) -> i32
     copied(side.end.response(), response, len)
 }
 
-/// Why the end gave up, if it did.
+/// Writes why the end gave up, and what is known of the command.
+///
+/// # Errors
+/// - `NOT_FOUND`: it did not give up. Nothing is written.
 #[unsafe(no_mangle)]
 pub extern "C" fn galliumtoad_t1_fault(
     alloc: Global,
@@ -165,7 +177,7 @@ pub extern "C" fn galliumtoad_t1_fault(
     outcome: &mut i32,
 ) -> i32
     ensures empty { t1_in t1.old ≡ None → (cause.new ≡ cause.old) × (outcome.new ≡ outcome.old) }
-    ensures told { OnT1 (TellsFault cause.old outcome.old cause.new outcome.new)
+    ensures told { OnHandle (TellsFault cause.old outcome.old cause.new outcome.new)
         (t1_in t1.old) result (t1_in t1.new) }
 {
     let Some(side) = t1.take_out(alloc) else {

@@ -1,19 +1,28 @@
-//! The bytes of blocks at the terminal's end of a line at T=1.
+//! The exports that pass blocks to and from a terminal's end at T=1.
 ghost use Rattle.std.specs.Prelude.{◌≡◌, None, IfOk, length};
 ghost use Rattle.t1_core.specs.BlockBytes.{bytes_of};
 ghost use Rattle.t1_core.specs.BlockView.{said};
-ghost use Rattle.card_c.specs.T1Handle.{t1_in};
-ghost use Rattle.card_c.specs.T1Calls.{OnT1, SendsBlock, ReceivesBytes, waits_for};
+ghost use Rattle.card_c.specs.Handles.{t1_in, OnHandle};
+ghost use Rattle.card_c.specs.T1Calls.{SendsBlock, ReceivesBytes, waits_for};
 
 use crate::code;
 use crate::copied::copied;
+use crate::handle::Handle;
 use crate::held_t1::T1Handle;
 use crate::t1_side::T1Side;
 use std::alloc::Global;
 use t1_core::spelling::write;
 use t1_core::{Block, Control};
 
-/// The block to send now, and how many times BWT the card has for its answer.
+/// Writes the next block, its length, and the card's time for its answer, as a multiple of BWT.
+///
+/// # Errors
+/// Nothing is written.
+/// - `FAILED`: the end gave up.
+/// - `MEMORY`: memory ran out.
+///
+/// `DONE` means that there is no block: no command is in progress. With `BUFFER` only the numbers
+/// are written.
 #[unsafe(no_mangle)]
 pub extern "C" fn galliumtoad_t1_send_bytes(
     alloc: Global,
@@ -24,7 +33,8 @@ pub extern "C" fn galliumtoad_t1_send_bytes(
 ) -> i32
     ensures empty { t1_in t1.old ≡ None
         → (bytes.new ≡ bytes.old) × (count.new ≡ count.old) × (waits.new ≡ waits.old) }
-    ensures sends { OnT1 (SendsBlock bytes.old count.old waits.old bytes.new count.new waits.new)
+    ensures sends { OnHandle
+        (SendsBlock bytes.old count.old waits.old bytes.new count.new waits.new)
         (t1_in t1.old) result (t1_in t1.new) }
 {
     let Some(side) = t1.take_out(alloc) else {
@@ -55,7 +65,7 @@ fn sent(alloc: Global, side: &T1Side, bytes: &mut [u8], count: &mut usize, waits
     }
 }
 
-/// How many times BWT the card has for its answer to a block.
+/// Returns the card's time for its answer to a block, as a multiple of BWT.
 fn waits_for(block: Block<'_>) -> u8
     ensures { result ≡ waits_for (said block.entry) }
 {
@@ -65,7 +75,11 @@ fn waits_for(block: Block<'_>) -> u8
     }
 }
 
-/// Takes bytes of the card, up to the end of its block.
+/// Takes bytes of the card up to the end of its block, and writes their number to `count`.
+///
+/// # Errors
+/// - `STATE`: no block is expected. Nothing changes.
+/// - `MEMORY`: memory ran out; the end keeps the block, and the next call takes it.
 #[unsafe(no_mangle)]
 pub extern "C" fn galliumtoad_t1_receive_bytes(
     alloc: Global,
@@ -74,7 +88,7 @@ pub extern "C" fn galliumtoad_t1_receive_bytes(
     count: &mut usize,
 ) -> i32
     ensures empty { t1_in t1.old ≡ None → count.new ≡ count.old }
-    ensures receives { OnT1 (ReceivesBytes bytes.now count.old count.new)
+    ensures receives { OnHandle (ReceivesBytes bytes.now count.old count.new)
         (t1_in t1.old) result (t1_in t1.new) }
 {
     let Some(mut side) = t1.take_out(alloc) else {

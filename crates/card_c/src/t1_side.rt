@@ -1,10 +1,10 @@
-//! The terminal's end of a line at T=1 that a handle holds.
+//! A terminal's end of a line at T=1, as a handle holds it.
 use t1_core::{Receiver, TerminalEnd};
 
-/// What a handle of such an end points to.
+/// A terminal's end at T=1, with the block that it receives.
 #[derive(Drop)]
 pub struct T1Side {
     pub end: TerminalEnd,
-    /// The bytes of the card's block so far.
+    /// The received bytes of the card's block.
     pub block: Receiver,
 }

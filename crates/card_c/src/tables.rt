@@ -1,19 +1,20 @@
-//! What a card that stands holds, alone or in a session.
+//! The exports that read the tables of a card, alone or in a session.
 ghost use Rattle.std.specs.Prelude.{◌≡◌, MatchOption};
 ghost use Rattle.object_card.specs.State.{entry_at};
 ghost use Rattle.card_c.specs.Codes.{gt_empty};
-ghost use Rattle.card_c.specs.CardHandle.{held_by};
+ghost use Rattle.card_c.specs.Handles.{held_by};
 ghost use Rattle.card_c.specs.TableCalls.{TellsBytes, TellsAid, TellsEntry, TellsEntryAt, aid_at};
 
 use crate::card_held::GtCard;
 use crate::card_side::CardSide;
 use crate::code;
 use crate::copied::copied;
+use crate::handle::Handle;
 use crate::tag_number::number_of;
 use object_card::{Aid, ObjectCard};
 use std::alloc::Global;
 
-/// The identifier of the application that is selected.
+/// Writes the identifier of the selected application.
 #[unsafe(no_mangle)]
 pub extern "C" fn galliumtoad_card_selected(
     alloc: Global,
@@ -45,7 +46,7 @@ fn selected(side: &CardSide, aid: &mut [u8], len: &mut usize) -> i32
     }
 }
 
-/// The identifier of the application at this place, from 0.
+/// Writes the identifier of the application at this place, from 0.
 #[unsafe(no_mangle)]
 pub extern "C" fn galliumtoad_card_app_at(
     alloc: Global,
@@ -87,8 +88,8 @@ fn tell(found: Option<Aid>, aid: &mut [u8], len: &mut usize) -> i32
     }
 }
 
-/// The data object at a place, from 0, of the application at a place: its tag, whether it is
-/// locked, and its value where there is room for it.
+/// Writes the data object at a place of the application at a place, each from 0: its tag, whether
+/// it is locked, the length of its value, and the value if it fits.
 #[unsafe(no_mangle)]
 pub extern "C" fn galliumtoad_card_entry_at(
     alloc: Global,
@@ -159,7 +160,7 @@ fn tell_entry(
     copied(bytes, value, len)
 }
 
-/// The same of the card of a session.
+/// Does the same for the card of a session.
 #[unsafe(no_mangle)]
 pub extern "C" fn galliumtoad_session_selected(
     alloc: Global,
@@ -175,7 +176,7 @@ pub extern "C" fn galliumtoad_session_selected(
     galliumtoad_card_selected(alloc, session, aid, len)
 }
 
-/// The same of the card of a session.
+/// Does the same for the card of a session.
 #[unsafe(no_mangle)]
 pub extern "C" fn galliumtoad_session_app_at(
     alloc: Global,
@@ -192,7 +193,7 @@ pub extern "C" fn galliumtoad_session_app_at(
     galliumtoad_card_app_at(alloc, session, place, aid, len)
 }
 
-/// The same of the card of a session.
+/// Does the same for the card of a session.
 #[unsafe(no_mangle)]
 pub extern "C" fn galliumtoad_session_entry_at(
     alloc: Global,

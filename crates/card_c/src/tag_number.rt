@@ -1,11 +1,11 @@
-//! Tags as numbers.
+//! Tags as numbers: the bytes of the tag, such as `0x5F20`.
 ghost use Rattle.std.specs.Prelude.{◌≡◌, ℕ, List, MatchOption};
 ghost use Rattle.tlv_core.specs.TagForm.{IsTag};
 ghost use Rattle.card_c.specs.TagNumbers.{IsNumbered, IsTagNumber, tag_number};
 
 use tlv_core::{ObjectTag, Tag};
 
-/// The tag with this number, if there is one.
+/// Returns the tag with this number, if there is one.
 pub fn tag_with(number: u32) -> Option<Tag>
     ensures { MatchOption result ((tag : List ℕ) → ¬ IsTagNumber number tag)
         (λ tag. IsTagNumber number tag) }
@@ -24,7 +24,7 @@ pub fn tag_with(number: u32) -> Option<Tag>
     whole_tag(&[(number / 65536) as u8, middle, low])
 }
 
-/// The tag that these bytes are.
+/// Returns the tag with these bytes, if they are one.
 fn whole_tag(bytes: &[u8]) -> Option<Tag>
     ensures { MatchOption result (IsTag bytes.now → ⊥)
         (λ tag. (tag ≡ bytes.now) × IsTag bytes.now) }
@@ -33,7 +33,7 @@ fn whole_tag(bytes: &[u8]) -> Option<Tag>
     if size == bytes.len() { Some(tag) } else { None }
 }
 
-/// The number of a tag.
+/// Returns the number of a tag.
 pub fn number(tag: Tag) -> u32
     ensures { result ≡ tag_number tag }
 {
@@ -45,7 +45,7 @@ pub fn number(tag: Tag) -> u32
     }
 }
 
-/// The tag with this number, where GET DATA and PUT DATA can name it.
+/// Returns the tag with this number, if GET DATA and PUT DATA can name it.
 pub fn tag_of(number: u32) -> Option<ObjectTag>
     ensures { MatchOption result ((tag : List ℕ) → ¬ IsNumbered number tag)
         (λ tag. IsNumbered number tag) }
@@ -53,7 +53,7 @@ pub fn tag_of(number: u32) -> Option<ObjectTag>
     ObjectTag::new(tag_with(number)?)
 }
 
-/// The number of a tag that they can name.
+/// Returns the number of a tag that they can name.
 pub fn number_of(tag: ObjectTag) -> u32
     ensures { IsNumbered result tag }
 {

@@ -1,4 +1,4 @@
-//! A terminal with an operation under way, over any line.
+//! The exports of a terminal that carries out operations over any line.
 ghost use Rattle.std.specs.Prelude.{◌≡◌, Some, None, IfOk, IfErr, if◌then◌else◌, true, false, ℕ, List, Option};
 ghost use Rattle.apdu_core.specs.declared.command.ApduFault.{ApduFault};
 ghost use Rattle.apdu_core.specs.CommandBytes.{IsCommand, command_bytes};
@@ -9,16 +9,17 @@ ghost use Rattle.card_terminal.specs.ExchangeSide.{response_limit};
 ghost use Rattle.card_terminal.specs.TerminalSide.{KeepsLimit, is_going};
 ghost use Rattle.card_terminal.specs.TerminalSteps.{terminal_due, IsTerminalAnswer};
 ghost use Rattle.card_c.specs.TpduCalls.{TellsTpdu};
-ghost use Rattle.card_c.specs.declared.operating_side.OperatingSide.{OperatingSide};
-ghost use Rattle.card_c.specs.TerminalHandle.{terminal_in};
-ghost use Rattle.card_c.specs.TerminalCalls.{HasBegun, KeepsRoom, OnBegin, OnTerminal, OnTpdus, TellsTpduOf, BeginsSelect, BeginsGet, BeginsPut, BeginsSend, Resets, TakesTurn, TakesCharacter, TakesAnswer, TellsAnswer, begin_code};
+ghost use Rattle.card_c.specs.declared.terminal_side.TerminalSide.{TerminalSide};
+ghost use Rattle.card_c.specs.Handles.{terminal_in, OnHandle};
+ghost use Rattle.card_c.specs.TerminalCalls.{HasBegun, KeepsRoom, OnBegin, OnTpdus, TellsTpduOf, BeginsSelect, BeginsGet, BeginsPut, BeginsSend, Resets, TakesTurn, TakesCharacter, TakesAnswer, TellsAnswer, begin_code};
 
 use crate::apdu_side::ApduSide;
 use crate::code;
 use crate::copied::copied;
+use crate::handle::{Handle, with};
 use crate::held_terminal::TerminalHandle;
-use crate::operating_side::OperatingSide;
 use crate::tag_number::tag_of;
+use crate::terminal_side::TerminalSide;
 use crate::whole_apdu::ended;
 use crate::whole_tpdu::{answer_of, told};
 use apdu_core::Command;
@@ -28,7 +29,11 @@ use object_card::Aid;
 use std::alloc::Global;
 use t0_core::HostTurn;
 
-/// A terminal that has begun no operation, in a handle that holds nothing.
+/// Makes a terminal that has begun no operation, in an empty handle.
+///
+/// # Errors
+/// - `STATE`: the handle is live, and stays as it was.
+/// - `MEMORY`: memory ran out; the handle stays empty.
 #[unsafe(no_mangle)]
 pub extern "C" fn galliumtoad_terminal_new(alloc: Global, terminal: &mut TerminalHandle) -> i32
     ensures { HasBegun response_limit (terminal_in terminal.old) result
@@ -37,7 +42,11 @@ pub extern "C" fn galliumtoad_terminal_new(alloc: Global, terminal: &mut Termina
     make(alloc, terminal, RESPONSE_LIMIT)
 }
 
-/// The same of one for responses of up to so many bytes.
+/// Does the same for responses of at most `limit` bytes.
+///
+/// # Errors
+/// Those of `galliumtoad_terminal_new`, and
+/// - `ARGUMENT`: `limit` exceeds 16,384; the handle stays empty.
 #[unsafe(no_mangle)]
 pub extern "C" fn galliumtoad_terminal_new_within(
     alloc: Global,
@@ -65,7 +74,7 @@ fn make(alloc: Global, handle: &mut TerminalHandle, limit: usize) -> i32
         terminal: whole,
         leads: false,
     };
-    match Box::new(alloc, OperatingSide { terminal, apdus }) {
+    match Box::new(alloc, TerminalSide { terminal, apdus }) {
         Ok(side) => {
             handle.put(side);
             code::OK
@@ -74,7 +83,7 @@ fn make(alloc: Global, handle: &mut TerminalHandle, limit: usize) -> i32
     }
 }
 
-/// Gives all memory back. A handle that holds nothing stays so.
+/// Frees the memory of a handle, which is empty then.
 #[unsafe(no_mangle)]
 pub extern "C" fn galliumtoad_terminal_free(alloc: Global, terminal: &mut TerminalHandle)
     ensures { terminal_in terminal.new ≡ None }
@@ -82,42 +91,42 @@ pub extern "C" fn galliumtoad_terminal_free(alloc: Global, terminal: &mut Termin
     drop(terminal.take_out(alloc));
 }
 
-/// Drops the operation that is under way.
+/// Drops the operation in progress.
 #[unsafe(no_mangle)]
 pub extern "C" fn galliumtoad_terminal_reset(alloc: Global, terminal: &mut TerminalHandle) -> i32
-    ensures { OnTerminal Resets (terminal_in terminal.old) result (terminal_in terminal.new) }
+    ensures { OnHandle Resets (terminal_in terminal.old) result (terminal_in terminal.new) }
 {
-    let Some(mut side) = terminal.take_out(alloc) else {
-        return code::EMPTY;
-    };
-    side.terminal.reset();
-    side.apdus.terminal.reset();
-    side.apdus.leads = false;
-    terminal.put(side);
-    code::OK
+    with(alloc, terminal, |side| {
+        side.terminal.reset();
+        side.apdus.terminal.reset();
+        side.apdus.leads = false;
+        code::OK
+    })
 }
 
-/// Begins the selection of an application.
+/// Begins SELECT of the application with this identifier, of 5 to 16 bytes.
+///
+/// # Errors
+/// The operation and the last answer stay as they were.
+/// - `STATE`: an operation is in progress.
+/// - `ARGUMENT`: `aid` is no identifier.
+/// - `MEMORY`: memory ran out.
 #[unsafe(no_mangle)]
 pub extern "C" fn galliumtoad_terminal_select(
     alloc: Global,
     terminal: &mut TerminalHandle,
     aid: &[u8],
 ) -> i32
-    ensures { OnTerminal (OnBegin (BeginsSelect aid.now))
+    ensures { OnHandle (OnBegin (BeginsSelect aid.now))
         (terminal_in terminal.old) result (terminal_in terminal.new) }
 {
-    let Some(mut side) = terminal.take_out(alloc) else {
-        return code::EMPTY;
-    };
-    let answer = if side.is_led() {
-        code::STATE
-    } else {
+    with(alloc, terminal, |side| {
+        if side.is_led() {
+            return code::STATE;
+        }
         let answer = select(&mut side.terminal, aid);
         side.began(answer)
-    };
-    terminal.put(side);
-    answer
+    })
 }
 
 fn select(terminal: &mut Terminal, aid: &[u8]) -> i32
@@ -130,27 +139,24 @@ fn select(terminal: &mut Terminal, aid: &[u8]) -> i32
     }
 }
 
-/// Begins the reading of a data object.
+/// Begins GET DATA of the object with this tag. Its errors are those of
+/// `galliumtoad_terminal_select`; `ARGUMENT` means that no tag of an object has this number.
 #[unsafe(no_mangle)]
 pub extern "C" fn galliumtoad_terminal_get(
     alloc: Global,
     terminal: &mut TerminalHandle,
     tag: u32,
 ) -> i32
-    ensures { OnTerminal (OnBegin (BeginsGet tag))
+    ensures { OnHandle (OnBegin (BeginsGet tag))
         (terminal_in terminal.old) result (terminal_in terminal.new) }
 {
-    let Some(mut side) = terminal.take_out(alloc) else {
-        return code::EMPTY;
-    };
-    let answer = if side.is_led() {
-        code::STATE
-    } else {
+    with(alloc, terminal, |side| {
+        if side.is_led() {
+            return code::STATE;
+        }
         let answer = get(&mut side.terminal, tag);
         side.began(answer)
-    };
-    terminal.put(side);
-    answer
+    })
 }
 
 fn get(terminal: &mut Terminal, number: u32) -> i32
@@ -163,7 +169,7 @@ fn get(terminal: &mut Terminal, number: u32) -> i32
     }
 }
 
-/// Begins the storing of a value.
+/// Begins PUT DATA of this value. Its errors are those of `galliumtoad_terminal_get`.
 #[unsafe(no_mangle)]
 pub extern "C" fn galliumtoad_terminal_put(
     alloc: Global,
@@ -171,20 +177,16 @@ pub extern "C" fn galliumtoad_terminal_put(
     tag: u32,
     value: &[u8],
 ) -> i32
-    ensures { OnTerminal (OnBegin (BeginsPut tag value.now))
+    ensures { OnHandle (OnBegin (BeginsPut tag value.now))
         (terminal_in terminal.old) result (terminal_in terminal.new) }
 {
-    let Some(mut side) = terminal.take_out(alloc) else {
-        return code::EMPTY;
-    };
-    let answer = if side.is_led() {
-        code::STATE
-    } else {
+    with(alloc, terminal, |side| {
+        if side.is_led() {
+            return code::STATE;
+        }
         let answer = put(&mut side.terminal, tag, value);
         side.began(answer)
-    };
-    terminal.put(side);
-    answer
+    })
 }
 
 fn put(terminal: &mut Terminal, number: u32, value: &[u8]) -> i32
@@ -199,26 +201,28 @@ fn put(terminal: &mut Terminal, number: u32, value: &[u8]) -> i32
 }
 
 /// Begins the exchange of any one command.
+///
+/// # Errors
+/// The operation and the last answer stay as they were.
+/// - `STATE`: an operation is in progress.
+/// - a code of [`code::of_command`]: the bytes are not a command.
+/// - `MEMORY`: memory ran out.
 #[unsafe(no_mangle)]
 pub extern "C" fn galliumtoad_terminal_send(
     alloc: Global,
     terminal: &mut TerminalHandle,
     command: &[u8],
 ) -> i32
-    ensures { OnTerminal (OnBegin (BeginsSend command.now))
+    ensures { OnHandle (OnBegin (BeginsSend command.now))
         (terminal_in terminal.old) result (terminal_in terminal.new) }
 {
-    let Some(mut side) = terminal.take_out(alloc) else {
-        return code::EMPTY;
-    };
-    let answer = if side.is_led() {
-        code::STATE
-    } else {
+    with(alloc, terminal, |side| {
+        if side.is_led() {
+            return code::STATE;
+        }
         let answer = send(&mut side.terminal, command);
         side.began(answer)
-    };
-    terminal.put(side);
-    answer
+    })
 }
 
 fn send(terminal: &mut Terminal, bytes: &[u8]) -> i32
@@ -231,7 +235,7 @@ fn send(terminal: &mut Terminal, bytes: &[u8]) -> i32
     }
 }
 
-/// The command that the bytes are, or the code of what refuses it.
+/// Returns the command with these bytes, or the code of the fault.
 fn command_of(bytes: &[u8]) -> Result<Command<'_>, i32>
     ensures command { IfOk result (λ c. IsCommand c × (bytes.now ≡ command_bytes c)) }
     ensures refused { IfErr result (λ code. (fault : ApduFault) × AreNone bytes.now fault
@@ -243,7 +247,7 @@ fn command_of(bytes: &[u8]) -> Result<Command<'_>, i32>
     }
 }
 
-/// How an operation was begun.
+/// Returns the code of a call that begins an operation.
 fn begun(begun: Result<(), BeginFault>) -> i32
     ensures { result ≡ begin_code begun }
 {
@@ -254,7 +258,7 @@ fn begun(begun: Result<(), BeginFault>) -> i32
     }
 }
 
-/// Why an operation is not begun, whose arguments are none.
+/// Returns why an operation with an invalid argument does not begin.
 fn refused(terminal: &Terminal, fault: i32) -> i32
     ensures code { result ≡ (if is_going terminal.now.operation then gt_state else fault) }
     ensures limit { KeepsLimit terminal.now terminal.now }
@@ -266,7 +270,11 @@ fn refused(terminal: &Terminal, fault: i32) -> i32
     }
 }
 
-/// What the terminal does now.
+/// Returns what the terminal does next, and writes the character that it sends to `byte`.
+///
+/// # Errors
+/// - `STATE`: no operation has begun, or it goes by whole commands. Nothing changes.
+/// - `FAILED`: the operation has failed for good.
 #[unsafe(no_mangle)]
 pub extern "C" fn galliumtoad_terminal_next(
     alloc: Global,
@@ -274,9 +282,9 @@ pub extern "C" fn galliumtoad_terminal_next(
     byte: &mut u8,
 ) -> i32
     ensures empty { terminal_in terminal.old ≡ None → byte.new ≡ byte.old }
-    ensures still { (side : OperatingSide) → terminal_in terminal.old ≡ Some side
+    ensures still { (side : TerminalSide) → terminal_in terminal.old ≡ Some side
         → side.apdus.leads ≡ true → byte.new ≡ byte.old }
-    ensures turn { OnTerminal (OnTpdus (TakesTurn byte.old byte.new))
+    ensures turn { OnHandle (OnTpdus (TakesTurn byte.old byte.new))
         (terminal_in terminal.old) result (terminal_in terminal.new) }
 {
     let Some(mut side) = terminal.take_out(alloc) else {
@@ -287,14 +295,9 @@ pub extern "C" fn galliumtoad_terminal_next(
     answer
 }
 
-fn turned(side: &mut OperatingSide, byte: &mut u8) -> i32
+fn turned(side: &mut TerminalSide, byte: &mut u8) -> i32
     ensures still { side.old.apdus.leads ≡ true → byte.new ≡ byte.old }
-    ensures refused { side.old.apdus.leads ≡ true
-        → (result ≡ gt_state) × (side.new ≡ side.old) }
-    ensures does { side.old.apdus.leads ≡ false → TakesTurn byte.old byte.new
-        side.old.terminal.operation result side.new.terminal.operation }
-    ensures room { KeepsRoom side.old.terminal side.new.terminal }
-    ensures apdus { side.new.apdus ≡ side.old.apdus }
+    ensures does { OnTpdus (TakesTurn byte.old byte.new) side.old result side.new }
 {
     if side.apdus.leads {
         return code::STATE;
@@ -310,30 +313,24 @@ fn turned(side: &mut OperatingSide, byte: &mut u8) -> i32
 }
 
 /// Takes a character of the card.
+///
+/// # Errors
+/// - `STATE`: the operation goes by whole commands. Nothing changes.
+/// - a code of [`code::of_line`]: the terminal refuses the character.
 #[unsafe(no_mangle)]
 pub extern "C" fn galliumtoad_terminal_take(
     alloc: Global,
     terminal: &mut TerminalHandle,
     byte: u8,
 ) -> i32
-    ensures { OnTerminal (OnTpdus (TakesCharacter byte))
+    ensures { OnHandle (OnTpdus (TakesCharacter byte))
         (terminal_in terminal.old) result (terminal_in terminal.new) }
 {
-    let Some(mut side) = terminal.take_out(alloc) else {
-        return code::EMPTY;
-    };
-    let answer = taken(&mut side, byte);
-    terminal.put(side);
-    answer
+    with(alloc, terminal, |side| taken(side, byte))
 }
 
-fn taken(side: &mut OperatingSide, byte: u8) -> i32
-    ensures refused { side.old.apdus.leads ≡ true
-        → (result ≡ gt_state) × (side.new ≡ side.old) }
-    ensures does { side.old.apdus.leads ≡ false → TakesCharacter byte
-        side.old.terminal.operation result side.new.terminal.operation }
-    ensures room { KeepsRoom side.old.terminal side.new.terminal }
-    ensures apdus { side.new.apdus ≡ side.old.apdus }
+fn taken(side: &mut TerminalSide, byte: u8) -> i32
+    ensures { OnTpdus (TakesCharacter byte) side.old result side.new }
 {
     if side.apdus.leads {
         return code::STATE;
@@ -341,7 +338,7 @@ fn taken(side: &mut OperatingSide, byte: u8) -> i32
     code::of_taking(side.terminal.take(byte))
 }
 
-/// The whole TPDU that is due, and how many bytes may come back.
+/// Writes the next whole TPDU, its length, and the most bytes of its answer.
 #[unsafe(no_mangle)]
 pub extern "C" fn galliumtoad_terminal_tpdu(
     alloc: Global,
@@ -353,7 +350,7 @@ pub extern "C" fn galliumtoad_terminal_tpdu(
     ensures kept { terminal_in terminal.new ≡ terminal_in terminal.old }
     ensures empty { terminal_in terminal.old ≡ None → (result ≡ gt_empty)
         × (tpdu.new ≡ tpdu.old) × (len.new ≡ len.old) × (most.new ≡ most.old) }
-    ensures told { (side : OperatingSide) → terminal_in terminal.old ≡ Some side
+    ensures told { (side : TerminalSide) → terminal_in terminal.old ≡ Some side
         → TellsTpduOf side tpdu.old len.old most.old result tpdu.new len.new most.new }
 {
     let Some(side) = terminal.take_out(alloc) else {
@@ -364,7 +361,7 @@ pub extern "C" fn galliumtoad_terminal_tpdu(
     answer
 }
 
-fn due(side: &OperatingSide, tpdu: &mut [u8], len: &mut usize, most: &mut usize) -> i32
+fn due(side: &TerminalSide, tpdu: &mut [u8], len: &mut usize, most: &mut usize) -> i32
     ensures refused { side.now.apdus.leads ≡ true → (result ≡ gt_state)
         × (tpdu.new ≡ tpdu.old) × (len.new ≡ len.old) × (most.new ≡ most.old) }
     ensures told { side.now.apdus.leads ≡ false → TellsTpdu
@@ -377,31 +374,21 @@ fn due(side: &OperatingSide, tpdu: &mut [u8], len: &mut usize, most: &mut usize)
     told(side.terminal.tpdu(), tpdu, len, most)
 }
 
-/// Takes the answer to that TPDU: data, and then the status.
+/// Takes the answer to that TPDU: data, then the status.
 #[unsafe(no_mangle)]
 pub extern "C" fn galliumtoad_terminal_answered(
     alloc: Global,
     terminal: &mut TerminalHandle,
     answer: &[u8],
 ) -> i32
-    ensures { OnTerminal (OnTpdus (TakesAnswer answer.now))
+    ensures { OnHandle (OnTpdus (TakesAnswer answer.now))
         (terminal_in terminal.old) result (terminal_in terminal.new) }
 {
-    let Some(mut side) = terminal.take_out(alloc) else {
-        return code::EMPTY;
-    };
-    let code = answered(&mut side, answer);
-    terminal.put(side);
-    code
+    with(alloc, terminal, |side| answered(side, answer))
 }
 
-fn answered(side: &mut OperatingSide, answer: &[u8]) -> i32
-    ensures refused { side.old.apdus.leads ≡ true
-        → (result ≡ gt_state) × (side.new ≡ side.old) }
-    ensures does { side.old.apdus.leads ≡ false → TakesAnswer answer.now
-        side.old.terminal.operation result side.new.terminal.operation }
-    ensures room { KeepsRoom side.old.terminal side.new.terminal }
-    ensures apdus { side.new.apdus ≡ side.old.apdus }
+fn answered(side: &mut TerminalSide, answer: &[u8]) -> i32
+    ensures { OnTpdus (TakesAnswer answer.now) side.old result side.new }
 {
     if side.apdus.leads {
         return code::STATE;
@@ -415,7 +402,11 @@ fn answered(side: &mut OperatingSide, answer: &[u8]) -> i32
     }
 }
 
-/// The status and the data of an operation that is over. They can be asked for again.
+/// Writes the status and the data of an operation that has ended. The terminal keeps them.
+///
+/// # Errors
+/// - `STATE`: there is no answer. Nothing changes.
+/// - `BUFFER`: the data do not fit. `status` and `len` are written.
 #[unsafe(no_mangle)]
 pub extern "C" fn galliumtoad_terminal_answer(
     alloc: Global,
@@ -427,7 +418,7 @@ pub extern "C" fn galliumtoad_terminal_answer(
     ensures kept { terminal_in terminal.new ≡ terminal_in terminal.old }
     ensures empty { terminal_in terminal.old ≡ None → (result ≡ gt_empty)
         × (status.new ≡ status.old) × (content.new ≡ content.old) × (len.new ≡ len.old) }
-    ensures answer { (side : OperatingSide) → terminal_in terminal.old ≡ Some side
+    ensures answer { (side : TerminalSide) → terminal_in terminal.old ≡ Some side
         → TellsAnswer side status.old content.old len.old
         result status.new content.new len.new }
 {
@@ -439,7 +430,7 @@ pub extern "C" fn galliumtoad_terminal_answer(
     answer
 }
 
-fn given(side: &OperatingSide, status: &mut u16, content: &mut [u8], len: &mut usize) -> i32
+fn given(side: &TerminalSide, status: &mut u16, content: &mut [u8], len: &mut usize) -> i32
     ensures { TellsAnswer side.now status.old content.old len.old
         result status.new content.new len.new }
 {

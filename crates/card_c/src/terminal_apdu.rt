@@ -1,19 +1,20 @@
-//! A terminal that is driven by whole commands.
+//! The exports that carry out an operation of a terminal by whole commands.
 ghost use Rattle.std.specs.Prelude.{◌≡◌, Option, true, false};
-ghost use Rattle.card_c.specs.TerminalHandle.{terminal_in};
+ghost use Rattle.card_c.specs.Handles.{terminal_in, OnHandle};
 ghost use Rattle.card_c.specs.Codes.{gt_ok};
 ghost use Rattle.card_terminal.specs.declared.unsent.Unsent.{Unsent};
 ghost use Rattle.card_terminal.specs.Unsent.{IsUnsent};
 ghost use Rattle.card_c.specs.ApduCalls.{TellsDue, TakesResponse, Opens};
-ghost use Rattle.card_c.specs.TerminalCalls.{OnTerminal, OnApdus};
+ghost use Rattle.card_c.specs.TerminalCalls.{OnApdus};
 
 use crate::code;
+use crate::handle::{Handle, with};
 use crate::held_terminal::TerminalHandle;
-use crate::operating_side::OperatingSide;
+use crate::terminal_side::TerminalSide;
 use crate::whole_apdu::{opened, responded, responded_first, told};
 use std::alloc::Global;
 
-/// The whole command that is due, and how many bytes may come back.
+/// Writes the next whole command, its length, and the most bytes of its response.
 #[unsafe(no_mangle)]
 pub extern "C" fn galliumtoad_terminal_apdu(
     alloc: Global,
@@ -24,7 +25,7 @@ pub extern "C" fn galliumtoad_terminal_apdu(
 ) -> i32
     ensures still { (result ≡ gt_ok → ⊥) → (apdu.new ≡ apdu.old) × (len.new ≡ len.old)
         × (most.new ≡ most.old) }
-    ensures told { OnTerminal (OnApdus (TellsDue apdu.old len.old most.old apdu.new len.new
+    ensures told { OnHandle (OnApdus (TellsDue apdu.old len.old most.old apdu.new len.new
         most.new))
         (terminal_in terminal.old) result (terminal_in terminal.new) }
 {
@@ -36,7 +37,7 @@ pub extern "C" fn galliumtoad_terminal_apdu(
     answer
 }
 
-fn due(side: &mut OperatingSide, apdu: &mut [u8], len: &mut usize, most: &mut usize) -> i32
+fn due(side: &mut TerminalSide, apdu: &mut [u8], len: &mut usize, most: &mut usize) -> i32
     ensures still { (result ≡ gt_ok → ⊥) → (apdu.new ≡ apdu.old) × (len.new ≡ len.old)
         × (most.new ≡ most.old) }
     ensures told { OnApdus (TellsDue apdu.old len.old most.old apdu.new len.new most.new)
@@ -50,25 +51,20 @@ fn due(side: &mut OperatingSide, apdu: &mut [u8], len: &mut usize, most: &mut us
     told(side.apdus.terminal.apdu(), apdu, len, most)
 }
 
-/// Takes the response to that command: data, and then the status.
+/// Takes the response to that command: data, then the status.
 #[unsafe(no_mangle)]
 pub extern "C" fn galliumtoad_terminal_responded(
     alloc: Global,
     terminal: &mut TerminalHandle,
     response: &[u8],
 ) -> i32
-    ensures { OnTerminal (OnApdus (TakesResponse response.now))
+    ensures { OnHandle (OnApdus (TakesResponse response.now))
         (terminal_in terminal.old) result (terminal_in terminal.new) }
 {
-    let Some(mut side) = terminal.take_out(alloc) else {
-        return code::EMPTY;
-    };
-    let answer = taken(&mut side, response);
-    terminal.put(side);
-    answer
+    with(alloc, terminal, |side| taken(side, response))
 }
 
-fn taken(side: &mut OperatingSide, response: &[u8]) -> i32
+fn taken(side: &mut TerminalSide, response: &[u8]) -> i32
     ensures { OnApdus (TakesResponse response.now) side.old result side.new }
 {
     let answer = passed_on(side, response);
@@ -78,7 +74,7 @@ fn taken(side: &mut OperatingSide, response: &[u8]) -> i32
     answer
 }
 
-fn passed_on(side: &mut OperatingSide, response: &[u8]) -> i32
+fn passed_on(side: &mut TerminalSide, response: &[u8]) -> i32
     ensures goes_so { side.old.apdus.leads ≡ true
         → TakesResponse response.now side.old.apdus result side.new.apdus }
     ensures opens { side.old.apdus.leads ≡ false → (unsent : Option Unsent)

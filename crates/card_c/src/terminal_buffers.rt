@@ -1,18 +1,19 @@
-//! Characters of a terminal with an operation under way that pass by buffers.
+//! The exports that pass several characters to and from a terminal.
 ghost use Rattle.std.specs.Prelude.{◌≡◌, None, Some, true, false};
 ghost use Rattle.card_c.specs.Codes.{gt_state};
-ghost use Rattle.card_c.specs.declared.operating_side.OperatingSide.{OperatingSide};
-ghost use Rattle.card_c.specs.TerminalHandle.{terminal_in};
-ghost use Rattle.card_c.specs.TerminalCalls.{KeepsRoom, OnTerminal, OnTpdus};
+ghost use Rattle.card_c.specs.declared.terminal_side.TerminalSide.{TerminalSide};
+ghost use Rattle.card_c.specs.Handles.{terminal_in, OnHandle};
+ghost use Rattle.card_c.specs.TerminalCalls.{KeepsRoom, OnTpdus};
 ghost use Rattle.card_c.specs.BufferCalls.{TerminalSends, TerminalReceives};
 
 use crate::code;
+use crate::handle::Handle;
 use crate::held_terminal::TerminalHandle;
-use crate::operating_side::OperatingSide;
+use crate::terminal_side::TerminalSide;
 use std::alloc::Global;
 
-/// Hands out the terminal's characters up to where it does not send, or as many as there is room
-/// for.
+/// Writes the terminal's characters to `bytes` until it stops sending or `bytes` is full, and their
+/// number to `count`.
 #[unsafe(no_mangle)]
 pub extern "C" fn galliumtoad_terminal_send_bytes(
     alloc: Global,
@@ -22,9 +23,9 @@ pub extern "C" fn galliumtoad_terminal_send_bytes(
 ) -> i32
     ensures empty { terminal_in terminal.old ≡ None
         → (bytes.new ≡ bytes.old) × (count.new ≡ count.old) }
-    ensures still { (side : OperatingSide) → terminal_in terminal.old ≡ Some side
+    ensures still { (side : TerminalSide) → terminal_in terminal.old ≡ Some side
         → side.apdus.leads ≡ true → (bytes.new ≡ bytes.old) × (count.new ≡ count.old) }
-    ensures sends { OnTerminal (OnTpdus (TerminalSends bytes.old count.old bytes.new count.new))
+    ensures sends { OnHandle (OnTpdus (TerminalSends bytes.old count.old bytes.new count.new))
         (terminal_in terminal.old) result (terminal_in terminal.new) }
 {
     let Some(mut side) = terminal.take_out(alloc) else {
@@ -35,15 +36,11 @@ pub extern "C" fn galliumtoad_terminal_send_bytes(
     answer
 }
 
-fn sent(side: &mut OperatingSide, bytes: &mut [u8], count: &mut usize) -> i32
+fn sent(side: &mut TerminalSide, bytes: &mut [u8], count: &mut usize) -> i32
     ensures still { side.old.apdus.leads ≡ true
         → (bytes.new ≡ bytes.old) × (count.new ≡ count.old) }
-    ensures refused { side.old.apdus.leads ≡ true
-        → (result ≡ gt_state) × (side.new ≡ side.old) }
-    ensures does { side.old.apdus.leads ≡ false → TerminalSends bytes.old count.old bytes.new
-        count.new side.old.terminal.operation result side.new.terminal.operation }
-    ensures room { KeepsRoom side.old.terminal side.new.terminal }
-    ensures apdus { side.new.apdus ≡ side.old.apdus }
+    ensures does { OnTpdus (TerminalSends bytes.old count.old bytes.new count.new)
+        side.old result side.new }
 {
     if side.apdus.leads {
         return code::STATE;
@@ -55,7 +52,7 @@ fn sent(side: &mut OperatingSide, bytes: &mut [u8], count: &mut usize) -> i32
     code::of_stop(handed.stop)
 }
 
-/// Takes characters of the card, all of them, or up to the first that is a fault.
+/// Takes characters of the card until one is a fault, and writes their number to `count`.
 #[unsafe(no_mangle)]
 pub extern "C" fn galliumtoad_terminal_receive_bytes(
     alloc: Global,
@@ -64,9 +61,9 @@ pub extern "C" fn galliumtoad_terminal_receive_bytes(
     count: &mut usize,
 ) -> i32
     ensures empty { terminal_in terminal.old ≡ None → count.new ≡ count.old }
-    ensures still { (side : OperatingSide) → terminal_in terminal.old ≡ Some side
+    ensures still { (side : TerminalSide) → terminal_in terminal.old ≡ Some side
         → side.apdus.leads ≡ true → count.new ≡ count.old }
-    ensures receives { OnTerminal (OnTpdus (TerminalReceives bytes.now count.new))
+    ensures receives { OnHandle (OnTpdus (TerminalReceives bytes.now count.new))
         (terminal_in terminal.old) result (terminal_in terminal.new) }
 {
     let Some(mut side) = terminal.take_out(alloc) else {
@@ -77,14 +74,9 @@ pub extern "C" fn galliumtoad_terminal_receive_bytes(
     answer
 }
 
-fn received(side: &mut OperatingSide, bytes: &[u8], count: &mut usize) -> i32
+fn received(side: &mut TerminalSide, bytes: &[u8], count: &mut usize) -> i32
     ensures still { side.old.apdus.leads ≡ true → count.new ≡ count.old }
-    ensures refused { side.old.apdus.leads ≡ true
-        → (result ≡ gt_state) × (side.new ≡ side.old) }
-    ensures does { side.old.apdus.leads ≡ false → TerminalReceives bytes.now count.new
-        side.old.terminal.operation result side.new.terminal.operation }
-    ensures room { KeepsRoom side.old.terminal side.new.terminal }
-    ensures apdus { side.new.apdus ≡ side.old.apdus }
+    ensures does { OnTpdus (TerminalReceives bytes.now count.new) side.old result side.new }
 {
     if side.apdus.leads {
         return code::STATE;

@@ -1,4 +1,4 @@
-//! Handles may go from one thread to another.
+//! Shows that a handle may move to another thread.
 
 use crate::card_held::GtCard;
 use crate::held_exchange::ExchangeHandle;
@@ -7,7 +7,7 @@ use crate::held_terminal::TerminalHandle;
 
 fn goes<T: Send>() {}
 
-/// Asks of each handle that it is `Send`: where what one holds is not, the crate is refused.
+/// Compiles only if each handle is `Send`.
 pub fn handles_go() {
     goes::<GtCard>();
     goes::<ExchangeHandle>();

@@ -1,4 +1,4 @@
-//! Whole commands that go out to C, and their responses.
+//! Whole commands and responses of an exchange or a terminal.
 ghost use Rattle.std.specs.Prelude.{◌≡◌, MatchOption, false, is_some, true, ℕ, List, Option};
 ghost use Rattle.apdu_core.specs.StatusWord.{StatusWord};
 ghost use Rattle.apdu_terminal.specs.ApduOperations.{IsOperationAnswer};
@@ -14,7 +14,12 @@ use apdu_terminal::write_command;
 use card_terminal::Unsent;
 use t0_core::AnswerFault;
 
-/// The command that is due, if there is one, goes out to C.
+/// Writes the next command, its length, and the most bytes of its response.
+///
+/// # Errors
+/// Nothing is written.
+/// - `NOT_DUE`: there is no next command.
+/// - `BUFFER`: it does not fit.
 pub fn told(due: Option<Command<'_>>, apdu: &mut [u8], len: &mut usize, most: &mut usize) -> i32
     ensures { TellsApdu due.entry apdu.old len.old most.old result apdu.new len.new most.new }
 {
@@ -31,8 +36,12 @@ pub fn told(due: Option<Command<'_>>, apdu: &mut [u8], len: &mut usize, most: &m
     }
 }
 
-/// Takes a response: data, and then the status. With one that is taken, or ends the operation, that
-/// goes by whole commands.
+/// Takes a response: data, then the status. If that succeeds, or ends the operation, the operation
+/// goes by whole commands from now on.
+///
+/// # Errors
+/// - `NO_STATUS`: the bytes end in no status. Nothing changes.
+/// - a code of [`code::of_answer`].
 pub fn responded(side: &mut ApduSide, response: &[u8]) -> i32
     ensures { TakesResponse response.now side.old result side.new }
 {
@@ -53,7 +62,12 @@ pub fn responded(side: &mut ApduSide, response: &[u8]) -> i32
     }
 }
 
-/// Takes a response for an operation that has no level yet: it begins by whole commands.
+/// Takes the first response of an operation, which begins by whole commands.
+///
+/// # Errors
+/// - `STATE`: nothing is unsent. Nothing changes.
+/// - `MEMORY`: memory ran out. Nothing changes.
+/// - a code of [`responded`]: `side.terminal` has begun the operation.
 pub fn responded_first(side: &mut ApduSide, unsent: Option<Unsent<'_>>, response: &[u8]) -> i32
     ensures { Opens (TakesResponse response.now) unsent.entry side.old result side.new }
 {
@@ -66,7 +80,7 @@ pub fn responded_first(side: &mut ApduSide, unsent: Option<Unsent<'_>>, response
     }
 }
 
-/// Begins what is unsent by whole commands. Returns the code of the refusal, if any.
+/// Begins what is unsent by whole commands, and returns the code of the refusal, if any.
 pub fn opened(side: &mut ApduSide, unsent: Option<Unsent<'_>>) -> Option<i32>
     ensures { IsOpened unsent.entry side.old result side.new }
 {
@@ -79,7 +93,7 @@ pub fn opened(side: &mut ApduSide, unsent: Option<Unsent<'_>>) -> Option<i32>
     }
 }
 
-/// The answer of an operation that goes by whole commands goes out to C, if there is one.
+/// Writes the answer of an operation that goes by whole commands, if there is one.
 pub fn ended(side: &ApduSide, status: &mut u16, content: &mut [u8], len: &mut usize) -> i32
     ensures { (answer : Option (StatusWord × List ℕ))
         × IsOperationAnswer side.now.terminal.operation answer

@@ -1,4 +1,4 @@
-//! Whole TPDUs that go out to C, and answers to TPDUs and commands.
+//! Whole TPDUs, and answers to TPDUs and commands.
 ghost use Rattle.std.specs.Prelude.{◌≡◌, ℕ, ◌+◌, ◌≤◌, ◌++◌, ◌∷◌, List, length, drop, MatchOption};
 ghost use Rattle.std.specs.Option.{option_map};
 ghost use Rattle.apdu_core.specs.StatusWord.{StatusWord};
@@ -9,7 +9,11 @@ use crate::code;
 use apdu_core::Status;
 use t0_core::WholeTpdu;
 
-/// The TPDU that is due, if there is one, goes out to C.
+/// Writes the next TPDU, its length, and the most bytes of its answer.
+///
+/// # Errors
+/// - `NOT_DUE`: there is no next TPDU. Nothing is written.
+/// - `BUFFER`: it does not fit.
 pub fn told(due: Option<WholeTpdu<'_>>, tpdu: &mut [u8], len: &mut usize, most: &mut usize) -> i32
     ensures { TellsTpdu (option_map asked_of due.entry) tpdu.old len.old most.old
         result tpdu.new len.new most.new }
@@ -27,7 +31,7 @@ pub fn told(due: Option<WholeTpdu<'_>>, tpdu: &mut [u8], len: &mut usize, most: 
     }
 }
 
-/// The data and the status of an answer, if it ends in one.
+/// Returns the data and the status of an answer, if it ends in a status.
 pub fn answer_of(answer: &[u8]) -> Option<(&[u8], Status)>
     ensures { MatchOption result
         ((bytes : List ℕ) (status : StatusWord) → AreAnswer answer.now bytes status → ⊥)
@@ -42,7 +46,7 @@ pub fn answer_of(answer: &[u8]) -> Option<(&[u8], Status)>
     }
 }
 
-/// Writes data and a status to the front of an array that has room for them.
+/// Writes data and a status to the front of an array, which has room for them.
 pub fn hand_out(bytes: &[u8], status: Status, answer: &mut [u8], len: &mut usize)
     requires { length bytes.now + 2 ≤ length answer.old }
     ensures answer { answer.new ≡ bytes.now ++ status.0 ∷ status.1

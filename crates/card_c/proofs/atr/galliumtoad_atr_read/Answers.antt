@@ -1,8 +1,8 @@
--- What an answer says goes out, or a fault with its place.
+-- The record of an answer is written, or a fault with its place.
 use Rattle.std.proofs.Common.{ℤ, refl, sym, subst, inl, inr}
 use Rattle.card_c.specs.AtrCalls.{ReadsAtr}
 use Rattle.card_c.proofs.AtrLemmas.{end_is}
-use Rattle.card_c.proofs.SessionLemmas.{as_it_is}
+use Rattle.card_c.proofs.CodeLemmas.{as_it_is}
 use Rattle.card_c.proofs.atr.galliumtoad_atr_read.Goals as goal
 
 pub returns-in-Ok : goal.returns-in-Ok

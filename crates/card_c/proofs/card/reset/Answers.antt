@@ -2,7 +2,7 @@ use Rattle.std.proofs.Common.{sym, subst, ℤ}
 use Rattle.card_c.specs.declared.card_side.CardSide.{CardSide}
 use Rattle.card_c.specs.CardCalls.{Resets}
 use Rattle.card_c.proofs.CardT1Lemmas.{of_t0}
-use Rattle.card_c.proofs.SessionLemmas.{as_it_is}
+use Rattle.card_c.proofs.CodeLemmas.{as_it_is}
 use Rattle.card_c.proofs.card.reset.Goals as goal
 
 pub returns : goal.returns

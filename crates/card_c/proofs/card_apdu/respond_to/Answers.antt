@@ -2,7 +2,7 @@ use Rattle.std.proofs.Common.{ℤ, refl, sym, subst, inr}
 use Rattle.card_c.specs.declared.card_side.CardSide.{CardSide}
 use Rattle.card_c.specs.declared.card_side.CardSide.TheVariants.{Standing}
 use Rattle.card_c.specs.CardApduCalls.{RespondsTo}
-use Rattle.card_c.proofs.SessionLemmas.{as_it_is}
+use Rattle.card_c.proofs.CodeLemmas.{as_it_is}
 use Rattle.card_c.proofs.card_apdu.respond_to.Goals as goal
 
 pub returns-in-Ok : goal.returns-in-Ok

@@ -3,7 +3,7 @@ use Rattle.t0_core.specs.Buffers.{HandsOut}
 use Rattle.card_c.specs.BufferCalls.{HandsOutOne}
 use Rattle.card_c.proofs.card_buffers.hand_out.Given as goal
 
--- so many characters have been handed out
+-- this number of characters was written
 abbrev pub invariant-loop-at : goal.invariant-loop-at
 invariant-loop-at l =
     HandsOut HandsOutOne (l.fn.end, l.fn.plans) l.fn.bytes l.bytes l.at (l.end, l.plans)

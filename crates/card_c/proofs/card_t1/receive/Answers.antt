@@ -2,7 +2,7 @@ use Rattle.std.proofs.Common.{◌≡◌, ℤ, refl, sym, subst}
 use Rattle.card_c.specs.declared.card_side.CardSide.{CardSide}
 use Rattle.card_c.specs.declared.card_side.CardSide.TheVariants.{AtT1}
 use Rattle.card_c.specs.CardT1Calls.{HearsBytes, OnLine}
-use Rattle.card_c.proofs.SessionLemmas.{as_it_is}
+use Rattle.card_c.proofs.CodeLemmas.{as_it_is}
 use Rattle.card_c.proofs.card_t1.receive.Goals as goal
 
 pub returns : goal.returns

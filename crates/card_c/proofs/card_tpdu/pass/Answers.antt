@@ -1,6 +1,6 @@
 use Rattle.std.proofs.Common.{Ok, Err, ℤ, subst, sym, ◌∙◌}
 use Rattle.card_c.specs.CardTpduCalls.{IsCarriedOut}
-use Rattle.card_c.proofs.SessionLemmas.{as_it_is}
+use Rattle.card_c.proofs.CodeLemmas.{as_it_is}
 use Rattle.card_c.proofs.CardTpduLemmas.{answered, failed, in_queue}
 use Rattle.card_c.proofs.card_tpdu.pass.Goals as goal
 

@@ -1,11 +1,11 @@
 use Rattle.std.proofs.Common.{refl, sym, subst}
-use Rattle.card_c.specs.declared.terminal_side.TerminalSide.{TerminalSide}
+use Rattle.card_c.specs.declared.exchange_side.ExchangeSide.{ExchangeSide}
 use Rattle.card_c.specs.ExchangeCalls.{HasBegun}
 use Rattle.card_c.proofs.exchange.begun.Goals as goal
 
 pub returns-in-Ok-new-clause-begun : goal.returns-in-Ok-new-clause-begun
 returns-in-Ok-new-clause-begun c =
-    let P : TerminalSide → Type 0 = λ side. HasBegun c.args.command.now c.args.limit side in
+    let P : ExchangeSide → Type 0 = λ side. HasBegun c.args.command.now c.args.limit side in
     let begun : HasBegun c.args.command.now c.args.limit _ = record {
       begun = (
         c.in-Ok.command,

@@ -1,7 +1,7 @@
 use Rattle.std.proofs.Common.{Option, ℤ, subst, sym}
 use Rattle.t0_core.specs.TpduBytes.{Asked, due_by}
 use Rattle.card_c.specs.TpduCalls.{TellsTpdu}
-use Rattle.card_c.proofs.SessionLemmas.{as_it_is}
+use Rattle.card_c.proofs.CodeLemmas.{as_it_is}
 use Rattle.card_c.proofs.exchange_tpdu.due.Goals as goal
 
 pub returns-clause-told : goal.returns-clause-told

@@ -1,7 +1,7 @@
--- A path of no step, of too many, and of steps that have room.
+-- A path without steps, with too many, and with steps that fit.
 use Rattle.std.proofs.Common.{ℤ, sym, subst, arith}
 use Rattle.card_c.specs.Reading.{Finds}
-use Rattle.card_c.proofs.SessionLemmas.{as_it_is}
+use Rattle.card_c.proofs.CodeLemmas.{as_it_is}
 use Rattle.card_c.proofs.FindLemmas.{on_no_step, on_steps, on_many_steps}
 use Rattle.card_c.proofs.find.galliumtoad_find.Goals as goal
 

@@ -1,4 +1,4 @@
--- Each number is that of a tag, which is put into the array while there is room.
+-- Each number is that of a tag, which is written to the array while it fits.
 use Rattle.std.proofs.Common.{◌+◌, List, ℕ, refl, sym, subst, arith}
 use Rattle.card_c.proofs.FindLemmas.{Numbered, numbered_none, numbered_in, numbered_past, numbered_all, no_numbers}
 use Rattle.card_c.proofs.find.tags_of.Goals as goal

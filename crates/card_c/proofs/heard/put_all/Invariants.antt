@@ -4,7 +4,7 @@ use Rattle.card_c.specs.declared.character_record.CharacterRecord.{CharacterReco
 use Rattle.card_c.specs.HeardCalls.{character_record}
 use Rattle.card_c.proofs.heard.put_all.Given as goal
 
--- What stands before this place stays, and the characters that are left go behind it.
+-- The array stays before this place, and the remaining characters follow there.
 pub record GoesOn (heard : List Character) (old : List CharacterRecord) (at : ℕ)
     (line : List CharacterRecord) : Type 0 where
   pub whole : map character_record heard ++ drop (length heard) old

@@ -1,4 +1,4 @@
--- Another letter is of no step.
+-- Any other letter names no step.
 use Rattle.std.proofs.Common.{inl, inr, arith}
 use Rattle.card_c.proofs.PlanLemmas.{no_steps, one_more}
 use Rattle.card_c.proofs.plan_letters.are_steps.Goals as goal

@@ -1,4 +1,4 @@
--- Of what is a plan: as many wait as may, or memory ran out.
+-- For a valid plan: the most plans wait, or memory ran out.
 use Rattle.std.proofs.Common.{arith}
 use Rattle.card_c.proofs.PlanLemmas.{full, wanting}
 use Rattle.card_c.proofs.plan_letters.plan_of.Goals as goal

@@ -1,7 +1,7 @@
--- A response is read, or its fault goes out.
+-- A response is read, or its fault is returned.
 use Rattle.std.proofs.Common.{ℤ, refl, sym, subst, inl}
 use Rattle.card_c.specs.PpsCalls.{AnswersPps}
-use Rattle.card_c.proofs.SessionLemmas.{as_it_is}
+use Rattle.card_c.proofs.CodeLemmas.{as_it_is}
 use Rattle.card_c.proofs.pps.answered.Goals as goal
 
 pub returns-in-Err : goal.returns-in-Err

@@ -1,7 +1,7 @@
--- A request is read, or is none.
+-- A request is read, or is invalid.
 use Rattle.std.proofs.Common.{ℤ, refl, sym, subst, inl, inr}
 use Rattle.card_c.specs.PpsCalls.{AgreesPps}
-use Rattle.card_c.proofs.SessionLemmas.{as_it_is}
+use Rattle.card_c.proofs.CodeLemmas.{as_it_is}
 use Rattle.card_c.proofs.pps.galliumtoad_pps_agreed.Goals as goal
 
 pub returns-in-Ok : goal.returns-in-Ok

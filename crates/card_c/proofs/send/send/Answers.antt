@@ -2,7 +2,7 @@ use Rattle.std.proofs.Common.{ℤ, refl, sym, subst, inr}
 use Rattle.card_c.specs.declared.card_side.CardSide.{CardSide}
 use Rattle.card_c.specs.declared.card_side.CardSide.TheVariants.{Joined}
 use Rattle.card_c.specs.SendCalls.{SendsBytes}
-use Rattle.card_c.proofs.SessionLemmas.{as_it_is}
+use Rattle.card_c.proofs.CodeLemmas.{as_it_is}
 use Rattle.card_c.proofs.send.send.Goals as goal
 
 pub returns-then-is_agreed : goal.returns-then-is_agreed

@@ -1,4 +1,4 @@
-use Rattle.card_c.proofs.SessionLemmas.{as_it_is}
+use Rattle.card_c.proofs.CodeLemmas.{as_it_is}
 use Rattle.std.proofs.Common.{ℤ, refl, sym, subst, inr}
 use Rattle.card_c.specs.declared.card_side.CardSide.{CardSide}
 use Rattle.card_c.specs.declared.card_side.CardSide.TheVariants.{Joined}

@@ -4,7 +4,7 @@ use Rattle.apdu_core.specs.declared.command.ApduFault.TheVariants.{TooShort, Bad
 use Rattle.card_c.specs.Codes.{gt_state, command_code}
 use Rattle.card_terminal.specs.TerminalSide.{is_going}
 use Rattle.card_c.specs.TerminalCalls.{BeginsSend}
-use Rattle.card_c.proofs.SessionLemmas.{as_it_is}
+use Rattle.card_c.proofs.CodeLemmas.{as_it_is}
 use Rattle.card_c.proofs.terminal.send.Goals as goal
 
 code_as_it_is : (fault : ApduFault)

@@ -1,27 +1,17 @@
 -- What a handle holds names no thread, so it may go to another.
-use base.Shift.{Keyless}
-use denote.RawPtr.{Ptr}
 use denote.Struct.Struct.{exits_of}
 use denote.Struct.Owning.{shape, fields, to}
 use denote.Param.Send.{IsSend, AllSend, owning_send, struct_send, sendable}
-use Rattle.std.specs.Prelude.{Option, Some, None}
-use Rattle.std.specs.Global.{Global}
 use Rattle.std.proofs.alloc.Global.TheSendSync as handle
 use Rattle.std_alloc.proofs.SendSync.{quiet}
-use Rattle.card_c.specs.declared.terminal_side.TerminalSide.{TerminalSide}
-use Rattle.card_c.specs.contracts.terminal_side.TerminalSide as side
-use Rattle.card_c.proofs.terminal_side.TerminalSide.TheSendSync.{the_send as side_send}
+use Rattle.card_c.specs.contracts.exchange_side.ExchangeSide as side
+use Rattle.card_c.proofs.exchange_side.ExchangeSide.TheSendSync.{the_send as side_send}
 use Rattle.card_c.specs.contracts.held_exchange.HeldExchange.{the_row, the_type}
-use Rattle.card_c.specs.HeldExchangeOwned.{held_owns}
-use Rattle.card_c.proofs.HeldSend.{block_goes}
-
-held : (p : Ptr) (a : Global) (v : Option TerminalSide) → Keyless (held_owns p a v)
-held p a None = tt
-held p a (Some x) = block_goes side.the_row side_send p a x
+use Rattle.card_c.proofs.HeldSend.{held_goes}
 
 pub send : IsSend the_row
 send =
     let all : AllSend (fields the_type) = (search sendable, (handle.the_field_send, tt)) in
-    owning_send the_type all (λ d. held d.at d.alloc d.value)
+    owning_send the_type all (λ d. held_goes side.the_row side_send d.at d.alloc d.value)
     (λ k. quiet (to the_type) (exits_of k (fields the_type))
     ((struct_send (shape the_type) all).leaving k))

@@ -1,4 +1,4 @@
--- `of` hides what the pointer points to.
+-- `of` hides the type behind the pointer.
 use Rattle.card_c.proofs.HeldWalks.{hides}
 use Rattle.card_c.proofs.HeldExchangeKind.{kind}
 use Rattle.card_c.specs.contracts.held_exchange.HeldExchange.of.Key.{name as #self}

@@ -1,4 +1,4 @@
--- `into_loose` says again what the pointer points to.
+-- `into_loose` names the type behind the pointer again.
 use Rattle.card_c.proofs.HeldWalks.{shows}
 use Rattle.card_c.proofs.HeldT1Kind.{kind}
 use Rattle.card_c.specs.contracts.held_t1.HeldT1.into_loose.Key.{name as #self}

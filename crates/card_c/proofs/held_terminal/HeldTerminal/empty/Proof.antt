@@ -1,4 +1,4 @@
--- `empty` puts null beside the allocator, and owns nothing.
+-- `empty` makes a null pointer with the allocator, and owns nothing.
 use Rattle.card_c.proofs.HeldWalks.{empties}
 use Rattle.card_c.proofs.HeldTerminalKind.{kind}
 use Rattle.card_c.specs.contracts.held_terminal.HeldTerminal.empty.Key.{name as #self}

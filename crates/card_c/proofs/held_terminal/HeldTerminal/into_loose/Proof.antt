@@ -1,4 +1,4 @@
--- `into_loose` says again what the pointer points to.
+-- `into_loose` names the type behind the pointer again.
 use Rattle.card_c.proofs.HeldWalks.{shows}
 use Rattle.card_c.proofs.HeldTerminalKind.{kind}
 use Rattle.card_c.specs.contracts.held_terminal.HeldTerminal.into_loose.Key.{name as #self}

@@ -1,0 +1,31 @@
+-- What the handles of C hold, and what a call does to it.
+use Rattle.std.specs.Prelude.{◌≡◌, ℤ, Option, Some, None, if◌then◌else◌, MatchOption}
+use Rattle.card_c.specs.declared.card_held.GtCard.{GtCard}
+use Rattle.card_c.specs.declared.card_side.CardSide.{CardSide}
+use Rattle.card_c.specs.declared.held_exchange.ExchangeHandle.{ExchangeHandle}
+use Rattle.card_c.specs.declared.held_t1.T1Handle.{T1Handle}
+use Rattle.card_c.specs.declared.held_terminal.TerminalHandle.{TerminalHandle}
+use Rattle.card_c.specs.declared.terminal_side.TerminalSide.{TerminalSide}
+use Rattle.card_c.specs.declared.t1_side.T1Side.{T1Side}
+use Rattle.card_c.specs.declared.exchange_side.ExchangeSide.{ExchangeSide}
+use Rattle.card_c.specs.Codes.{gt_empty}
+
+-- nothing, if the handle is not live
+abbrev pub held_by : GtCard → Option CardSide
+held_by handle = if handle.live then handle.held.value else None
+
+abbrev pub exchange_in : ExchangeHandle → Option ExchangeSide
+exchange_in handle = if handle.live then handle.held.value else None
+
+abbrev pub terminal_in : TerminalHandle → Option TerminalSide
+terminal_in handle = if handle.live then handle.held.value else None
+
+abbrev pub t1_in : T1Handle → Option T1Side
+t1_in handle = if handle.live then handle.held.value else None
+
+-- A call on an empty handle returns that code, and the handle stays empty. A call on another does
+-- this to what it holds, and the handle stays live.
+abbrev pub OnHandle : {Content : Type 0} → (Content → ℤ → Content → Type 0) → Option Content → ℤ
+    → Option Content → Type 0
+OnHandle Does None code new = (code ≡ gt_empty) × (new ≡ None)
+OnHandle Does (Some old) code new = MatchOption new ⊥ (λ content. Does old code content)

@@ -1,0 +1,47 @@
+//! What all handles of C have in common: each holds one value in a box, or nothing.
+ghost use Rattle.std.specs.Prelude.{◌≡◌, Option, Some, None, is_some};
+ghost use Rattle.std.specs.Fn.{FnOnceReturnsAtMut};
+ghost use Rattle.std.specs.Option.{option_map};
+ghost use Rattle.card_c.specs.Handles.{OnHandle};
+
+use crate::code;
+use std::alloc::Global;
+
+/// A handle of C. It is not generic, since only a struct without type parameters goes to C.
+pub trait Handle {
+    /// What it holds.
+    type Content: Drop;
+
+    /// What it holds now, if anything.
+    ghost content: { Self → Option Self.Content };
+
+    /// Whether it holds something.
+    fn is_live(&self) -> bool
+        ensures { result ≡ is_some (content self.now) };
+
+    /// Takes out what it holds, and leaves it empty.
+    fn take_out(&mut self, alloc: Global) -> Option<Box<Self::Content>>
+        ensures empty { content self.new ≡ None }
+        ensures value { option_map (λ held. held.value) result ≡ content self.old };
+
+    /// Puts a value into an empty handle.
+    fn put(&mut self, value: Box<Self::Content>)
+        requires { content self.old ≡ None }
+        ensures { content self.new ≡ Some value.value };
+}
+
+/// Calls `f` on what a handle holds, and returns its code.
+pub fn with<H: Handle, F>(alloc: Global, handle: &mut H, f: F) -> i32
+where
+    F: FnOnce(&mut H::Content) -> i32,
+    requires { F.IsAlwaysCallable f }
+    ensures { OnHandle (λ old code new. FnOnceReturnsAtMut F.FnOnce f old code new)
+        (H.content handle.old) result (H.content handle.new) }
+{
+    let Some(mut held) = handle.take_out(alloc) else {
+        return code::EMPTY;
+    };
+    let answer = f(&mut held);
+    handle.put(held);
+    answer
+}

@@ -1,0 +1,130 @@
+//! The four kinds of handles of C.
+ghost use Rattle.std.specs.Prelude.{◌≡◌, Some, None};
+ghost use Rattle.card_c.specs.Handles.{held_by, exchange_in, terminal_in, t1_in};
+
+use crate::card_held::{CardHeld, GtCard};
+use crate::card_side::CardSide;
+use crate::exchange_side::ExchangeSide;
+use crate::handle::Handle;
+use crate::held_exchange::{ExchangeHandle, HeldExchange};
+use crate::held_t1::{HeldT1, T1Handle};
+use crate::held_terminal::{HeldTerminal, TerminalHandle};
+use crate::loose::Loose;
+use crate::t1_side::T1Side;
+use crate::terminal_side::TerminalSide;
+use std::alloc::Global;
+use std::mem;
+
+impl Handle for GtCard {
+    type Content = CardSide;
+
+    ghost content = { held_by };
+
+    fn is_live(&self) -> bool {
+        self.live
+    }
+
+    fn take_out(&mut self, alloc: Global) -> Option<Box<CardSide>> {
+        if !self.live {
+            return None;
+        }
+        let held = CardHeld::empty(alloc);
+        let GtCard { live: _, held } = mem::replace(self, GtCard { live: false, held });
+        Some(held.into_loose().into_box())
+    }
+
+    fn put(&mut self, value: Box<CardSide>)
+        requires { held_by self.old ≡ None }
+        ensures { held_by self.new ≡ Some value.value }
+    {
+        let held = CardHeld::of(Loose::of(value));
+        *self = GtCard { live: true, held };
+    }
+}
+
+impl Handle for ExchangeHandle {
+    type Content = ExchangeSide;
+
+    ghost content = { exchange_in };
+
+    fn is_live(&self) -> bool {
+        self.live
+    }
+
+    fn take_out(&mut self, alloc: Global) -> Option<Box<ExchangeSide>> {
+        if !self.live {
+            return None;
+        }
+        let held = HeldExchange::empty(alloc);
+        let ExchangeHandle { live: _, held } = mem::replace(
+            self,
+            ExchangeHandle { live: false, held },
+        );
+        Some(held.into_loose().into_box())
+    }
+
+    fn put(&mut self, value: Box<ExchangeSide>)
+        requires { exchange_in self.old ≡ None }
+        ensures { exchange_in self.new ≡ Some value.value }
+    {
+        let held = HeldExchange::of(Loose::of(value));
+        *self = ExchangeHandle { live: true, held };
+    }
+}
+
+impl Handle for TerminalHandle {
+    type Content = TerminalSide;
+
+    ghost content = { terminal_in };
+
+    fn is_live(&self) -> bool {
+        self.live
+    }
+
+    fn take_out(&mut self, alloc: Global) -> Option<Box<TerminalSide>> {
+        if !self.live {
+            return None;
+        }
+        let held = HeldTerminal::empty(alloc);
+        let TerminalHandle { live: _, held } = mem::replace(
+            self,
+            TerminalHandle { live: false, held },
+        );
+        Some(held.into_loose().into_box())
+    }
+
+    fn put(&mut self, value: Box<TerminalSide>)
+        requires { terminal_in self.old ≡ None }
+        ensures { terminal_in self.new ≡ Some value.value }
+    {
+        let held = HeldTerminal::of(Loose::of(value));
+        *self = TerminalHandle { live: true, held };
+    }
+}
+
+impl Handle for T1Handle {
+    type Content = T1Side;
+
+    ghost content = { t1_in };
+
+    fn is_live(&self) -> bool {
+        self.live
+    }
+
+    fn take_out(&mut self, alloc: Global) -> Option<Box<T1Side>> {
+        if !self.live {
+            return None;
+        }
+        let held = HeldT1::empty(alloc);
+        let T1Handle { live: _, held } = mem::replace(self, T1Handle { live: false, held });
+        Some(held.into_loose().into_box())
+    }
+
+    fn put(&mut self, value: Box<T1Side>)
+        requires { t1_in self.old ≡ None }
+        ensures { t1_in self.new ≡ Some value.value }
+    {
+        let held = HeldT1::of(Loose::of(value));
+        *self = T1Handle { live: true, held };
+    }
+}

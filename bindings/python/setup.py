@@ -11,7 +11,7 @@ from setuptools import setup
 from setuptools.command.sdist import sdist
 
 HERE = Path(__file__).resolve().parent
-# A source distribution has copies of the files beside it; in the repository they are one level up.
+# A source distribution contains copies of these files. In the repository they are one level up.
 COPY = "native"
 BINDINGS = HERE / COPY if (HERE / COPY).is_dir() else HERE.parent
 HEADER = BINDINGS / "c" / "include" / "galliumtoad.h"
@@ -20,7 +20,7 @@ VERSION = re.findall(r"^#define GT_VERSION_(?:MAJOR|MINOR|PATCH) (\d+)$", TEXT, 
 
 
 def declarations():
-    """The types, numbers and functions of the header, in the words that cffi reads."""
+    """The types, numbers and functions of the header, in the form that cffi reads."""
     text = re.sub(r"/\*.*?\*/", "", TEXT, flags=re.DOTALL)
     numbers = re.findall(r"^#define (GT_[A-Z_]+) (?:\d|\(GT_)", text, re.M)
     text = re.sub(r"^#.*$", "", text, flags=re.M).replace('extern "C" {', "")
@@ -46,7 +46,7 @@ def builder():
 
 
 class SourceDistribution(sdist):
-    """Copies what is built from into the distribution."""
+    """Copies the sources of the build into the distribution."""
 
     def make_release_tree(self, base_dir, files):
         super().make_release_tree(base_dir, files)

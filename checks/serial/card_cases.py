@@ -21,7 +21,7 @@ USAGE = (
 )
 APP = "app A0000000031010\nobject 5F20 4A4F45\n"
 GONE = "the line is gone\n"
-NO_PPS = "a PPS request has come that the card does not answer\n"
+NO_PPS = "the card does not answer this PPS request\n"
 PUT_WORDS = "> 00DA5F2003 < DA > 414E4E < 9000 "
 # The start of a dialogue that shows whether a card still answers.
 ASK_WORDS = "> 00CA5F2000 < 6985 "
@@ -146,8 +146,8 @@ def all_cases():
 def wrong_echo():
     """A card whose echo is wrong, or missing."""
     for echo, fault in (
-        ("55", "another echo has come back than what was sent\n"),
-        ("", "no echo has come back\n"),
+        ("55", "the echo differs from what was sent\n"),
+        ("", "there is no echo\n"),
     ):
         line = Line()
         try:
@@ -295,9 +295,9 @@ def mute_until_reset():
 
 def tables():
     """Invalid tables, and answers to reset that offer neither T=0 nor T=1 with an LRC."""
-    none = "the table's answer to reset is none: "
-    neither = ("the table's answer to reset does not offer T=0, or T=1 with an LRC, at a rate that"
-               " it tells\n")
+    none = "the table's answer to reset is invalid: "
+    neither = ("the table's answer to reset does not offer T=0, or T=1 with LRC, at a rate that"
+               " it states\n")
     for text, fault in (
         ("app A000\n", "line 1: bad argument\n"),
         ("# a name\nobject 5F20 41\n", "line 2: no app\n"),
@@ -361,17 +361,17 @@ def words():
         (["x", "y", "z"], "there are too many words"),
         (["--pty"], "no tty or no table was provided"),
         (["--pty", "x", "y"], "there are too many words"),
-        (["--pps", "x", "y"], "'--pps' is no option"),
-        (["--reset", "rts", "x", "y"], "'rts' is no line of '--reset'"),
+        (["--pps", "x", "y"], "'--pps' is not an option"),
+        (["--reset", "rts", "x", "y"], "'rts' is not a line for '--reset'"),
         (["--plan", "nx", "x", TABLE], "a plan has the letters n, o and a"),
         (["--plan", "n"] * 65 + ["x", TABLE], "'--plan' is used too often"),
     ):
         program = Program("serial_card", given)
         look(program, program.end(), "", f"error: {why}\n{USAGE}", 2)
     for given, fault in (
-        (["/nowhere/tty", TABLE], "the tty can not be opened: No such file or directory\n"),
-        (["/dev/null", TABLE], "it is no tty\n"),
-        (["--pty", "/nowhere/table"], "the table can not be read\n"),
+        (["/nowhere/tty", TABLE], "the tty cannot be opened: No such file or directory\n"),
+        (["/dev/null", TABLE], "it is not a tty\n"),
+        (["--pty", "/nowhere/table"], "the table cannot be read\n"),
     ):
         program = Program("serial_card", given)
         look(program, program.end(), "", fault, 1)

@@ -21,7 +21,7 @@ GET_APDU, JOE = "00CA5F2000", "5F20034A4F459000"
 QUICK = "3B8081210323"
 BOOK = Path(__file__).resolve().parents[2] / "examples/blocks"
 BWT = 0.1
-CAUSE = "operation 1: no valid block, too often: the card "
+CAUSE = "operation 1: too many tries without a valid block: the card "
 OUTCOMES = {"none": "has not carried out the command\n",
             "unknown": "may have carried out the command\n",
             "part": "has carried out the command\n"}
@@ -123,7 +123,7 @@ def faults():
                    fault=fault, status=1, echo=False, slack=slack, waits=BWT)
     for title, answer, options, fault in (
         ("CRC", "3B8081410141", [],
-         "the card's blocks have no LRC, but a CRC\n"),
+         "the card's blocks use CRC, not LRC\n"),
         ("a reserved IFSC", "3B8081110010", [], "the card's IFSC is reserved\n"),
         ("a reserved BWI", "3B808121A383", [], "the card's block waiting time is reserved\n"),
         ("T=0 that is not offered", QUICK, ["--protocol", "0"], "the card does not talk T=0\n"),
@@ -175,7 +175,7 @@ def breaks():
                + SELECTS, select, terminal_cases.SELECTED, echo=False, slack=slack)
     yield Case("T=1: more time for ever", first + sent + talk(*["<", "C3:01", ">", "E3:01"] * 16)
                + talk("<", "C3:01"), select, echo=False, slack=slack, status=1,
-               fault="operation 1: too many requests of the card: the card "
+               fault="operation 1: too many requests from the card: the card "
                + OUTCOMES["unknown"])
     yield Case("T=1: a response of 259 bytes", first + sent
                + talk("<", "20:" + "00" * 254, ">", "90", "<", "40:" + "00" * 5), select,
@@ -243,6 +243,9 @@ def at_card():
     for title, dialogue in own_part():
         yield card_cases.Case(f"T=1: a card, {title}", f"< {QUICK} {OPEN}{dialogue}", QUICK,
                               echo=False, slack=300)
+    slow = "3B80812193B3"  # as QUICK, with BWI 9: BWT is 51 s
+    yield card_cases.Case("T=1: a card, a block that stops after its first byte",
+                          f"< {slow} {OPEN}> 00 {R0}{SELECTS}", slow, echo=False, slack=300)
     lines = (BOOK / "fine.talk").read_text(encoding="utf-8").splitlines()
     words = " ".join(" ".join(line.split()[:2]) for line in lines if line[0] in "<>")
     yield card_cases.Case("T=1: the book at a card", words, QUICK, echo=False, slack=300)
@@ -259,6 +262,26 @@ def at_card():
     ):
         yield card_cases.Case(f"PPS for {title}", f"< {answer} > {pps}", answer, mute=True,
                               fault=card_cases.NO_PPS)
+
+
+def never_stops():
+    """A card is mute, and ends without a reset, if its terminal does not stop sending."""
+    line = Line()
+    try:
+        with tempfile.TemporaryDirectory() as folder:
+            path = card_cases.table(folder, f"atr {QUICK}\n{card_cases.APP}")
+            program = Program("serial_card", ["--no-echo", line.name, path])
+            other = Other(line, echo=False)
+            play(other, f"< {QUICK} > {block('C1', 'FE')}", card=False)
+            for _ in range(10000):
+                if program.process.poll() is not None:
+                    break
+                other.send("00")
+                time.sleep(0.0005)
+            other.take_nothing(0)
+            look(program, program.end(), "", "the other end does not stop sending\n", 1)
+    finally:
+        line.close()
 
 
 def each_opening():
@@ -383,8 +406,8 @@ def at_random(seed):
         assert program.output == TALK.answers and not program.faults, program.faults
         return
     number = program.output.count("\n") + 1
-    wanted = [f"operation {number}: {cause}: the card {outcome}"
-              for cause in ("no valid block, too often",) for outcome in OUTCOMES.values()]
+    cause = f"operation {number}: too many tries without a valid block: the card "
+    wanted = [cause + outcome for outcome in OUTCOMES.values()]
     assert program.faults in wanted, f"{program.faults!r}"
 
 
@@ -395,6 +418,7 @@ def tests():
     for case in at_card():
         yield case.title, lambda case=case: card_cases.run(case)
     yield "T=1: each opening of a card's line", each_opening
+    yield "T=1: a terminal that does not stop sending", never_stops
     yield "T=1: the block waiting time", lambda: in_time(block_waiting_time)
     yield "T=1: the block guard time", block_guard_time
     for title, fates in MILD:

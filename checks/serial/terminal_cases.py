@@ -192,7 +192,7 @@ def verified():
 
 def answers():
     """Answers to reset that are invalid, or ask for what this terminal does not do."""
-    none = "the answer to reset is none: "
+    none = "the answer to reset is invalid: "
     for title, answer, fault, waits in (
         ("silent from the reset on", "", "the card does not answer to reset", 0.011),
         ("an answer of TS alone", "< 3B", "the answer to reset stops after byte 1", 1.0),
@@ -210,13 +210,13 @@ def answers():
          "the answer to reset is too long", None),
         ("specific mode with T=2", "< 3B90951002", "the card talks neither T=0 nor T=1", None),
         ("specific mode with implicit values", "< 3B90951010",
-         "the card goes on at a rate that it does not tell", None),
+         "the card talks at a rate that it does not state", None),
         ("specific mode at a reserved rate", "< 3B909F1000",
-         "the card goes on at a rate that is reserved", None),
+         "the card talks at a reserved rate", None),
         ("specific mode at a reserved Fi", "< 3B90711000",
-         "the card goes on at a rate that is reserved", None),
+         "the card talks at a reserved rate", None),
         ("specific mode with T=1 at a reserved Fi", "< 3B90711001",
-         "the card goes on at a rate that is reserved", None),
+         "the card talks at a reserved rate", None),
         ("a reserved waiting time", "< 3B804000", "the card's waiting time is reserved", None),
         ("a reserved waiting time in specific mode", "< 3B9095500000",
          "the card's waiting time is reserved", None),
@@ -256,7 +256,7 @@ def meanings():
         ("3B1071", "direct", "T=0", "negotiable", "reserved", "12 etu", "1000 ms", "none", ""),
         ("3B101F", "direct", "T=0", "negotiable", "reserved", "12 etu", "1000 ms", "none", ""),
         ("3B90951010", "direct", "T=0", "specific, T=0", "implicit", "12 etu", "1376 ms", "none",
-         "the card goes on at a rate that it does not tell\n"),
+         "the card talks at a rate that it does not state\n"),
         ("3B804000", "direct", "T=0", "negotiable", "9600 baud, Fi 372, Di 1", "12 etu", "reserved",
          "none", "the card's waiting time is reserved\n"),
         ("3B800181", "direct", "T=1", "negotiable", "9600 baud, Fi 372, Di 1", "12 etu", None,
@@ -300,7 +300,7 @@ def waiting():
     yield Case("a longer slack", quick + SHORT_WORDS, SHORT, fault=fault, status=1, slack=1200,
                waits=0.2)
     yield Case("the slack where nothing is said", "< 3B00 ", SHORT, echo=True, slack=None, status=1,
-               fault="operation 1: no echo has come back\n", waits=0.0)
+               fault="operation 1: there is no echo\n", waits=0.0)
     yield Case("a card that takes its slack", quick + SHORT_WORDS + "~ 0.5 " + DONE, SHORT,
                "= 9000\n", slack=1500)
     yield Case("an answer that takes its time", "~ 0.2 < 3B ~ 1.2 < 80 ~ 0.5 < 4002 " + SHORT_WORDS
@@ -332,7 +332,7 @@ def noise():
                    "operation 1: bad procedure byte\n", 1, options=["-v"], heaps=heaps)
     yield Case("a NULL among others", "< 3B00 " + SHORT_WORDS + "< 6060609000 ", SHORT,
                "reset\n< 3B00\n> 0020000000\n< 6060609000\n= 9000\n", options=["-v"], heaps=True)
-    yield Case("no echo", "< 3B00 ", SHORT, fault="operation 1: no echo has come back\n",
+    yield Case("no echo", "< 3B00 ", SHORT, fault="operation 1: there is no echo\n",
                status=1, waits=0.0)
     yield Case("GET RESPONSE that brings nothing",
                "< 3B00 > 00CA5F2000 < 6105 > 00C0000005 < 6105 ", GET,
@@ -342,7 +342,7 @@ def noise():
 def early():
     """Bytes that the card sends too early: before a header, a PPS request or data are sent, with
     and without an echo."""
-    behind = "a byte behind the answer to reset\n"
+    behind = "a byte after the answer to reset\n"
     fault = "operation {}: unexpected byte\n"
     put = ["put", "5F20", "414E4E"]
     put_words = "> 00DA5F2003 "
@@ -563,7 +563,7 @@ def wrong_echo():
             other = Other(line, echo=False)
             play(other, f"< 3B00 > 0020 < {echo}", card=True)
             look(program, program.end(), "",
-                 "operation 1: another echo has come back than what was sent\n", 1)
+                 "operation 1: the echo differs from what was sent\n", 1)
         finally:
             line.close()
 
@@ -706,9 +706,9 @@ def words():
     """Words that are refused before the tty is opened, and ttys that can't be opened."""
     for given, why in (
         ([], "no tty was provided"),
-        (["-f", "y", "x", *GET], "operations stand either in words or in FILE"),
-        (["--walk", "x", *GET], "'--walk' is no option"),
-        (["--pty", "x", *GET], "'--pty' is no option"),
+        (["-f", "y", "x", *GET], "operations are either words or in FILE"),
+        (["--walk", "x", *GET], "'--walk' is not an option"),
+        (["--pty", "x", *GET], "'--pty' is not an option"),
         (["--baud"], "'--baud' needs a value"),
         (["--baud", "1199", "x", *GET], "'--baud' takes a number from 1200 to 1000000"),
         (["--baud", "1000001", "x", *GET], "'--baud' takes a number from 1200 to 1000000"),
@@ -717,7 +717,8 @@ def words():
         (["--slack", "60001", "x", *GET], "'--slack' takes a number from 0 to 60000"),
         (["--slack", "", "x", *GET], "'--slack' takes a number from 0 to 60000"),
         (["--patience", "0", "x", *GET], "'--patience' takes a number from 1 to 86400"),
-        (["--reset", "cts", "x", *GET], "'cts' is no line of '--reset'"),
+        (["--protocol", "2", "x", *GET], "'--protocol' takes a number from 0 to 1"),
+        (["--reset", "cts", "x", *GET], "'cts' is not a line for '--reset'"),
         (["--held-by", "high", "x", *GET], "'high' is neither 'on' nor 'off'"),
         (["x", "walk"], "operation 1: unknown word"),
         (["x", *GET, "get"], "operation 2: wrong number of words"),
@@ -727,8 +728,8 @@ def words():
         program = Program("gt_serial", given)
         look(program, program.end(), "", f"error: {why}\n{USAGE}", 2)
     for given, fault in (
-        (["/nowhere/tty", *GET], "the tty can not be opened: No such file or directory\n"),
-        (["/dev/null", *GET], "it is no tty\n"),
+        (["/nowhere/tty", *GET], "the tty cannot be opened: No such file or directory\n"),
+        (["/dev/null", *GET], "it is not a tty\n"),
         (["-f", "/nowhere/file", "/dev/null"],
          "read fault: '/nowhere/file': No such file or directory\n"),
     ):

@@ -23,8 +23,8 @@ EVEN, ODD = SET.format(9600, "even"), SET.format(9600, "odd")
 BEFORE = "set 38400 baud, 8 bits, no parity, 1 stop bit"
 END = ["drop what has not gone", BEFORE]
 RESET = ["rts on", "drop what has come", "rts off"]
-PARITY = "a character has come with a wrong parity\n"
-NONE = "the answer to reset is none: "
+PARITY = "received a character with wrong parity\n"
+NONE = "the answer to reset is invalid: "
 
 
 class Tty:
@@ -230,7 +230,7 @@ def refusals():
     form = "the tty does not take 8 bits, even parity and 2 stop bits\n"
     early = [EVEN, *END]
     for refuses, noted, fault in (
-        ("get", [], "the tty does not tell its settings: Input/output error\n"),
+        ("get", [], "the tty does not return its settings: Input/output error\n"),
         ("set", early, "the tty refuses its settings: Invalid argument\n"),
         ("bits", early, form),
         ("stop", early, form),
@@ -332,7 +332,7 @@ def parities():
 
     yield ("an echo with a wrong parity", lambda: terminal(
         "", [*reset, EVEN, *END], output="", play_it=marked_echo,
-        fault="operation 1: another echo has come back than what was sent\n"))
+        fault="operation 1: the echo differs from what was sent\n"))
     yield ("FF is no mark", ff_is_no_mark)
 
 
@@ -530,7 +530,7 @@ def card_settings():
         fault="the tty does not take 8 bits, odd parity and 2 stop bits\n"))
     yield ("a card's tty that does not tell its lines", lambda: card(
         lambda tty, other: time.sleep(0.5), ["--reset", "dsr"], refuses="lines",
-        fault="the tty does not tell its DSR: Inappropriate ioctl for device\n"))
+        fault="the tty does not return its DSR: Inappropriate ioctl for device\n"))
 
     def wrong_parity(tty, other):
         tty.await_note(EVEN)

@@ -160,7 +160,7 @@ static void check(int line, uint32_t tag, const uint8_t *value, size_t n)
     if (gt_objects(data, length, &object, 1, &count, &place) != GT_OK || count != 1
         || object.tag != tag || object.length != n
         || memcmp(data + object.value, value, n) != 0) {
-        fprintf(stderr, "what was stored does not come back\n");
+        fprintf(stderr, "the stored value does not come back\n");
         exit(1);
     }
 }

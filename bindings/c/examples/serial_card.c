@@ -35,32 +35,33 @@ static const char USAGE[] =
     "       serial_card [OPTIONS] --pty TABLE";
 
 static const char HELP[] =
-    "TABLE is a file of lines `app`, `object`, `locked` and `atr`, as the virtual\n"
-    "reader has them. The card speaks what its answer to reset offers first, T=0 or\n"
-    "T=1, or what PPS asks for.\n"
+    "TABLE is a file of lines `app`, `object`, `locked` and `atr`, as for the virtual\n"
+    "reader. The card talks what its answer to reset offers first, T=0 or T=1, or\n"
+    "what PPS asks for.\n"
     "\n"
     "Options:\n"
     "  -v               Shows each character: `> ` to the card, `< ` from it\n"
     "  --pty            Makes a pseudo terminal, and prints its name for a terminal\n"
-    "  --baud N         The rate at a reset, a 372nd of the card's clock; where\n"
-    "                   nothing is said 9600, which goes with 3.5712 MHz\n"
-    "  --reset LINE     What tells of a reset: cts, dsr, dcd, or none, where the card\n"
-    "                   is reset once, as it begins; none where nothing is said\n"
+    "  --baud N         The rate at a reset, a 372nd of the card's clock; without\n"
+    "                   this option 9600, for 3.5712 MHz\n"
+    "  --reset LINE     The line that resets the card: cts, dsr, dcd, or none if the\n"
+    "                   only reset is the start; without this option none\n"
     "  --held-by STATE  The state of that line that holds the card in reset: on or\n"
-    "                   off; on where nothing is said\n"
-    "  --no-echo        What is sent does not come back; with --pty the terminal gets\n"
-    "                   no echo\n"
+    "                   off; without this option on\n"
+    "  --no-echo        The line has no echo; with --pty the terminal gets no echo\n"
     "  --plan STEPS     How the card answers a TPDU: n is a NULL, o one data byte and\n"
     "                   a all that are left, in order. The first --plan is for the\n"
     "                   first TPDU\n"
-    "  --slack MS       How many milliseconds an echo may be late: 200\n"
+    "  --slack MS       The milliseconds that an echo may be late; without this\n"
+    "                   option 200\n"
     "  -h, --help       Prints help\n"
     "  -V, --version    Prints the version\n"
     "\n"
-    "With --pty the card is reset where the pseudo terminal is opened; when that is\n"
-    "closed it waits for the next terminal, until a signal ends it. Else it ends\n"
-    "where the line is gone, too. A fault is told on standard error. The exit status\n"
-    "is 1 after one, and 2 where the words of the command line are refused.\n"
+    "With --pty each opening of the pseudo terminal resets the card. When that is\n"
+    "closed the card waits for the next terminal, until a signal ends the program.\n"
+    "Without --pty the program also ends when the line is gone. Faults are printed\n"
+    "on standard error. The exit status is 1 after a fault, and 2 if the words of\n"
+    "the command line are refused.\n"
     "\n"
     "Example:\n"
     "\n"
@@ -241,7 +242,7 @@ static const char *answer_pps(struct socket *socket, FILE *trace)
     bool is_of_card = false;
     const char *what = receive_request(socket, request, &n);
     if (what == NULL && !respond(socket, request, n, response, &count, &is_of_card))
-        what = "a PPS request has come that the card does not answer";
+        what = "the card does not answer this PPS request";
     if (what == NULL)
         what = send_all(socket, response, count);
     if (what == NULL)
@@ -432,14 +433,14 @@ static const char *read_answer(const struct table *table, gt_atr *says)
     const int32_t code = gt_atr_read(table->atr, table->atr_size, says, &place);
     const int protocol = code == GT_OK ? answer_protocol(says, ANSWER_FIRST) : 0;
     if (code != GT_OK) {
-        snprintf(text, sizeof text, "the table's answer to reset is none: %s, at byte %lu",
+        snprintf(text, sizeof text, "the table's answer to reset is invalid: %s, at byte %lu",
                  gt_text(code), (unsigned long)place + 1);
         return text;
     }
     if (!speaks(says, protocol)
             || (says->specific && (says->implicit || says->fi == 0 || says->di == 0)))
-        return "the table's answer to reset does not offer T=0, or T=1 with an LRC, at a rate that"
-            " it tells";
+        return "the table's answer to reset does not offer T=0, or T=1 with LRC, at a rate that"
+            " it states";
     if (answer_refusal(says, protocol) != NULL)
         fprintf(stderr, "warning: gt_serial refuses this answer to reset: %s\n",
                 answer_refusal(says, protocol));
@@ -469,7 +470,7 @@ static int run(const struct serial_options *options)
     int32_t code;
     int result;
     if (file == NULL)
-        return tell("the table can not be read");
+        return tell("the table cannot be read");
     code = table_read(file, NULL, &table);
     fclose(file);
     if (code != GT_OK)

@@ -210,23 +210,23 @@ GT_FUNCTION const char *gt_text(int32_t code) {
     case GT_NOT_ASKED: return "data not asked for";
     case GT_TOO_MANY: return "more data than asked for";
     case GT_NO_TPDU: return "no whole TPDU";
-    case GT_WANTS_DATA: return "card takes data not given";
+    case GT_WANTS_DATA: return "card expects data not sent";
     case GT_SENDS_DATA: return "card sends data not asked for";
     case GT_ATR_NO_TS: return "no TS";
     case GT_ATR_CUT: return "answer to reset cut";
     case GT_ATR_TOO_LONG: return "answer to reset too long";
     case GT_ATR_ORDER: return "T out of order";
-    case GT_ATR_SURPLUS: return "characters behind the answer to reset";
+    case GT_ATR_SURPLUS: return "characters after the answer to reset";
     case GT_ATR_CHECK_MISSING: return "check byte missing";
     case GT_ATR_CHECK_NOT_DUE: return "check byte not due";
     case GT_ATR_CHECK_WRONG: return "wrong check byte";
     case GT_PPS_NO_PPSS: return "no PPSS";
     case GT_PPS_CUT: return "PPS cut";
     case GT_PPS_RESERVED: return "PPS0 reserved";
-    case GT_PPS_SURPLUS: return "characters behind PCK";
+    case GT_PPS_SURPLUS: return "characters after PCK";
     case GT_PPS_CHECK_WRONG: return "wrong PCK";
-    case GT_TRIES_SPENT: return "no valid block, too often";
-    case GT_EXTENSIONS_SPENT: return "too many requests of the card";
+    case GT_TRIES_SPENT: return "too many tries without a valid block";
+    case GT_EXTENSIONS_SPENT: return "too many requests from the card";
     case GT_ABORTED: return "aborted by the card";
     default: return "unknown code";
     }
@@ -236,8 +236,8 @@ GT_FUNCTION const char *gt_text(int32_t code) {
  * any other it is "unknown status". The list above "A session" says more of each. Not proved. */
 GT_FUNCTION const char *gt_status_text(uint16_t status) {
     switch (status >> 8) {
-    case 0x61: return "more data wait";
-    case 0x6C: return "fewer data are there than asked for";
+    case 0x61: return "more data available";
+    case 0x6C: return "fewer data than asked for";
     default: break;
     }
     switch (status) {

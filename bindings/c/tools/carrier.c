@@ -14,11 +14,11 @@
 static const char *fault_text(int32_t code, bool is_by_apdus)
 {
     if (code == GT_NO_STATUS)
-        return "the reader hands back no status";
+        return "the reader returns no status";
     if (code != GT_NOT_ASKED && code != GT_TOO_MANY)
         return gt_text(code);
-    return is_by_apdus ? "the reader hands back more data than the command asks for"
-                       : "the reader hands back more data than the TPDU asks for: "
+    return is_by_apdus ? "the reader returns more data than the command asks for"
+                       : "the reader returns more data than the TPDU asks for: "
                          "it fetches 61XX by itself, so use --apdu";
 }
 

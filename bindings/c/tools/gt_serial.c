@@ -280,7 +280,7 @@ static int run_options(const struct serial_options *options)
     if (options->count == 0)
         return refuse_words("no tty was provided");
     if (options->file != NULL && options->count > 1)
-        return refuse_words("operations stand either in words or in FILE");
+        return refuse_words("operations are either words or in FILE");
     if (!script_read(&script, options->file, options->words + 1, options->count - 1, &refusal))
         return refusal.is_of_words ? refuse_words(refusal.text) : tell(refusal.text);
     result = run(&script, options);

@@ -88,9 +88,9 @@ static const char *compare(struct options *options)
     if (options->lists)
         return options->count == 0 && options->file == NULL && options->reader == NULL
             ? NULL
-            : "-l goes with no operation, and neither with -r nor -f";
+            : "-l cannot be used with operations, -r or -f";
     if (options->file != NULL && options->count > 0)
-        return "operations stand either in words or in FILE";
+        return "operations are either words or in FILE";
     if (options->file == NULL && options->count == 0)
         return "no operation was provided";
     fault = read_wait(options);

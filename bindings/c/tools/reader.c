@@ -14,19 +14,19 @@ static const struct {
     LONG code;
     const char *text;
 } TEXTS[] = {
-    { SCARD_E_NO_SERVICE, "no pcscd runs" },
+    { SCARD_E_NO_SERVICE, "pcscd is not running" },
     { SCARD_E_NO_READERS_AVAILABLE, "no reader" },
     { SCARD_E_UNKNOWN_READER, "the reader is gone" },
     { SCARD_E_READER_UNAVAILABLE, "the reader is gone" },
     { SCARD_E_NO_SMARTCARD, "no card in the reader" },
-    { SCARD_W_REMOVED_CARD, "the card was taken out" },
+    { SCARD_W_REMOVED_CARD, "the card was removed" },
     { SCARD_W_RESET_CARD, "the card was reset by another program" },
     { SCARD_W_UNPOWERED_CARD, "the card has no power" },
     { SCARD_W_UNRESPONSIVE_CARD, "the card does not answer to reset" },
-    { SCARD_E_SHARING_VIOLATION, "another program has the card for itself" },
+    { SCARD_E_SHARING_VIOLATION, "another program has exclusive use of the card" },
     { SCARD_E_NOT_TRANSACTED, "the reader could not carry out the command" },
     { SCARD_F_COMM_ERROR, "the reader could not carry out the command" },
-    { SCARD_E_INSUFFICIENT_BUFFER, "the reader hands back more than any answer has" },
+    { SCARD_E_INSUFFICIENT_BUFFER, "the reader returns more bytes than any answer has" },
 };
 
 /* NULL for success, and a text for each other code of a call without a context. */
@@ -93,7 +93,8 @@ static const char *find_name(const struct names *names, const char *wanted, cons
     if (count == 0)
         *why = wanted == NULL ? "no reader" : "no such reader";
     else
-        *why = wanted == NULL ? "more than one reader; -r says which" : "more than one such reader";
+        *why = wanted == NULL ? "more than one reader: choose one with -r"
+                              : "more than one such reader";
     return NULL;
 }
 

@@ -62,7 +62,7 @@ static const char *reset(struct answer *answer, const struct answer_wishes *wish
 
 static const char *tell_none(int32_t code, size_t place)
 {
-    snprintf(told, sizeof told, "the answer to reset is none: %s, at byte %lu", gt_text(code),
+    snprintf(told, sizeof told, "the answer to reset is invalid: %s, at byte %lu", gt_text(code),
              (unsigned long)place + 1);
     return told;
 }
@@ -89,7 +89,7 @@ static const char *take_first(struct answer *answer, int64_t wait)
     answer->bytes[answer->n++] = line->is_inverse ? TS_OF_INVERSE : raw;
     line_note(line, LINE_CARD, answer->bytes[0]);
     if (!line->port->is_pseudo && has_other_parity != line->is_inverse)
-        return "a character has come with a wrong parity";
+        return "received a character with wrong parity";
     return NULL;
 }
 
@@ -223,7 +223,7 @@ int answer_protocol(const gt_atr *says, int wanted)
 static const char *refusal_of_t1(const gt_atr_t1 *says)
 {
     if (says->edc != GT_LRC)
-        return "the card's blocks have no LRC, but a CRC";
+        return "the card's blocks use CRC, not LRC";
     if (says->ifsc == 0)
         return "the card's IFSC is reserved";
     return says->bwt_etu == 0 ? "the card's block waiting time is reserved" : NULL;
@@ -237,9 +237,9 @@ const char *answer_refusal(const gt_atr *says, int protocol)
                        : memchr(says->protocols, protocol, says->protocol_count) == NULL)
         return protocol == 0 ? "the card does not talk T=0" : "the card does not talk T=1";
     if (says->implicit)
-        return "the card goes on at a rate that it does not tell";
+        return "the card talks at a rate that it does not state";
     if (says->specific && !has_rate(says))
-        return "the card goes on at a rate that is reserved";
+        return "the card talks at a reserved rate";
     if (protocol == 1)
         return refusal_of_t1(&says->t1);
     return says->waiting_integer == 0 ? "the card's waiting time is reserved" : NULL;

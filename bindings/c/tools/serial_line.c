@@ -4,8 +4,8 @@
 
 const char LINE_IS_SILENT[] = "the other end is silent";
 const char LINE_IS_GONE[] = "the line is gone";
-const char LINE_HAS_WRONG_PARITY[] = "a character has come with a wrong parity";
-const char LINE_IS_BROKEN[] = "no valid block has come";
+const char LINE_HAS_WRONG_PARITY[] = "received a character with wrong parity";
+const char LINE_IS_BROKEN[] = "received no valid block";
 static const char UNEXPECTED[] = "unexpected byte";
 
 int64_t line_etu(const struct line *line, unsigned long count)
@@ -119,7 +119,7 @@ const char *line_refuse_early(struct line *line, int64_t wait)
     if (result != PORT_IS_WELL)
         return result == PORT_IS_SILENT ? NULL : text_of(result);
     note_first(line);
-    return line->sent_until == 0 ? "a byte behind the answer to reset" : UNEXPECTED;
+    return line->sent_until == 0 ? "a byte after the answer to reset" : UNEXPECTED;
 }
 
 const char *line_drop(struct line *line, int64_t first, int64_t quiet)
@@ -166,11 +166,11 @@ static const char *take_echo(struct line *line, uint8_t raw, int64_t then)
     bool has_other_parity;
     const enum port_result result = read_port(line, &found, &has_other_parity, then + line->slack);
     if (result == PORT_IS_SILENT)
-        return "no echo has come back";
+        return "there is no echo";
     if (result != PORT_IS_WELL)
         return text_of(result);
     if (found != raw || has_other_parity)
-        return "another echo has come back than what was sent";
+        return "the echo differs from what was sent";
     line->free_from =
         later(line->free_from, port_now() + line_etu(line, LINE_REST_ETU) + line->guard);
     return NULL;

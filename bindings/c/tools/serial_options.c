@@ -51,7 +51,7 @@ static const char *read_signal(const char *word, const enum port_signal *signals
             return NULL;
         }
         if (*signals == PORT_NONE)
-            return refuse(word, "is no line of '--reset'");
+            return refuse(word, "is not a line for '--reset'");
     }
 }
 
@@ -155,7 +155,7 @@ const char *serial_options_read(struct serial_options *options, const struct ser
     for (; words.at < argc && argv[words.at][0] == '-' && fault == NULL; words.at++) {
         const char *option = argv[words.at];
         if (!is_among(option, names->options))
-            fault = refuse(option, "is no option");
+            fault = refuse(option, "is not an option");
         else if (!read_alone(options, option))
             fault = read_with_word(options, names->signals, option, next_word(&words));
     }

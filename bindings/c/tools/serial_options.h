@@ -28,7 +28,7 @@ struct serial_options {
     const char *file;           /* -f, or NULL */
     const char *plans[SERIAL_PLANS_LIMIT];  /* --plan, in order */
     size_t plan_count;
-    char *const *words;         /* the first word that is no option */
+    char *const *words;         /* the first word that is not an option */
     size_t count;
 };
 
@@ -39,8 +39,8 @@ struct serial_names {
     enum port_signal reset;             /* its value if the command line has no --reset */
 };
 
-/* Reads the words after the program's name; the first that is no option ends the options. Returns
- * NULL, or a few words that say why it refuses the words; these stay until the next call. */
+/* Reads the words after the program's name; the first that is not an option ends the options.
+ * Returns NULL, or a text that says why it refuses the words, which stays until the next call. */
 const char *serial_options_read(struct serial_options *options, const struct serial_names *names,
                                 int argc, char *const *argv);
 

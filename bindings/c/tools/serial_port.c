@@ -186,7 +186,7 @@ static const char *lock(const struct port *port)
         return NULL;
     if (fcntl(port->fd, F_GETLK, &whole) == 0 && whole.l_type != F_UNLCK && whole.l_pid > 0)
         return tell_holder(whole.l_pid);
-    return tell_error("the tty can not be locked");
+    return tell_error("the tty cannot be locked");
 }
 
 /* Keeps all other programs out too. A pseudo terminal would stay so if this one is killed. */
@@ -194,7 +194,7 @@ static const char *keep_for_itself(const struct port *port)
 {
     return port->is_pseudo || ioctl(port->fd, TIOCEXCL) == 0
         ? NULL
-        : tell_error("the tty can not be locked");
+        : tell_error("the tty cannot be locked");
 }
 
 const char *port_open(struct port *port, const char *name, unsigned long baud)
@@ -206,11 +206,11 @@ const char *port_open(struct port *port, const char *name, unsigned long baud)
     memset(port, 0, sizeof *port);
     port->fd = open(name, O_RDWR | O_NOCTTY | O_NONBLOCK);
     if (port->fd < 0)
-        return tell_error("the tty can not be opened");
+        return tell_error("the tty cannot be opened");
     port->is_pseudo = is_pseudo(port->fd);
-    fault = isatty(port->fd) ? lock(port) : "it is no tty";
+    fault = isatty(port->fd) ? lock(port) : "it is not a tty";
     if (fault == NULL && ioctl(port->fd, TCGETS2, &before) != 0)
-        fault = tell_error("the tty does not tell its settings");
+        fault = tell_error("the tty does not return its settings");
     if (fault == NULL) {
         before_fd = port->fd;
         catch_signals();
@@ -312,7 +312,7 @@ const char *port_look(const struct port *port, enum port_signal signal, bool *is
 {
     int bits = 0;
     if (ioctl(port->fd, TIOCMGET, &bits) != 0) {
-        snprintf(told, sizeof told, "the tty does not tell its %s: %s", SIGNALS[signal].name,
+        snprintf(told, sizeof told, "the tty does not return its %s: %s", SIGNALS[signal].name,
                  strerror(errno));
         return told;
     }

@@ -43,7 +43,7 @@ const char *text_hex_fault(const char *digits)
     while (digit(digits[n]) < 16)
         n++;
     if (digits[n] != '\0')
-        return "a character that is no digit";
+        return "a character that is not a digit";
     if (n == 0)
         return "no digits";
     return n % 2 == 0 ? NULL : "an odd number of digits";

@@ -55,9 +55,9 @@ const char *waiting_begin(struct waiting *waiting, const char *reader, long limi
     waiting->reader = reader;
     waiting->limit = limit;
     if (pipe(waiting->ends) != 0)
-        return "no room for a pipe";
+        return "cannot create a pipe";
     return pthread_create(&waiting->thread, NULL, watch, waiting) == 0 ? NULL
-                                                                        : "no room for a thread";
+                                                                        : "cannot create a thread";
 }
 
 void waiting_end(struct waiting *waiting)

@@ -1,4 +1,5 @@
-"""A card behind a pseudo terminal, whose name is printed, to test terminals of a serial line."""
+"""A card at a pseudo terminal, for tests of terminals of a serial line. It prints the name of the
+pseudo terminal."""
 
 import os
 import pty

@@ -1,5 +1,5 @@
-"""Cards by the hundred, over a stand-in for pyscard whose cards come and go: killed at random, with
-a full disk, a journal that was cut, two runs at once, and cards of another profile."""
+"""Tests batches of cards, over a stand-in for pyscard that changes the cards. Runs are killed at
+random, have a full disk or a cut journal, run twice at once, or meet cards of another profile."""
 
 import fcntl
 import json
@@ -24,14 +24,14 @@ put 9F36 {code}
 put 50 41*300
 """
 
-# The program, in a process whose files have at most so many bytes.
+# The program, in a process whose files have at most this number of bytes.
 FULL = """import resource, runpy, signal
 resource.setrlimit(resource.RLIMIT_FSIZE, ({0}, {0}))
 signal.signal(signal.SIGXFSZ, signal.SIG_IGN)
 runpy.run_module("galliumtoad.batch", run_name="__main__", alter_sys=True)
 """
 
-# Has the journal's lock for a while, and takes the first row then.
+# Holds the journal's lock for a while, and then takes the first row.
 HOLDS = """import fcntl, os, time
 file = os.open("journal", os.O_RDWR | os.O_APPEND)
 fcntl.lockf(file, fcntl.LOCK_EX, 1, 0)
@@ -42,7 +42,8 @@ os.write(file, b"begin 1 other\\n")
 
 
 def ended(run, seconds=100):
-    """What a run printed. One that does not end is killed, with its readers."""
+    """Waits for the end of a run, and returns its output. Kills a run that does not end, with its
+    readers."""
     try:
         return run.communicate(timeout=seconds)
     except subprocess.TimeoutExpired:
@@ -56,7 +57,7 @@ class Room:
     def __init__(self, path, rows, readers=1):
         self.path = path
         (path / "cards").mkdir()
-        # one run of tests beside another has other readers
+        # two runs of these tests at the same time have different readers
         self.names = [f"Slot{at}-{os.getpid()}" for at in range(readers)]
         for name in self.names:
             (path / name).mkdir()
@@ -97,14 +98,14 @@ class Room:
         return listed(self.run("--status")[1])
 
     def decide(self):
-        """Says of each row that is to be decided what its cards hold."""
+        """Decides each undecided row by the contents of its cards."""
         for row in self.to_decide():
             whole, _ = self.cards_of(row)
             assert whole in (0, 1)
             self.run(f"--{'done' if whole else 'again'}={row}")
 
     def cards_of(self, row):
-        """How many cards hold all values of a row, and how many some of them."""
+        """Counts the cards with all values of a row, and those with some of them."""
         held = [json.loads(it.read_text()) for it in self.path.glob("cards/*") if it.suffix == ""]
         whole = {"24352": f"PERSON {row}".encode().hex(), "40758": f"{row:08x}", "80": "41" * 300}
         mine = [it for it in held if it.get("24352") == whole["24352"]]
@@ -122,7 +123,7 @@ def test_each_row_goes_to_one_card(tmp_path):
     status, out, error = room.run("--id=9F7F", *room.readers)
     while status == 1:
         assert error == ""
-        # cards were pulled after the first put had begun
+        # cards were removed after the first put had begun
         assert set(listed(out).values()) <= {"unsure", "failed"} and listed(out)
         room.decide()
         status, out, error = room.run("--id=9F7F", *room.readers)
@@ -200,7 +201,7 @@ def test_readers_end_with_their_program(tmp_path):
     run = room.start()
     begun(room)
     run.kill()
-    # its output ends with the last of them
+    # the output ends after the last of them
     ended(run)
     words = [it.split()[0] for it in room.journal()[1:]]
     assert 0 < words.count("begin") < 40 and words[-1] in ("done", "unused", "unsure")
@@ -217,7 +218,7 @@ def test_a_journal_that_was_cut(tmp_path):
         count = whole[:kept].count(b"\n")
         undecided = {} if count < 2 or count % 2 else {count // 2: "unsure"}
         assert Journal(str(file), heading, 3).undecided() == undecided
-        # a cut line is gone, and a heading is written anew
+        # a cut line is removed, and a missing heading is written again
         assert file.read_bytes() == b"".join(whole.splitlines(keepends=True)[: max(count, 1)])
     file.write_bytes(whole[:-1])
     assert room.to_decide() == {3: "unsure"}
@@ -272,7 +273,7 @@ def test_the_card_of_a_crashed_run_is_passed_over(tmp_path):
     assert journal.take("Slot0") == 1
     os.close(journal._file)
     assert room.run()[1].splitlines() == [
-        f"{room.names[0]}: take out the card that is in it",
+        f"{room.names[0]}: remove the card that is in it",
         f"{room.names[0]}: row 2 done",
         "row 1 unsure: decide by --done 1 or --again 1",
         "1 of 2 rows done, 1 to decide",
@@ -449,7 +450,7 @@ def test_a_file_that_went_away_takes_no_row(tmp_path):
 def test_an_interrupted_run_lists_its_row(tmp_path):
     room = Room(tmp_path, 3)
     room.environment["SLOW"] = "0.2"
-    # a test in the background of a shell ignores the signal, and so would the run
+    # a shell's background job ignores the signal, and the run would inherit that
     before = signal.signal(signal.SIGINT, signal.default_int_handler)
     run = room.start()
     signal.signal(signal.SIGINT, before)
@@ -496,7 +497,7 @@ def test_two_runs_at_once(tmp_path):
 
 def test_killed_at_random(tmp_path):
     room, at_random, kills = Room(tmp_path, CARDS, readers=4), random.Random(7), 0
-    # slow enough that rows are left for each kill
+    # slow enough to leave rows for each kill
     room.environment["SLOW"] = "0.015"
     out = ""
     while not out.endswith(f"{CARDS} of {CARDS} rows done, 0 to decide\n"):

@@ -1,4 +1,4 @@
-"""The book of scripts, through the package: each script's stored output is what it prints."""
+"""Runs the book of scripts through the package. Each prints its stored output."""
 
 from pathlib import Path
 
@@ -11,7 +11,7 @@ CARDS = sorted(it for it in BOOK.rglob("*.card") if it.parent.name != "memory")
 
 
 def value(word):
-    """A value as scripts write it: digits, `HH*N`, or `-`."""
+    """The value of a word of a script: digits, `HH*N`, or `-`."""
     if word == "-":
         return b""
     digits, _, count = word.partition("*")
@@ -19,13 +19,13 @@ def value(word):
 
 
 def lines(script):
-    """The words of each line that says something."""
+    """The words of each line, without empty lines and comments."""
     text = script.read_text().splitlines()
     return [line.split() for line in text if line.strip() and line[0] != "#"]
 
 
 def built(words):
-    """The card that the first lines of a script build, and the other lines."""
+    """Builds the card of the first lines of a script. Returns it, and the other lines."""
     tables, locked = {}, set()
     for at, line in enumerate(words):
         if line[0] == "app":
@@ -41,7 +41,7 @@ def built(words):
 
 
 def table(holder):
-    """What `table` prints."""
+    """The output of `table`."""
     for aid in holder.applications:
         yield f"app {aid.hex().upper()}"
         for tag, data, is_locked in holder.entries(aid):
@@ -68,7 +68,7 @@ def operation(words):
 
 
 def played(script):
-    """What `card_trace play` prints of a script."""
+    """The output of `card_trace play` for a script."""
     card, words = built(lines(script))
     plans = []
     with Session(card) as session:
@@ -103,7 +103,7 @@ def test_play(script):
 
 
 def sent(card, words, answer):
-    """What `card_trace card` prints of one line; the bytes of the answer to reset come first."""
+    """The output of `card_trace card` for one line. The bytes of the answer to reset come first."""
     if words[0] == ">":
         given = bytes.fromhex(words[1])
         taken = 0 if answer else card.receive_bytes(given)

@@ -1,4 +1,4 @@
-"""Arguments, errors and handles: what each call takes, and what it raises otherwise."""
+"""Tests arguments, errors and handles: what each call takes, and what it raises."""
 
 import gc
 import threading
@@ -393,7 +393,7 @@ def test_a_second_thread_in_a_handle_is_refused():
     def stay():
         with held._alone():
             inside.set()
-            # not for ever: a call that waits for this thread goes on then, and the test fails
+            # with a limit: a call that waits for this thread then continues, and the test fails
             leave.wait(10)
 
     first = threading.Thread(target=stay)
@@ -408,7 +408,7 @@ def test_a_second_thread_in_a_handle_is_refused():
 
 
 def resident():
-    """The pages of memory that this process has."""
+    """The number of pages of this process in memory."""
     with open("/proc/self/statm") as file:
         return int(file.read().split()[1])
 
@@ -423,5 +423,5 @@ def test_ten_thousand_handles_leave_nothing():
     some(500)
     before = resident()
     some(5000)
-    # each pair holds 50 KB and more: what is left is under a byte of that for each
+    # each pair takes at least 50 KB, and less than a byte of that is left
     assert resident() - before < 256

@@ -1,4 +1,4 @@
-"""The examples in the docstrings of the package, and those of its README."""
+"""Tests the examples in the docstrings of the package and in its README, and its size."""
 
 import ast
 import doctest
@@ -16,7 +16,7 @@ import pytest
 from galliumtoad import Get, Select, Terminal
 
 MODULES = [it.name for it in pkgutil.iter_modules(galliumtoad.__path__) if it.name[0] != "_"]
-# what no caller has to know
+# Modules that no caller needs to know.
 WITHOUT = ("handle", "journal", "script")
 TOP = Path(__file__).resolve().parent.parent
 EXAMPLES = TOP / "examples"
@@ -39,7 +39,7 @@ def test_has_an_example(name):
 
 
 def run(name, **more):
-    """What an example prints."""
+    """The lines that an example prints."""
     program = [sys.executable, str(EXAMPLES / name)]
     done = subprocess.run(program, capture_output=True, text=True, check=True, **more)
     return done.stdout.splitlines()
@@ -79,7 +79,7 @@ def test_a_card_behind_a_pseudo_terminal():
 
 
 def code(file):
-    """The numbers of the lines that are neither blank nor a comment nor a docstring."""
+    """The numbers of the lines of code: without blank lines, comments and docstrings."""
     text, found = file.read_text(), set()
     for it in tokenize.generate_tokens(io.StringIO(text).readline):
         if it.string.strip() and it.type != tokenize.COMMENT:
@@ -91,6 +91,6 @@ def code(file):
 
 
 def test_the_package_stays_small():
-    """All of its files that are no tests and no examples."""
+    """Its files, without tests and examples."""
     files = [*TOP.glob("*.py"), *TOP.glob("src/**/*.py")]
     assert 500 < sum(len(code(it)) for it in files) <= 700

@@ -1,4 +1,4 @@
-"""Sessions beside a dict: random operations at both levels answer as the dict says."""
+"""Compares sessions with a dict: random operations at both levels have the answers of the dict."""
 
 from galliumtoad import Card, Get, Level, Put, Select, Session, Terminal, head
 from hypothesis import given, settings

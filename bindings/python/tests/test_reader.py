@@ -1,8 +1,9 @@
-"""Cards by the hundred over a pcscd of its own, whose readers' cards come and go: killed at random,
-with a full disk, a cut journal, two runs at once, pulled cards and cards of another profile. What
-the cards held as they went out decides, and not the journal.
+"""Tests batches of cards over a private pcscd whose readers change the cards. Runs are killed at
+random, have a full disk or a cut journal, or run twice at once. Some cards are removed in the
+middle, or have another profile. The contents of the removed cards decide the result, not the
+journal.
 
-In the environment, READER_CARDS, READER_KILLS and READERS are how many there are of each."""
+The environment may set READER_CARDS, READER_KILLS and READERS, the numbers of each."""
 
 import os
 import random
@@ -22,12 +23,12 @@ C = HERE.parents[1] / "c"
 CARDS = int(os.environ.get("READER_CARDS", 24))
 KILLS = int(os.environ.get("READER_KILLS", 3))
 READERS = int(os.environ.get("READERS", 2))
-# pcscd has its socket at one place: in a mount namespace of its own that is a folder of the test
+# pcscd has its socket at a fixed place. In a private mount namespace that is a folder of the test.
 PRIVATE = ["sh", "-c", 'mkdir -p /run/pcscd && mount --bind "$0" /run/pcscd && exec "$@"']
 
 
 def compiled(folder):
-    """The virtual reader that keeps what its cards hold."""
+    """Builds the virtual reader that records the contents of its cards."""
     library, made = folder / "libgalliumtoad.a", folder / "kept_reader.so"
     subprocess.run(["make", "-s", f"BUILD={folder}", library], cwd=C, check=True)
     flags = subprocess.run(
@@ -42,7 +43,7 @@ def compiled(folder):
 
 
 def missing():
-    """What is not here that the readers need, or None."""
+    """What is missing on this machine for the readers, or None."""
     for name in ("pcscd", "unshare", "pkg-config", "make", "cc"):
         if not shutil.which(name):
             return f"there is no {name}"
@@ -54,7 +55,7 @@ def missing():
 
 
 def namespace():
-    """The words that give a program a mount namespace, with the rights of root or without."""
+    """The words that run a program in a mount namespace, with or without the rights of root."""
     for words in (["unshare", "-m"], ["unshare", "-rm"]):
         tried = subprocess.run([*words, *PRIVATE, "/tmp", "true"], stderr=subprocess.DEVNULL)
         if tried.returncode == 0:
@@ -63,7 +64,8 @@ def namespace():
 
 
 class Desk(Room):
-    """A folder with a pcscd, readers, a table and a script, and somebody who changes the cards."""
+    """A folder with a pcscd, readers, a table and a script, and a program that changes the
+    cards."""
 
     def __init__(self, path, rows, readers):
         super().__init__(path, rows, 0)
@@ -74,7 +76,7 @@ class Desk(Room):
         self.readers = [f"--reader=Slot{at}" for at in range(readers)]
         with open(path / "reader.conf", "w") as file:
             for at in range(readers):
-                # the file has to be there as the reader begins
+                # the file has to exist when the reader starts
                 (path / f"card{at}").write_text("app A0000000999999\n")
                 file.write(f'FRIENDLYNAME "Slot{at} of {os.getpid()}"\n')
                 file.write(f"DEVICENAME {path}/card{at}\nLIBPATH {made}\nCHANNELID {at}\n")
@@ -109,20 +111,20 @@ class Desk(Room):
         raise AssertionError((self.path / "pcscd.log").read_text()[-2000:])
 
     def change(self):
-        """Waits until each card that is in a reader is out."""
+        """Waits until all cards are removed from the readers."""
         self.feeder.stdin.write("\n")
         self.feeder.stdin.flush()
         assert self.feeder.stdout.readline() == "\n"
 
     def close(self):
-        """Stops what was started; returns how many cards there were."""
+        """Stops all programs. Returns the number of cards."""
         count = self.feeder.communicate()[0] if self.feeder.returncode is None else 0
         self.pcscd.terminate()
         self.pcscd.wait()
         return int(count)
 
     def held(self):
-        """How many cards hold all values of a row, and how many some of them."""
+        """Counts the cards with all values of a row, and those with some of them."""
         whole, some = Counter(), Counter()
         for line in (self.path / "kept").read_text().splitlines():
             values = dict(it.split("=") for it in line.split()[1:])
@@ -134,9 +136,10 @@ class Desk(Room):
         return whole, some
 
     def wait_for_rows(self, runs, part, at_random):
-        """Waits until these runs have done some of the rows that are left, at most this part."""
+        """Waits until these runs have done a random part of the rows that are left, at most
+        `part`."""
         left = self.rows - sum(it.startswith("done ") for it in self.journal())
-        # a row has two lines of the journal
+        # a row has two lines in the journal
         size = len(f"begin {left} {self.names[0]}\ndone {left}\n")
         file = self.path / "journal"
         end = file.stat().st_size + at_random.random() * part * left * size
@@ -145,7 +148,8 @@ class Desk(Room):
         time.sleep(at_random.uniform(0, 0.05))
 
     def decide(self):
-        """Says of each row that is to be decided what the cards hold; returns how many."""
+        """Decides each undecided row by the contents of the cards. Returns the number of these
+        rows."""
         left = self.to_decide()
         if left:
             self.change()
@@ -155,7 +159,7 @@ class Desk(Room):
         return len(left)
 
     def cut(self, at_random):
-        """Leaves a line without its end, as a crash while it is written does."""
+        """Cuts the last line of the journal, like a crash during a write."""
         text = (self.path / "journal").read_text()
         *lines, last = text.splitlines(keepends=True)
         if lines and last.split()[0] in ("done", "failed", "unused", "unsure"):
@@ -165,7 +169,7 @@ class Desk(Room):
         (self.path / "journal").write_text(text + last[: at_random.randrange(1, len(last))])
 
     def start_full(self, room):
-        """A run whose files may grow by so many bytes."""
+        """Starts a run whose files may grow by `room` bytes."""
         size = (self.path / "journal").stat().st_size + room
         program = self.words()
         program[1:3] = ["-c", FULL.format(size)]
@@ -173,7 +177,7 @@ class Desk(Room):
 
 
 def kill(run, at_random):
-    """Kills a run: all its processes, or one of its readers', or the one that began them."""
+    """Kills all processes of a run, or one reader's, or the first process."""
     how = at_random.choice(["all", "all", "one", "first"])
     children = Path(f"/proc/{run.pid}/task/{run.pid}/children")
     of_readers = children.read_text().split() if children.exists() else []
@@ -233,6 +237,6 @@ def test_over_a_pcscd(desk):
 
 
 def kind_of(line):
-    """A line of a run's output, without what differs from card to card."""
+    """The form of a line of output, without the parts that differ between cards."""
     words = line.split(": ", 1)[-1].split()
     return " ".join(it for it in words if not it.isdigit())

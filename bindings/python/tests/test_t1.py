@@ -1,4 +1,5 @@
-"""T=1 beside a dict, over a line that damages and loses. checks/serial has the card's end."""
+"""Compares T=1 with a dict, over a line that damages and loses blocks. The card's end is that of
+checks/serial."""
 
 import sys
 from pathlib import Path
@@ -23,7 +24,7 @@ class Objects:
 
 
 class Line:
-    """The line and the card behind it. A block comes in two parts."""
+    """A line with a card. It returns each block in two parts."""
 
     def __init__(self, card, noise):
         self.end, self.noise, self.left = t1_card.Card(Objects(card)), noise, b""

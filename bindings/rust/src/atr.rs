@@ -34,7 +34,7 @@ codes! {
         /// The T that this TD names is below the one before it, or is 15 in TD1.
         OutOfOrder = -73, "T out of order";
         /// Characters follow the end.
-        Surplus = -74, "characters behind the answer to reset";
+        Surplus = -74, "characters after the answer to reset";
         /// TCK is missing, which a T other than 0 requires.
         CheckMissing = -75, "check byte missing";
         /// One byte follows the end, and TCK is not expected.

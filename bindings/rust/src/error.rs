@@ -106,7 +106,7 @@ codes! {
         /// The bytes are no whole TPDU.
         NoTpdu = -64, "no whole TPDU";
         /// The card takes data, and the TPDU has none: deadlock.
-        WantsData = -65, "card takes data not given";
+        WantsData = -65, "card expects data not sent";
         /// The card sends data, and the TPDU asks for none.
         SendsData = -66, "card sends data not asked for";
     }

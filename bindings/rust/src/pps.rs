@@ -48,7 +48,7 @@ codes! {
         /// Bit 8 of PPS0 is 1, which is reserved.
         Reserved = -82, "PPS0 reserved";
         /// Characters follow PCK.
-        Surplus = -83, "characters behind PCK";
+        Surplus = -83, "characters after PCK";
         /// PCK does not make the exclusive-or of all characters `00`.
         CheckWrong = -84, "wrong PCK";
     }

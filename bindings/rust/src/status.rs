@@ -41,7 +41,7 @@ impl Status {
     pub fn text(self) -> &'static str {
         match self.0 {
             0x9000 => "ok",
-            0x6100..=0x61FF => "more data wait",
+            0x6100..=0x61FF => "more data available",
             0x6581 => "memory failure",
             0x6700 => "wrong length",
             0x6883 => "last command of the chain expected",
@@ -53,7 +53,7 @@ impl Status {
             0x6A84 => "not enough memory space",
             0x6A86 => "wrong P1-P2",
             0x6A88 => "data object not found",
-            0x6C00..=0x6CFF => "fewer data are there than asked for",
+            0x6C00..=0x6CFF => "fewer data than asked for",
             0x6D00 => "INS not supported",
             0x6E00 => "CLA not supported",
             _ => "unknown status",

@@ -19,9 +19,9 @@ codes! {
     /// Why a terminal's end at T=1 gave up. Each has the number that `galliumtoad.h` gives it.
     Cause {
         /// Too many receptions in a row brought no step forward.
-        TriesSpent = -90, "no valid block, too often";
+        TriesSpent = -90, "too many tries without a valid block";
         /// The card asked for more time or another IFSC too often.
-        ExtensionsSpent = -91, "too many requests of the card";
+        ExtensionsSpent = -91, "too many requests from the card";
         /// The card ended the chain in progress: S(ABORT request).
         Aborted = -92, "aborted by the card";
         /// The response is longer than the limit.

@@ -236,7 +236,7 @@ fn each_fault_has_its_place() {
             b"\x3B\x00\x00\x00",
             AtrReason::Surplus,
             2,
-            "characters behind the answer to reset at 2",
+            "characters after the answer to reset at 2",
         ),
         (
             b"\x3B\x80\x01",
@@ -317,7 +317,7 @@ fn responses_agree_or_not() {
         (
             b"\xFF\x00\xFF\x00",
             PpsError::Surplus,
-            "characters behind PCK",
+            "characters after PCK",
         ),
         (b"\xFF\x10\x96\x78", PpsError::CheckWrong, "wrong PCK"),
     ];

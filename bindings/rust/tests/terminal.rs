@@ -255,14 +255,14 @@ fn a_transport_that_fails_is_told_and_nothing_is_sent_again() {
     let mut times = 0;
     let mut reader = |_: &[u8], _: &mut [u8]| {
         times += 1;
-        let why = "the card was taken out";
+        let why = "the card was removed";
         Err(io::Error::new(io::ErrorKind::BrokenPipe, why))
     };
     let mut terminal = Terminal::new().expect("memory");
     let found = terminal
         .run(&mut reader, Operation::Select(&AID))
         .expect_err("a fault");
-    assert_eq!(found.to_string(), "the card was taken out");
+    assert_eq!(found.to_string(), "the card was removed");
     assert!(found.source().is_none());
     assert!(matches!(found, RunError::Transport(it) if it.kind() == io::ErrorKind::BrokenPipe));
     assert_eq!(times, 1);

@@ -54,7 +54,7 @@ def _object(found: Any, data: bytes) -> Object:
 def objects(data: Bytes) -> list[Object]:
     """Returns all objects of a list, a template before the objects in it (EMV Book 3, Annex B).
 
-    Raises `ObjectsError` with the place of the first fault if the bytes are no list.
+    Raises `ObjectsError` with the place of the first fault if the bytes are not a list.
 
     >>> import galliumtoad
     >>> [(hex(it.tag), it.level, it.value.hex()) for it in
@@ -70,7 +70,7 @@ def objects(data: Bytes) -> list[Object]:
 def find(data: Bytes, *path: int) -> Optional[Object]:
     """Returns the first object whose tags, from level 1 to its own, are this path, or None.
 
-    Raises `ObjectsError` as `objects`, and `CallError` if a step is no tag.
+    Raises `ObjectsError` as `objects`, and `CallError` if a step is not a tag.
 
     >>> import galliumtoad
     >>> galliumtoad.find(bytes.fromhex("6F0584034A4F45"), 0x6F, 0x84).value
@@ -118,8 +118,8 @@ class Atr:
     header, as attributes.
 
     `protocols` is a tuple, in the order offered. `historical` has the historical bytes, `t1` the
-    values for T=1. Raises `AtrError` with the place of the first fault if the bytes are no answer
-    to reset.
+    values for T=1. Raises `AtrError` with the place of the first fault if the bytes are not an
+    answer to reset.
 
     >>> from galliumtoad import Atr
     >>> Atr(bytes.fromhex("3B0214"))

@@ -113,10 +113,18 @@ def state_of(context: Any, name: str, known: int, wait: int) -> int:
     return int(found[0][1] & ~scard.SCARD_STATE_CHANGED) if found else known
 
 
+def give_row(batch: Batch, journal: Journal, name: str, reader: Transport) -> None:
+    """Carries out the script for the next free row, if any, and notes how the row ended."""
+    if number := journal.take(name):
+        outcome, why = carry_out(batch, journal, number, reader)
+        journal.note(number, outcome, why)
+        say(name, f"row {number} {outcome}{why and ': ' + why}")
+
+
 def serve(batch: Batch, name: str, is_begun: bool = False) -> None:
     """Serves one reader until no row is free: each new card gets a row.
 
-    In a batch that was begun, the card in the reader may have a row already: it is passed over.
+    In a batch that was begun, the card in the reader may have a row already: it is skipped.
     Ends the process if the journal can't be written, the reader is gone, or another run on this
     machine serves it.
     """
@@ -131,7 +139,7 @@ def serve(batch: Batch, name: str, is_begun: bool = False) -> None:
         known, used, said = state_of(context, name, scard.SCARD_STATE_UNAWARE, 0), -1, ""
         if is_begun and known & scard.SCARD_STATE_PRESENT:
             used = known >> 16
-            say(name, "take out the card that is in it")
+            say(name, "remove the card that is in it")
         while journal.count("free") and (not program or program.is_alive()):
             # The upper 16 bits count insertions and removals.
             if known & scard.SCARD_STATE_PRESENT and known >> 16 != used:
@@ -139,12 +147,8 @@ def serve(batch: Batch, name: str, is_begun: bool = False) -> None:
                     card = PCSCCardConnection(name)
                     card.connect(None, scard.SCARD_SHARE_EXCLUSIVE, scard.SCARD_RESET_CARD)
                     # The card may have changed between the last look and this connection.
-                    known = state_of(context, name, known, 0)
-                    used = known >> 16
-                    if number := journal.take(name):
-                        outcome, why = carry_out(batch, journal, number, transport(card))
-                        journal.note(number, outcome, why)
-                        say(name, f"row {number} {outcome}{why and ': ' + why}")
+                    used = (known := state_of(context, name, known, 0)) >> 16
+                    give_row(batch, journal, name, transport(card))
                     with contextlib.suppress(SmartcardException):
                         card.disconnect()
                     continue
@@ -191,7 +195,7 @@ def parsed(words: Optional[list[str]]) -> argparse.Namespace:
     parser.add_argument("--journal", required=True, help="the file that records each row")
     parser.add_argument("--reader", action="append", default=[], help="a part of its name")
     parser.add_argument("--id", type=tag, help="the tag of a data object to record for each card")
-    parser.add_argument("--status", action="store_true", help="print how the rows stand, and end")
+    parser.add_argument("--status", action="store_true", help="print the rows' states, and end")
     for word in ("--done", "--again"):
         parser.add_argument(word, type=int, action="append", default=[], metavar="N")
     return parser.parse_args(words)

@@ -91,7 +91,7 @@ class Card(Holder):
         """Carries out a whole TPDU, and returns the card's data and SW1 SW2.
 
         Errors:
-        - TransportError, GT_NO_TPDU: the bytes are no TPDU; nothing has changed.
+        - TransportError, GT_NO_TPDU: the bytes are not a TPDU; nothing has changed.
         - TransportError, GT_WANTS_DATA or GT_SENDS_DATA: the TPDU lacks data that the card takes,
           or asks for none of those that it sends; the card is reset.
         """
@@ -100,7 +100,8 @@ class Card(Holder):
     def apdu(self, command: Bytes) -> bytes:
         """Carries out a whole command, as a card at T=1, and returns the data and SW1 SW2.
 
-        Raises `CommandError` or `TransportError` if the bytes are no command; nothing has changed.
+        Raises `CommandError` or `TransportError` if the bytes are not a command; nothing has
+        changed.
         """
         return self._copied("apdu", *readable(command), room=lib.GT_ANSWER_LIMIT)
 
@@ -111,7 +112,7 @@ class Card(Holder):
         return int(taken[0])
 
     def send_bytes(self, room: int = 1024) -> bytes:
-        """Returns the next characters of the card, at most `room`. There are none if it listens."""
+        """Returns the card's next characters, at most `room`, or no bytes if it listens."""
         return self._copied("send_bytes", room=within(room, 0, 1 << 30, "the room"))
 
 
@@ -136,7 +137,7 @@ class Session(Holder):
 
     def __init__(self, card: Card) -> None:
         if not isinstance(card, Card):
-            raise TypeError(f"{type(card).__name__} is no card")
+            raise TypeError(f"{type(card).__name__} is not a card")
         with card._alone():
             super().__init__("session", ("start", card._handle))
 

@@ -44,11 +44,11 @@ class LineError(Error):
 
 
 class ObjectsError(Error):
-    """The bytes are no list of data objects."""
+    """The bytes are not a list of data objects."""
 
 
 class CommandError(Error):
-    """The bytes are no command."""
+    """The bytes are not a command."""
 
 
 class TransportError(Error):
@@ -56,16 +56,16 @@ class TransportError(Error):
 
 
 class AtrError(Error):
-    """The bytes are no answer to reset."""
+    """The bytes are not an answer to reset."""
 
 
 class PpsError(Error):
-    """The bytes are no PPS response."""
+    """The bytes are not a PPS response."""
 
 
 class BlockError(Error):
-    """A terminal's end at T=1 gave up. `outcome` tells whether the card carried out the command:
-    `no`, `unknown`, or `in part` if a part of the response came."""
+    """A terminal's end at T=1 gave up. `outcome` is whether the card carried out the command:
+    `no`, `unknown`, or `in part` if a part of the response arrived."""
 
     def __init__(self, code: int, outcome: Optional[int] = None) -> None:
         super().__init__(code)

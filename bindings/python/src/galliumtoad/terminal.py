@@ -64,7 +64,7 @@ def call_of(operation: Operation) -> list[Any]:
     """Returns the library's name of an operation, and its arguments. Raises `TypeError`."""
     kind = type(operation)
     if kind not in (Select, Get, Put, Send):
-        raise TypeError(f"{kind.__name__} is no operation")
+        raise TypeError(f"{kind.__name__} is not an operation")
     words: list[Any] = [kind.__name__.lower()]
     for name, value in vars(operation).items():
         words += [tag_number(value)] if name == "tag" else readable(value)
@@ -82,8 +82,8 @@ class Machine(Handle):
     """What a terminal and an exchange share: characters, TPDUs and commands, and the answer."""
 
     def send_bytes(self) -> bytes:
-        """Returns all characters that go to the card now. There are none if the card's are next, or
-        after the end. Raises `CallError`, GT_FAILED, after a fault."""
+        """Returns all characters that go to the card now. If the card sends next, or after the end,
+        these are no bytes. Raises `CallError`, GT_FAILED, after a fault."""
         # It never sends more than a header, or the data of one command, before it listens.
         return self._copied("send_bytes", room=lib.GT_TPDU_LIMIT + 1)
 
@@ -132,7 +132,7 @@ class Machine(Handle):
 class Exchange(Machine):
     """Begins the terminal's end of one command. `limit`, up to 16,384, bounds the response's bytes.
 
-    Raises `CommandError` if the bytes are no command, `CallError` for another limit.
+    Raises `CommandError` if the bytes are not a command, `CallError` for another limit.
 
     >>> from galliumtoad import Card, Exchange
     >>> with Card({bytes(5): {}}) as card:
@@ -176,7 +176,7 @@ class Terminal(Machine, Lasting):
           is unknown, so reset it too.
         """
         if not callable(transport):
-            raise TypeError("the transport is no callable")
+            raise TypeError("the transport is not callable")
         self.begin(operation)
         is_whole = getattr(transport, "level", Level.TPDU) is Level.APDU
         due, take = (self.apdu, self.responded) if is_whole else (self.tpdu, self.answered)
@@ -187,7 +187,7 @@ class Terminal(Machine, Lasting):
             self.reset()
             raise
         answer = self.answer()
-        assert answer is not None, "an operation with nothing due is over"
+        assert answer is not None, "an operation with nothing due has ended"
         return answer
 
 
@@ -198,7 +198,7 @@ class T1(Lasting):
     are those of `Atr.t1`. Raises `CallError` for an EDC other than LRC, or an IFSC out of range.
 
     The line is a callable with two arguments. It sends the bytes of the first, if there are any,
-    and returns the bytes that came since. It returns none if nothing came in time: within BWT times
+    and returns the bytes received since. It returns no bytes if none came in time: within BWT times
     the second argument after a block was sent, and within CWT inside a block.
 
     >>> from galliumtoad import T1, BlockError
@@ -207,14 +207,14 @@ class T1(Lasting):
     ...         no_card(bytes.fromhex("00CA005000"))
     ...     except BlockError as error:
     ...         print(f"{error}: carried out: {error.outcome}")
-    no valid block, too often: carried out: no
+    too many tries without a valid block: carried out: no
     """
 
     level = Level.APDU
 
     def __init__(self, line: Line, edc: int = lib.GT_LRC, ifsc: int = 32) -> None:
         if not callable(line):
-            raise TypeError("the line is no callable")
+            raise TypeError("the line is not callable")
         self.line, limits = line, (lib.GT_T1_TRIES, lib.GT_T1_EXTENSIONS, lib.GT_ANSWER_LIMIT)
         said = within(edc, 0, 255, "EDC"), within(ifsc, 0, 255, "IFSC")
         super().__init__("t1", ("new", *said, *limits))

@@ -1,11 +1,11 @@
-"""Takes cards out of readers of kept_reader.so and puts others in, as somebody at a desk does.
+"""Removes cards from readers of kept_reader.so and inserts others, like a person at a desk.
 
-usage: feed.py FOLDER READERS    the card of reader N is there while the file FOLDER/cardN is
+    feed.py FOLDER READERS
 
-A card that was used and let go is changed, and one for which nothing happens after a while. Some
-are of another profile, some have no identifier, and some are pulled while they are used. For each
-line of its input it changes all cards that nobody uses, and prints a line then. At the end of the
-input it prints how many cards there were."""
+The card of reader N is present while the file FOLDER/cardN exists. This changes a card after its
+use, or if nothing happens for a while. Some cards have another profile, some have no identifier,
+and some are removed during their use. For each line of input it changes all cards that are not in
+use, and then prints a line. At the end of the input it prints the number of cards."""
 
 import sys
 import threading
@@ -19,7 +19,7 @@ IDLE = 0.5
 
 
 class Desk(threading.Thread):
-    """What is done at one reader."""
+    """Changes the cards of one reader."""
 
     def __init__(self, folder, at):
         super().__init__(daemon=True)
@@ -35,7 +35,8 @@ class Desk(threading.Thread):
         return bool(state & flag)
 
     def wait(self, flag, wanted, seconds=1e9):
-        """Waits until the reader has this flag, or has it no more; False if it does not."""
+        """Waits until the reader has this flag, or no longer has it. Returns False after the
+        time."""
         end = time.monotonic() + seconds
         while self.has(flag) != wanted:
             if time.monotonic() > end or (seconds < 1e9 and self.must_change.is_set()):
@@ -64,8 +65,8 @@ class Desk(threading.Thread):
                     self.wait(scard.SCARD_STATE_EXCLUSIVE, False)
             self.file.unlink()
             self.wait(scard.SCARD_STATE_PRESENT, False)
-            # A transmission that finds no card ends sooner than pcscd's own look at it: it would
-            # take a card that is there at once for the old one.
+            # A command that finds no card ends before pcscd looks for the card. Without a pause
+            # pcscd would take the next card for the old one.
             time.sleep(0.03)
             self.number += 1
 

@@ -1,11 +1,11 @@
-/* The virtual reader for tests of the batch: what a card holds is written to the file KEPT as it is
- * taken out, a line for each card. So a test counts what cards hold, and not what a program says.
- * pcscd looks every 5 ms whether a card is there. */
+/* The virtual reader for tests of batches. When a card is removed, it writes the card's contents to
+ * the file KEPT, a line for each card. So a test counts the contents of cards, and does not rely on
+ * a program's output. pcscd looks for a card every 5 ms. */
 #include <galliumtoad.h>
 
 static void keep_and_free(gt_card *card);
 
-/* virtual_reader.c has these two by another name */
+/* These rename two functions of virtual_reader.c. */
 #define gt_card_free(card) keep_and_free(card)
 #define IFDHGetCapabilities most_capabilities
 #include "virtual_reader.c"

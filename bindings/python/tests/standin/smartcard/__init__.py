@@ -1,11 +1,11 @@
-"""A stand-in for pyscard: readers whose cards come and go, over a folder (STANDIN).
+"""A stand-in for pyscard: readers whose cards are changed, in a folder (STANDIN).
 
-Each reader is a folder with a file `card`, the number of the card in it; each card is a file of its
-tables in `cards/`, written anew after each command that changes them. When a connection ends, the
-card is taken out and the next one put in; if STAYS is set, only after a while. If SWAPS is set,
-half of the cards are changed just before a connection. An answer takes SLOW seconds, or none. Some
-cards are of another profile, some are taken out in the middle, and some store another byte than
-was sent. While there is a file `gone`, nothing answers.
+Each reader is a folder with a file `card`, the number of its card. Each card is a file of its
+tables in `cards/`, written again after each command that changes them. When a connection ends, the
+next card replaces the card; if STAYS is set, only after a while. If SWAPS is set, half of the cards
+are replaced just before a connection. An answer takes SLOW seconds, or no time. Some cards have
+another profile, some are removed in the middle, and some store a wrong byte. While the file `gone`
+exists, nothing answers.
 """
 
 import json
@@ -60,11 +60,11 @@ class InReader:
         time.sleep(float(os.environ.get("SLOW", 0)))
         if self.is_pulled_at == 0:
             put_in(self.reader, self.number + 1)
-            raise ConnectionError("the card was taken out")
+            raise ConnectionError("the card was removed")
         if self.is_pulled_at:
             self.is_pulled_at -= 1
         if self.number % 29 == 11 and tpdu[:4] == [0, 0xDA, 0, 0x50]:
-            # a worn cell
+            # a worn-out memory cell
             tpdu = [*tpdu[:-1], tpdu[-1] ^ 1]
         try:
             answer = self.card.tpdu(bytes(tpdu))

@@ -26,7 +26,7 @@ def SCardGetStatusChange(context, timeout, states):
         time.sleep(min(timeout, 20) / 1000)
         waited[reader] = waited.get(reader, 0) + 1
         if waited[reader] == 5:
-            # somebody changes a card for which nothing happens
+            # a card without activity is changed
             waited[reader] = 0
             smartcard.put_in(reader, smartcard.number_in(reader) + 1)
     if state == known:

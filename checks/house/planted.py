@@ -7,14 +7,17 @@ from sources import Repository
 LIST = "checks/house/stays.txt"
 DONE = "checks/house/plain.txt"
 PHRASES = "checks/house/phrases.txt"
+TOOL = "tools/lamp.c"
 
 SOUND = {
     "crates.txt": "low:\nhigh: low\n",
     LIST: "# nothing has to stay\n",
-    DONE: "# what is plain\ncrates/low/\ndocs/LAMPS.md\nbindings/lamp.h\n",
+    DONE: "# what is plain\ncrates/low/\ndocs/LAMPS.md\ntools/\nbindings/lamp.h\n",
     PHRASES: "# phrases\nis told: shows\n",
     "docs/LAMPS.md": "# Lamps\n\n| Lamp | Light |\n|---|---|\n| `a` | red |\n\nOne burns.\n",
     "bindings/lamp.h": "/* A lamp,\n * and its light. */\nint lamp(void);\n",
+    TOOL: '/* Lights a lamp. */\nstatic const char *const HELP =\n    "It is "\n    "lit\\n";\n',
+    "tools/lamp.help": "Lights a lamp.\n",
     "docs/RULES.md": "# Rules\n\n## Lamps\n\n- A lamp is lit or dark. (`IsLit`)\n",
     "crates/low/src/lib.rt": (
         "//! Lamps.\n\nmod lamp;\nmod wire;\n\npub use lamp::Lamp;\n\npub struct Shade;\n"
@@ -116,12 +119,14 @@ FAULTS = [
         ("crates/low/specs/Lamp.antt", "what a lamp hangs on", "what is told"),
     ]),
     ("phrase", "bindings/lamp.h", 2, [("bindings/lamp.h", "its light", "what is told")]),
+    ("phrase", TOOL, 3, [(TOOL, "lit", "told")]),
+    ("phrase", "tools/lamp.help", 1, [("tools/lamp.help", "Lights a lamp", "It is told")]),
     ("phrase", PAGE, 5, [(PAGE, "red", "is told")]),
     ("phrase", PAGE, 1, [(PAGE, "# Lamps", "# What is told")]),
     ("sentence", PAGE, 7, [(PAGE, "One burns.", f"One burns. {MOST} `a lit lamp`.")]),
     ("sentence", LAMP, 7, [(LAMP, "Lights it.", f"{MOST[:80]}\n    /// {MOST[80:]} word.")]),
     ("cell", PAGE, 5, [(PAGE, "red", "x" * 301)]),
-    ("list", DONE, 5, [(DONE, "lamp.h\n", "lamp.h\ncrates/lost/\n")]),
+    ("list", DONE, 6, [(DONE, "lamp.h\n", "lamp.h\ncrates/lost/\n")]),
     ("list", LIST, 2, [(LIST, "stay\n", "stay\nlong crates/low/src/lamp.rt: it was long once\n")]),
     ("list", LIST, 2, [(LIST, "stay\n", "stay\nlong crates/low/src/lamp.rt\n")]),
 ]
@@ -130,6 +135,7 @@ FAULTS = [
 PLAIN = [
     (LAMP, "Lights it.", "Lights `what is told`. Who is, told him."),
     (HOUSE, "IsDark :", "IsDark : -- is told\n  "),
+    (TOOL, '"It is "\n    "lit', '"It is",\n    "told'),
     (PAGE, "One burns.", f"{MOST}. {MOST}.\n\n```c\nis told {MOST} {MOST}\n```\n"),
     (PAGE, "red", "x" * 300),
 ]

@@ -11,7 +11,7 @@ from pathlib import Path
 NOT_READ = re.compile(
     r"(.*/)?(\.git|__pycache__)|(crates/\w+/)?out|bindings/(c/build|rust/target)"
 )
-READ = {".rt", ".antt", ".c", ".h", ".rs", ".py", ".md", ".txt"}
+READ = {".rt", ".antt", ".c", ".h", ".rs", ".py", ".md", ".txt", ".help"}
 
 WORD = re.compile(r'[^\s(){}\[\],;.:`"]+')
 IMPORT = re.compile(

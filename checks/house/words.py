@@ -1,12 +1,13 @@
 """The style of comments and documents: phrases that have a plainer form (phrases.txt), sentences of
-more than 35 words, and cells of tables of more than 300 characters.
+more than 35 words, and cells of tables of more than 300 characters. For the texts that tools in C
+print, their strings and *.help, it checks the phrases alone.
 
 It looks at the files that plain.txt lists: those that have been rewritten. Code in fences and
 spans is ignored; a span, or a row of them, counts as one word."""
 
 import re
 
-from comments import blocks, is_cut
+from comments import LEXED, blocks, is_cut
 from findings import Finding
 
 PHRASES = "checks/house/phrases.txt"
@@ -20,6 +21,8 @@ SENTENCE_END = re.compile(r"""(?<!\.)[.!?][)"'*_]*\s+(?=[^a-z\s])""")
 SPAN = re.compile(r"(`+).+?\1")
 LINK = re.compile(r"\[([^\]]*)\]\([^)]*\)")
 ITEM = re.compile(r"\s*(?:[-*+]|\d+\.)\s+")
+# A source of a program in C, whose strings are printed. Tests also have the names of their helpers.
+TOOL = re.compile(r"(?:.*/)?(?:tools|examples)/[^/]+\.c")
 
 
 def listed(text):
@@ -72,6 +75,23 @@ def read(path, text):
             yield from paragraphs(line, lines)
 
 
+def printed(path, text):
+    """The first line and the text of each text that a tool prints. Strings in C that follow one
+    another are one text."""
+    if path.endswith(".help"):
+        yield 1, text
+    elif TOOL.fullmatch(path):
+        found, is_open = [], False
+        for it in LEXED.finditer(text):
+            if it[0].startswith('"') and is_open:
+                found[-1][1] += it[0][1:-1]
+            elif it[0].startswith('"'):
+                found.append([text.count("\n", 0, it.start()) + 1, it[0][1:-1]])
+            is_open = it[0].startswith('"') or (is_open and it[0].isspace())
+        for line, said in found:
+            yield line, said.replace("\\n", "\n")
+
+
 def sentences(text):
     start = 0
     for it in SENTENCE_END.finditer(text):
@@ -90,18 +110,25 @@ def of_paragraph(path, line, text, is_cell, phrases):
     if is_cell and len(text) > MOST_CHARACTERS:
         what = f"a cell of {len(text)} characters: '{begins} ..'"
         yield Finding("cell", path, line, begins, what)
-    text = LINK.sub(r"\1", text)
-    plain = SPAN.sub(lambda it: "`x`" + "\n" * it[0].count("\n"), text)
-    for pattern, phrase, better in phrases:
-        for it in pattern.finditer(plain):
-            at = line + plain.count("\n", 0, it.start())
-            yield Finding("phrase", path, at, phrase, f"'{phrase}': write {better}")
+    plain = without_spans(LINK.sub(r"\1", text))
+    yield from of_phrases(path, line, plain, phrases)
     for start, sentence in sentences(plain):
         if (count := count_words(sentence)) > MOST_WORDS:
             at = line + plain.count("\n", 0, start)
             begins = " ".join(sentence.split()[:FIRST_WORDS])
             what = f"a sentence of {count} words: '{begins} ..'"
             yield Finding("sentence", path, at, begins, what)
+
+
+def without_spans(text):
+    return SPAN.sub(lambda it: "`x`" + "\n" * it[0].count("\n"), text)
+
+
+def of_phrases(path, line, plain, phrases):
+    for pattern, phrase, better in phrases:
+        for it in pattern.finditer(plain):
+            at = line + plain.count("\n", 0, it.start())
+            yield Finding("phrase", path, at, phrase, f"'{phrase}': write {better}")
 
 
 def read_phrases(text):
@@ -124,3 +151,5 @@ def findings(repository):
         if any(is_in(path, place) for _, place in done):
             for line, said, is_cell in read(path, text):
                 yield from of_paragraph(path, line, said, is_cell, phrases)
+            for line, said in printed(path, text):
+                yield from of_phrases(path, line, without_spans(said), phrases)

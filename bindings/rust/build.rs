@@ -64,8 +64,8 @@ fn link(folder: &Path, library: &str) -> bool {
 fn link_nothing() {
     let target = env::var("TARGET").unwrap_or_default();
     println!(
-        "cargo:warning=no archive for {target}, so that no program can be linked: there are those \
-         for {}. GALLIUMTOAD_LIB_DIR may name a folder with a libgalliumtoad.a",
+        "cargo:warning=no archive for {target}, so no program can be linked. The archives are for \
+         {}. GALLIUMTOAD_LIB_DIR may name a folder with a libgalliumtoad.a",
         TARGETS.join(" and ")
     );
     println!("cargo:rustc-link-lib=galliumtoad-has-no-archive-for-{target}");

@@ -270,7 +270,7 @@ def never_stops():
     try:
         with tempfile.TemporaryDirectory() as folder:
             path = card_cases.table(folder, f"atr {QUICK}\n{card_cases.APP}")
-            program = Program("serial_card", ["--no-echo", line.name, path])
+            program = Program("serial_card", ["--no-echo", "--slack", "5000", line.name, path])
             other = Other(line, echo=False)
             play(other, f"< {QUICK} > {block('C1', 'FE')}", card=False)
             for _ in range(10000):

@@ -29,7 +29,7 @@
 struct virtual_reader {
     int is_used, is_powered;
     int has_card;
-    int is_refused;         /* the file is no table: it must be moved before another is read */
+    int is_refused;         /* the file is invalid, and must be moved before another is read */
     DWORD lun;
     char name[NAME_ROOM];   /* of the table's file */
     struct table table;
@@ -159,7 +159,7 @@ RESPONSECODE IFDHSetCapabilities(DWORD Lun, DWORD Tag, DWORD Length, PUCHAR Valu
     return IFD_NOT_SUPPORTED;
 }
 
-/* Whether the card's answer to reset offers a protocol. One that is no such answer offers T=0. */
+/* Whether the card's answer to reset offers a protocol. An invalid answer offers T=0. */
 static int is_offered(const struct virtual_reader *reader, DWORD t)
 {
     const struct table *table = &reader->table;

@@ -595,7 +595,7 @@ GT_MUST_CHECK int32_t gt_objects(const uint8_t *bytes, size_t n, gt_object *obje
  * - GT_OK: it is there. Nothing else changes `object`.
  * - GT_NOT_FOUND: the bytes are a list of objects without such an object, or the path has no
  *   steps.
- * - GT_ARGUMENT: a step is no tag of one to three bytes, whatever the bytes are.
+ * - GT_ARGUMENT: a step is not a tag of one to three bytes, whatever the bytes are.
  * - GT_TAG_CUT to GT_TOO_DEEP: the bytes are no list of objects, wherever the path leads. This is
  *   their first fault, and `place` gets its place as in `gt_objects`. Nothing else changes
  *   `place`. */

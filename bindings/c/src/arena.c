@@ -14,7 +14,7 @@
 #define UNIT ((size_t)16)
 
 struct block {
-    size_t size; /* bytes behind this head */
+    size_t size; /* bytes after this head */
     struct block *next;
     bool used;
 };

@@ -1,6 +1,6 @@
-/* The library's memory from malloc and free. Blocks held values and commands, so each is wiped
- * before it is freed, also one that is made longer or shorter. Its content goes to a new block,
- * since realloc would leave the old place unwiped. */
+/* The library's memory from malloc and free. Blocks hold values and commands, so each is wiped
+ * before it is freed. If a block grows or shrinks, its bytes move to a new block, since realloc
+ * would leave the old place unwiped. */
 #include "galliumtoad_heap.h"
 
 #include <stdint.h>

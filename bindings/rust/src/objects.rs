@@ -32,7 +32,7 @@ codes! {
 pub enum ObjectsError {
     /// Memory ran out.
     Memory,
-    /// A step of the path is no tag of one to three bytes.
+    /// A step of the path is not a tag of one to three bytes.
     NoTag,
     /// The bytes are no list of objects. This is their first fault, from the left.
     #[non_exhaustive]
@@ -55,7 +55,7 @@ impl fmt::Display for ObjectsError {
     fn fmt(&self, f: &mut fmt::Formatter<'_>) -> fmt::Result {
         match self {
             ObjectsError::Memory => f.write_str("out of memory"),
-            ObjectsError::NoTag => f.write_str("a step is no tag"),
+            ObjectsError::NoTag => f.write_str("a step is not a tag"),
             ObjectsError::Fault { place, reason } => write!(f, "{reason} at {place}"),
         }
     }
@@ -193,7 +193,7 @@ impl std::iter::FusedIterator for Objects<'_> {}
 ///
 /// # Errors
 ///
-/// - [`ObjectsError::NoTag`]: a step is no tag, whatever the bytes are.
+/// - [`ObjectsError::NoTag`]: a step is not a tag, whatever the bytes are.
 /// - [`ObjectsError::Fault`]: the bytes are no list of objects, wherever the path leads; this is
 ///   their first fault.
 pub fn find<'a>(bytes: &'a [u8], path: &[u32]) -> Result<Option<Object<'a>>, ObjectsError> {

@@ -73,7 +73,7 @@ fn objects_are_found_by_path() {
     assert_eq!(find(&[], &[0x50]), Ok(None));
     let no_tag = find(list, &[0x70, 0x5F]).expect_err("a fault");
     assert_eq!(no_tag, ObjectsError::NoTag);
-    assert_eq!(no_tag.to_string(), "a step is no tag");
+    assert_eq!(no_tag.to_string(), "a step is not a tag");
     let fault = find(&[0x50, 0x05, 0x41], &[0x50]).expect_err("a fault");
     assert_eq!(placed(fault), Some((0, Reason::ValueCut)));
     assert_eq!(fault.to_string(), "value cut at 0");

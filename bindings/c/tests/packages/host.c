@@ -1,6 +1,6 @@
-/* host PLUGIN..: a program that has functions of the library's names, and loads plugins that are
- * linked with the library, so that all can see each other. Each plugin goes by its own functions
- * and its own heap. */
+/* host PLUGIN..: a program with functions of the library's names. It loads plugins that are linked
+ * with the library, so that all can see each other's exports. Each plugin has to use its own
+ * functions and its own heap. */
 #include "check.h"
 
 #include <dlfcn.h>
@@ -8,7 +8,7 @@
 
 enum { MOST = 4 };
 
-/* what the plugins would call, were theirs not hidden */
+/* Plugins would call this if they did not hide their own. */
 void rattle_alloc(void), rattle_realloc(void), rattle_dealloc(void), galliumtoad_card_new(void);
 void rattle_alloc(void) { abort(); }
 void rattle_realloc(void) { abort(); }

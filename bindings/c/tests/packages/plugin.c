@@ -1,4 +1,4 @@
-/* A plugin: it builds a card and lets it answer, in memory of its own. */
+/* A plugin: it builds a card that answers a SELECT, in its own memory. */
 #include <galliumtoad.h>
 
 #ifdef OWN_HEAP

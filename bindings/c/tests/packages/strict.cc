@@ -1,4 +1,5 @@
-// The header's functions and macros in a program for C++ whose compiler warns of each cast.
+// Uses functions and macros of the header in C++. It compiles with warnings for old-style casts and
+// for 0 as a null pointer.
 #include <galliumtoad.h>
 
 int main() {

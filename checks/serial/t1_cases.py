@@ -90,9 +90,11 @@ def block_waiting_time():
 
 
 def block_guard_time():
-    """A terminal sends a block at the earliest BGT, 22 etu, after the card's last character began,
-    which is 18 ms at 1,200 baud. A busy machine is late at some blocks, so there are eight."""
-    gets = [talk(">", f"{pcb}:{GET_APDU}", "<", f"{pcb}:{JOE}") for pcb in ("40", "00") * 4]
+    """A terminal sends a block at the earliest BGT, 22 etu, after the card's last character, which
+    is 18 ms at 1,200 baud. The card waits until the terminal's block has been sent, which takes 90
+    ms. A busy machine is late at some blocks, so there are eight."""
+    gets = [talk(">", f"{pcb}:{GET_APDU}", "~", "0.1", "<", f"{pcb}:{JOE}")
+            for pcb in ("40", "00") * 4]
     line = Line()
     try:
         program = Program("gt_serial", ["--no-echo", "--baud", "1200", "--slack", "5000", line.name,

@@ -17,7 +17,7 @@ use std::alloc::{AllocError, Global};
 use std::marker::Model;
 
 /// Both ends of a line. `carry` takes a command to the card and its response back; the next command
-/// may depend on that. After a fault nothing more goes.
+/// may depend on it. After a fault no command can begin.
 #[derive(Drop)]
 pub struct Ends<C: Applet> {
     terminal: TerminalEnd,
@@ -33,7 +33,7 @@ impl<C: Applet> Model for Ends<C> {
 }
 
 impl<C: Applet> Ends<C> {
-    /// Both ends after a reset.
+    /// Makes both ends after a reset.
     pub fn new(alloc: Global, applet: C, settings: Settings) -> Ends<C>
         ensures led { (passed : List Fates) → HasCarried C.Applet
             (nothing_yet settings (C.standing applet) passed) passed result }
@@ -49,12 +49,12 @@ impl<C: Applet> Ends<C> {
     /// gives up.
     ///
     /// # Errors
-    /// - `AllocError`: memory ran out; each end is somewhere in this command.
+    /// - `AllocError`: memory ran out; the command may be in progress at either end.
     pub fn carry<L: Line>(&mut self, line: &mut L, command: &[u8]) -> Result<(), AllocError>
         requires ready { is_ready self.old.terminal.phase ≡ true }
         requires led { (past : Past C.State)
             × HasCarried C.Applet past (L.passed line.old) self.old }
-        // What led to both ends leads with this command to where they are now.
+        // Adds this command to the history of both ends.
         ensures led { OnOk result ((past : Past C.State)
             → HasCarried C.Applet past (L.passed line.old) self.old
             → HasCarried C.Applet (with_command past command.now self.new.terminal)
@@ -96,7 +96,7 @@ impl<C: Applet> Ends<C> {
         self.terminal.has_stopped()
     }
 
-    /// Whether a command may be carried: there was no fault.
+    /// Whether a command can begin: there was no fault.
     pub fn is_ready(&self) -> bool
         ensures { result ≡ is_ready self.now.terminal.phase }
     {
@@ -117,7 +117,7 @@ impl<C: Applet> Ends<C> {
         self.terminal.fault()
     }
 
-    /// Hands the card back.
+    /// Drops both ends, and returns the card.
     pub fn into_applet(self) -> C
         ensures { result ≡ self.card.card }
     {
@@ -125,8 +125,9 @@ impl<C: Applet> Ends<C> {
     }
 }
 
-/// What both ends have carried is a dialogue: the commands before, in order and each once, with the
-/// card's responses, a true fault, an end, and no fault on a mild line.
+/// The carried commands are a dialogue. The card has carried out the first of them, in order, each
+/// once. Each answer is its response, and the outcome in a fault is true. The dialogue ends. On a
+/// mild line there is no fault.
 pub fn carried_commands_are_a_dialogue<C: Applet>()
     ensures { (past : Past C.State) (passed : List Fates) (e : EndsOf C)
         → HasCarried C.Applet past passed e → has_stopped e.terminal.phase ≡ true

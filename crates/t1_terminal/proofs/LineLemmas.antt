@@ -17,7 +17,7 @@ use Rattle.t1_core.specs.declared.terminal.Fault.{Fault}
 use Rattle.t1_core.specs.declared.terminal.Outcome.{Outcome}
 use Rattle.t1_core.specs.declared.terminal.Outcome.TheVariants.{NotCarriedOut, Unknown, InPart}
 use Rattle.t1_core.specs.declared.terminal.Phase.{Phase}
-use Rattle.t1_core.specs.declared.terminal.Phase.TheVariants.{Opening, Sending, Receiving, Aborting, Over, GivenUp}
+use Rattle.t1_core.specs.declared.terminal.Phase.TheVariants.{Over, GivenUp}
 use Rattle.t1_core.specs.CardSide.{Did, no_requests}
 use Rattle.t1_core.specs.Carried.{answers_in}
 use Rattle.t1_core.specs.Doing.{DoesAll, commands_of, entry, meaning_of, responses_of}

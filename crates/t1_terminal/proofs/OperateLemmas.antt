@@ -1,6 +1,6 @@
 -- One operation over T=1: both ends carry its commands, and the card responds to each.
 use Rattle.std.proofs.Common.{◌≡◌, refl, sym, ap, subst, ◌∙◌, ℕ, ◌+◌, Bool, true, false, List, [], ◌∷◌, ◌++◌, length, Option, Some, None, append_assoc, append-nil, length-append, arith, inl, inr, Result}
-use Rattle.std.specs.Prelude.{Err, IsOk, MatchOption, MatchResult, Ok, is_some, option_map, if◌then◌else◌}
+use Rattle.std.specs.Prelude.{IsOk, MatchOption, is_some, option_map, if◌then◌else◌}
 use Rattle.std.proofs.lemmas.List.{length-map, map-append}
 use Rattle.apdu_core.specs.CommandBytes.{Command, IsCommand, command_bytes}
 use Rattle.apdu_core.specs.StatusWord.{StatusWord, IsStatusWord}
@@ -294,21 +294,6 @@ sent_so Own standing before mid old at operation commands t due agreed are is_du
       is_command,
       agreed operation here due (under_way operation commands here t due are leads (sym is_due)),
     )
-
-pub when_ok : {A E : Type 0} (r : Result A E) (x : A) (P : A → Type 0) (Q : E → Type 0)
-    → r ≡ Ok x → MatchResult r P Q → P x
-when_ok {A = A} {E = E} r x P Q is holds =
-    let M : Result A E → Type 0 = λ s. MatchResult s P Q in subst M is holds
-
-pub when_err : {A E : Type 0} (r : Result A E) (x : E) (P : A → Type 0) (Q : E → Type 0)
-    → r ≡ Err x → MatchResult r P Q → Q x
-when_err {A = A} {E = E} r x P Q is holds =
-    let M : Result A E → Type 0 = λ s. MatchResult s P Q in subst M is holds
-
-pub when_some : {A : Type 0} (r : Option A) (x : A) (P : Type 0) (Q : A → Type 0)
-    → r ≡ Some x → MatchOption r P Q → Q x
-when_some {A = A} r x P Q is holds =
-    let M : Option A → Type 0 = λ s. MatchOption s P Q in subst M is holds
 
 pub when_none : {A : Type 0} (r : Option A) (P : Type 0) (Q : A → Type 0)
     → ((x : A) → r ≡ Some x → ⊥) → MatchOption r P Q → P

@@ -5,47 +5,49 @@ use Rattle.t0_core.specs.CardSide.{EndOf}
 use Rattle.apdu_terminal.specs.ApduOperations.{HasRoomFor}
 use Rattle.t1_core.specs.TerminalSide.{is_ready}
 use Rattle.t1_terminal.proofs.LineLemmas.{is_over, same_pair}
-use Rattle.t1_terminal.proofs.OperateLemmas.{applet, gives_up, is_taken, leads_on, may_carry, none_taken, over_then, pair_now, sent_so, so_far, started_so, when_ok}
+use Rattle.t1_terminal.proofs.OperateLemmas.{applet, gives_up, is_taken, leads_on, may_carry, none_taken, over_then, pair_now, sent_so, so_far, started_so}
+use Rattle.t1_terminal.proofs.operation.go_through.Given.{Over}
 use Rattle.t1_terminal.proofs.operation.go_through.Goals as goal
+
+abbrev standing : (g : Over) → EndOf g.row.C.Denot → g.C.TpduCard.State
+standing g e = g.C.TpduCard.standing e.card
 
 pub talk-init : goal.talk-init
 talk-init g c =
-    let card = g.C.TpduCard in
-    let standing = λ (x : EndOf g.row.C.Denot). card.standing x.card in
     record {
       ready = c.requires.ready;
       limit = c.requires.limit.1;
       had = λ commands leads. (
         [],
         leads,
-        none_taken (applet card.Does standing) (g.L.Line.passed c.args.line.now) c.args.ends.now,
+        none_taken (applet g.C.TpduCard.Does (standing g)) (g.L.Line.passed c.args.line.now)
+            c.args.ends.now,
       );
     }
 
 pub carry-requires-clause-led : goal.carry-requires-clause-led
 carry-requires-clause-led g c =
-    let card = g.C.TpduCard in
-    let standing = λ (x : EndOf g.row.C.Denot). card.standing x.card in
     let m = g.met.C.DataCard.means in
     let now = g.L.Line.passed c.args.line.now in
     let (operation, commands, are, leads) = c.requires.begun in
-    may_carry card.Does standing m.0 now (g.L.Line.passed c.talk.line) c.args.ends.now c.talk.ends
+    may_carry g.C.TpduCard.Does (standing g) m.0 now (g.L.Line.passed c.talk.line) c.args.ends.now
+    c.talk.ends
     commands c.talk.terminal.operation
-    (started_so card.Does standing m.0 g.C.DataCard.state card.standing m.1 now c.args.ends.now
+    (started_so g.C.TpduCard.Does (standing g) m.0 g.C.DataCard.state g.C.TpduCard.standing m.1 now
+    c.args.ends.now
     c.requires.started)
     (c.talk.invariant.had commands leads)
 
 pub returns-in-Some-fault : goal.returns-in-Some-fault
 returns-in-Some-fault g c = λ operation commands are leads.
-    let card = g.C.TpduCard in
-    let standing = λ (x : EndOf g.row.C.Denot). card.standing x.card in
     let is_due = c.in-Some.ensures in
     let had = c.talk.invariant.had commands leads in
-    gives_up card.Does standing _ _ _ _ _ _ commands _ c.in-Some.due _ is_due
+    gives_up g.C.TpduCard.Does (standing g) _ _ _ _ _ _ commands _ c.in-Some.due _ is_due
     (c.deref.ensures.value ∙ c.in_ok-write.ensures.ok
     ∙ ap (λ bs. bs ++ command_bytes c.in-Some.due) c.new-command.ensures.items)
     c.in_ok-carry.ensures.led
-    (sent_so card.Does standing _ _ _ _ operation _ _ _ c.a_due_command_is_agreed.ensures are is_due
+    (sent_so g.C.TpduCard.Does (standing g) _ _ _ _ operation _ _ _
+    c.a_due_command_is_agreed.ensures are is_due
     c.header-header.ensures.command had) had operation are c.in-Some-fault.fault c.told.result
     c.in-Some-fault.ensures
     (c.told.ensures ∙ ap (λ h. record {
@@ -55,47 +57,46 @@ returns-in-Some-fault g c = λ operation commands are leads.
 
 pub parts-status-requires : goal.parts-status-requires
 parts-status-requires g c =
-    let card = g.C.TpduCard in
-    let standing = λ (x : EndOf g.row.C.Denot). card.standing x.card in
     let m = g.met.C.DataCard.means in
     let (operation, commands, are, leads) = c.requires.begun in
     let is_due = c.in-Some.ensures in
     let had = c.talk.invariant.had commands leads in
     let (p, of, word, got, goes) =
-    pair_now card.Does standing _ _ _ _ _ _ commands _ c.in-Some.due _ is_due
+    pair_now g.C.TpduCard.Does (standing g) _ _ _ _ _ _ commands _ c.in-Some.due _ is_due
     (c.deref.ensures.value ∙ c.in_ok-write.ensures.ok
     ∙ ap (λ bs. bs ++ command_bytes c.in-Some.due) c.new-command.ensures.items)
     c.in_ok-carry.ensures.led
-    (sent_so card.Does standing _ _ _ _ operation _ _ _ c.a_due_command_is_agreed.ensures are is_due
+    (sent_so g.C.TpduCard.Does (standing g) _ _ _ _ operation _ _ _
+    c.a_due_command_is_agreed.ensures are is_due
     c.header-header.ensures.command had) had c.carried_commands_are_a_dialogue.ensures
     c.in_ok-carry.ensures.stopped c.in_default-fault.ensures m.0
-    (started_so card.Does standing m.0 g.C.DataCard.state card.standing m.1 _ _
+    (started_so g.C.TpduCard.Does (standing g) m.0 g.C.DataCard.state g.C.TpduCard.standing m.1 _ _
     c.requires.started) in
     (p.content, p.status, word, c.response.ensures ∙ got)
 
 pub unwrap-requires : goal.unwrap-requires
 unwrap-requires g c =
-    let card = g.C.TpduCard in
-    let standing = λ (x : EndOf g.row.C.Denot). card.standing x.card in
     let m = g.met.C.DataCard.means in
     let (operation, commands, are, leads) = c.requires.begun in
     let is_due = c.in-Some.ensures in
     let had = c.talk.invariant.had commands leads in
-    let start = started_so card.Does standing m.0 g.C.DataCard.state card.standing m.1 _ _
+    let start = started_so g.C.TpduCard.Does (standing g) m.0 g.C.DataCard.state
+    g.C.TpduCard.standing m.1 _ _
     c.requires.started in
     let (p, of, word, got, goes) =
-    pair_now card.Does standing _ _ _ _ _ _ commands _ c.in-Some.due _ is_due
+    pair_now g.C.TpduCard.Does (standing g) _ _ _ _ _ _ commands _ c.in-Some.due _ is_due
     (c.deref.ensures.value ∙ c.in_ok-write.ensures.ok
     ∙ ap (λ bs. bs ++ command_bytes c.in-Some.due) c.new-command.ensures.items)
     c.in_ok-carry.ensures.led
-    (sent_so card.Does standing _ _ _ _ operation _ _ _ c.a_due_command_is_agreed.ensures are is_due
+    (sent_so g.C.TpduCard.Does (standing g) _ _ _ _ operation _ _ _
+    c.a_due_command_is_agreed.ensures are is_due
     c.header-header.ensures.command had) had c.carried_commands_are_a_dialogue.ensures
     c.in_ok-carry.ensures.stopped c.in_default-fault.ensures m.0 start in
     let content = c.parts-status.result.0.now in
     let status = c.parts-status.result.1 in
-    is_taken card.Does m.0 (c.any_card_responds_so.ensures m.0 m.2)
+    is_taken g.C.TpduCard.Does m.0 (c.any_card_responds_so.ensures m.0 m.2)
     c.a_card_of_data_objects_is_taken.ensures.sound c.a_card_of_data_objects_is_taken.ensures.taken
-    start.s.first (card.standing c.carry.new.self.card.card.card) start.pairs had.0 p commands _ _
+    start.s.first (standing g c.carry.new.self.card.card) start.pairs had.0 p commands _ _
     c.in-Some.due content status _ start.sound goes had.1 (sym is_due)
     (same_pair p (record { command = c.in-Some.due; content = content; status = status }) of
     (sym got ∙ sym c.response.ensures ∙ c.parts-status.ensures))
@@ -106,8 +107,6 @@ unwrap-requires g c =
 
 pub talk-preserved : goal.talk-preserved
 talk-preserved g c =
-    let card = g.C.TpduCard in
-    let standing = λ (x : EndOf g.row.C.Denot). card.standing x.card in
     let t = c.carry.new.self.terminal in
     let is_due = c.in-Some.ensures in
     let (operation, commands_0, are, leads_0) = c.requires.begun in
@@ -120,37 +119,35 @@ talk-preserved g c =
       };
       had = λ commands leads.
           let had = c.talk.invariant.had commands leads in
-          leads_on card.Does standing _ _ _ _ _ _ commands _ c.in-Some.due _ is_due
+          leads_on g.C.TpduCard.Does (standing g) _ _ _ _ _ _ commands _ c.in-Some.due _ is_due
           (c.deref.ensures.value ∙ c.in_ok-write.ensures.ok
           ∙ ap (λ bs. bs ++ command_bytes c.in-Some.due) c.new-command.ensures.items)
           c.in_ok-carry.ensures.led
-          (sent_so card.Does standing _ _ _ _ operation _ _ _
+          (sent_so g.C.TpduCard.Does (standing g) _ _ _ _ operation _ _ _
           c.a_due_command_is_agreed.ensures are is_due c.header-header.ensures.command
           (c.talk.invariant.had commands_0 leads_0)) had
           c.carried_commands_are_a_dialogue.ensures c.in_ok-carry.ensures.stopped
           c.in_default-fault.ensures c.parts-status.result.0.now c.parts-status.result.1
           c.responded.new.self.operation (sym c.response.ensures ∙ c.parts-status.ensures)
-          (when_ok c.responded.result c.unwrap.result _ _ c.unwrap.ensures
-          (c.responded.ensures.responding.led commands had.0 had.1));
+          (rw c.unwrap.ensures at (c.responded.ensures.responding.led commands had.0 had.1));
     }
 
 pub returns : goal.returns
 returns g c =
-    let card = g.C.TpduCard in
-    let standing = λ (x : EndOf g.row.C.Denot). card.standing x.card in
     let m = g.met.C.DataCard.means in
     let now = g.L.Line.passed c.args.line.now in
     let (operation, commands, are, leads) = c.requires.begun in
     let had = c.talk.invariant.had commands leads in
-    let start = started_so card.Does standing m.0 g.C.DataCard.state card.standing m.1 now
+    let start = started_so g.C.TpduCard.Does (standing g) m.0 g.C.DataCard.state
+    g.C.TpduCard.standing m.1 now
     c.args.ends.now c.requires.started in (
       c.talk.invariant.ready,
-      over_then card.Does m.0 (c.any_card_responds_so.ensures m.0 m.2)
+      over_then g.C.TpduCard.Does m.0 (c.any_card_responds_so.ensures m.0 m.2)
           c.a_card_of_data_objects_is_taken.ensures.sound
           c.a_card_of_data_objects_is_taken.ensures.fine start.s.first
-          (card.standing c.talk.ends.card.card.card) start.pairs had.0 commands
+          (standing g c.talk.ends.card.card) start.pairs had.0 commands
           c.talk.terminal.operation start.sound
-          (so_far card.Does standing c.carried_commands_are_a_dialogue.ensures start.s
+          (so_far g.C.TpduCard.Does (standing g) c.carried_commands_are_a_dialogue.ensures start.s
           (start.pairs ++ had.0) (g.L.Line.passed c.talk.line) c.talk.ends
           (had.2 start.s start.pairs start.taken) c.talk.invariant.ready) had.1
           (subst (λ n. HasRoomFor n c.talk.terminal.operation)

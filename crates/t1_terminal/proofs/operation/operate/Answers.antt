@@ -4,7 +4,7 @@ use Rattle.card_terminal.specs.Operations.{operation_of}
 use Rattle.apdu_terminal.specs.ApduOperations.{ApduTerminalOf}
 use Rattle.t0_core.specs.CardSide.{EndOf}
 use Rattle.t1_terminal.specs.Operated.{Takes}
-use Rattle.t1_terminal.proofs.OperateLemmas.{applet, is_there, when_none, when_some}
+use Rattle.t1_terminal.proofs.OperateLemmas.{applet, is_there, when_none}
 use Rattle.t1_terminal.proofs.operation.operate.Goals as goal
 
 pub go_through-requires-clause-begun : goal.go_through-requires-clause-begun
@@ -21,8 +21,8 @@ go_through-requires-clause-limit g c = (
 pub returns-in-Some : goal.returns-in-Some
 returns-in-Some g c =
     let (commands, are, leads) = c.in_ok-begin.ensures.begun in
-    when_some _ c.in-Some.fault _ _ c.in-Some.is c.in_ok-fault.ensures
-    (operation_of c.args.op.now) commands are leads
+    let gives_up = rw c.in-Some.is at c.in_ok-fault.ensures in
+    gives_up (operation_of c.args.op.now) commands are leads
 
 pub unreachable-requires : goal.unreachable-requires
 unreachable-requires g c =

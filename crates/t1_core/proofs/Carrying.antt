@@ -13,7 +13,7 @@ use Rattle.t1_core.specs.declared.terminal.Phase.{Phase}
 use Rattle.t1_core.specs.declared.terminal.Phase.TheVariants.{Over, GivenUp}
 use Rattle.t1_core.specs.Block.{Block}
 use Rattle.t1_core.specs.CardSide.{Card, Did, Meaning, card_after, card_meets}
-use Rattle.t1_core.specs.Carried.{EndsOf, HasCarried, Past, adds, answers_in, at_rest, more, nothing_yet, with_command, world_of as rest_of}
+use Rattle.t1_core.specs.Carried.{EndsOf, HasCarried, Past, adds, answers_in, at_rest, more, nothing_yet, with_command, world_now}
 use Rattle.t1_core.specs.Conversing.{Conversed}
 use Rattle.t1_core.specs.Doing.{Agrees, after, commands_of, meaning_of, most_bytes, ran_with, responses_of}
 use Rattle.t1_core.specs.Passing.{Passes, PassesWith}
@@ -224,7 +224,7 @@ module _ {C : Type 0} (a : Ghosts C) where
   -- the commands so far led to both ends
   here : (past : Past a.State) (now : List Fates) (e : EndsOf C) (h : HasCarried a past now e)
       (m : Meaning) → Agrees m [] h.did
-      → run m h.fates (start past.settings [] past.commands) ≡ rest_of e h.did past.answers
+      → run m h.fates (start past.settings [] past.commands) ≡ world_now e h.did past.answers
   here past now e h m g =
       ap (λ cs. run m h.fates (start past.settings [] cs)) (sym (append-nil past.commands))
       ∙ h.leads m g []
@@ -251,7 +251,7 @@ module _ {C : Type 0} (a : Ghosts C) where
         ap (λ all. run m h.fates (start past.settings [] all))
         (append_assoc past.commands (c ∷ []) cs)
         ∙ h.leads m g (c ∷ cs)
-        ∙ ap (λ p. adds p (c ∷ cs) (rest_of e h.did past.answers))
+        ∙ ap (λ p. adds p (c ∷ cs) (world_now e h.did past.answers))
         (is_over e.terminal.phase ready)
         ∙ sym (first_behind e.terminal.opened (begins c e.terminal)
         (after e.card (commands_of h.did)) cs past.answers);
@@ -316,7 +316,7 @@ module _ {C : Type 0} (a : Ghosts C) where
   abbrev IsWithin : (most so_far : ℕ) → Past a.State → EndsOf C → List Did → Type 0
   IsWithin most so_far past e did = (m : Meaning) → Agrees m [] did
       → ((ran : List (List ℕ)) → length (m.does ran) ≤ most_bytes)
-      → (p : Place) × (rest_of e did past.answers ≡ world_of m [] p) × Holds m [] past.commands p
+      → (p : Place) × (world_now e did past.answers ≡ world_of m [] p) × Holds m [] past.commands p
       × (measure m [] past.commands p + so_far ≤ most)
 
   pub record InCourse (command : List ℕ) (before now : List Fates) (old e : EndsOf C)
@@ -351,7 +351,7 @@ module _ {C : Type 0} (a : Ghosts C) where
             let (q, holds, is_q) =
             all_stand m [] (past.commands ++ command ∷ []) b.fates _
             (first_stands m [] past.settings (past.commands ++ command ∷ [])) in
-            let same : rest_of (begun old command) b.did past.answers ≡ world_of m [] q =
+            let same : world_now (begun old command) b.did past.answers ≡ world_of m [] q =
             sym (here (and_now past command) before (begun old command) b m g) ∙ is_q in
             let le = measured m [] (past.commands ++ command ∷ []) short q
             (ap (λ w. w.todo) (sym same)) in
@@ -394,7 +394,7 @@ module _ {C : Type 0} (a : Ghosts C) where
               let b = before_it m c.carried.did p.0 g in
               let (q, is, holds, le) = c.within m b.0 short in
               let less = step_less m [] c.past.commands x.down x.up q
-              (active m q (rest_of e c.carried.did c.past.answers) is moving) holds in (
+              (active m q (world_now e c.carried.did c.past.answers) is moving) holds in (
                 step m [] x.down x.up q,
                 sym (here (answered c.past f.terminal) next f n m g)
                     ∙ run_more m c.carried.fates x (start c.past.settings [] c.past.commands)
@@ -425,7 +425,7 @@ module _ {C : Type 0} (a : Ghosts C) where
         let (q, is, holds, le) = c.within m (own_meaning [] did)
         (entry_short did c.carried.short) in
         let some : measure m [] c.past.commands q ≡ 0 → ⊥ =
-        some_left m [] c.past.commands q (active m q (rest_of e did c.past.answers) is moving) in
+        some_left m [] c.past.commands q (active m q (world_now e did c.past.answers) is moving) in
         omega (arith, some, le, c.longer, counts_on)
 
   -- ---- the history is a dialogue; after a fault also of any further commands

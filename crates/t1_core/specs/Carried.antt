@@ -22,8 +22,8 @@ abbrev pub at_rest : Terminal → Card → (answers : List (List ℕ)) → World
 at_rest t c answers = record { terminal = t; card = c; todo = []; answers = answers }
 
 -- the same after the card has carried out `did`
-abbrev pub world_of : {C : Type 0} → EndsOf C → List Did → (answers : List (List ℕ)) → World
-world_of e did answers = at_rest e.terminal (after e.card (commands_of did)) answers
+abbrev pub world_now : {C : Type 0} → EndsOf C → List Did → (answers : List (List ℕ)) → World
+world_now e did answers = at_rest e.terminal (after e.card (commands_of did)) answers
 
 -- adds commands: the first begins now if the terminal is ready, the others wait
 abbrev pub adds : Phase → List (List ℕ) → World → World
@@ -76,6 +76,6 @@ pub record HasCarried {C : Type 0} (a : Ghosts C) (past : Past a.State) (now : L
   pub passed : now ≡ past.passed ++ fates
   pub leads : (m : Meaning) → Agrees m [] did → (commands : List (List ℕ))
       → run m fates (start past.settings [] (past.commands ++ commands))
-      ≡ more commands (world_of e did past.answers)
+      ≡ more commands (world_now e did past.answers)
   pub few : (m : Meaning) → Agrees m [] did
       → length fates ≤ most_exchanges past.settings m [] past.commands

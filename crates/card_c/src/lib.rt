@@ -1,7 +1,7 @@
-//! The static library for C, with one export `galliumtoad_..` for each call of the crates below.
+//! The static library for C, whose exports `galliumtoad_..` call the crates below.
 //!
-//! The header `bindings/c/include/galliumtoad.h` declares it. Its function `gt_..` of the same name
-//! tests for NULL, which no export can, and then calls the export.
+//! The header `bindings/c/include/galliumtoad.h` declares them. Its function `gt_..` of the same
+//! name tests for NULL, which no export can, and then calls the export.
 //!
 //! - Without a handle: `objects` and `find` read data objects, `atr` and `pps` answers to reset.
 //! - [`card_held::GtCard`]: a card that C builds and drives, or a session with one.
@@ -9,8 +9,8 @@
 //! - [`held_terminal::TerminalHandle`]: a terminal, operation by operation.
 //! - [`held_t1::T1Handle`]: the terminal's end of a line at T=1.
 //!
-//! A call on a handle returns a code (`code`). Proved: each export does what the call below it
-//! does, and an empty handle stays empty. README.md lists the clauses file by file.
+//! A call on a handle returns a code (`code`); the header lists those of each call, with the state
+//! after it. Proved: each export does what the call below it does. README.md has the clauses.
 #![tactic(auto)]
 
 mod apdu_side;

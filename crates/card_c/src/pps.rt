@@ -48,8 +48,8 @@ fn given(number: u16) -> Option<u8>
     }
 }
 
-/// Returns 1 if the response accepts what the request asks for, except what it leaves out, and
-/// otherwise 0.
+/// Returns 1 if the response accepts the request, and otherwise 0. A response may leave out
+/// characters of the request.
 ///
 /// # Errors
 /// - `ARGUMENT`: `request` is not a PPS request.

@@ -140,7 +140,8 @@ impl<'a, A: Allocator> Exchange<'a, A> {
         Ok(Exchange::begin(gather, command))
     }
 
-    /// Begins the exchange of another command in the room of this one. The data in it are lost.
+    /// Begins the exchange of another command in the room of this one. Zeros overwrite the data in
+    /// it.
     pub fn again<'b>(self, command: Command<'b>) -> Exchange<'b, A>
         ensures begins { UnderWay command.entry result [] None fresh }
         ensures led { ComesTo command.entry [] result }

@@ -72,7 +72,7 @@ impl<A: Allocator + Copy> ExchangeMark<A> {
         Ok(ExchangeMark::of(alloc, exchange))
     }
 
-    /// Begins the exchange of another command in the same room. The data in it are lost.
+    /// Begins the exchange of another command in the same room. Zeros overwrite the data in it.
     pub fn again(&mut self, command: Command<'_>)
         requires { self.old.gather.limit ≤ response_limit }
         ensures led { ComesTo command.entry [] (over_data self.new command.entry.content) }

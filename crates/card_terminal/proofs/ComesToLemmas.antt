@@ -13,7 +13,6 @@ use Rattle.t0_core.specs.Dialogue.{Dialogue, characters, IsDialogue}
 use Rattle.t0_core.specs.Front.{Front, GoesOn, Ends, IsFront, front_characters, fresh}
 use Rattle.t0_core.specs.FrontLaws.{goes_on}
 use Rattle.t0_core.specs.DialogueLaws.{flat_map_last, ends_with, all_more}
-use Rattle.t0_core.specs.Room.{Room}
 use Rattle.t0_core.specs.HostSide.{Hosting, turn_of, fault_of, at_stage, after_fault}
 use Rattle.t0_core.specs.HostLaws.{after_done, after_failure, going}
 use Rattle.card_terminal.specs.Gathered.{UnitOf, Gathers, dialogues_of}
@@ -85,22 +84,35 @@ next_leads c came ex new byte sends goes_on
 -- ---- a character of the card
 
 -- an exchange that has ended or failed takes no character
-pub at_end_fault : (ex seen : ExchangeOf) (room : Room) (byte : ℕ) → ex ≡ seen → IsKept ex
-    → IsAtEnd seen → fault_of ex.host room byte ≡ Some AfterEnd
-at_end_fault ex seen room byte is kept end = by (ex.stalled) refl (subst At (sym is) end)
+at_end_fault : (ex : ExchangeOf) (byte : ℕ) → IsKept ex → IsAtEnd ex
+    → fault_of ex.host ex.gather byte ≡ Some AfterEnd
+at_end_fault ex byte kept end = by ex.stalled refl end
   where
-    At : ExchangeOf → Type 0
-    At e = IsAtEnd e
-
-    by : (v : Bool) → ex.stalled ≡ v → IsAtEnd ex → fault_of ex.host room byte ≡ Some AfterEnd
+    by : (v : Bool) → ex.stalled ≡ v → IsAtEnd ex → fault_of ex.host ex.gather byte ≡ Some AfterEnd
     by true stalled end = let done = kept.stalled_at_end stalled in
-        after_done ex.host room byte done.0 done.1
+        after_done ex.host ex.gather byte done.0 done.1
     by false going (inl failed) =
-        after_failure ex.host room byte
+        after_failure ex.host ex.gather byte
         (ap (λ b. if b then Failed else turn_of ex.host) (sym going) ∙ failed)
     by false going (inr (status, done)) =
-        after_done ex.host room byte status
+        after_done ex.host ex.gather byte status
         (ap (λ b. if b then Failed else turn_of ex.host) (sym going) ∙ done)
+
+none_at_end : (ex : ExchangeOf) (byte : ℕ) → IsKept ex → None ≡ fault_of ex.host ex.gather byte
+    → IsAtEnd ex → ⊥
+none_at_end ex byte kept taken end =
+    let no : None ≡ Some AfterEnd = taken ∙ at_end_fault ex byte kept end in absurd (cc)
+
+-- a final fault is not `AfterEnd`
+pub final_is_no_end : (fault : LineFault) → is_final fault ≡ true → fault ≡ AfterEnd → ⊥
+final_is_no_end (BadProcedure byte) final is = absurd (cc)
+final_is_no_end AfterEnd final is = absurd (cc)
+final_is_no_end TooLong final is = absurd (cc)
+final_is_no_end Stalled final is = absurd (cc)
+final_is_no_end NotListening final is = absurd (cc)
+
+pub some_fault : (a b : LineFault) → Some a ≡ Some b → a ≡ b
+some_fault a b e = cc
 
 end_of : (c : Command) (came : List Character) (ex : ExchangeOf) → ComesTo c came ex
     → ((units : List UnitOf) × (first : Option Dialogue) × (front : Front)
@@ -128,7 +140,7 @@ continues_leads c came new units first d is (inr (inr over)) =
     (is ∙ ap (flat_map characters) (sym (unit_dialogues units first d)))
 
 pub take_leads : (c : Command) (came : List Character) (ex new : ExchangeOf) (byte : ℕ)
-    → (IsAtEnd ex → ⊥)
+    → IsKept ex → None ≡ fault_of ex.host ex.gather byte
     → ((units : List UnitOf) (first : Option Dialogue) (front f : Front)
     → UnderWay c ex units first front → GoesOn front (Card, byte) f
     → UnderWay c new units first f)
@@ -139,7 +151,7 @@ pub take_leads : (c : Command) (came : List Character) (ex new : ExchangeOf) (by
     → UnderWay c ex units first front → ((f : Front) × GoesOn front (Card, byte) f)
     ⊎ ((d : Dialogue) × Ends front (Card, byte) d))
     → ComesTo c came ex → ComesTo c (came ++ (Card, byte) ∷ []) new
-take_leads c came ex new byte going goes_on ends takes leads = elim (end_of c came ex leads) [
+take_leads c came ex new byte kept taken goes_on ends takes leads = elim (end_of c came ex leads) [
   | inl (units, first, front, under, is) ↦
       elim (takes units first front under) [
         | inl goes ↦ to_front units first goes.0 (goes_on units first front goes.0 under goes.1)
@@ -149,11 +161,11 @@ take_leads c came ex new byte going goes_on ends takes leads = elim (end_of c ca
             (end_more came (so_far units first) front byte end.0 is end.1)
             (ends units first front end.0 under end.1)
       ]
-  | inr end ↦ absurd (going end)
+  | inr end ↦ absurd (none_at_end ex byte kept taken end)
 ]
 
 pub stall_leads : (c : Command) (came : List Character) (ex new : ExchangeOf) (byte : ℕ)
-    → (IsAtEnd ex → ⊥) → exchange_turn new ≡ Failed
+    → IsKept ex → None ≡ fault_of ex.host ex.gather byte → exchange_turn new ≡ Failed
     → ((units : List UnitOf) (first : Option Dialogue) (front f : Front)
     → UnderWay c ex units first front → GoesOn front (Card, byte) f → ⊥)
     → ((units : List UnitOf) (first : Option Dialogue) (front : Front) (d : Dialogue)
@@ -163,7 +175,7 @@ pub stall_leads : (c : Command) (came : List Character) (ex new : ExchangeOf) (b
     → UnderWay c ex units first front → ((f : Front) × GoesOn front (Card, byte) f)
     ⊎ ((d : Dialogue) × Ends front (Card, byte) d))
     → ComesTo c came ex → ComesTo c (came ++ (Card, byte) ∷ []) new
-stall_leads c came ex new byte going failed goes_on ends takes leads =
+stall_leads c came ex new byte kept taken failed goes_on ends takes leads =
     elim (end_of c came ex leads) [
       | inl (units, first, front, under, is) ↦
           elim (takes units first front under) [
@@ -178,35 +190,22 @@ stall_leads c came ex new byte going failed goes_on ends takes leads =
                 (end_more came (so_far units first) front byte d is end.1
                 ∙ ap (flat_map characters) (sym (unit_dialogues units first d)))
           ]
-      | inr end ↦ absurd (going end)
+      | inr end ↦ absurd (none_at_end ex byte kept taken end)
     ]
 
 pub fault_leads : (c : Command) (came : List Character) (ex new : ExchangeOf) (byte : ℕ)
-    (fault : LineFault) → (IsAtEnd ex → ⊥) → fault_of ex.host ex.gather byte ≡ Some fault
+    (fault : LineFault) → IsKept ex → fault_of ex.host ex.gather byte ≡ Some fault
     → is_final fault ≡ true → exchange_turn new ≡ Failed → ex.gather.limit ≡ new.gather.limit
     → ComesTo c came ex
     → ComesTo c (came ++ (Card, byte) ∷ []) new
-fault_leads c came ex new byte fault going why final failed same leads =
+fault_leads c came ex new byte fault kept why final failed same leads =
     elim (end_of c came ex leads) [
       | inl (units, first, front, under, is) ↦
           to_fault units first front ex byte fault under why final failed same
           (ap (λ cs. cs ++ (Card, byte) ∷ []) is)
-      | inr end ↦ absurd (going end)
+      | inr end ↦ absurd (final_is_no_end fault final
+          (some_fault fault AfterEnd (sym why ∙ at_end_fault ex byte kept end)))
     ]
-
--- a final fault is not `AfterEnd`
-pub final_is_no_end : (fault : LineFault) → is_final fault ≡ true → fault ≡ AfterEnd → ⊥
-final_is_no_end (BadProcedure byte) final is = absurd (cc)
-final_is_no_end AfterEnd final is = absurd (cc)
-final_is_no_end TooLong final is = absurd (cc)
-final_is_no_end Stalled final is = absurd (cc)
-final_is_no_end NotListening final is = absurd (cc)
-
-pub some_fault : (a b : LineFault) → Some a ≡ Some b → a ≡ b
-some_fault a b e = cc
-
-pub none_is_no_fault : (fault : LineFault) → None ≡ Some fault → ⊥
-none_is_no_fault fault e = absurd (cc)
 
 pub failed_turn : (stalled : Bool) (host : Hosting) → turn_of host ≡ Failed
     → (if stalled then Failed else turn_of host) ≡ Failed

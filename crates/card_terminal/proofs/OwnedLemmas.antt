@@ -1,5 +1,5 @@
 -- The mark of an exchange, and the exchange that is made of it again.
-use Rattle.std.proofs.Common.{◌≡◌, ℕ, ◌≤◌, ◌+◌, ◌*◌, List, refl, sym, subst, ap, ◌∙◌, Some, None, Bool, true, false, if◌then◌else◌, arith}
+use Rattle.std.proofs.Common.{◌≡◌, ℕ, ◌≤◌, ◌+◌, ◌*◌, List, length, refl, sym, subst, ap, ◌∙◌, Some, None, Bool, true, false, if◌then◌else◌, arith}
 use Rattle.apdu_core.specs.StatusWord.{StatusWord}
 use Rattle.t0_core.specs.declared.end.End.TheVariants.{Terminal}
 use Rattle.t0_core.specs.declared.host_end.HostTurn.{HostTurn}
@@ -13,7 +13,7 @@ use Rattle.card_terminal.specs.declared.attempt.Attempt.{Attempt}
 use Rattle.card_terminal.specs.declared.wanted.Wanted.{Wanted}
 use Rattle.card_terminal.specs.Attempts.{most_begun, one_more}
 use Rattle.card_terminal.specs.Gathered.{Gathers}
-use Rattle.card_terminal.specs.ExchangeSide.{ExchangeOf, IsKept, exchange_turn}
+use Rattle.card_terminal.specs.ExchangeSide.{ExchangeOf, IsKept, IsBounded, exchange_turn}
 use Rattle.card_terminal.specs.ExchangeSteps.{IsTurn, IsAnswer}
 use Rattle.card_terminal.specs.OwnedExchange.{of_parts}
 use Rattle.card_terminal.proofs.ExchangeLemmas.{sends_further, with_host}
@@ -57,13 +57,21 @@ pub end_has_only : (mark : HostMark) (content : List ℕ) (host : Hosting)
 end_has_only mark content host is =
     subst (λ (h : Hosting). HasOnly content h) (sym is) refl
 
--- the bound on its TPDUs
 begun_within : (fetches repeats : Bool) (before number bytes : ℕ) → before ≤ bytes
     → number ≤ most_begun fetches before + one_more repeats → number ≤ 2 * (bytes + 2)
 begun_within false false before number bytes begun most = omega (arith, begun, most)
 begun_within false true before number bytes begun most = omega (arith, begun, most)
 begun_within true false before number bytes begun most = omega (arith, begun, most)
 begun_within true true before number bytes begun most = omega (arith, begun, most)
+
+-- the bounds of an exchange
+pub bounded : (ex : ExchangeOf) → IsKept ex → IsBounded ex
+bounded ex kept = record {
+  room = kept.room;
+  fits = kept.fits;
+  tpdus = begun_within ex.attempt.fetches ex.attempt.repeats ex.attempt.before ex.attempt.number
+      (length ex.gather.bytes) kept.counted.begun kept.counted.number;
+}
 
 -- a turn of its end is one of the exchange
 pub turned : (ex : ExchangeOf) (turn : HostTurn) (host : Hosting) → IsKept ex
@@ -78,12 +86,8 @@ turned ex turn host kept going is after request stays goes_on =
     record {
       turn_is = does;
       stays = λ none. ap (λ (h : Hosting). with_host ex h ex.gather) (stays none);
-      bounds = record {
-        room = kept.room;
-        fits = kept.fits;
-        tpdus = begun_within ex.attempt.fetches ex.attempt.repeats ex.attempt.before
-            ex.attempt.number _ kept.counted.begun kept.counted.number;
-      };
+      bounds = let within = bounded ex kept in
+          record { room = within.room; fits = within.fits; tpdus = within.tpdus };
       limit = refl;
       goes_on = λ c units first front byte under sends.
           sends_further c ex host units first front byte under after request

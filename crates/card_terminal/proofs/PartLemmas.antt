@@ -13,7 +13,6 @@ use Rattle.t0_core.specs.Front.{fresh}
 use Rattle.t0_core.specs.HostSide.{turn_of}
 use Rattle.object_card.specs.CarryingOut.{put_header}
 use Rattle.object_card.specs.OneStep.{Put}
-use Rattle.card_terminal.specs.Attempts.{most_begun, one_more}
 use Rattle.card_terminal.specs.Talk.{AreCommandsOf}
 use Rattle.card_terminal.specs.ExchangeSide.{ExchangeOf, UnderWay, IsKept, IsBounded, exchange_turn}
 use Rattle.card_terminal.specs.ExchangeHistory.{ComesTo}
@@ -21,23 +20,9 @@ use Rattle.card_terminal.specs.OwnedExchange.{ExchangeMarkOf, over_data, IsSound
 use Rattle.card_terminal.specs.OperationRoom.{IsPart, BeginsWith}
 use Rattle.card_terminal.specs.TerminalSide.{OperationOf, AreLeft, LeadsTo, GoesToNext}
 use Rattle.card_terminal.specs.PieceLaws.{IsFrontOf, left_is, left_after, chain_of, first_names, opening_front, next_front, rest_seen}
+use Rattle.card_terminal.proofs.OwnedLemmas.{bounded}
 use Rattle.card_terminal.proofs.TurnLemmas.{opening_turn}
 use Rattle.card_terminal.proofs.TerminalLemmas.{one_begins, first_begins}
-
-bounded_by : (fetches repeats : Bool) (before gathered number : ℕ) → before ≤ gathered
-    → number ≤ most_begun fetches before + one_more repeats → number ≤ 2 * (gathered + 2)
-bounded_by false false before gathered number begun few = omega (arith, begun, few)
-bounded_by false true before gathered number begun few = omega (arith, begun, few)
-bounded_by true false before gathered number begun few = omega (arith, begun, few)
-bounded_by true true before gathered number begun few = omega (arith, begun, few)
-
-pub bounded : (ex : ExchangeOf) → IsKept ex → IsBounded ex
-bounded ex kept = record {
-  room = kept.room;
-  fits = kept.fits;
-  tpdus = bounded_by ex.attempt.fetches ex.attempt.repeats ex.attempt.before
-      (length ex.gather.bytes) ex.attempt.number kept.counted.begun kept.counted.number;
-}
 
 pub part_of : (items content : List ℕ) (from until : ℕ) (ex : ExchangeMarkOf)
     → IsFrontOf items from until content → IsSound (over_data ex content)

@@ -10,8 +10,7 @@ use Rattle.card_terminal.proofs.EndLemmas.{at_end, follows_as, asks_next, ends_o
 use Rattle.card_terminal.proofs.ExchangeLemmas.{goes_further}
 use Rattle.card_terminal.specs.OwnedExchange.{of_parts}
 use Rattle.std.proofs.lemmas.Result.{err_from_is_err_and}
-use Rattle.t0_core.specs.declared.line_fault.LineFault.TheVariants.{AfterEnd}
-use Rattle.card_terminal.proofs.ComesToLemmas.{take_leads, stall_leads, fault_leads, at_end_fault, none_is_no_fault, final_is_no_end, some_fault, failed_turn, broken}
+use Rattle.card_terminal.proofs.ComesToLemmas.{take_leads, stall_leads, fault_leads, failed_turn, broken}
 use Rattle.card_terminal.proofs.exchange.taking.taken_by.Goals as goal
 
 pub returns-in_default-clause-goes_on : goal.returns-in_default-clause-goes_on
@@ -132,10 +131,7 @@ pub returns-in_default-clause-led : goal.returns-in_default-clause-led
 returns-in_default-clause-led g c = λ command came leads.
     take_leads command came
     (of_parts c.args.end.now c.args.gather.now c.args.attempt.now c.args.wanted
-    c.args.stalled.now) _ c.args.byte
-    (λ end. none_is_no_fault AfterEnd
-    (c.in_ok-take.ensures.fault
-    ∙ at_end_fault _ _ c.args.gather.now c.args.byte refl c.requires end))
+    c.args.stalled.now) _ c.args.byte c.requires c.in_ok-take.ensures.fault
     (returns-in_default-clause-goes_on g c command) (returns-in_default-clause-ends g c command)
     (returns-in_default-clause-came g c command) leads
 
@@ -143,10 +139,7 @@ pub returns-in-Asks-clause-led : goal.returns-in-Asks-clause-led
 returns-in-Asks-clause-led g c = λ command came leads.
     take_leads command came
     (of_parts c.args.end.now c.args.gather.now c.args.attempt.now c.args.wanted
-    c.args.stalled.now) _ c.args.byte
-    (λ end. none_is_no_fault AfterEnd
-    (c.in_ok-take.ensures.fault
-    ∙ at_end_fault _ _ c.args.gather.now c.args.byte refl c.requires end))
+    c.args.stalled.now) _ c.args.byte c.requires c.in_ok-take.ensures.fault
     (returns-in-Asks-clause-goes_on g c command) (returns-in-Asks-clause-ends g c command)
     (returns-in-Asks-clause-came g c command) leads
 
@@ -154,10 +147,7 @@ pub returns-in-Ends-clause-led : goal.returns-in-Ends-clause-led
 returns-in-Ends-clause-led g c = λ command came leads.
     take_leads command came
     (of_parts c.args.end.now c.args.gather.now c.args.attempt.now c.args.wanted
-    c.args.stalled.now) _ c.args.byte
-    (λ end. none_is_no_fault AfterEnd
-    (c.in_ok-take.ensures.fault
-    ∙ at_end_fault _ _ c.args.gather.now c.args.byte refl c.requires end))
+    c.args.stalled.now) _ c.args.byte c.requires c.in_ok-take.ensures.fault
     (returns-in-Ends-clause-goes_on g c command) (returns-in-Ends-clause-ends g c command)
     (returns-in-Ends-clause-came g c command) leads
 
@@ -165,10 +155,7 @@ pub returns-in-Stalls-clause-led : goal.returns-in-Stalls-clause-led
 returns-in-Stalls-clause-led g c = λ command came leads final.
     stall_leads command came
     (of_parts c.args.end.now c.args.gather.now c.args.attempt.now c.args.wanted
-    c.args.stalled.now) _ c.args.byte
-    (λ end. none_is_no_fault AfterEnd
-    (c.in_ok-take.ensures.fault
-    ∙ at_end_fault _ _ c.args.gather.now c.args.byte refl c.requires end))
+    c.args.stalled.now) _ c.args.byte c.requires c.in_ok-take.ensures.fault
     refl
     (λ units first front new seen goes.
     going c.take.new.self new c.in-Some.status
@@ -187,10 +174,7 @@ returns-in_err-take-clause-led g c = λ command came leads.
     rw (p.1, p.2) (λ final.
     fault_leads command came
     (of_parts c.args.end.now c.args.gather.now c.args.attempt.now c.args.wanted
-    c.args.stalled.now) _ c.args.byte _
-    (λ end. final_is_no_end _ final
-    (some_fault _ AfterEnd (c.in_err-take.ensures.fault
-    ∙ at_end_fault _ _ c.args.gather.now c.args.byte refl c.requires end)))
+    c.args.stalled.now) _ c.args.byte _ c.requires
     (sym c.in_err-take.ensures.fault) final
     (failed_turn c.args.stalled.now c.take.new.self
     (broken c.args.end.now c.take.new.self _ c.in_err-take.ensures.refused.0 final))

@@ -9,9 +9,10 @@ pub enum ApduFault {
     OutOfMemory,
     /// A TPDU is in progress at the card's end. Nothing changes.
     UnderWay,
-    /// The card did not finish a TPDU: the command is not agreed with it. The card is reset.
+    /// The card did not finish a TPDU, because the command is not agreed with it. It is reset.
     Tpdu(TpduFault),
-    /// A GET RESPONSE brought no data, and the card announces more. The card is as that leaves it.
+    /// A GET RESPONSE brought no data, and the card announces more. The TPDUs so far are carried
+    /// out.
     Response(AnswerFault),
 }
 

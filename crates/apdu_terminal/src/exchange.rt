@@ -11,18 +11,18 @@ ghost use Rattle.apdu_terminal.specs.Apdus.{Pair, is_case_2, Brings};
 ghost use Rattle.apdu_terminal.specs.ApduSide.{ComesTo, IsLimitedTo, HasFew, KeepsData, answer_of, command_of, due_of, has_failed, to_go, response_fault, answered_by};
 ghost use Rattle.apdu_terminal.specs.declared.stage.Stage.TheVariants as stage;
 
-mod detached;
+mod apdu_exchange_mark;
 
 use crate::stage::Stage;
 use apdu_core::{Command, Status};
+pub(crate) use apdu_exchange_mark::ApduExchangeMark;
 use card_terminal::{Attempt, Next, RESPONSE_LIMIT, StartFault, Wanted};
-pub(crate) use detached::Detached;
 use std::alloc::{AllocError, Allocator, Global};
 use std::marker::Model;
 use t0_core::{AnswerFault, Gather};
 
-/// The terminal's side of one command. The command is sent first. After `6CXX` a command without
-/// data is sent once more with that count. After `61XX` GET RESPONSE follows, while more is wanted.
+/// The terminal's side of one command. The command is sent first. After `6CXX` a command of case 2
+/// is sent once more with that count. After `61XX` GET RESPONSE follows, while more is wanted.
 ///
 /// Send what `apdu` returns, and give `responded` the response, until `apdu` is `None`. Then
 /// `answer` returns the status and the data.

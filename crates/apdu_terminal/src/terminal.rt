@@ -26,8 +26,8 @@ use tlv_core::ObjectTag;
 /// status and the data. The next operation may begin after this one has ended or failed, or after
 /// `reset` has dropped it.
 ///
-/// The next operation uses the same memory. It keeps sent and received bytes, secrets included,
-/// until they are overwritten, or `reset` or a drop frees it.
+/// The next operation uses the same memory. Sent and received bytes, secrets included, stay there
+/// until they are overwritten, or until `reset` or a drop frees the memory.
 #[derive(Drop)]
 pub struct ApduTerminal<A: Allocator + Copy = Global> {
     alloc: A,

@@ -8,7 +8,7 @@ ghost use Rattle.apdu_terminal.specs.ApduSide.{ApduExchangeOf, IsResponding, ans
 ghost use Rattle.apdu_terminal.specs.ApduOperations.{Begins, GoesOver, GoesToNext, IsSettled, may_follow, with_exchange};
 ghost use Rattle.apdu_terminal.specs.declared.stage.Stage.TheVariants.{Done};
 
-use crate::exchange::Detached;
+use crate::exchange::ApduExchangeMark;
 use crate::stage::Stage;
 use apdu_core::{Command, Status, pieces};
 use card_terminal::{Answer, Unsent, put_header};
@@ -19,7 +19,7 @@ use t0_core::AnswerFault;
 /// An operation that has begun.
 #[derive(Drop)]
 pub struct ApduOperation<A: Allocator + Copy = Global> {
-    exchange: Detached<A>,
+    exchange: ApduExchangeMark<A>,
     /// The data of all commands, one after another.
     content: Vec<u8, A>,
     /// The data of the last command begin here..
@@ -67,7 +67,7 @@ impl<A: Allocator + Copy> ApduOperation<A> {
         let until = data.len();
         let mut content = Vec::new(alloc);
         copy_again(&mut content, data, rest)?;
-        let exchange = Detached::start(alloc, first, limit)?;
+        let exchange = ApduExchangeMark::start(alloc, first, limit)?;
         Ok(ApduOperation {
             exchange,
             content,

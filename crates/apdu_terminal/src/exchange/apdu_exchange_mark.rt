@@ -19,7 +19,7 @@ use t0_core::{AnswerFault, Gather};
 /// An exchange that holds no borrow. Its owner keeps the data of its command, and passes them to
 /// each call. Contracts see it as an exchange without data.
 #[derive(Drop)]
-pub struct Detached<A: Allocator + Copy = Global> {
+pub struct ApduExchangeMark<A: Allocator + Copy = Global> {
     alloc: A,
     le: Option<u16>,
     gather: Gather<A>,
@@ -28,7 +28,7 @@ pub struct Detached<A: Allocator + Copy = Global> {
     stage: Stage,
 }
 
-impl<A: Allocator + Copy> Model for Detached<A> {
+impl<A: Allocator + Copy> Model for ApduExchangeMark<A> {
     ghost use Rattle.std.specs.Prelude.{[]};
     ghost use Rattle.apdu_terminal.specs.ApduSide.{ApduExchangeOf};
 
@@ -44,10 +44,14 @@ impl<A: Allocator + Copy> Model for Detached<A> {
     } };
 }
 
-impl<A: Allocator + Copy> Detached<A> {
+impl<A: Allocator + Copy> ApduExchangeMark<A> {
     /// Starts the exchange of a command, with room for `limit` bytes of the response. Returns
     /// `AllocError` if memory ran out.
-    pub fn start(alloc: A, command: Command<'_>, limit: usize) -> Result<Detached<A>, AllocError>
+    pub fn start(
+        alloc: A,
+        command: Command<'_>,
+        limit: usize,
+    ) -> Result<ApduExchangeMark<A>, AllocError>
         requires { limit ≤ response_limit }
         ensures led { IfOk result (λ ex. ComesTo command.entry (wanted_by command.entry.le) []
             (over_data ex command.entry.content)) }
@@ -57,7 +61,7 @@ impl<A: Allocator + Copy> Detached<A> {
     {
         let wanted = Wanted::by(command.le());
         let exchange = ApduExchange::wanting(alloc, command, wanted, limit)?;
-        Ok(Detached::of(alloc, exchange))
+        Ok(ApduExchangeMark::of(alloc, exchange))
     }
 
     /// Starts the exchange of another command in the same room, and empties that.
@@ -72,11 +76,11 @@ impl<A: Allocator + Copy> Detached<A> {
         let mut gather = mem::replace(&mut self.gather, Gather::without_room(self.alloc));
         gather.clear();
         let wanted = Wanted::by(command.le());
-        *self = Detached::of(self.alloc, ApduExchange::begin(gather, command, wanted));
+        *self = ApduExchangeMark::of(self.alloc, ApduExchange::begin(gather, command, wanted));
     }
 
     /// Returns the exchange without its borrow.
-    fn of(alloc: A, exchange: ApduExchange<'_, A>) -> Detached<A>
+    fn of(alloc: A, exchange: ApduExchange<'_, A>) -> ApduExchangeMark<A>
         ensures same { over_data result exchange.entry.content ≡ exchange.entry }
         ensures sound { IsSound exchange.entry }
     {
@@ -88,7 +92,7 @@ impl<A: Allocator + Copy> Detached<A> {
             wanted,
             stage,
         } = exchange;
-        Detached {
+        ApduExchangeMark {
             alloc,
             le,
             gather,
@@ -139,7 +143,7 @@ impl<A: Allocator + Copy> Detached<A> {
         };
         let taken = exchange.responded(bytes, status);
         let keeps = !exchange.content.is_empty();
-        *self = Detached::of(self.alloc, exchange);
+        *self = ApduExchangeMark::of(self.alloc, exchange);
         (taken, keeps)
     }
 
@@ -157,7 +161,7 @@ impl<A: Allocator + Copy> Detached<A> {
     pub fn into_answer(self) -> Option<Answer<A>>
         ensures { answer_of self ≡ option_map (λ a. (a.status, a.content)) result }
     {
-        let Detached { gather, stage, .. } = self;
+        let ApduExchangeMark { gather, stage, .. } = self;
         match stage {
             Stage::Done(status) => Some(Answer::new(status, gather)),
             _ => None,

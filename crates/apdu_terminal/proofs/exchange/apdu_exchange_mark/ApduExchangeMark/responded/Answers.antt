@@ -2,7 +2,7 @@ use Rattle.std.proofs.Common.{◌∙◌, ◌==◌, ap, length}
 use Rattle.t0_core.specs.Room.{Room}
 use Rattle.apdu_terminal.specs.ApduSide.{ApduExchangeOf, over_data}
 use Rattle.apdu_terminal.proofs.OperationLemmas.{responds_over}
-use Rattle.apdu_terminal.proofs.exchange.detached.Detached.responded.Goals as goal
+use Rattle.apdu_terminal.proofs.exchange.apdu_exchange_mark.ApduExchangeMark.responded.Goals as goal
 
 pub returns-clause-responding : goal.returns-clause-responding
 returns-clause-responding g c =

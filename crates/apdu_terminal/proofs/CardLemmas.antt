@@ -52,21 +52,6 @@ most false true before gathered number le few = omega (arith, le, few)
 most true false before gathered number le few = omega (arith, le, few)
 most true true before gathered number le few = omega (arith, le, few)
 
-falls_inside : (ex : ApduExchangeOf) (content : List ℕ) (gather : Room) (gathered : ℕ)
-    (left : Wanted) (a : Attempt) (n : ℕ) (status : StatusWord) → IsSound ex
-    → IsTaken ex (length content) → gather ≡ more_room ex.gather content
-    → next.Asks a n ≡ following ex.attempt gathered left status
-    → to_go (asks_with ex gather a n) < to_go ex
-falls_inside ex content gather gathered left a n status sound taken room asks =
-    rw taken.going (omega (
-      arith,
-      ap (λ (r : Room). r.limit) room,
-      asked_number ex.attempt gathered _ _ a n (sym asks),
-      most ex.attempt.fetches ex.attempt.repeats ex.attempt.before (length ex.gather.bytes)
-          ex.attempt.number sound.counted.begun sound.counted.number,
-      sound.fits,
-    ))
-
 pub seen_falls : (inside seen : ApduExchangeOf) (content : List ℕ) (status : StatusWord)
     (gather : Room) (gathered : ℕ) (left : Wanted) (a : Attempt) (n : ℕ) → inside ≡ seen
     → IsSound inside → response_fault seen (length content) ≡ None
@@ -74,10 +59,19 @@ pub seen_falls : (inside seen : ApduExchangeOf) (content : List ℕ) (status : S
     → next.Asks a n ≡ following inside.attempt gathered left status
     → to_go (asks_with inside gather a n) < to_go seen
 seen_falls inside seen content status gather gathered left a n same sound none room asks =
-    subst (λ x. to_go (asks_with inside gather a n) < to_go x) same
-    (falls_inside inside content gather gathered left a n status sound
-    (is_taken inside (length content) (ap (λ x. response_fault x (length content)) same ∙ none))
-    room asks)
+    subst (λ x. to_go (asks_with inside gather a n) < to_go x) same (rw taken.going (omega (
+      arith,
+      ap (λ (r : Room). r.limit) room,
+      asked_number inside.attempt gathered _ _ a n (sym asks),
+      most inside.attempt.fetches inside.attempt.repeats inside.attempt.before
+          (length inside.gather.bytes) inside.attempt.number sound.counted.begun
+          sound.counted.number,
+      sound.fits,
+    )))
+  where
+    taken : IsTaken inside (length content)
+    taken =
+        is_taken inside (length content) (ap (λ x. response_fault x (length content)) same ∙ none)
 
 -- ---- a command as a TPDU
 

@@ -41,12 +41,6 @@ pub data FirstOf (old : CardState) (operation : Operation) (content : List ℕ) 
       → content ++ waiting mid.pending ≡ whole → status ≡ announcing (waiting mid.pending) 256
       → SameTables after mid → is_idle mid.pending ≡ true → FirstOf old operation content status mid
 
-same_first : (old : CardState) (operation : Operation) (a b : List ℕ) (s t : StatusWord)
-    (m n : CardState) → a ≡ b → s ≡ t → m ≡ n → FirstOf old operation a s m
-    → FirstOf old operation b t n
-same_first old operation a b s t m n ab st mn first =
-    rw (sym ab, sym st, sym mn) first
-
 -- a whole exchange by its first pair
 abbrev pub WholeBy : Place → Pair → List Pair → StatusWord → Type 0
 WholeBy at p rest status =
@@ -78,9 +72,7 @@ pub goes_on : (One : CardState → Pair → CardState → Type 0) → Reading On
 goes_on One reading old mid new operation at p rest status content first
     (inl (none, is, ends)) goes =
     let stays : new ≡ mid = rw none at goes in
-    same_first old operation content (content ++ all_content rest) p.status status mid new
-    (sym (append-nil content) ∙ ap (λ ps. content ++ all_content ps) (sym none)) (sym is)
-    (sym stays) first
+    rw (none, append-nil content, is, stays) first
 goes_on One reading old mid new operation at p rest status content
     (answered after answers none once empty same idle) (inr (next, goes_next, whole)) goes =
     absurd (no_fetch at next (length p.content) p.status none once goes_next)
@@ -108,9 +100,7 @@ pub goes_through : (One : CardState → Pair → CardState → Type 0) → Readi
 goes_through One reading old new operation at pairs content status whole gathered each goes =
     let (p, rest, are, suits, by) = whole_by at pairs status whole in
     let (mid, is, others) = rw are at goes in
-    same_first old operation (p.content ++ all_content rest) content status status new new
-    (sym (gathered ∙ ap all_content are)) refl refl
-    (goes_on One reading old mid new operation at p rest status p.content
+    rw (gathered, are) (goes_on One reading old mid new operation at p rest status p.content
     (each p mid suits is) by others)
 
 -- if nothing more is announced, the operation is carried out
@@ -288,10 +278,8 @@ get_responds old mid tag p1 p2 p idle names due (inner, brings, goes) =
     ap count (of.p3_is ∙ ap (λ (c : Command). p3_of c.content c.le) suits.is_due) in
     let ends : FirstOf old (Get tag) q.content q.status next
     → FirstOf old (Get tag) p.content p.status mid = λ first.
-    same_first old (Get tag) (q.content ++ all_content rest) p.content p.status p.status mid mid
-    content refl refl
-    (goes_on (GoesAs Does) one_read old next mid (Get tag) at q rest p.status q.content first by
-    others) in
+    rw (sym content) (goes_on (GoesAs Does) one_read old next mid (Get tag) at q rest p.status
+    q.content first by others) in
     elim (get_step old next tag p1 p2 256 t idle names header does) [
       | get_refused answers none once nothing same rests ↦
           ends (get_refuses old next tag q t of answers none once nothing same rests)
@@ -319,8 +307,7 @@ get_responds old mid tag p1 p2 p idle names due (inner, brings, goes) =
                 get_again next later tag value p1 p2 n r u old rests names
                 (suits_r.is_due ∙ ap (λ (x : Place). x.due) (sym here)) refl few held same of_u
                 does_u) others in
-                same_first old (Get tag) (all_content rest) p.content p.status p.status mid mid
-                (ap (λ bs. bs ++ all_content rest) (sym empty) ∙ content) refl refl
+                rw (sym content, empty)
                 (first_alike next old mid (Get tag) (all_content rest) p.status
                 (sym same.0, sym same.1) all)
           ]

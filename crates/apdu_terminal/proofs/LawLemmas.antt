@@ -6,12 +6,9 @@ use Rattle.apdu_core.specs.StatusWord.{StatusWord}
 use Rattle.apdu_core.specs.CommandBytes.{Command}
 use Rattle.card_terminal.specs.declared.wanted.Wanted.{Wanted}
 use Rattle.apdu_terminal.specs.declared.stage.Stage.TheVariants.{Done, Failed}
-use Rattle.apdu_terminal.specs.Apdus.{Pair, Place, first_place, Follow, Goes, Stalls, Ends, follow, Suits, GoesThrough, all_content, Brings, StallsAt, IsTooLong}
+use Rattle.apdu_terminal.specs.Apdus.{Pair, Place, first_place, Goes, Stalls, Ends, follow, Suits, GoesThrough, all_content, Brings, StallsAt, IsTooLong}
 use Rattle.apdu_terminal.proofs.PlaceLemmas.{Whole, at_end, further, brings_whole, Comes, again, fetch, comes}
 use Rattle.apdu_terminal.specs.ApduSide.{ApduExchangeOf, due_of, place_of, ComesTo, to_place, to_end, to_stall, to_fault}
-
-same_next : (f : Follow) (a b : Place) → f ≡ Goes a → f ≡ Goes b → a ≡ b
-same_next f a b e g = let both : Goes a ≡ Goes b = sym e ∙ g in cc
 
 -- what follows a pair is one thing
 ends_or_goes : (at next : Place) (p q : Pair) → q ≡ p
@@ -24,7 +21,7 @@ one_next : (at a b : Place) (p q : Pair) → q ≡ p
     → follow at (length q.content) q.status ≡ Goes a
     → follow at (length p.content) p.status ≡ Goes b → a ≡ b
 one_next at a b p q same one other =
-    same_next (follow at (length p.content) p.status) a b (rw same at one) other
+    let both : Goes b ≡ Goes a = sym other ∙ (rw same at one) in cc
 
 -- two whole exchanges that begin one list of pairs are the same
 pub record AreOne (xs ys a b : List Pair) (s t : StatusWord) : Type 0 where
@@ -128,7 +125,8 @@ fails_within c wanted here u t rest before last at bytes s b e are through =
     let more = more_from (first_place c wanted) before at u t (last ∷ rest) s
     (brings_whole c wanted u bytes s b) through
     (e ∙ ap (λ ps. ps ++ rest) are ∙ append_assoc before (last ∷ []) rest) in
-    let same : last ≡ more.p = first_of _ _ _ _ more.rest_is in (
+    let rest_is : last ∷ rest ≡ more.p ∷ (more.more ++ t) = more.rest_is in
+    let same : last ≡ more.p = cc in (
       λ stalls. more.never (rw same at stalls),
       (
         more.more,
@@ -137,18 +135,30 @@ fails_within c wanted here u t rest before last at bytes s b e are through =
             ∙ ap (λ ps. ps ++ more.more) (sym are),
       ),
     )
-  where
-    first_of : (a b : Pair) (xs ys : List Pair) → a ∷ xs ≡ b ∷ ys → a ≡ b
-    first_of a b xs ys e = cc
+
+-- before the next pair of the rest, or at the end of a whole exchange that `t` follows
+abbrev pub IsWithin : ApduExchangeOf → List Pair → List Pair → StatusWord → List ℕ → Type 0
+IsWithin ex rest t status bytes =
+    ((p : Pair) × (more : List Pair) × (rest ≡ p ∷ more) × (due_of ex ≡ Some p.command))
+    ⊎ ((rest ≡ t) × (ex.stage ≡ Done status) × (ex.gather.bytes ≡ bytes))
+
+pub due_within : (ex : ApduExchangeOf) (p : Pair) (rest : List Pair) (status : StatusWord)
+    (bytes : List ℕ) → IsWithin ex (p ∷ rest) [] status bytes → due_of ex ≡ Some p.command
+due_within ex p rest status bytes (inl (q, more, is, due)) = let same : q ≡ p = cc in
+    due ∙ ap (λ (x : Pair). Some x.command) same
+due_within ex p rest status bytes (inr (is, done, gathered)) = absurd (cc)
+
+pub over_within : (ex : ApduExchangeOf) (status : StatusWord) (bytes : List ℕ)
+    → IsWithin ex [] [] status bytes → (ex.stage ≡ Done status) × (ex.gather.bytes ≡ bytes)
+over_within ex status bytes (inl (q, more, is, due)) = absurd (cc)
+over_within ex status bytes (inr (is, done, gathered)) = (done, gathered)
 
 -- If the pairs so far begin a list with a whole exchange, and there is room for its data, the
 -- exchange is before a pair of the whole one, or at its end.
 pub within : (c : Command) (wanted : Wanted) (here : List Pair) (ex : ApduExchangeOf)
     (u t rest : List Pair) (bytes : List ℕ) (s : StatusWord) → ComesTo c wanted here ex
     → Brings c wanted u bytes s → length (all_content u) ≤ ex.gather.limit
-    → u ++ t ≡ here ++ rest
-    → ((p : Pair) × (more : List Pair) × (rest ≡ p ∷ more) × (due_of ex ≡ Some p.command))
-    ⊎ ((rest ≡ t) × (ex.stage ≡ Done s) × (ex.gather.bytes ≡ bytes))
+    → u ++ t ≡ here ++ rest → IsWithin ex rest t s bytes
 within c wanted here ex u t rest bytes s (to_place going through gathered is number) b room e =
     let at = more_from (first_place c wanted) here (place_of ex) u t rest s
     (brings_whole c wanted u bytes s b) through e in
@@ -181,12 +191,9 @@ pub next_due : (c : Command) (wanted : Wanted) (came rest : List Pair) (p : Pair
     → Brings c wanted (came ++ p ∷ rest) gathered status → length gathered ≤ ex.gather.limit
     → due_of ex ≡ Some p.command
 next_due c wanted came rest p ex gathered status led b room =
-    elim (within c wanted came ex (came ++ p ∷ rest) [] (p ∷ rest) gathered status led b
-    (omega (arith, room, ap length b.gathered_is)) (append-nil (came ++ p ∷ rest))) [
-      | inl (q, more, is, due) ↦ let same : q ≡ p = cc in
-          due ∙ ap (λ (x : Pair). Some x.command) same
-      | inr (is, done, bytes) ↦ absurd (cc)
-    ]
+    due_within ex p rest status gathered (within c wanted came ex (came ++ p ∷ rest) [] (p ∷ rest)
+    gathered status led b (omega (arith, room, ap length b.gathered_is))
+    (append-nil (came ++ p ∷ rest)))
 
 -- after all pairs of a whole one it has ended
 pub over_at_end : (c : Command) (wanted : Wanted) (pairs : List Pair)
@@ -194,11 +201,8 @@ pub over_at_end : (c : Command) (wanted : Wanted) (pairs : List Pair)
     → Brings c wanted pairs gathered status → length gathered ≤ ex.gather.limit
     → (ex.stage ≡ Done status) × (ex.gather.bytes ≡ gathered)
 over_at_end c wanted pairs ex gathered status led b room =
-    elim (within c wanted pairs ex pairs [] [] gathered status led b
-    (omega (arith, room, ap length b.gathered_is)) refl) [
-      | inl (q, more, is, due) ↦ absurd (cc)
-      | inr (is, done, bytes) ↦ (done, bytes)
-    ]
+    over_within ex status gathered (within c wanted pairs ex pairs [] [] gathered status led b
+    (omega (arith, room, ap length b.gathered_is)) refl)
 
 -- ---- how many pairs there are
 

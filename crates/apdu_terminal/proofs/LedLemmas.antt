@@ -252,77 +252,6 @@ after_of ex gather status next.Ends = ended_as ex gather (Done status)
 abbrev pub next_of : ApduExchangeOf → ℕ → StatusWord → Next
 next_of ex gathered status = following ex.attempt gathered (less ex.wanted gathered) status
 
-led_on : (c : Command) (wanted : Wanted) (pairs : List Pair) (ex : ApduExchangeOf)
-    (content : List ℕ) (status : StatusWord) (gather : Room) (gathered : ℕ) (v : Next)
-    → IsSound ex → IsTaken ex (length content) → gather ≡ more_room ex.gather content
-    → gathered ≡ length gather.bytes → v ≡ next_of ex gathered status → ComesTo c wanted pairs ex
-    → ComesTo c wanted (pairs ++ answered_by ex content status ∷ [])
-    (after_of ex gather status v)
-led_on c wanted pairs ex content status gather gathered v sound taken room many is led =
-    by v is (follows_as ex (length content) status sound
-    ∙ ap (follow_of ex.wanted (length ex.gather.bytes + length content))
-    (ap (λ k. next_of ex k status) (sym so_many) ∙ sym is))
-  where
-    so_many : gathered ≡ length ex.gather.bytes + length content
-    so_many = omega (
-      arith,
-      many,
-      ap (λ (r : Room). length r.bytes) room,
-      length-append ex.gather.bytes content,
-    )
-
-    at : IsAt c wanted pairs ex
-    at = at_stage c wanted pairs ex Going taken.going led
-
-    p : Pair
-    p = answered_by ex content status
-
-    suits : Suits (place_of ex) p
-    suits = record { is_due = refl; asked_for = taken.asked_for }
-
-    bytes : gather.bytes ≡ all_content (pairs ++ p ∷ [])
-    bytes = ap (λ (r : Room). r.bytes) room ∙ ap (λ bs. bs ++ content) at.gathered
-        ∙ sym (one_more_content pairs p)
-
-    by : (v : Next) → v ≡ next_of ex gathered status
-        → follow (place_of ex) (length content) status
-        ≡ follow_of ex.wanted (length ex.gather.bytes + length content) v
-        → ComesTo c wanted (pairs ++ p ∷ []) (after_of ex gather status v)
-    by (next.Asks a n) is follows = to_place taken.going
-        (goes_last (first_place c wanted) pairs (place_of ex) p
-        (place_of (asks_with ex gather a n)) at.through suits
-        (follows ∙ ap (λ k. Goes (place_at a n ex.wanted k)) (sym so_many ∙ many))) bytes
-        at.wanted_is
-        (omega (
-          arith,
-          asked_number ex.attempt gathered _ _ a n (sym is),
-          at.number,
-          one_more_pair pairs p,
-        ))
-    by next.Stalls is follows = to_stall refl (record {
-      before = pairs;
-      last = p;
-      at = place_of ex;
-      pairs_are = refl;
-      through = at.through;
-      suits = suits;
-      stalls = follows;
-    })
-    by next.Ends is follows = to_end status refl
-        (record {
-          before = pairs;
-          last = p;
-          at = place_of ex;
-          pairs_are = refl;
-          through = at.through;
-          suits = suits;
-          ends = follows;
-          status_is = refl;
-          gathered_is = bytes;
-        })
-        (omega (arith, at.number, one_more_pair pairs p))
-
--- the same for an exchange by its view
 pub seen_led : (c : Command) (wanted : Wanted) (pairs : List Pair) (inside seen : ApduExchangeOf)
     (content : List ℕ) (status : StatusWord) (gather : Room) (gathered : ℕ) (left : Wanted)
     (v : Next) → inside ≡ seen → IsSound inside → response_fault seen (length content) ≡ None
@@ -333,6 +262,72 @@ pub seen_led : (c : Command) (wanted : Wanted) (pairs : List Pair) (inside seen 
     (after_of inside gather status v)
 seen_led c wanted pairs inside seen content status gather gathered left v same sound none room
     many left_is is led =
-    rw (sym same) (led_on c wanted pairs inside content status gather gathered v sound
-    (is_taken inside (length content) (ap (λ x. response_fault x (length content)) same ∙ none))
-    room many (is ∙ ap (λ w. following inside.attempt gathered w status) left_is) (rw same led))
+    rw (sym same) (by v next_is (follows_as inside (length content) status sound
+    ∙ ap (follow_of inside.wanted (length inside.gather.bytes + length content))
+    (ap (λ k. next_of inside k status) (sym so_many) ∙ sym next_is)))
+  where
+    next_is : v ≡ next_of inside gathered status
+    next_is = is ∙ ap (λ w. following inside.attempt gathered w status) left_is
+
+    taken : IsTaken inside (length content)
+    taken =
+        is_taken inside (length content) (ap (λ x. response_fault x (length content)) same ∙ none)
+
+    so_many : gathered ≡ length inside.gather.bytes + length content
+    so_many = omega (
+      arith,
+      many,
+      ap (λ (r : Room). length r.bytes) room,
+      length-append inside.gather.bytes content,
+    )
+
+    at : IsAt c wanted pairs inside
+    at = at_stage c wanted pairs inside Going taken.going (rw same led)
+
+    p : Pair
+    p = answered_by inside content status
+
+    suits : Suits (place_of inside) p
+    suits = record { is_due = refl; asked_for = taken.asked_for }
+
+    bytes : gather.bytes ≡ all_content (pairs ++ p ∷ [])
+    bytes = ap (λ (r : Room). r.bytes) room ∙ ap (λ bs. bs ++ content) at.gathered
+        ∙ sym (one_more_content pairs p)
+
+    by : (v : Next) → v ≡ next_of inside gathered status
+        → follow (place_of inside) (length content) status
+        ≡ follow_of inside.wanted (length inside.gather.bytes + length content) v
+        → ComesTo c wanted (pairs ++ p ∷ []) (after_of inside gather status v)
+    by (next.Asks a n) is follows = to_place taken.going
+        (goes_last (first_place c wanted) pairs (place_of inside) p
+        (place_of (asks_with inside gather a n)) at.through suits
+        (follows ∙ ap (λ k. Goes (place_at a n inside.wanted k)) (sym so_many ∙ many))) bytes
+        at.wanted_is
+        (omega (
+          arith,
+          asked_number inside.attempt gathered _ _ a n (sym is),
+          at.number,
+          one_more_pair pairs p,
+        ))
+    by next.Stalls is follows = to_stall refl (record {
+      before = pairs;
+      last = p;
+      at = place_of inside;
+      pairs_are = refl;
+      through = at.through;
+      suits = suits;
+      stalls = follows;
+    })
+    by next.Ends is follows = to_end status refl
+        (record {
+          before = pairs;
+          last = p;
+          at = place_of inside;
+          pairs_are = refl;
+          through = at.through;
+          suits = suits;
+          ends = follows;
+          status_is = refl;
+          gathered_is = bytes;
+        })
+        (omega (arith, at.number, one_more_pair pairs p))

@@ -9,17 +9,14 @@ use Rattle.apdu_terminal.specs.Apdus.{Pair}
 use Rattle.apdu_terminal.specs.ApduTalk.{AreApdusOf, talk_pairs}
 use Rattle.apdu_terminal.specs.ApduSide.{ApduExchangeOf, due_of, ComesTo}
 use Rattle.apdu_terminal.specs.ApduOperations.{ApduOperationOf, AreApdusUpTo, HaveRoom, LeadsTo}
-use Rattle.apdu_terminal.proofs.LawLemmas.{one_exchange, within}
+use Rattle.apdu_terminal.proofs.LawLemmas.{IsWithin, due_within, one_exchange, over_within, within}
 use Rattle.apdu_terminal.proofs.OperationLemmas.{none_left}
 
 -- ---- the place of an operation in whole exchanges
 
 -- before the next pair of a whole one, or at its end
-data Stands (ex : ApduExchangeOf) (rest : List Pair) (answer : Reply) : Type 0 where
-  due : (p : Pair) (more : List Pair) → rest ≡ p ∷ more → due_of ex ≡ Some p.command
-      → Stands ex rest answer
-  over : rest ≡ [] → ex.stage ≡ Done answer.status → ex.gather.bytes ≡ answer.content
-      → Stands ex rest answer
+abbrev Stands : ApduExchangeOf → List Pair → Reply → Type 0
+Stands ex rest answer = IsWithin ex rest [] answer.status answer.content
 
 none_taken : (commands : List Command) (gone : List (List Pair)) (c : Command)
     (left : List Command) → commands ≡ [] → AreApdusUpTo commands gone (c ∷ left) → ⊥
@@ -35,15 +32,12 @@ in_current : (c : Command) (left : List Command) (here rest : List Pair) (o : Ap
     → Stands o.exchange rest answer
 in_current c left here rest o [] answer led settled are room e = absurd are
 in_current c left here rest o (u ∷ []) answer led settled are room e =
-    elim (within c (wanted_by c.le) here o.exchange u [] rest answer.content answer.status led
-    are.0 room.0 e) [
-      | inl at ↦ due at.0 at.1 at.2 at.3
-      | inr end ↦ over end.0 end.1 end.2
-    ]
+    within c (wanted_by c.le) here o.exchange u [] rest answer.content answer.status led are.0
+    room.0 e
 in_current c left here rest o (u ∷ n ∷ us) answer led settled are room e =
     elim (within c (wanted_by c.le) here o.exchange u (talk_pairs (n ∷ us)) rest are.0 ok led are.1
     room.0 e) [
-      | inl at ↦ due at.0 at.1 at.2 at.3
+      | inl at ↦ inl at
       | inr end ↦ absurd (some_left left n us answer are.2 (settled end.1))
     ]
   where
@@ -100,12 +94,8 @@ pub operation_due_next : (commands : List Command) (came rest : List Pair) (p : 
     → HaveRoom o.exchange.gather.limit exchanges → talk_pairs exchanges ≡ came ++ p ∷ rest
     → due_of o.exchange ≡ Some p.command
 operation_due_next commands came rest p o exchanges answer leads are room e =
-    by (stands commands came (p ∷ rest) o exchanges answer leads are room e)
-  where
-    by : Stands o.exchange (p ∷ rest) answer → due_of o.exchange ≡ Some p.command
-    by (due q more is now) = let same : q ≡ p = cc in
-        now ∙ ap (λ (x : Pair). Some x.command) same
-    by (over none done bytes) = absurd (cc)
+    due_within o.exchange p rest answer.status answer.content
+    (stands commands came (p ∷ rest) o exchanges answer leads are room e)
 
 pub operation_over : (commands : List Command) (came : List Pair) (o : ApduOperationOf)
     (exchanges : List (List Pair)) (answer : Reply) → LeadsTo commands came (Some o)
@@ -113,10 +103,5 @@ pub operation_over : (commands : List Command) (came : List Pair) (o : ApduOpera
     → came ≡ talk_pairs exchanges
     → (o.exchange.stage ≡ Done answer.status) × (o.exchange.gather.bytes ≡ answer.content)
 operation_over commands came o exchanges answer leads are room e =
-    by (stands commands came [] o exchanges answer leads are room
-    (sym e ∙ sym (append-nil came)))
-  where
-    by : Stands o.exchange [] answer
-        → (o.exchange.stage ≡ Done answer.status) × (o.exchange.gather.bytes ≡ answer.content)
-    by (due q more is now) = absurd (cc)
-    by (over none done bytes) = (done, bytes)
+    over_within o.exchange answer.status answer.content
+    (stands commands came [] o exchanges answer leads are room (sym e ∙ sym (append-nil came)))

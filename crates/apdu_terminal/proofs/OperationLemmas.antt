@@ -1,8 +1,8 @@
 -- With each response the pairs that led to an operation at a terminal lead on.
-use Rattle.std.proofs.Common.{◌≡◌, ◌≢◌, ◌≤◌, ◌+◌, ◌-◌, ◌==◌, ℕ, List, [], ◌∷◌, ◌++◌, length, take, drop, ◌⊎◌, inl, inr, refl, sym, subst, ◌∙◌, ap, append-nil, append_assoc, length-append, arith, Option, Some, None, true, false, Bool}
+use Rattle.std.proofs.Common.{◌≡◌, ◌≢◌, ◌≤◌, ◌+◌, ◌-◌, ◌==◌, ℕ, List, [], ◌∷◌, ◌++◌, length, drop, ◌⊎◌, inl, inr, refl, sym, subst, ◌∙◌, ap, append-nil, append_assoc, length-append, arith, Option, Some, None, true, false, Bool}
 use Rattle.std.specs.Prelude.{not, Result, Ok, Err, IfSome}
 use Rattle.std.specs.List.{AllByRecursion, slice_range}
-use Rattle.std.proofs.Math.Seq.{drop-append_seam, take-append_seam}
+use Rattle.std.proofs.Math.Seq.{drop-append_seam}
 use Rattle.std.proofs.lemmas.Bool.{eqb-true}
 use Rattle.std.proofs.lemmas.List.{drop-drop, length-drop}
 use Rattle.apdu_core.specs.declared.header.Header.{Header}
@@ -17,7 +17,7 @@ use Rattle.t0_core.specs.DialogueLaws.{flat_map_last}
 use Rattle.object_card.specs.CarryingOut.{put_header}
 use Rattle.object_card.specs.OneStep.{Put, Reply}
 use Rattle.card_terminal.specs.Gathered.{wanted_by}
-use Rattle.card_terminal.specs.PieceLaws.{IsFrontOf, left_is, left_after, chain_of, rest_seen}
+use Rattle.card_terminal.specs.PieceLaws.{IsFrontOf, left_is, left_after, chain_of, opening_front, rest_seen}
 use Rattle.card_terminal.specs.Talk.{AreCommandsOf}
 use Rattle.card_terminal.specs.TalkLaws.{is_ok_or_not}
 use Rattle.card_terminal.specs.declared.unsent.Unsent.{Unsent}
@@ -362,12 +362,10 @@ pub begins_with : (first : Command) (rest items : List ℕ) (ex : ApduExchangeOf
       rest = drop until items;
     })
 begins_with first rest items ex until p1 p2 whole is going led =
-    let size : until - 0 ≡ length first.content = omega (arith, is) in
-    let slice : slice_range items 0 until ≡ first.content =
-    ap (λ k. take k items) size ∙ ap (λ z. take (length first.content) z) whole
-    ∙ take-append_seam first.content rest in
+    let front =
+    opening_front (first.content ++ rest) items until first.content whole (rest, refl) is in
     record {
-      led = rw slice led;
+      led = rw front.slice led;
       going = going;
       p1_is = refl;
       p2_is = refl;

@@ -11,29 +11,12 @@ unreachable-requires g c =
       c.in_default.ensures.0,
     )
 
-pub returns-clause-rests : goal.returns-clause-rests
-returns-clause-rests g c =
-    (tpdu_goes g.C.TpduCard c.args.due.now _ c.args.end.now c.tpdu.new.self c.over.result
-    c.tpdu.new.plans c.args.gather.now c.tpdu.new.gather _ c.le-le.ensures.command.sizes
-    c.requires.tpdu
+pub returns : goal.returns
+returns g c =
+    let (rests, limit, goes) = tpdu_goes g.C.TpduCard c.args.due.now _ c.args.end.now
+    c.tpdu.new.self c.over.result c.tpdu.new.plans c.args.gather.now c.tpdu.new.gather _
+    c.le-le.ensures.command.sizes c.requires.tpdu
     (ap (take c.in-Some.count) c.in-Some.ensures.1
     ∙ taken_of c.in-Some.count (command_bytes c.args.due.now) _ c.in-Some.ensures.0)
-    c.over.ensures c.requires.rests c.requires.empty c.requires.room c.tpdu.ensures).0
-
-pub returns-clause-limit : goal.returns-clause-limit
-returns-clause-limit g c =
-    (tpdu_goes g.C.TpduCard c.args.due.now _ c.args.end.now c.tpdu.new.self c.over.result
-    c.tpdu.new.plans c.args.gather.now c.tpdu.new.gather _ c.le-le.ensures.command.sizes
-    c.requires.tpdu
-    (ap (take c.in-Some.count) c.in-Some.ensures.1
-    ∙ taken_of c.in-Some.count (command_bytes c.args.due.now) _ c.in-Some.ensures.0)
-    c.over.ensures c.requires.rests c.requires.empty c.requires.room c.tpdu.ensures).1
-
-pub returns-clause-goes : goal.returns-clause-goes
-returns-clause-goes g c =
-    (tpdu_goes g.C.TpduCard c.args.due.now _ c.args.end.now c.tpdu.new.self c.over.result
-    c.tpdu.new.plans c.args.gather.now c.tpdu.new.gather _ c.le-le.ensures.command.sizes
-    c.requires.tpdu
-    (ap (take c.in-Some.count) c.in-Some.ensures.1
-    ∙ taken_of c.in-Some.count (command_bytes c.args.due.now) _ c.in-Some.ensures.0)
-    c.over.ensures c.requires.rests c.requires.empty c.requires.room c.tpdu.ensures).2
+    c.over.ensures c.requires.rests c.requires.empty c.requires.room c.tpdu.ensures in
+    record { rests = rests; limit = limit; goes = goes }

@@ -216,7 +216,7 @@ static bool speaks(const gt_atr *says, int protocol)
 
 /* Writes the response to a request: its protocol, and its PPS1 if that is the card's own rate or
  * that of a reset. `is_of_card` is whether the card's own rate is used next. Returns false if there
- * is no response. */
+ * is not a response. */
 static bool respond(const struct socket *socket, const uint8_t *request, size_t n,
                     uint8_t response[GT_PPS_LIMIT], size_t *count, bool *is_of_card)
 {

@@ -112,8 +112,8 @@ enum {
     GT_TOO_MANY_APPS = -21, /* the card has as many applications as it may */
     GT_NO_APP = -22,        /* there is no application to hold the data object */
     GT_VALUE_TOO_LONG = -23, /* the value exceeds the limit on a value */
-    GT_NOT_OBJECTS = -24,   /* the tag is that of a template, and the value is no list of objects;
-                             * those of a value are at level 2, so a list may have 15 levels */
+    GT_NOT_OBJECTS = -24,   /* the tag is that of a template, and the value is not a list of
+                             * objects; its objects are at level 2, so it may have 15 levels */
     GT_TABLE_FULL = -25,    /* the application has as many data objects as it may */
 
     /* of the line */
@@ -141,7 +141,7 @@ enum {
     GT_NO_STATUS = -61,     /* the answer does not end in a status word */
     GT_NOT_ASKED = -62,     /* data came back, and the TPDU or command asks for none */
     GT_TOO_MANY = -63,      /* more data came back than the TPDU or command asks for */
-    GT_NO_TPDU = -64,       /* the bytes are no whole TPDU */
+    GT_NO_TPDU = -64,       /* the bytes are not a whole TPDU */
     GT_WANTS_DATA = -65,    /* the card takes data, and the TPDU has none: deadlock */
     GT_SENDS_DATA = -66,    /* the card sends data, and the TPDU asks for none */
 
@@ -351,7 +351,7 @@ typedef struct {
     uint8_t convention;         /* GT_DIRECT or GT_INVERSE */
     uint8_t protocol_count;     /* the number of protocols offered, 1 to GT_PROTOCOLS_LIMIT */
     uint8_t protocols[GT_PROTOCOLS_LIMIT]; /* T of each, in the order offered; then 0 */
-    uint8_t names_15;           /* 1 if T=15 is named, which is no protocol, else 0 */
+    uint8_t names_15;           /* 1 if T=15 is named, which is not a protocol, else 0 */
     uint8_t rate_code;          /* TA1, or 0x11: the codes of Fi and of Di, as PPS1 has them */
     uint8_t di;                 /* Di; 0: reserved */
     uint8_t extra_guard_time;   /* N: TC1, or 0 */
@@ -578,7 +578,7 @@ static inline int32_t gt_pass_(int32_t (*carry_out)(gt_card *, const uint8_t *, 
  * - GT_OK: all of them are in `objects`, from its front, or room is 0.
  * - GT_BUFFER: there are more than `room`; `count` is their number, and the first `room` of them
  *   are in `objects`.
- * - GT_TAG_CUT to GT_TOO_DEEP: the bytes are no list of objects. This is their first fault, and
+ * - GT_TAG_CUT to GT_TOO_DEEP: the bytes are not a list of objects. This is their first fault, and
  *   `place` gets the place of the innermost object at fault. Nothing else changes `place`. */
 GT_MUST_CHECK int32_t gt_objects(const uint8_t *bytes, size_t n, gt_object *objects, size_t room,
                                  size_t *count, size_t *place) {
@@ -596,8 +596,8 @@ GT_MUST_CHECK int32_t gt_objects(const uint8_t *bytes, size_t n, gt_object *obje
  * - GT_NOT_FOUND: the bytes are a list of objects without such an object, or the path has no
  *   steps.
  * - GT_ARGUMENT: a step is not a tag of one to three bytes, whatever the bytes are.
- * - GT_TAG_CUT to GT_TOO_DEEP: the bytes are no list of objects, wherever the path leads. This is
- *   their first fault, and `place` gets its place as in `gt_objects`. Nothing else changes
+ * - GT_TAG_CUT to GT_TOO_DEEP: the bytes are not a list of objects, wherever the path leads. This
+ *   is their first fault, and `place` gets its place as in `gt_objects`. Nothing else changes
  *   `place`. */
 GT_MUST_CHECK int32_t gt_find(const uint8_t *bytes, size_t n, const uint32_t *path, size_t steps,
                               gt_object *object, size_t *place) {
@@ -636,8 +636,8 @@ GT_MUST_CHECK int32_t gt_head(uint32_t tag, uint16_t length, uint8_t head[6], si
  * are as they are meant: TS is 3F.
  *
  * - GT_OK: nothing else changes `atr`.
- * - GT_ATR_NO_TS to GT_ATR_CHECK_WRONG: the bytes are no answer to reset. This is their first fault
- *   from the left; a wrong check byte comes last. `place` gets the place of the first byte at
+ * - GT_ATR_NO_TS to GT_ATR_CHECK_WRONG: the bytes are not an answer to reset. This is their first
+ *   fault from the left; a wrong check byte comes last. `place` gets the place of the first byte at
  *   fault, from 0 for TS, or the number of bytes if one is missing. Nothing else changes `place`.
  *
  * While the result is GT_ATR_CUT or GT_ATR_CHECK_MISSING, read one more byte: there are never more
@@ -669,8 +669,8 @@ GT_MUST_CHECK int32_t gt_pps_request(uint8_t t, uint16_t pps1, uint16_t pps2, ui
  *
  * - 1: it does.
  * - 0: it does not. Reset the card, or give it up.
- * - GT_ARGUMENT: `request` is no PPS request.
- * - GT_PPS_NO_PPSS to GT_PPS_CHECK_WRONG: `response` is no PPS response. This is its first fault
+ * - GT_ARGUMENT: `request` is not a PPS request.
+ * - GT_PPS_NO_PPSS to GT_PPS_CHECK_WRONG: `response` is not a PPS response. This is its first fault
  *   from the left; a wrong PCK comes last. */
 GT_MUST_CHECK int32_t gt_pps_agreed(const uint8_t *request, size_t n, const uint8_t *response,
                                     size_t m) {
@@ -712,7 +712,7 @@ GT_MUST_CHECK int gt_version_fits(void) {
  *
  * - GT_OK: it has started, and sends first.
  * - GT_STATE: the handle holds an exchange.
- * - GT_TOO_SHORT, GT_BAD_LENGTH, GT_INVALID_INS: the bytes are no command.
+ * - GT_TOO_SHORT, GT_BAD_LENGTH, GT_INVALID_INS: the bytes are not a command.
  * - GT_MEMORY. Never GT_EMPTY. */
 GT_MUST_CHECK int32_t gt_exchange_start(gt_exchange *e, const uint8_t *command, size_t n) {
     if (!e || (!command && n)) return GT_NULL;
@@ -822,7 +822,7 @@ GT_MUST_CHECK int32_t gt_exchange_tpdu(gt_exchange *e, uint8_t tpdu[GT_TPDU_LIMI
  * brings these data and this status: another TPDU follows, or it has ended.
  *
  * - GT_OK.
- * - GT_NO_STATUS: the last two bytes are no status word (6X except 60, or 9X, and any byte).
+ * - GT_NO_STATUS: the last two bytes are not a status word (6X except 60, or 9X, and any byte).
  * - GT_NOT_DUE: see `gt_exchange_tpdu`.
  * - GT_NOT_ASKED, GT_TOO_MANY: more data came back than may.
  * - GT_TOO_LONG, GT_STALLED: the exchange has failed for good. */
@@ -939,7 +939,7 @@ GT_MUST_CHECK int32_t gt_terminal_put(gt_terminal *t, uint32_t tag, const uint8_
  *
  * - GT_OK.
  * - GT_STATE: an operation is in progress. Nothing has changed.
- * - GT_TOO_SHORT, GT_BAD_LENGTH, GT_INVALID_INS: the bytes are no command. Nothing has changed.
+ * - GT_TOO_SHORT, GT_BAD_LENGTH, GT_INVALID_INS: the bytes are not a command. Nothing has changed.
  * - GT_MEMORY: nothing has changed. */
 GT_MUST_CHECK int32_t gt_terminal_send(gt_terminal *t, const uint8_t *command, size_t n) {
     if (!t || (!command && n)) return GT_NULL;
@@ -1194,7 +1194,7 @@ GT_MUST_CHECK int32_t gt_card_app(gt_card *c, const uint8_t *aid, size_t n) {
  * - GT_NO_APP: there is no application yet.
  * - GT_VALUE_TOO_LONG: `n` is above 8,192.
  * - GT_NOT_OBJECTS: the tag is that of a template (bit 6 of its first byte is set, as in 70 and
- *   FF01, and not in 5F20 and DF01), and the value is no list of objects.
+ *   FF01, and not in 5F20 and DF01), and the value is not a list of objects.
  * - GT_TABLE_FULL: the tag is new, and the application has 64.
  * - GT_MEMORY. */
 GT_MUST_CHECK int32_t gt_card_object(gt_card *c, uint32_t tag, const uint8_t *value, size_t n,
@@ -1315,7 +1315,7 @@ GT_MUST_CHECK int32_t gt_card_tpdu(gt_card *c, const uint8_t *tpdu, size_t n,
  * - GT_OK: the card has answered, with any status.
  * - GT_STATE: the card is not finished yet, or characters of a TPDU have passed. Nothing has
  *   changed.
- * - GT_TOO_SHORT, GT_INVALID_INS: the bytes are no command. Nothing has changed.
+ * - GT_TOO_SHORT, GT_INVALID_INS: the bytes are not a command. Nothing has changed.
  * - GT_BUFFER: `room` is less than 2 and Le (00: 256; without Le 2). Nothing has changed.
  * - GT_MEMORY: nothing has changed. */
 GT_MUST_CHECK int32_t gt_card_apdu(gt_card *c, const uint8_t *apdu, size_t n,
@@ -1403,9 +1403,9 @@ GT_MUST_CHECK int32_t gt_card_t1_missed(gt_card *c) {
  * - o: it sends INS xor FF, and one data byte moves;
  * - a: it sends INS, and all data bytes that are left move.
  *
- * o and a are passed over if no data bytes are left, as in a TPDU without data; n is not. After the
+ * o and a are skipped if no data bytes are left, as in a TPDU without data; n is not. After the
  * last letter all that are left move. `cut`, 1 to 256, is the most bytes that a status 61XX
- * announces (256 as 6100). It shows only if a response waits, and 256 is no limit. Without a plan
+ * announces (256 as 6100). It shows only if a response waits, and 256 sets no limit. Without a plan
  * the card answers as with "" and 256.
  *
  * - GT_OK.
@@ -1483,7 +1483,7 @@ GT_FUNCTION void gt_card_free(gt_card *c) {
  * - 6884: CLA begins a chain, and INS is not PUT DATA.
  * - 6982: PUT DATA: the data object is locked.
  * - 6985: GET DATA, PUT DATA: nothing is selected; GET RESPONSE: nothing waits.
- * - 6A80: PUT DATA: the tag is that of a template, and the value is no list of objects.
+ * - 6A80: PUT DATA: the tag is that of a template, and the value is not a list of objects.
  * - 6A82: SELECT: there is no such application.
  * - 6A84: PUT DATA: the tag is new, and the application has 64 data objects.
  * - 6A86: P1-P2 are not the command's, or name no tag.
@@ -1602,7 +1602,7 @@ GT_MUST_CHECK int32_t gt_session_put(gt_session *s, uint32_t tag, const uint8_t 
  * Le asks for (see `gt_exchange_start`).
  *
  * - GT_OK, GT_BUFFER: it was carried out, as there.
- * - GT_TOO_SHORT, GT_BAD_LENGTH, GT_INVALID_INS: the bytes are no command. Nothing was sent.
+ * - GT_TOO_SHORT, GT_BAD_LENGTH, GT_INVALID_INS: the bytes are not a command. Nothing was sent.
  * - GT_ARGUMENT: terminal and card would not agree on which way data move, which no header says
  *   over T=0. That is a SELECT or a PUT DATA (INS A4, DA) without data and with Le, and a GET DATA
  *   or a GET RESPONSE (CA, C0) of any other form than that. Nothing was sent.

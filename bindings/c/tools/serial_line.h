@@ -66,8 +66,8 @@ struct line {
 };
 
 /* Results of the functions below, as these very pointers: the time ran out, the other end is
- * closed, a character has a wrong parity, and the received bytes are no block. NULL is success, and
- * any other text a failure. */
+ * closed, a character has a wrong parity, and the received bytes are not a block. NULL is success,
+ * and any other text a failure. */
 extern const char LINE_IS_SILENT[];
 extern const char LINE_IS_GONE[];
 extern const char LINE_HAS_WRONG_PARITY[];

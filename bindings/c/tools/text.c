@@ -15,7 +15,7 @@ char *text_word(char **line)
     return start;
 }
 
-/* The value of a digit, or 16 if it is no digit. */
+/* The value of a digit, or 16 if it is not a digit. */
 static unsigned digit(char c)
 {
     static const char digits[] = "0123456789ABCDEFabcdef";

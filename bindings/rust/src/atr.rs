@@ -11,7 +11,8 @@ pub const ATR_LIMIT: usize = 33;
 /// The most protocols that an answer offers: T=0 to T=14.
 pub const PROTOCOLS_LIMIT: usize = 15;
 
-/// Why bytes are no answer to reset: the first fault from the left; a wrong check byte comes last.
+/// Why bytes are not an answer to reset: the first fault from the left. A wrong check byte comes
+/// last.
 #[derive(Clone, Copy, Debug, PartialEq, Eq, Hash)]
 #[non_exhaustive]
 pub struct AtrError {
@@ -23,7 +24,7 @@ pub struct AtrError {
 }
 
 codes! {
-    /// What is wrong with bytes that are no answer to reset.
+    /// What is wrong with bytes that are not an answer to reset.
     AtrReason {
         /// The first byte is neither `3B` nor `3F`.
         NoTs = -70, "no TS";
@@ -169,7 +170,7 @@ pub struct BlockWaitingTime {
 pub struct Atr<'a> {
     /// How the line shows the bits of a character.
     pub convention: Convention,
-    /// Whether T=15 is named, which is no protocol: what follows it holds for all of them.
+    /// Whether T=15 is named, which is not a protocol: what follows it holds for all of them.
     pub names_15: bool,
     /// TA1, or `11`: the codes of Fi and of Di, as PPS1 has them.
     pub rate_code: u8,
@@ -221,7 +222,7 @@ impl<'a> Atr<'a> {
     ///
     /// # Errors
     ///
-    /// - [`AtrError`]: the bytes are no answer to reset; this is their first fault.
+    /// - [`AtrError`]: the bytes are not an answer to reset; this is their first fault.
     pub fn read(bytes: &'a [u8]) -> Result<Atr<'a>, AtrError> {
         version::look();
         let (mut told, mut place) = (raw::Atr::default(), 0);

@@ -75,7 +75,7 @@ codes! {
         NoApp = -22, "no app";
         /// The value exceeds [`VALUE_LIMIT`](crate::VALUE_LIMIT).
         ValueTooLong = -23, "value too long";
-        /// The tag is that of a template, and the value is no list of objects.
+        /// The tag is that of a template, and the value is not a list of objects.
         NotObjects = -24, "not objects";
         /// The application has as many data objects as it may.
         TableFull = -25, "table full";
@@ -103,7 +103,7 @@ codes! {
         NotAsked = -62, "data not asked for";
         /// More data came back than the TPDU or command asks for.
         TooMany = -63, "more data than asked for";
-        /// The bytes are no whole TPDU.
+        /// The bytes are not a whole TPDU.
         NoTpdu = -64, "no whole TPDU";
         /// The card takes data, and the TPDU has none: deadlock.
         WantsData = -65, "card expects data not sent";

@@ -49,7 +49,7 @@ impl fmt::Debug for Turn {
 /// | `6884` | CLA begins a chain, and INS is not PUT DATA |
 /// | `6982` | PUT DATA: the data object is locked |
 /// | `6985` | GET DATA, PUT DATA: nothing is selected; GET RESPONSE: nothing waits |
-/// | `6A80` | PUT DATA: the tag is that of a template, and the value is no list of objects |
+/// | `6A80` | PUT DATA: the tag is that of a template, and the value is not a list of objects |
 /// | `6A82` | SELECT: there is no such application |
 /// | `6A84` | PUT DATA: the tag is new, and the application has 64 data objects |
 /// | `6A86` | P1-P2 are not the command's, or name no tag |

@@ -34,7 +34,7 @@ pub enum ObjectsError {
     Memory,
     /// A step of the path is not a tag of one to three bytes.
     NoTag,
-    /// The bytes are no list of objects. This is their first fault, from the left.
+    /// The bytes are not a list of objects. This is their first fault, from the left.
     #[non_exhaustive]
     Fault {
         /// The place of the innermost object at fault, counted in bytes from 0.
@@ -123,7 +123,7 @@ impl<'a> Objects<'a> {
     ///
     /// # Errors
     ///
-    /// - [`ObjectsError::Fault`]: the bytes are no list of objects; this is their first fault.
+    /// - [`ObjectsError::Fault`]: the bytes are not a list of objects; this is their first fault.
     /// - [`ObjectsError::Memory`]: it ran out.
     pub fn over(bytes: &'a [u8]) -> Result<Objects<'a>, ObjectsError> {
         let (count, mut listed) = (list(bytes, &mut [])?, Vec::new());
@@ -194,7 +194,7 @@ impl std::iter::FusedIterator for Objects<'_> {}
 /// # Errors
 ///
 /// - [`ObjectsError::NoTag`]: a step is not a tag, whatever the bytes are.
-/// - [`ObjectsError::Fault`]: the bytes are no list of objects, wherever the path leads; this is
+/// - [`ObjectsError::Fault`]: the bytes are not a list of objects, wherever the path leads; this is
 ///   their first fault.
 pub fn find<'a>(bytes: &'a [u8], path: &[u32]) -> Result<Option<Object<'a>>, ObjectsError> {
     version::look();

@@ -39,7 +39,7 @@ codes! {
     /// Why a response can't be judged. For a response it is the first fault from the left; a wrong
     /// PCK comes last.
     PpsError {
-        /// The values are no request: T is above 15.
+        /// The values are not a request: T is above 15.
         Argument = -5, "bad argument";
         /// The first byte is not `FF`.
         NoPpss = -80, "no PPSS";
@@ -85,7 +85,7 @@ impl Pps {
     /// # Errors
     ///
     /// - [`PpsError::Argument`]: T is above 15.
-    /// - Any other: the bytes are no response.
+    /// - Any other: the bytes are not a response.
     pub fn agreed(&self, response: &[u8]) -> Result<bool, PpsError> {
         let request = self.request().ok_or(PpsError::Argument)?;
         // SAFETY: slices with their lengths, which are only read.

@@ -148,7 +148,7 @@ impl Card {
     /// # Errors
     ///
     /// - [`Error::State`]: characters of a TPDU have passed. Nothing has changed.
-    /// - [`Error::NoTpdu`]: the bytes are no whole TPDU. Nothing has changed.
+    /// - [`Error::NoTpdu`]: the bytes are not a whole TPDU. Nothing has changed.
     /// - [`Error::Memory`]: it ran out. Nothing has changed.
     /// - [`Error::WantsData`], [`Error::SendsData`]: neither end would continue, so the card was
     ///   reset.

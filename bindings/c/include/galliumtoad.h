@@ -1193,8 +1193,8 @@ GT_MUST_CHECK int32_t gt_card_app(gt_card *c, const uint8_t *aid, size_t n) {
  *   not all ones. It can name two bytes: 5F, 7F, 9F, BF, DF or FF, and then 01 to 7F.
  * - GT_NO_APP: there is no application yet.
  * - GT_VALUE_TOO_LONG: `n` is above 8,192.
- * - GT_NOT_OBJECTS: the tag is that of a template (bit 6 of its first byte is set, as in 70 and
- *   FF01, and not in 5F20 and DF01), and the value is not a list of objects.
+ * - GT_NOT_OBJECTS: the tag is that of a template, and the value is not a list of objects. Bit 6 of
+ *   a template's first tag byte is set, as in 70 and FF01, and not in 5F20 and DF01.
  * - GT_TABLE_FULL: the tag is new, and the application has 64.
  * - GT_MEMORY. */
 GT_MUST_CHECK int32_t gt_card_object(gt_card *c, uint32_t tag, const uint8_t *value, size_t n,

@@ -3,8 +3,8 @@
 ghost use Rattle.trace_explain.specs.Trace.{IsOfWriting};
 
 use crate::describe::complaint::Complaint;
-use crate::follow::exchange::BadExchange;
-use crate::follow::turn::NoTurn;
+use crate::follow::pair::PairFault;
+use crate::follow::turn::TurnFault;
 use crate::read::form::Form;
 use std::alloc::AllocError;
 use std::io;
@@ -44,7 +44,7 @@ pub enum ExplainFault {
     NoTurn {
         line: u64,
         place: usize,
-        why: NoTurn,
+        why: TurnFault,
     },
     /// A line has more bytes than a line may have.
     #[error("line {line}: line too long")]
@@ -63,10 +63,10 @@ pub enum ExplainFault {
     /// There are commands of a log that are told as no TPDU, after which the explanation went on:
     /// the first began in this line.
     #[error("line {line}: no exchange that it reads: {why} (complaints: {complaints})")]
-    BadExchanges {
+    BadPairs {
         complaints: u64,
         line: u64,
-        why: BadExchange,
+        why: PairFault,
     },
     /// The trace came to its end, and no line has a character of either end.
     #[error("no characters heard")]

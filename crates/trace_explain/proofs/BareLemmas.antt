@@ -26,7 +26,7 @@ use Rattle.trace_explain.specs.Noted.{AreStatus, HasNoted, IsBare, IsNoted, bare
 use Rattle.trace_explain.proofs.ExplainedLemmas.{both_hold}
 use Rattle.trace_explain.proofs.NotedLemmas.{alone, cut_of, hears_inside, hears_reset, reports_both, reports_nothing}
 
--- with P3 00 no data move to the card
+-- With P3 00 no data move to the card.
 none_to_card : (segments : List Step) → all_moves segments 0 ≡ 0
 none_to_card [] = refl
 none_to_card (Null ∷ segments) = omega (arith, none_to_card segments)
@@ -50,15 +50,15 @@ from_card ToCard segments p3 n p3_is n_is h =
     let Q : ℕ → Type 0 = λ k. EndInLast segments 0 k in
     absurd (none_ends segments (subst Q n_is (subst P p3_is h)))
 
--- a procedure byte for one stays counted
+-- A procedure byte for one character stays counted.
 ones_stay : (segments : List Step) (t : Tally) → 0 < t.ones → 0 < (fold counted t segments).ones
 ones_stay [] t h = h
 ones_stay (Null ∷ segments) t h = ones_stay segments (counted t Null) h
 ones_stay (One ∷ segments) t h = ones_stay segments (counted t One) (omega (arith, h))
 ones_stay (All ∷ segments) t h = ones_stay segments (counted t All) h
 
--- Two of 256 data have come from the card, and no procedure byte was for one: NULLs alone came
--- before INS, and the same characters are a status behind no data to the card.
+-- Two of 256 data are received from the card, and no procedure byte asked for one: NULLs alone
+-- precede INS. The same characters are a status without data to the card.
 nulls_before : (ins sw1 sw2 : ℕ) (segments : List Step) (t : Tally) → EndInLast segments 256 2
     → (fold counted t segments).ones ≡ 0
     → (nulls : List Step) × AllByRecursion (λ s. s ≡ Null) nulls × (segments ≡ nulls ++ All ∷ [])
@@ -80,7 +80,7 @@ nulls_before ins sw1 sw2 (One ∷ s ∷ segments) t h none =
     absurd (omega (arith, none, ones_stay (s ∷ segments) (counted t One) (omega arith)))
 nulls_before ins sw1 sw2 (All ∷ s ∷ segments) t h none = absurd (omega (arith, h.0))
 
--- the dialogue that such a front is
+-- The dialogue that such a front is.
 two_of : (moved : List ℕ) → AreStatus moved
     → (sw1 : ℕ) × (sw2 : ℕ) × (moved ≡ sw1 ∷ sw2 ∷ []) × IsStatusWord (sw1, sw2)
 two_of (sw1 ∷ sw2 ∷ []) h = (sw1, sw2, refl, h)
@@ -175,7 +175,7 @@ bare_front t (In_body b) reports front bare status =
           (eqb-true t.tally.ones 0 both.1) moved_is word,
     )
 
--- it ends, and is told
+-- It ends, and is reported.
 pub hears_bare : (events : List Event) (reports : List Report) (old new : Listener)
     → HasNoted events reports old → is_bare (report_of old.under_way) ≡ true
     → AreStatus (report_of old.under_way).moved → new.tap ≡ afresh
@@ -202,7 +202,7 @@ hears_bare events reports old new n bare status tap_is is =
       under_way = subst Q (sym is) reports_nothing;
     }
 
--- and with the next character of the terminal a header begins
+-- The next character of the terminal begins a header.
 pub hears_behind : (events : List Event) (before : List Report) (whole : Tpdu)
     (old mid new : Listener) (h : Heard) (byte : ℕ)
     → HasNoted events before old → is_bare (report_of old.under_way) ≡ true
@@ -223,14 +223,14 @@ hears_behind events before whole old mid new h byte n bare status tap_is is whol
     (on (passed (front_characters ended.front)) (alone events reports mid ended))
     (ap is_last (h_is ∙ ap (λ p. heard_at p Terminal byte) tap_is)) noted_is
 
--- no character of the terminal is refused there
+-- No character of the terminal is refused then.
 pub header_refused : (p : Place) (byte : ℕ) (why : TapFault) → p ≡ afresh
     → Some why ≡ tap_fault_at p Terminal byte → ⊥
 header_refused p byte why is refused =
     absurd (let no : Some why ≡ None =
     refused ∙ ap (λ q. tap_fault_at q Terminal byte) is in cc)
 
--- something of such a command has come
+-- Something of such a command was received.
 bare_some : (t : Report) (n : ℕ) → n ≡ length t.header → is_bare t ≡ true → (front : Front)
     → ReportsFront t front → AreStatus t.moved → (n == 0) ≡ false
 bare_some t n n_is bare (In_header bytes) reports status =
@@ -240,7 +240,7 @@ bare_some t n n_is bare (In_body b) reports status =
 bare_some t n n_is bare (After_first b sw1) reports status =
     ne_eqb n 0 (omega (arith, n_is, ap length reports.0.header_is))
 
--- a reset has come, behind such a command or anything else
+-- A reset after such a command, or after anything else.
 pub reset_noted : (events : List Event) (reports : List Report) (old new : Listener)
     → HasNoted events reports old → new.tap ≡ afresh → report_of new.under_way ≡ no_report
     → (is_bare (report_of old.under_way) ≡ true → AreStatus (report_of old.under_way).moved)

@@ -1,4 +1,4 @@
--- What an explainer has explained, one character or one line further.
+-- What an explainer has explained after one more character or line.
 use Rattle.std.proofs.Common.{◌≡◌, ℕ, List, [], ◌∷◌, ◌++◌, length, sym, subst, ◌∙◌, ap, Bool, true, false, ◌==◌, ◌&&◌, if◌then◌else◌, refl, append-nil, Result, Ok, Err, IfErr, OnOk, inl, inr, arith}
 use Rattle.std.specs.List.{flat_map}
 use Rattle.std.proofs.lemmas.Bool.{eqb-true}
@@ -25,7 +25,7 @@ use Rattle.trace_explain.specs.Explained.{HasExplained, IsPlain, ExplainsMore, E
 use Rattle.trace_explain.specs.Account.{AddsBoxes}
 use Rattle.trace_explain.proofs.AccountLemmas.{boxes_both}
 
--- what follows where it went well
+-- A conclusion from a call that succeeded.
 pub on_ok_too : {T E : Type 0} (r : Result T E) (P Q : Type 0) → OnOk r P → (P → Q) → OnOk r Q
 on_ok_too (Ok x) P Q h next = next h
 on_ok_too (Err e) P Q h next = tt
@@ -43,7 +43,7 @@ explains_nothing events before at old e h is boxes =
       boxes = boxes;
     }
 
--- what was written before it stays
+-- What was written before stays.
 pub explains_from : (more : List Event) (at : Position) (events : List Event) (before : List Report)
     (old mid new : Explainer) → AddsBoxes [] old.teller mid.teller
     → ExplainsMore more at events before mid new
@@ -55,7 +55,7 @@ explains_from more at events before old mid new begins h = record {
   boxes = boxes_both begins h.boxes;
 }
 
--- it stands as before, but for the opening
+-- The same position, except for the opening.
 pub same_position : (o p : Opening) (c : Bool) (r : Reading) → o ≡ p
     → ◌≡◌ {A = Position} (record { opening = o; has_characters = c; reading = r })
     (record { opening = p; has_characters = c; reading = r })
@@ -63,7 +63,7 @@ same_position o p c r is =
     let at : Opening → Position = λ x.
     record { opening = x; has_characters = c; reading = r } in ap at is
 
--- no dialogue is under way of which no character of a header is told
+-- If no character of a header is reported, no dialogue has started.
 front_of_none : (t : Report) (front : Front) → ReportsFront t front → length t.header ≡ 0
     → passed (front_characters front) ≡ []
 front_of_none t (In_header bytes) reports none =
@@ -101,7 +101,7 @@ pub both_hold : (a b : Bool) → (a && b) ≡ true → (a ≡ true) × (b ≡ tr
 both_hold true b e = (refl, e)
 both_hold false b e = absurd (let no : false ≡ true = e in cc)
 
--- a character is taken: of an opening, of the dialogue, or one with which the card answers again
+-- It takes a character: of an opening, of the dialogue, or with which the card answers again.
 pub taken_before : (from : End) (b : ℕ) (events : List Event) (before : List Report)
     (old new : Explainer) → is_dialogue (role_of (opening_of old.preface) from b) ≡ false
     → HasExplained events before new → position_of new ≡ after_character (position_of old) from b
@@ -168,13 +168,13 @@ taken_again from b events before old new mid begun begins empty none here reset 
       },
     )
 
--- a line of characters is none of a log
+-- A line of characters is not one of a log.
 pub read_on_hears : (source : Source) (reading : Reading)
     → (read_on source reading).of_tpdus ≡ reading.of_tpdus
 read_on_hears (Sign form from) reading = refl
 read_on_hears (Turn ways) reading = refl
 
--- what the characters of a line say, it says
+-- A line says what its characters say.
 pub as_line : {T : Type 0} (result : Result T ExplainFault) (line : List ℕ) (this : TraceLine)
     (source : Source) (given : List ℕ) (events : List Event) (before : List Report)
     (old mid new : Explainer) → Says old.reading line this
@@ -193,7 +193,7 @@ as_line (Ok x) line this source given events before old mid new says is begins
       explains_from more at events before old mid new begins explains,
     )
 
--- a line that is refused for what it is
+-- A line is refused for what it is.
 pub line_refused : (why : LineFault) (line : List ℕ) (n : ℕ) (f : ExplainFault)
     (events : List Event)
     (before : List Report) (old : Explainer) → IsBadLine why old.reading line
@@ -210,7 +210,7 @@ line_refused why line n f events before old is_bad f_is n_is =
     of_kind bad.Signed h = (n_is, h)
     of_kind bad.OutOfMemory h = tt
 
--- what stops it among the characters of a line stops it there
+-- What stops it among the characters of a line stops it in that line.
 pub line_stops : {T : Type 0} (result : Result T ExplainFault) (line : List ℕ) (n : ℕ)
     (source : Source) (bytes : List ℕ) (events : List Event) (before : List Report)
     (old : Explainer) (at : Position) (this : TraceLine) → Says old.reading line this

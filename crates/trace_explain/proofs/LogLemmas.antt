@@ -1,4 +1,4 @@
--- What comes of the lines of a log, one thing further.
+-- What the lines of a log add, one step further.
 use Rattle.std.proofs.Common.{◌≡◌, ℕ, List, [], ◌∷◌, ◌++◌, Option, map, ap, subst, ◌∙◌, append_assoc}
 use Rattle.std.proofs.lemmas.List.{map-append}
 use Rattle.t0_core.specs.declared.end.End.TheVariants as end
@@ -21,7 +21,7 @@ same_at g h b d c e g_is b_is c_is =
     let three : Option (List ℕ) → LogAt = λ x. record { pending = h; bytes = d; command = x } in
     ap one g_is ∙ ap two b_is ∙ ap three c_is
 
--- an answer ends, and then a line says something
+-- An answer ends, and then a line says something.
 pub both_took : (at : LogAt) (log_line : LogLine) (a b c : List Logged) (mid new : Log)
     → Took (closed at end.Card) a b mid → Took (taken (log_at mid) log_line) b c new
     → Took (behind_answer at log_line) a c new

@@ -1,4 +1,4 @@
--- What is told of dialogues, one character or one reset further.
+-- The reports of dialogues after one more character or reset.
 use Rattle.std.proofs.Common.{◌≡◌, ◌<◌, ℕ, List, [], ◌∷◌, ◌++◌, ◌==◌, if◌then◌else◌, refl, sym, subst, ◌∙◌, ap, ◌⊎◌, inl, inr, lit<, true, false, append_assoc, append-nil, ◌+◌, length, arith}
 use Rattle.std.specs.List.{AllByRecursion, flat_map}
 use Rattle.std.proofs.lemmas.Bool.{ne_eqb}
@@ -19,7 +19,7 @@ use Rattle.trace_explain.specs.declared.follow.listener.Listener.{Listener}
 use Rattle.trace_explain.specs.Reports.{Report, report_of, counted, uncounted, no_report, noted, is_last, ReportsBody, ReportsFront, Reports}
 use Rattle.trace_explain.specs.Noted.{HasNoted, IsNoted, ReportItems}
 
--- what is told says nothing of a direction that nobody has seen
+-- A report has no direction that nobody has seen.
 reports_turned_body : (t : Report) (way : Direction) (b : Body) → ReportsBody t b
     → ReportsBody t (turned_body way b)
 reports_turned_body t way b h =
@@ -31,7 +31,7 @@ reports_turned t way (In_header bytes) h = h
 reports_turned t way (In_body b) h = (reports_turned_body t way b h.0, h.1)
 reports_turned t way (After_first b sw1) h = (reports_turned_body t way b h.0, h.1)
 
--- one character more
+-- One more character.
 in_header : (t : Report) (bytes : List ℕ) (c : Character) (new : Front)
     → ReportsFront t (In_header bytes) → GoesOn (In_header bytes) c new
     → ReportsFront (noted t heard.Header c.1) new
@@ -111,7 +111,7 @@ noted_continues t front new heard.FirstStatus c reports goes (b, is, next) =
     subst Q (sym next) (in_first t b c.1 (subst P is reports))
 noted_continues t front new (heard.SecondStatus said status) c reports goes bad = absurd bad
 
--- and the last one
+-- The last character.
 noted_ends : (t : Report) (front : Front) (d : Dialogue) (h : Heard) (c : Character)
     → ReportsFront t front → Ends front c d → Concludes h d → Reports (noted t h c.1) d
 noted_ends t (In_header bytes) d h c reports ends ends_so = absurd ends
@@ -131,7 +131,7 @@ noted_ends t (After_first b sw1) d (heard.SecondStatus said status) c reports en
     }
 noted_ends t (After_first b sw1) d other c reports ends bad = absurd bad
 
--- which of the two it is
+-- Which of the two it is.
 makes_no_last : (h : Heard) (front new : Front) (c : Character) → Makes h front c new
     → is_last h ≡ true → ⊥
 makes_no_last (heard.SecondStatus said status) front new c makes last = absurd makes
@@ -141,7 +141,7 @@ ends_last : (h : Heard) (d : Dialogue) → Concludes h d → is_last h ≡ false
 ends_last (heard.SecondStatus said status) d ends_so last = absurd (cc)
 ends_last other d ends_so last = absurd ends_so
 
--- dialogues behind others
+-- Dialogues after others.
 pub reports_both : (items : List Item) (reports : List Report) (more : List Item)
     (later : List Report) → ReportItems items reports → ReportItems more later
     → ReportItems (items ++ more) (reports ++ later)
@@ -155,7 +155,7 @@ reports_both (Cut_off (c ∷ part) ∷ items) [] more later h k = absurd h
 reports_both (Cut_off (c ∷ part) ∷ items) (t ∷ reports) more later h k =
     (h.0, reports_both items reports more later h.1 k)
 
--- what is told of one that is cut off, if any of it came
+-- The report of a dialogue that is cut off, unless nothing of it was received.
 abbrev pub cut_of : Report → List Report
 cut_of t = if length t.header == 0 then [] else t ∷ []
 
@@ -180,7 +180,7 @@ reports_part t (After_first b sw1) h =
 pub reports_nothing : ReportsFront no_report fresh
 reports_nothing = (record { header_is = refl; tally_is = refl; moved_is = refl }, refl)
 
--- the front at which the tap stands, with nothing before it
+-- The front of the tap, with nothing before it.
 abbrev pub alone : (events : List Event) (reports : List Report) (l : Listener)
     → (n : HasNoted events reports l) → HasHeard (passed (front_characters n.front)) l.tap
 alone events reports l n = record {
@@ -192,7 +192,7 @@ alone events reports l n = record {
   stands = n.is_at;
 }
 
--- what a tap has heard is noted behind what was
+-- What a tap has heard follows what was noted before.
 noted_items : (before items : List Item) → AllByRecursion IsNoted before
     → AllByRecursion IsOverheard items → AllByRecursion IsNoted (before ++ items)
 noted_items (item ∷ before) items h more = (h.0, noted_items before items h.1 more)
@@ -229,7 +229,7 @@ noted_on events more reports later old new n now are under_way = record {
   under_way = under_way;
 }
 
--- A character has been heard that ends no dialogue, or one that does.
+-- A character that does not end a dialogue, or one that does.
 pub hears_inside : (events : List Event) (reports : List Report) (old new : Listener) (h : Heard)
     (c : Character) (n : HasNoted events reports old)
     → HearsOn (alone events reports old n) h c new.tap
@@ -284,7 +284,7 @@ hears_last events reports old new h c n on last is = split on.goes
         )))
         (subst Q (sym is) (subst R (sym front_is) reports_nothing))
 
--- a reset has come
+-- A reset.
 pub hears_reset : (events : List Event) (reports : List Report) (old new : Listener)
     → HasNoted events reports old → new.tap ≡ afresh → report_of new.under_way ≡ no_report
     → HasNoted (events ++ Reset ∷ []) (reports ++ cut_of (report_of old.under_way)) new
@@ -302,7 +302,7 @@ hears_reset events reports old new n tap_is is =
     (reports_part t n.front n.under_way)))
     (subst Q (sym is) (subst R (sym front_is) reports_nothing))
 
--- nothing has come
+-- Before the first character.
 pub hears_nothing : (new : Listener) → report_of new.under_way ≡ no_report
     → new.tap ≡ afresh → HasNoted [] [] new
 hears_nothing new is tap_is =

@@ -1,4 +1,4 @@
--- The TPDU of a command and its answer, made of its parts.
+-- The TPDU of a command and its answer, from its parts.
 use Rattle.std.proofs.Common.{◌≡◌, ℕ, List, [], ◌∷◌, ◌++◌, Option}
 use Rattle.trace_explain.specs.declared.follow.tpdu.Tpdu.{Tpdu}
 use Rattle.trace_explain.specs.Pairs.{ReportsPair, beside, moved_of, way_of}

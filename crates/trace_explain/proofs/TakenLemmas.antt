@@ -1,4 +1,4 @@
--- What an explainer has explained of the characters of a line, one further.
+-- What an explainer has explained of a line after one more character.
 use Rattle.std.proofs.Common.{◌≡◌, ℕ, ◌+◌, ◌<◌, List, [], ◌∷◌, ◌++◌, length, take, sym, subst, ◌∙◌, ap, refl, append-nil, append_assoc, Bool, true, false, get_or, Result, Ok, Err, IfErr, IsErrAnd, OnOk}
 use Rattle.std.proofs.lemmas.List.{take_more}
 use Rattle.t0_core.specs.declared.end.End.{End}
@@ -19,7 +19,7 @@ use Rattle.trace_explain.specs.Turns.{source_at}
 use Rattle.trace_explain.proofs.AccountLemmas.{boxes_both, boxes_stay}
 use Rattle.trace_explain.proofs.ExplainedLemmas.{explains_nothing}
 
--- one character more is taken behind the others
+-- One more character follows the others.
 taken_more : (source : Source) (so_far : List Event) (at mid after : Position) (front : List ℕ)
     (b : ℕ) (from : End) (events more : List Event)
     → TakesCharacters source so_far at front events mid
@@ -58,7 +58,7 @@ taken_more source so_far at mid after (one ∷ front) b from events more
           (subst P same sent) (subst Q same takes),
     )
 
--- none of them has come
+-- None of them was received.
 pub taken_none : (source : Source) (events : List Event) (before : List Report) (e : Explainer)
     → HasExplained events before e → ExplainsCharacters source [] events before e e
 taken_none source events before e h = (
@@ -68,7 +68,7 @@ taken_none source events before e h = (
   explains_nothing events before (position_of e) e e h refl boxes_stay,
 )
 
--- one character more is explained, which is this end's
+-- It has explained one more character, which is this end's.
 pub taken_on : (source : Source) (bytes : List ℕ) (place : ℕ) (from : End)
     (events : List Event) (before : List Report) (old mid new : Explainer) → place < length bytes
     → source_at source mid.reading (opening_of mid.preface) mid.listener (get_or bytes place 0)
@@ -108,7 +108,7 @@ taken_on source bytes place from events before old mid new within sent explains
       },
     )
 
--- an explainer that stops at a character does not resume
+-- An explainer that stops at a character does not resume.
 pub none_resumes : (source : Source) (bytes : List ℕ) (from : End) (b : ℕ) (events : List Event)
     (before : List Report) (old mid new : Explainer)
     → ((es : List Event) (ts : List Report) → HasExplained es ts mid
@@ -117,7 +117,7 @@ pub none_resumes : (source : Source) (bytes : List ℕ) (from : End) (b : ℕ) (
 none_resumes source bytes from b events before old mid new stops (more, at, takes, explained) =
     (stops (events ++ more) (before ++ explained.reports) explained.explained).0.1.0
 
--- none goes on with a character
+-- No dialogue continues with a character.
 pub none_stops : {T : Type 0} (result : Result T ExplainFault) (source : Source) (bytes : List ℕ)
     (place n line : ℕ) (from : End) (astray hides : Bool) (events : List Event)
     (before : List Report) (old mid new : Explainer) → place < length bytes → n ≡ line
@@ -178,7 +178,7 @@ none_stops (Err other) source bytes place n line from astray hides events before
     n_is sent explains stopped explained =
     absurd stopped
 
--- it can't be known whose a character is
+-- The sender of a character is unknown.
 pub unsent_stops : {T : Type 0} (result : Result T ExplainFault) (source : Source)
     (bytes : List ℕ) (place n line : ℕ) (why : TurnFault) (events : List Event)
     (before : List Report)
@@ -213,7 +213,7 @@ unsent_stops (Err f) source bytes place n line why events before old mid within 
       },
     )
 
--- and then it does not end well
+-- Then it returns an error.
 pub not_ok : {T E : Type 0} (r : Result T E) (P : E → Type 0) (Q : Type 0) → IsErrAnd r P
     → OnOk r Q
 not_ok (Ok x) P Q h = absurd h

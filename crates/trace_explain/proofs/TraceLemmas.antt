@@ -1,4 +1,4 @@
--- A whole trace, one byte or one line further.
+-- A whole trace after one more byte or line.
 use Rattle.std.proofs.Common.{◌≡◌, ℕ, ◌+◌, ◌-◌, ◌^◌, min, ◌<◌, ◌≤◌, slice_index, List, [], ◌∷◌, ◌++◌, length, drop, add-one, get_or, Bool, true, false, ◌==◌, refl, sym, ap, subst, ◌∙◌, append-nil, append_assoc, Result, Ok, Err, IfErr, OnOk, IsErrAnd, Option, Some, None, IfSome, take, arith, length-take}
 use Rattle.std.proofs.Math.Seq.{drop-cons}
 use Rattle.std.proofs.lemmas.Bool.{ne_eqb}
@@ -22,7 +22,7 @@ use Rattle.trace_explain.specs.Trace.{lines_from, IsReached, IsOfEnd, SayInTurn,
 use Rattle.trace_explain.specs.UnderWay.{HasReceived, IsOfLines}
 use Rattle.trace_explain.proofs.AccountLemmas.{written_more, written_out}
 
--- one line more says its events behind the others
+-- The events of one more line follow the others.
 say_more : (so_far : List Event) (at mid after : Position) (before : List (List ℕ))
     (line : List ℕ) (events more : List Event) → SayInTurn so_far at before events mid
     → LineLeads (so_far ++ events) mid line more after
@@ -61,29 +61,29 @@ line_continues : (line left : List ℕ) (b : ℕ) → (b == 10) ≡ false
     → lines_from line (b ∷ left) ≡ lines_from (line ++ b ∷ []) left
 line_continues line left b other = rw other refl
 
--- a fault that is passed on
+-- A fault that a caller returns too.
 pub fault_passed : {T E : Type 0} (r : Result T E) (e : E) (Q : E → Type 0)
     → IsErrAnd r (λ x. x ≡ e) → Q e → IfErr r Q
 fault_passed (Ok x) e Q same h = absurd same
 fault_passed (Err f) e Q same h = subst Q (sym same) h
 
--- and what follows of a fault
+-- A conclusion from a fault.
 pub on_err_too : {T E : Type 0} (r : Result T E) (P Q : E → Type 0) → IfErr r P
     → ((e : E) → P e → Q e) → IfErr r Q
 on_err_too (Ok x) P Q h next = tt
 on_err_too (Err e) P Q h next = next e h
 
--- one line more is counted
+-- One more line is counted.
 counted_on : (n before all : ℕ) → n ≡ min (before + 1) (2 ^ 64 - 1) → all ≡ before + 1
     → min (n + 1) (2 ^ 64 - 1) ≡ min (all + 1) (2 ^ 64 - 1)
 counted_on n before all n_is all_is = omega (arith, n_is, all_is)
 
--- what an explainer explains of a line, wherever it stands
+-- What an explainer explains of a line at any position.
 abbrev pub Explains : List ℕ → Explainer → Explainer → Type 0
 Explains line old new = (events : List Event) (before : List Report)
     → HasExplained events before old → ExplainsLine line events before old new
 
--- a line is over, which was this
+-- This line has ended.
 pub line_more : {front : Out} {reading : Reading} {all : List (List ℕ)} {line bytes : List ℕ}
     (given next left : List ℕ) {old : Explainer} (new : Explainer)
     → HasReceived front reading all line bytes old → new.line ≡ next_line old
@@ -109,7 +109,7 @@ line_more {front} {reading} given next left {old} new come counts ends explains 
           reports.boxes;
     }
 
--- and it ended with LF
+-- It ended with LF.
 pub line_fed : {front : Out} {reading : Reading} {all : List (List ℕ)} {line bytes : List ℕ}
     (given left : List ℕ) (b : ℕ) {old : Explainer} (new : Explainer)
     → HasReceived front reading all line bytes old → new.line ≡ next_line old → bytes ≡ b ∷ left
@@ -118,7 +118,7 @@ pub line_fed : {front : Out} {reading : Reading} {all : List (List ℕ)} {line b
 line_fed {line = line} {bytes = bytes} given left b new come counts left_is is same explains =
     line_more given [] left new come counts (fed line given left bytes b left_is is same) explains
 
--- a byte more has come of a line
+-- One more byte of a line was received.
 pub byte_more : {front : Out} {reading : Reading} {all : List (List ℕ)} {line bytes : List ℕ}
     (next left : List ℕ) (b : ℕ) {e : Explainer} → HasReceived front reading all line bytes e
     → bytes ≡ b ∷ left → (b == 10) ≡ false → next ≡ line ++ b ∷ []
@@ -136,14 +136,14 @@ byte_more {line = line} next left b come left_is other same = record {
   written = come.written;
 }
 
--- what is left of a chunk, and behind it
+-- The rest of a chunk, and what follows it.
 pub next_byte : (chunk left : List ℕ) (i : ℕ) → i < length chunk
     → drop i chunk ++ left ≡ get_or chunk i 0 ∷ (drop (i + 1) chunk ++ left)
 next_byte chunk left i within =
     ap (λ bytes. bytes ++ left) (drop-cons chunk i 0 within)
     ∙ ap (λ n. get_or chunk i 0 ∷ (drop n chunk ++ left)) (sym (add-one i))
 
--- at the end all lines are explained
+-- At the end all lines are explained.
 abbrev pub Ends : Out → Explainer → List Report → Listener → Type 0
 Ends front e reports l = (l ≡ e.listener) × HasWritten front reports e
 
@@ -181,7 +181,7 @@ last_explained (Err f) line new some come counts explains = tt
 last_explained (Ok x) line new some come counts explains =
     all_explained (line_more line [] [] new come counts (last_line line some) explains) refl
 
--- the line at which an explainer stands
+-- The line that an explainer has reached.
 unfoldable pub reached : {front : Out} {reading : Reading} (n : ℕ) {all : List (List ℕ)}
     {line left : List ℕ} (given : List ℕ) (others : List (List ℕ)) {old : Explainer}
     → HasReceived front reading all line left old → lines_from line left ≡ given ∷ others
@@ -200,7 +200,7 @@ reached n given others {old} come ends number = record {
   noted = come.explained.0;
 }
 
--- a line that is too long
+-- A line that is too long.
 cut_at : (line : List ℕ) (n : ℕ) → n < length line → n ≤ length (strip_carriage_return line)
 cut_at line n more = split (slice_index line (length line - 1) == 13) refl
   where
@@ -242,7 +242,7 @@ too_long {line = line} left b n come bytes_is other long number =
       first_long,
     )
 
--- a line at which an explainer stops
+-- A line that stops an explainer.
 abbrev pub Stops : ExplainFault → List ℕ → Explainer → Type 0
 Stops f line old = (events : List Event) (before : List Report) → HasExplained events before old
     → StopsAtLine f line old events before
@@ -287,7 +287,7 @@ last_stops (Ok x) line some come stops of = tt
 last_stops (Err f) line some come stops of =
     line_stops_in f line [] of come (last_line line some) stops
 
--- a chunk is over
+-- A chunk has ended.
 pub none_of_chunk : {front : Out} {reading : Reading} {all : List (List ℕ)} {line : List ℕ}
     (chunk left : List ℕ) (i : ℕ) {e : Explainer} → length chunk ≤ i
     → HasReceived front reading all line (drop i chunk ++ left) e
@@ -296,7 +296,7 @@ none_of_chunk {front} {reading} {all} {line} chunk left i {e} past come =
     let P : List ℕ → Type 0 = λ bytes. HasReceived front reading all line (bytes ++ left) e in
     subst P (drop_all i chunk past) come
 
--- before the first byte
+-- Before the first byte.
 pub all_received : {front : Out} {reading : Reading} (line left : List ℕ) {e : Explainer}
     → line ≡ []
     → HasExplained [] [] e → position_of e ≡ first_of_all reading → e.line ≡ 0
@@ -312,7 +312,7 @@ all_received line left none h at first blank = record {
   written = blank;
 }
 
--- an explainer that has written out stands where it stood
+-- An explainer that has written out is where it was.
 pub still_received : {front : Out} {reading : Reading} {all : List (List ℕ)} {line left : List ℕ}
     (e : Explainer) (s : Sheet) → WritesOut e.teller.output.sheet s
     → HasReceived front reading all line left e
@@ -329,8 +329,8 @@ still_received {front} e s out come = record {
   written = written_out front come.reports e s out come.written;
 }
 
--- What holds of the bytes that were read, whatever follows, holds of those that are known; and of
--- all that were read, where none are left.
+-- What holds of the bytes that were read, whatever follows, holds of the known ones; and of all
+-- bytes if none are left.
 pub of_known : (a b : Option (List ℕ)) (bytes : List ℕ) (P : List ℕ → Type 0)
     → Consumes a b bytes → ((left : List ℕ) → P (bytes ++ left)) → IfSome a P
 of_known None b bytes P reads h = tt
@@ -356,7 +356,7 @@ pub some_too : {A : Type 0} (a : Option A) (P Q : A → Type 0) → IfSome a P
 some_too None P Q h next = tt
 some_too (Some x) P Q h next = next x h
 
--- a trace keeps the limit
+-- A trace keeps the limit.
 pub limit_kept : {T : Type 0} (r : Result T ExplainFault) (bytes : List ℕ) (size : ℕ)
     → size ≡ length bytes → size ≤ 1099511627776 → IfErr r IsOfLines
     → KeepsLimit (bytes ++ []) r
@@ -380,7 +380,7 @@ limit_passed (Err g) f (Some bytes) same h =
     of_kind fault.InputTooLong k = absurd k
     of_kind other k = tt
 
--- what is answered at the end of a trace is no complaint
+-- The result at the end of a trace is not a protocol error.
 pub ended_stops : {IsShown : List Report → Listener → Type 0} {reading : Reading}
     {all : List (List ℕ)} {at : Position} (f : ExplainFault) → IsOfEnd f at.has_characters
     → IsExplained IsShown reading all at → StopsIn reading all f
@@ -390,7 +390,7 @@ ended_stops (fault.Resumed m c) ended explained = tt
 ended_stops (fault.BadPairs n m why) ended explained = tt
 ended_stops other ended explained = absurd ended
 
--- what is shown of those that are told
+-- What is shown of the reports.
 pub shown_as : (P Q : List Report → Listener → Type 0) {reading : Reading} {all : List (List ℕ)}
     {at : Position} → IsExplained P reading all at
     → ((reports : List Report) (l : Listener) → P reports l → Q reports l)

@@ -1,4 +1,4 @@
--- The lines of a trace, with signs or without, and what is heard of each.
+-- The lines of a trace, with or without signs, and the events that each leads to.
 use Rattle.std.specs.Prelude.{◌≡◌, ◌≢◌, ◌⊎◌, ℕ, ◌+◌, ◌*◌, List, [], ◌∷◌, ◌++◌, take, drop, codes, length, eqb, Option, Some, None, Ok, Bool, true, false, not, nat_le, ◌==◌, ◌&&◌, ◌||◌, if◌then◌else◌}
 use Rattle.std.specs.List.{AllByRecursion, flat_map, starts_with}
 use Rattle.hex.specs.Hex.{hex_digit_value, is_hex_digit}
@@ -23,7 +23,7 @@ use Rattle.trace_explain.specs.Times.{behind_clock, behind_time, place_of}
 use Rattle.trace_explain.specs.Reports.{Report}
 use Rattle.trace_explain.specs.Turns.{source_at}
 
--- the sign before the characters of an end, in each form
+-- The sign of each form before the characters of this end.
 abbrev pub sign_of : Form → End → List ℕ
 sign_of form.Angle end.Terminal = codes ">"
 sign_of form.Angle end.Card = codes "<"
@@ -46,21 +46,21 @@ sign_of form.Device end.Card = codes "ICC"
 sign_of form.DeviceColon end.Terminal = codes "IFD:"
 sign_of form.DeviceColon end.Card = codes "ICC:"
 
--- a line up to its first space, and from there on
+-- A line up to its first space, and the rest.
 abbrev pub first_word : List ℕ → List ℕ
 first_word line = take (place_of 32 line) line
 
 abbrev pub behind_word : List ℕ → List ℕ
 behind_word line = drop (place_of 32 line) line
 
--- the byte of two digits, in either case
+-- The byte of two digits, in either case.
 abbrev pub byte_of : Option ℕ → Option ℕ → Option ℕ
 byte_of None low = None
 byte_of (Some high) None = None
 byte_of (Some high) (Some low) = Some (high * 16 + low)
 
--- the bytes that digits say: two digits for each, with any number of spaces before and behind them;
--- these bytes came before, and the first digit of one more, or none
+-- The bytes that digits spell: two digits each, with any number of spaces between bytes. Other
+-- bytes, and perhaps the first digit of the next one, precede them.
 abbrev pub bytes_from : List ℕ → Option ℕ → List ℕ → Option (List ℕ)
 bytes_from bytes None [] = Some bytes
 bytes_from bytes (Some high) [] = None
@@ -75,20 +75,20 @@ bytes_from bytes (Some high) (b ∷ rest) =
 abbrev pub bytes_in : List ℕ → Option (List ℕ)
 bytes_in digits = bytes_from [] None digits
 
--- why digits say no bytes: they are none, or have something else among them
+-- Why digits spell no bytes: a digit is missing, or there is something else among them.
 abbrev pub AreBadDigits : LineFault → List ℕ → Type 0
 AreBadDigits bad.Hex digits = bytes_in digits ≡ None
 AreBadDigits bad.OutOfMemory digits = Unit {0}
 AreBadDigits other digits = ⊥
 
--- characters of one end: behind a time or none, the sign of a form, and what the digits behind it
--- say, if there are any
+-- The characters of one end: perhaps a time, then the sign of a form, and digits unless there are
+-- no characters.
 pub record SpellsCharacters (form : Form) (line : List ℕ) (from : End) (bytes : List ℕ) : Type 0
   where
     pub sign_is : first_word (behind_time line) ≡ sign_of form from
     pub digits_are : bytes_in (behind_word (behind_time line)) ≡ Some bytes
 
--- a word ends where no letter or digit follows
+-- A word ends if no letter or digit follows.
 abbrev pub is_in : ℕ → ℕ → ℕ → Bool
 is_in first last b = nat_le first b && nat_le b last
 
@@ -96,14 +96,14 @@ abbrev pub ends_word : List ℕ → Bool
 ends_word [] = true
 ends_word (b ∷ rest) = not (is_in 48 57 b || is_in 65 90 b || is_in 97 122 b)
 
--- the line begins with this, or with it as a word
+-- The line begins with this, or with this word.
 abbrev pub begins_with : List ℕ → List ℕ → Bool
 begins_with line sign = starts_with eqb line sign
 
 abbrev pub begins_with_word : List ℕ → List ℕ → Bool
 begins_with_word line word = begins_with line word && ends_word (drop (length word) line)
 
--- the line begins with a sign of some form; one of letters alone is a word
+-- The line begins with a sign of some form. A sign of letters alone must be a whole word.
 abbrev pub is_signed : List ℕ → Bool
 is_signed line = begins_with line (codes ">") || begins_with line (codes "<")
     || begins_with line (codes "->") || begins_with line (codes "=>")
@@ -112,7 +112,7 @@ is_signed line = begins_with line (codes ">") || begins_with line (codes "<")
     || begins_with_word line (codes "TX") || begins_with_word line (codes "RX")
     || begins_with_word line (codes "IFD") || begins_with_word line (codes "ICC")
 
--- what is left of a line, behind digits or none, has digits, and nothing else but spaces behind one
+-- The rest of a line contains digits and spaces alone, and the line begins with a digit.
 abbrev pub is_digits_from : Bool → List ℕ → Bool
 is_digits_from has_digit [] = has_digit
 is_digits_from has_digit (b ∷ line) = if is_hex_digit b then is_digits_from true line
@@ -121,17 +121,17 @@ is_digits_from has_digit (b ∷ line) = if is_hex_digit b then is_digits_from tr
 abbrev pub is_digits : List ℕ → Bool
 is_digits line = is_digits_from false line
 
--- so has all of it, or what stands behind a time
+-- The same for a whole line, or for what follows a time.
 abbrev pub are_digits : List ℕ → Bool
 are_digits line = is_digits line || is_digits (behind_time line)
 
--- a line may have signs of this form: of any where no line had one, and else of the same
+-- A line may have signs of this form: of any if no line had one before, otherwise of the same.
 abbrev pub Suits : Option Form → Form → Type 0
 Suits None form = Unit {0}
 Suits (Some known) form = form ≡ known
 
--- What a line says where lines have signs, of this form if that is known: characters behind a sign;
--- a reset; or a note.
+-- What a line says in a trace with signs, of this form if it is known: characters after a sign; a
+-- reset; or a note.
 abbrev pub SaysSigned : Option Form → List ℕ → TraceLine → Type 0
 SaysSigned known line (trace_line.Characters (Sign form from) bytes) =
     SpellsCharacters form line from bytes.items × Suits known form
@@ -140,8 +140,8 @@ SaysSigned known line trace_line.Reset = behind_time line ≡ codes "reset"
 SaysSigned known line (trace_line.Note note) = (is_signed (behind_time line) ≡ false)
     × (behind_time line ≢ codes "reset") × (known ≡ None → are_digits line ≡ false)
 
--- and where they have none, as the words say these ways: characters are digits behind a time or
--- none
+-- The same in a trace without signs, where the options give these ways: characters are digits,
+-- perhaps after a time.
 abbrev pub SaysUnsigned : Ways → List ℕ → TraceLine → Type 0
 SaysUnsigned ways line (trace_line.Characters (Sign form from) bytes) = ⊥
 SaysUnsigned ways line (trace_line.Characters (Turn known) bytes) = (known ≡ ways)
@@ -154,17 +154,17 @@ abbrev pub SaysBy : Option Ways → Option Form → List ℕ → TraceLine → T
 SaysBy None known line trace_line = SaysSigned known line trace_line
 SaysBy (Some ways) known line trace_line = SaysUnsigned ways line trace_line
 
--- what a line says, as lines are read
+-- What a line says.
 abbrev pub Says : Reading → List ℕ → TraceLine → Type 0
 Says reading line trace_line = SaysBy reading.unsigned reading.form line trace_line
 
--- these are no characters of an end, in any form
+-- These are not characters of an end in any form.
 abbrev pub SpellsNothing : List ℕ → Type 0
 SpellsNothing line = (form : Form) (from : End) (bytes : List ℕ)
     → SpellsCharacters form line from bytes → ⊥
 
--- A line that is refused begins with a sign and is of no form; is of another form than the lines
--- before it; or has nothing but digits, and no line before it has a sign.
+-- A refused line begins with a sign and is of no form; is of another form than the lines before; or
+-- contains digits alone, and no line before has a sign.
 abbrev pub IsBadSigned : LineFault → Option Form → List ℕ → Type 0
 IsBadSigned bad.Hex known line = (is_signed (behind_time line) ≡ true) × SpellsNothing line
 IsBadSigned (bad.OtherForm expected) known line = (known ≡ Some expected)
@@ -175,7 +175,7 @@ IsBadSigned bad.NoSign known line = (known ≡ None) × (are_digits line ≡ tru
 IsBadSigned bad.Signed known line = ⊥
 IsBadSigned bad.OutOfMemory known line = Unit {0}
 
--- or has digits that are not two for each byte, or begins with a sign where lines have none
+-- Without signs, a refused line has digits that are not two for each byte, or begins with a sign.
 abbrev pub IsBadUnsigned : LineFault → List ℕ → Type 0
 IsBadUnsigned bad.Hex line = (is_digits (behind_clock line) ≡ true)
     × (bytes_in (behind_clock line) ≡ None)
@@ -190,23 +190,23 @@ IsBadBy (Some ways) why known line = IsBadUnsigned why line
 abbrev pub IsBadLine : LineFault → Reading → List ℕ → Type 0
 IsBadLine why reading line = IsBadBy reading.unsigned why reading.form line
 
--- Where a trace stands between two lines: at the opening since it began or the card was reset;
--- whether a character of either end has come; and how its lines are read from here on.
+-- The state of a trace between two lines: the opening since it began or the card was reset; whether
+-- a character of either end was received; how its next lines are read.
 pub record Position : Type 0 where
   pub opening : Opening
   pub has_characters : Bool
   pub reading : Reading
 
--- before the first line, which is read so
+-- The position before the first line.
 abbrev pub first_of_all : Reading → Position
 first_of_all reading = record { opening = unopened; has_characters = false; reading = reading }
 
--- a line of characters of this source has come, whose sign says the form
+-- The reading after a line of characters of this source, whose sign decides the form.
 abbrev pub read_on : Source → Reading → Reading
 read_on (Sign form from) reading = record reading { form = Some form }
 read_on (Turn ways) reading = reading
 
--- a character of this end has come
+-- The position after a character of this end.
 abbrev pub after_character : Position → End → ℕ → Position
 after_character at from b = record {
   opening = opens at.opening (role_of at.opening from b) b;
@@ -214,20 +214,20 @@ after_character at from b = record {
   reading = at.reading;
 }
 
--- what is heard of it: one of the dialogue, and not one of an opening
+-- The event of a character: a character of an opening is none.
 abbrev pub dialogue_events : Opening → End → ℕ → List Event
 dialogue_events o from b =
     if is_dialogue (role_of o from b) then history.Passed (from, b) ∷ [] else []
 
--- these events are whole dialogues and resets, and no dialogue is under way
+-- These events are whole dialogues and resets alone.
 pub record AreOver (events : List Event) : Type 0 where
   pub items : List Item
   pub events_are : events ≡ flat_map events_of items
   pub are_noted : AllByRecursion IsNoted items
 
--- The card answers again, though no line says that it was reset: with this character an answer
--- begins where no dialogue is under way, and none goes on with it for who has heard these events.
--- There the card was reset, and an opening begins.
+-- The card answers again, though no line reports a reset: this character begins an answer between
+-- two dialogues, and a listener that has heard these events expects no such character. So the card
+-- was reset, and an opening begins.
 pub record AnswersAgain (so_far : List Event) (at : Position) (from : End) (b : ℕ)
     (events : List Event) (after : Position) : Type 0 where
   pub has_begun : has_begun at.opening.stage ≡ true
@@ -240,14 +240,13 @@ pub record AnswersAgain (so_far : List Event) (at : Position) (from : End) (b : 
   pub events_are : events ≡ history.Reset ∷ []
   pub after_is : after ≡ after_character (record at { opening = unopened }) from b
 
--- What is heard of a character behind these events, and where the trace stands then.
+-- The events of a character after these events, and the position after it.
 abbrev pub TakesCharacter : List Event → Position → End → ℕ → List Event → Position → Type 0
 TakesCharacter so_far at from b events after =
     ((events ≡ dialogue_events at.opening from b) × (after ≡ after_character at from b))
     ⊎ AnswersAgain so_far at from b events after
 
--- Behind these events a character is this end's: who has heard them, and stands at their front,
--- knows whose it is.
+-- After these events a character is this end's, as a listener at their front knows.
 pub record IsSent (source : Source) (so_far : List Event) (at : Position) (b : ℕ) (from : End)
     : Type 0 where
   pub reports : List Report
@@ -255,7 +254,7 @@ pub record IsSent (source : Source) (so_far : List Event) (at : Position) (b : �
   pub noted : HasNoted so_far reports listener
   pub sent : source_at source at.reading at.opening listener b ≡ Ok from
 
--- what is heard of the characters of a line
+-- The events of the characters of a line.
 abbrev pub TakesCharacters
     : Source → List Event → Position → List ℕ → List Event → Position → Type 0
 TakesCharacters source so_far at [] events after = (events ≡ []) × (after ≡ at)
@@ -265,7 +264,7 @@ TakesCharacters source so_far at (b ∷ bytes) events after = (from : End)
     × TakesCharacter so_far at from b first next
     × (events ≡ first ++ rest) × TakesCharacters source (so_far ++ first) next bytes rest after
 
--- and of a line
+-- The events of a line.
 abbrev pub TakesLine : List Event → Position → TraceLine → List Event → Position → Type 0
 TakesLine so_far at (trace_line.Characters source bytes) events after =
     TakesCharacters source so_far (record at { reading = read_on source at.reading }) bytes.items

@@ -1,4 +1,4 @@
--- A log of whole TPDUs or APDUs, line after line: which command has which answer.
+-- A log of whole TPDUs or APDUs, line by line: which command has which answer.
 use Rattle.std.specs.Prelude.{◌≡◌, ℕ, ◌-◌, List, [], ◌∷◌, ◌++◌, length, map, Option, Some, None, ◌==◌, if◌then◌else◌}
 use Rattle.t0_core.specs.declared.end.End.{End}
 use Rattle.t0_core.specs.declared.end.End.TheVariants as end
@@ -14,7 +14,7 @@ use Rattle.trace_explain.specs.declared.read.log_line.Rest.TheVariants as left
 use Rattle.trace_explain.specs.declared.read.trace_line.LineFault.{LineFault}
 use Rattle.trace_explain.specs.LogLines.{IsBadDump, IsBadLogLine, SaysLog, SaysRest, dumped_in}
 
--- what comes of a line
+-- What a line adds.
 pub data LoggedOf : Type 0 where
   Begins : LoggedOf
   Pair : List ℕ → List ℕ → LoggedOf
@@ -33,8 +33,8 @@ logged_of (logged.Part from bytes) = Part from bytes.items
 logged_of logged.Reset = Reset
 logged_of logged.Note = Note
 
--- Where a log stands between two lines: what the next one may go on with, the bytes so far of that,
--- and the command to which no answer has come yet.
+-- The state of a log between two lines: what the next one may continue, the bytes of that so far,
+-- and the last command if it has no answer yet.
 pub record LogAt : Type 0 where
   pub pending : Open
   pub bytes : List ℕ
@@ -49,17 +49,17 @@ command_at l = elim l.command [ None ↦ None | Some command ↦ Some command.it
 abbrev pub log_at : Log → LogAt
 log_at l = record { pending = l.pending; bytes = l.bytes.items; command = command_at l }
 
--- an answer has come: to the last command, or before one
+-- An answer belongs to the last command, if there is one.
 abbrev pub to_command : Option (List ℕ) → List ℕ → LoggedOf
 to_command None answer = Stray answer
 to_command (Some command) answer = Pair command answer
 
--- no answer comes any more to the last command
+-- The last command without an answer.
 abbrev pub unanswered : Option (List ℕ) → List LoggedOf
 unanswered None = []
 unanswered (Some command) = Unanswered command ∷ []
 
--- What comes of something, and where the log stands then.
+-- What a step adds, and the state after it.
 pub record Step : Type 0 where
   pub gives : List LoggedOf
   pub at : LogAt
@@ -70,7 +70,7 @@ answered at answer = record {
   at = record { pending = at.pending; bytes = at.bytes; command = None };
 }
 
--- what is pending is whole
+-- What is pending has ended.
 abbrev pub closed : LogAt → End → Step
 closed at end.Terminal = record {
   gives = [];
@@ -79,18 +79,18 @@ closed at end.Terminal = record {
 closed at end.Card =
     answered (record { pending = going.Nothing; bytes = []; command = at.command }) at.bytes
 
--- of a dump so many bytes are left
+-- This many bytes of a dump are left.
 abbrev pub continued : LogAt → End → ℕ → Step
 continued at from count = if count == 0 then closed at from else record {
   gives = [];
   at = record { pending = going.Dump from count; bytes = at.bytes; command = at.command };
 }
 
--- this came before
+-- These were added before.
 abbrev pub behind : List LoggedOf → Step → Step
 behind gives step = record { gives = gives ++ step.gives; at = step.at }
 
--- no answer comes any more, and a command begins
+-- The last command has no answer; and then a command begins.
 abbrev pub given_up : LogAt → Step
 given_up at = record {
   gives = unanswered at.command;
@@ -103,12 +103,12 @@ begun at = record {
   at = record { pending = at.pending; bytes = at.bytes; command = None };
 }
 
--- the head of a dump
+-- The head of a dump.
 abbrev pub opened : LogAt → End → ℕ → Step
 opened at end.Terminal size = behind (begun at).gives (continued (begun at).at end.Terminal size)
 opened at end.Card size = continued at end.Card size
 
--- what a line says, where nothing is pending
+-- What a line adds if nothing is pending.
 abbrev pub taken : LogAt → LogLine → Step
 taken at (log_line.Command bytes) = record {
   gives = (begun at).gives;
@@ -126,22 +126,22 @@ taken at log_line.Reset = record {
 }
 taken at log_line.Note = record { gives = Note ∷ []; at = at }
 
--- these bytes more of what is pending
+-- More bytes of what is pending.
 abbrev pub with_bytes : LogAt → List ℕ → LogAt
 with_bytes at more = record { pending = at.pending; bytes = at.bytes ++ more; command = at.command }
 
--- what goes on with an answer
+-- What continues an answer.
 abbrev pub resumed : LogAt → Rest → Step
 resumed at left.None = record { gives = []; at = at }
 resumed at (left.More bytes) = record { gives = []; at = with_bytes at bytes.items }
 resumed at (left.Last bytes) = closed (with_bytes at bytes.items) end.Card
 
--- what a line says before which an answer has ended
+-- What a line adds that ends an answer and does not continue it.
 abbrev pub behind_answer : LogAt → LogLine → Step
 behind_answer at log_line =
     behind (closed at end.Card).gives (taken (closed at end.Card).at log_line)
 
--- What the next line brings if an answer is pending: more of it, or the answer has ended before.
+-- What the next line adds if an answer is pending: more of it, or the answer has ended before.
 abbrev pub TakesRest : LogAt → List ℕ → Rest → Step → Type 0
 TakesRest at line left.None step = (log_line : LogLine) × SaysLog line log_line
     × (step ≡ behind_answer at log_line)
@@ -158,12 +158,12 @@ TakesIn (going.Dump from count) at line step = (bytes : List ℕ)
 abbrev pub TakesLogLine : LogAt → List ℕ → Step → Type 0
 TakesLogLine at line step = TakesIn at.pending at line step
 
--- a line can't be read, where this is pending
+-- A line can't be read if this is pending.
 abbrev pub IsBadIn : Open → LineFault → List ℕ → Type 0
 IsBadIn (going.Dump from count) why line = IsBadDump why count line
 IsBadIn other why line = IsBadLogLine why line
 
--- what comes where a log ends
+-- What the end of a log adds.
 abbrev pub ended_in : Open → LogAt → List LoggedOf
 ended_in going.Nothing at = unanswered at.command
 ended_in going.Answer at = (closed at end.Card).gives
@@ -172,7 +172,7 @@ ended_in (going.Dump from count) at = Part from at.bytes ∷ unanswered at.comma
 abbrev pub ended : LogAt → List LoggedOf
 ended at = ended_in at.pending at
 
--- the log is a step further, and what came is added
+-- The log has made this step, and its additions follow the others.
 pub record Took (step : Step) (before after : List Logged) (new : Log) : Type 0 where
   pub gives_is : map logged_of after ≡ map logged_of before ++ step.gives
   pub pending_is : new.pending ≡ step.at.pending

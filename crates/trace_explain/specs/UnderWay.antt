@@ -1,4 +1,4 @@
--- What is kept from one byte of a trace to the next: for proofs alone, no part of a promise.
+-- What holds between two bytes of a trace. For the proof: no clause of a promise uses it.
 use Rattle.std.specs.Prelude.{◌≡◌, ℕ, List, ◌++◌}
 use Rattle.t0_core.specs.History.{Event}
 use Rattle.trace_explain.specs.declared.explain_fault.ExplainFault.{ExplainFault}
@@ -10,8 +10,8 @@ use Rattle.trace_explain.specs.Explained.{HasExplained, next_line, position_of}
 use Rattle.trace_explain.specs.Reports.{Report}
 use Rattle.trace_explain.specs.Trace.{SayAll, lines_from, number_behind}
 
--- Of all lines those so far are explained; of the next this much has come, and these bytes are
--- left. This much is written out.
+-- The lines so far were explained. These bytes of the next one were received, and these are left.
+-- This text was written out.
 pub record HasReceived (front : Out) (reading : Reading) (all : List (List ℕ))
     (line left : List ℕ) (e : Explainer) : Type 0 where
   pub before : List (List ℕ)
@@ -23,7 +23,7 @@ pub record HasReceived (front : Out) (reading : Reading) (all : List (List ℕ))
   pub explained : HasExplained events reports e
   pub written : HasWritten front reports e
 
--- faults that lines and their characters have
+-- The faults of lines and their characters.
 abbrev pub IsOfLines : ExplainFault → Type 0
 IsOfLines fault.Read = ⊥
 IsOfLines fault.Write = ⊥

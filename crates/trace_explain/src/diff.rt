@@ -1,5 +1,5 @@
-//! Two traces compared, TPDU by TPDU. Procedure bytes are left out: how many NULLs come is a matter
-//! of time, and hides what differs.
+//! Compares two traces, TPDU by TPDU. It ignores procedure bytes: the number of NULLs depends on
+//! time, and would hide what differs.
 
 use crate::describe::mask::Mask;
 use crate::diff_fault::{DiffFault, Which};
@@ -14,13 +14,12 @@ use std::alloc::{AllocError, Global};
 use std::io;
 use std::io::{Read, Write};
 
-/// How what is compared is told of.
+/// The layout of the TPDUs that differ.
 const LAYOUT: Layout = Layout {
     medium: Medium::Text,
     is_summary: false,
 };
 
-/// One of the two traces.
 #[derive(Drop)]
 struct Trace<'r, R: Read> {
     which: Which,
@@ -28,15 +27,15 @@ struct Trace<'r, R: Read> {
     explainer: Explainer,
     size: usize,
     line: Vec<u8>,
-    /// How many of the TPDUs that are kept were compared.
+    /// How many of the kept TPDUs were compared.
     passed: usize,
     is_over: bool,
     fault: Option<ExplainFault>,
 }
 
-/// Compares two traces, and writes the first TPDU that differs, and in what; it answers whether
-/// they are alike, also where nobody reads that any more. Procedure bytes are not compared, nor
-/// what stands between TPDUs.
+/// Compares two traces, and writes the first TPDU that differs, and in what. Returns whether they
+/// are alike, even if nobody reads the output any more. Ignores procedure bytes, and what is
+/// between TPDUs.
 pub fn diff<R: Read, S: Read, W: Write>(
     alloc: Global,
     mask: Mask,
@@ -54,7 +53,7 @@ pub fn diff<R: Read, S: Read, W: Write>(
     written(outcome, &mut text, writer)
 }
 
-/// Writes what a comparison with this outcome has told, if it came to an end.
+/// Writes the text of a comparison that ended without an error.
 fn written<W: Write>(
     outcome: Result<bool, DiffFault>,
     text: &mut Sheet,
@@ -103,7 +102,7 @@ fn compare<R: Read, S: Read>(
     Ok(true)
 }
 
-/// Tells that this trace has no more TPDUs, and which is the next of the other.
+/// Reports that this trace has no more TPDUs, and the next one of the other.
 fn push_only(out: &mut Sheet, which: Which, before: u64, next: &Kept) {
     let unit = if before == 1 { "TPDU" } else { "TPDUs" };
     let other = which.other();
@@ -114,7 +113,7 @@ fn push_only(out: &mut Sheet, which: Which, before: u64, next: &Kept) {
     out.push_str(next.text.as_str());
 }
 
-/// Whether two TPDUs differ; then it tells of them, and in what.
+/// Whether two TPDUs differ. Reports them, and in what they differ.
 fn differ(out: &mut Sheet, number: u64, a: &Kept, b: &Kept) -> bool {
     let parts = [
         ("header", a.tpdu.header == b.tpdu.header),
@@ -149,7 +148,7 @@ fn differ(out: &mut Sheet, number: u64, a: &Kept, b: &Kept) -> bool {
 }
 
 impl<'r, R: Read> Trace<'r, R> {
-    /// Nothing of it has been read.
+    /// Starts before its first byte.
     fn new(
         alloc: Global,
         which: Which,
@@ -172,8 +171,11 @@ impl<'r, R: Read> Trace<'r, R> {
         }
     }
 
-    /// The next TPDU; `None` where there are no more. The error is what ended the trace before its
-    /// end, or came at its end.
+    /// Returns the next TPDU; `None` after the last.
+    ///
+    /// # Errors
+    ///
+    /// - `Trace`: this fault stopped the trace, or came at its end.
     fn front(&mut self) -> Result<Option<&Kept>, DiffFault> {
         for _chunk in 0..u64::MAX {
             if self.is_over || self.passed < self.kept().len() {
@@ -192,12 +194,12 @@ impl<'r, R: Read> Trace<'r, R> {
         Ok(self.kept().get(self.passed))
     }
 
-    /// The TPDUs that are kept.
+    /// Returns the kept TPDUs.
     fn kept(&self) -> &[Kept] {
         self.explainer.teller.keeping.all.as_slice()
     }
 
-    /// Reads a chunk more, and keeps its TPDUs.
+    /// Reads one more chunk, and keeps its TPDUs.
     fn read(&mut self) -> Result<(), AllocError> {
         match self.read_chunk() {
             Ok(true) => return Ok(()),
@@ -208,7 +210,7 @@ impl<'r, R: Read> Trace<'r, R> {
         self.explainer.end()
     }
 
-    /// Explains what ends in a chunk more; it answers whether there was one.
+    /// Explains the lines that end in one more chunk. Returns false if there is none.
     fn read_chunk(&mut self) -> Result<bool, ExplainFault> {
         let mut chunk = [0; CHUNK];
         match self.reader.read(&mut chunk) {

@@ -1,11 +1,10 @@
-//! The reasons why two traces can't be compared, with their texts.
+//! Why two traces can't be compared, with the texts of these faults.
 
 use crate::explain_fault::ExplainFault;
 use std::alloc::AllocError;
 use std::fmt;
 use thiserror::Error;
 
-/// One of the two traces.
 #[derive(Clone, Copy, Debug)]
 pub enum Which {
     A,
@@ -13,7 +12,7 @@ pub enum Which {
 }
 
 impl Which {
-    /// The other one.
+    /// Returns the other one.
     pub fn other(self) -> Which {
         match self {
             Which::A => Which::B,
@@ -37,13 +36,13 @@ pub enum DiffFault {
     /// A file can't be opened.
     #[error("{0}: can't be opened")]
     Open(Which),
-    /// The TPDUs before this fault are alike.
+    /// A trace has this fault; the TPDUs before it are alike.
     #[error("{0}: {1}")]
     Trace(Which, ExplainFault),
     /// The writer failed.
     #[error("write fault")]
     Write,
-    /// Memory was wanting.
+    /// Memory ran out.
     #[error("out of memory")]
     OutOfMemory,
 }

@@ -1,5 +1,5 @@
-//! Explains a trace line by line: finds who sent each character, hears it, and has a `Teller` tell
-//! what ends with it.
+//! Explains a trace line by line: finds who sent each character, hears it, and lets a `Teller`
+//! print what ends with it.
 
 ghost use Rattle.std.specs.Prelude.{◌≡◌, ◌∷◌, ◌==◌, ◌&&◌, List, [], None, true, false, get_or, length, OnOk, IfErr, IfOk};
 ghost use Rattle.std.specs.Result.{IsErrAnd};
@@ -35,7 +35,7 @@ use crate::write::teller::Teller;
 use std::alloc::{AllocError, Global};
 use t0_core::End;
 
-/// Explains the lines of a trace, one after another.
+/// Explains the lines of a trace, one by one.
 #[derive(Drop)]
 pub struct Explainer {
     alloc: Global,
@@ -46,13 +46,12 @@ pub struct Explainer {
     preface: Preface,
     listener: Listener,
     log: Log,
-    /// What is told.
+    /// What prints the explanation.
     pub teller: Teller,
 }
 
 impl Explainer {
-    /// No line has come, and lines are read so. If it resumes, it continues after a character that
-    /// no dialogue expects.
+    /// Starts before the first line. If it resumes, it continues after an unexpected character.
     pub fn new(
         alloc: Global,
         layout: Layout,
@@ -80,7 +79,7 @@ impl Explainer {
         }
     }
 
-    /// The number of the line that comes next, from 1.
+    /// Returns the number of the next line, counted from 1.
     pub fn next_line(&self) -> u64
         ensures { result ≡ next_line self.now }
     {
@@ -91,12 +90,13 @@ impl Explainer {
     ///
     /// # Errors
     ///
-    /// - `BadHex`: characters are not of their form, or the line of a log can't be read.
-    /// - `OtherForm`, `NoSign`: its sign is not that of the lines before; it is digits alone, and
-    ///   no line before has a sign.
-    /// - `Signed`, `NoTurn`: of lines without signs it has one; who sends a character is not known.
+    /// - `BadHex`: characters are not digits of bytes, or the line of a log can't be read.
+    /// - `OtherForm`: its sign has another form than those before.
+    /// - `NoSign`: it contains digits alone, and no line before has a sign.
+    /// - `Signed`: it has a sign, and `--unsigned` expects none.
+    /// - `NoTurn`: who sends a character is unknown.
     /// - `NoDialogue`: no dialogue continues with a character, and it does not resume.
-    /// - `OutOfMemory`: may come after a part of the line.
+    /// - `OutOfMemory`: a part of the line may have been explained.
     pub fn line(&mut self, line: &[u8]) -> Result<(), ExplainFault>
         ensures explained { (events : List Event) (before : List Report) →
             HasExplained events before self.old →
@@ -145,7 +145,7 @@ impl Explainer {
         }
     }
 
-    /// Explains the characters of a line, if they are not passed over.
+    /// Explains the characters of a line, or passes over them.
     fn characters(&mut self, source: &Source, bytes: &[u8]) -> Result<(), ExplainFault>
         ensures explained { (events : List Event) (before : List Report) →
             HasExplained events before self.old → OnOk result
@@ -174,7 +174,7 @@ impl Explainer {
         Ok(())
     }
 
-    /// Whether the characters of such a line are passed over; a header ends that.
+    /// Whether a line is passed over; a header ends that.
     fn is_passed_over(&mut self, source: &Source, bytes: &[u8]) -> bool
         ensures none { self.old.resuming.passed ≡ None →
             (result ≡ false) × (self.new ≡ self.old) }
@@ -192,8 +192,8 @@ impl Explainer {
         true
     }
 
-    /// Whether it continues with this line, as with a header: not if something is not shown, since
-    /// what is taken for a header is shown, and may be data.
+    /// Whether it continues with this line, as with a header. It does not if a mask hides
+    /// something: a header is shown, and this one may be data.
     fn may_begin(&self, source: &Source, bytes: &[u8]) -> bool {
         let is_terminals = match source {
             Source::Sign(_, from) => self.reading.sender(*from) == End::Terminal,
@@ -202,7 +202,7 @@ impl Explainer {
         is_terminals && bytes.len() == 5 && !self.teller.mask.hides()
     }
 
-    /// Who sends this character, which comes next.
+    /// Returns who sends the next character.
     fn sender(&self, source: &Source, byte: u8) -> Result<End, TurnFault>
         ensures { result ≡ source_at source.now self.now.reading (opening_of self.now.preface)
             self.now.listener byte }
@@ -213,7 +213,7 @@ impl Explainer {
         }
     }
 
-    /// Whose turn it is to send this character.
+    /// Returns whose turn it is to send the next character.
     fn turn(&self, ways: &Ways, byte: u8) -> Result<End, TurnFault>
         ensures { result ≡ turn_at ways.now (opening_of self.now.preface) self.now.listener byte }
     {
@@ -230,8 +230,8 @@ impl Explainer {
         }
     }
 
-    /// Takes a character, with which `rest` of its line begins: of an opening, or of the dialogue,
-    /// or one with which the card answers again. It answers whether it is none of these.
+    /// Takes a character of an opening, of the dialogue, or with which the card answers again.
+    /// Returns true if it is none of these. `rest` is its line from there on.
     fn character(&mut self, from: End, byte: u8, rest: &[u8]) -> Result<bool, AllocError>
         ensures takes { (events : List Event) (before : List Report) →
             HasExplained events before self.old → IfOk result
@@ -257,8 +257,8 @@ impl Explainer {
         Ok(true)
     }
 
-    /// Whether the card answers again with this character, with which no dialogue continues, where
-    /// one had begun before it.
+    /// Whether the card answers again with this character, which no dialogue expects. `begun`: a
+    /// dialogue had begun before.
     fn answers_again(&self, begun: bool, from: End, byte: u8) -> bool
         ensures { result ≡ (begun && begins_answer from byte
             && (length self.now.listener.under_way.header.items == 0)) }
@@ -266,8 +266,7 @@ impl Explainer {
         begun && begins_answer(from, byte) && self.listener.under_way().is_empty()
     }
 
-    /// Stops at a character of which it can't be known which end sends it, or passes over what
-    /// follows an answer at fault.
+    /// Stops at a character with an unknown sender, or passes over what follows an invalid answer.
     fn stop_unsent(&mut self, place: usize, why: TurnFault) -> Result<(), ExplainFault>
         ensures stopped { self.old.resuming.resumes ≡ false → IsErrAnd result (λ fault. fault
             ≡ ExplainFault.NoTurn self.old.line place why) }
@@ -282,8 +281,8 @@ impl Explainer {
         Err(ExplainFault::NoTurn { line, place, why })
     }
 
-    /// Tells of a character at this place of a line, with which no dialogue continues, and stops or
-    /// passes over what follows.
+    /// Reports the unexpected character at this place of a line, and stops, or passes over what
+    /// follows.
     fn stop(
         &mut self,
         source: &Source,
@@ -343,7 +342,7 @@ impl Explainer {
         self.teller.reset(&mut self.preface, &mut self.listener)
     }
 
-    /// Explains the next line of a log of TPDUs.
+    /// Explains the next line of a log of whole TPDUs.
     fn log_line(&mut self, line: &[u8]) -> Result<(), ExplainFault>
         ensures counts { OnOk result (self.new.line ≡ next_line self.old) }
         ensures of_lines { IfErr result IsOfLines }
@@ -361,7 +360,7 @@ impl Explainer {
         }
     }
 
-    /// Whether all of it was a dialogue, in which some character came.
+    /// Returns an error unless all of it was dialogues and some line has a character.
     pub fn outcome(&self) -> Result<(), ExplainFault>
         ensures has_characters { OnOk result (self.now.has_characters ≡ true) }
         ensures ended { IfErr result (λ fault. IsOfEnd fault self.now.has_characters) }
@@ -381,8 +380,8 @@ impl Explainer {
         }
     }
 
-    /// Explains what is under way where the trace ends, and adds the last block; nothing if memory
-    /// ran out before.
+    /// Explains what the end of the trace cuts off, and writes the last block. Does nothing if
+    /// memory ran out before.
     pub fn end(&mut self) -> Result<(), AllocError>
         ensures position { OnOk result (position_of self.new ≡ position_of self.old) }
         ensures adds { self.old.reading.of_tpdus ≡ false → OnOk result (AddsBoxes
@@ -398,7 +397,7 @@ impl Explainer {
         self.teller.end(&self.preface, &mut self.listener)
     }
 
-    /// Tells what is open where a log ends, and adds the last block.
+    /// Explains what the end of a log cuts off, and writes the last block.
     fn end_log(&mut self) -> Result<(), AllocError>
         ensures { OnOk result (position_of self.new ≡ position_of self.old) }
     {
@@ -409,7 +408,7 @@ impl Explainer {
     }
 }
 
-/// The fault of a line with this number that is refused for this.
+/// Returns the fault of a refused line.
 fn refused(line: u64, why: LineFault) -> ExplainFault
     ensures { result ≡ refused line why }
 {

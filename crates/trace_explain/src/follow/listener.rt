@@ -1,4 +1,4 @@
-//! A tap that keeps what it has heard of the TPDU under way.
+//! A tap that keeps what it has heard of the current TPDU.
 
 ghost use Rattle.std.specs.Prelude.{◌≡◌, ◌++◌, ◌∷◌, [], List, true, IfOk, IfErr};
 ghost use Rattle.t0_core.specs.declared.end.End.TheVariants.{Terminal};
@@ -15,9 +15,9 @@ use t0_core::{Due, End, Heard, Tap, TapFault};
 /// Why a character was not taken.
 #[derive(Clone, Copy)]
 pub enum ListenerFault {
-    /// No dialogue goes on with it.
+    /// No dialogue continues with it.
     NoDialogue(TapFault),
-    /// Memory was wanting.
+    /// Memory ran out.
     OutOfMemory,
 }
 
@@ -32,7 +32,7 @@ impl From<AllocError> for ListenerFault {
     }
 }
 
-/// A tap, and what it has heard of the TPDU under way.
+/// A tap, and what it has heard of the current TPDU.
 #[derive(Drop)]
 pub struct Listener {
     alloc: Global,
@@ -41,7 +41,7 @@ pub struct Listener {
 }
 
 impl Listener {
-    /// It has heard nothing yet.
+    /// Starts before the first character.
     #[tactic(auto, using(crate::proofs::NotedLemmas::hears_nothing))]
     pub fn new(alloc: Global) -> Listener
         ensures { HasNoted [] [] result }
@@ -53,24 +53,26 @@ impl Listener {
         }
     }
 
-    /// What the dialogue under way goes on with.
+    /// Returns what the current dialogue may continue with.
     pub fn expected(&self) -> Due
         ensures { result ≡ due_at self.now.tap }
     {
         self.tap.due()
     }
 
-    /// What has been heard of the TPDU under way.
+    /// Returns what was heard of the current TPDU.
     pub fn under_way(&self) -> &Tpdu
         ensures { result.now ≡ self.now.under_way }
     {
         &self.under_way
     }
 
-    /// Hears a character, and gives the TPDU that ends with it, or that has ended before it.
+    /// Hears a character, and returns the TPDU that ends with it or has ended before it.
     ///
-    /// `NoDialogue` comes exactly where no dialogue goes on with the character, and then nothing
-    /// changes. After `OutOfMemory` it is not to be used.
+    /// # Errors
+    ///
+    /// - `NoDialogue`: no dialogue continues with the character. Nothing has changed.
+    /// - `OutOfMemory`: don't use the listener any more.
     pub fn hear(&mut self, from: End, byte: u8) -> Result<Option<Tpdu>, ListenerFault>
         ensures noted { (events : List Event) (before : List Report) →
             HasNoted events before self.old → IfOk result (λ tpdu. HasNoted
@@ -92,8 +94,8 @@ impl Listener {
         Ok(None)
     }
 
-    /// Hears a character of the terminal where the card has repeated INS of a command without data,
-    /// and sent its status: with it the next header begins.
+    /// Hears a character of the terminal after a bare status: the card has repeated INS of a
+    /// command without data, and sent its status. The character begins the next header.
     fn hear_behind_bare(&mut self, byte: u8) -> Result<Option<Tpdu>, ListenerFault>
         requires bare { is_bare (report_of self.old.under_way) ≡ true }
         requires status { AreStatus self.old.under_way.moved.items }
@@ -113,7 +115,7 @@ impl Listener {
         }
     }
 
-    /// Hears what is taken for a header, while no dialogue is under way.
+    /// Hears `bytes` as a header, between two dialogues.
     pub fn hear_header(&mut self, bytes: &[u8]) -> Result<(), AllocError> {
         for &byte in bytes {
             if self.hear(End::Terminal, byte).is_err() {
@@ -123,7 +125,7 @@ impl Listener {
         Ok(())
     }
 
-    /// Drops the dialogue under way, and gives what was heard of it: a whole one, where the card
+    /// Drops the current dialogue, and returns what was heard of it. It is a whole one if the card
     /// has repeated INS of a command without data, and sent its status.
     pub fn reset(&mut self) -> Tpdu
         ensures noted { (events : List Event) (reports : List Report) →
@@ -136,7 +138,7 @@ impl Listener {
         self.cut().as_ended()
     }
 
-    /// Takes what was heard of the TPDU, so that nothing is.
+    /// Takes out what was heard of the current TPDU.
     fn cut(&mut self) -> Tpdu
         ensures cut { result ≡ self.old.under_way }
         ensures left { report_of self.new.under_way ≡ no_report }
@@ -146,7 +148,7 @@ impl Listener {
     }
 }
 
-/// Whether a TPDU ends with this.
+/// Whether a TPDU ends with this character.
 fn is_last(heard: &Heard) -> bool
     ensures { result ≡ is_last heard.now }
 {

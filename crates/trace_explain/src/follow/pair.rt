@@ -9,18 +9,18 @@ use std::alloc::{AllocError, Global};
 use std::fmt;
 use t0_core::Direction;
 
-/// Why a command and its answer are not told as a TPDU.
+/// Why a command and its answer are not a TPDU.
 #[derive(Clone, Copy, Debug)]
 pub enum PairFault {
     /// The command has fewer bytes than CLA INS P1 P2.
     Short,
-    /// The command has extended length fields, which no P3 holds.
+    /// The command has extended length fields, which don't fit P3.
     Extended,
-    /// Behind Lc the command has other than so many bytes, and Le or none.
+    /// After Lc the command has fewer bytes than it announces, or more than these and Le.
     Length,
     /// The answer does not end with SW1 and SW2.
     NoStatus,
-    /// Memory was wanting.
+    /// Memory ran out.
     OutOfMemory,
 }
 
@@ -47,8 +47,12 @@ impl fmt::Display for PairFault {
     }
 }
 
-/// The TPDU of a short command with its answer; `NoStatus` comes where that does not end with a
-/// status, and other errors as for the command alone.
+/// Returns the TPDU of a short command with its answer.
+///
+/// # Errors
+///
+/// - `NoStatus`: the answer does not end with a status.
+/// - Others as for `tpdu_of_command`.
 pub fn tpdu_of_pair(alloc: Global, command: &[u8], answer: &[u8]) -> Result<Tpdu, PairFault>
     ensures reports { IfOk result (IsPair command.now answer.now) }
     ensures refused { IfErr result (λ why. IsBadPair why command.now answer.now) }
@@ -62,10 +66,12 @@ pub fn tpdu_of_pair(alloc: Global, command: &[u8], answer: &[u8]) -> Result<Tpdu
     }
 }
 
-/// The TPDU of a short command that has no answer.
+/// Returns the TPDU of a short command without an answer. The command is CLA INS P1 P2 and one of
+/// these: nothing (P3 is then `00`); Le; Lc, which is not `00`, and data; Lc, data and Le.
 ///
-/// The command is CLA INS P1 P2, with P3 `00`; or these with Le; or with Lc, which is not `00`, and
-/// data; or with Le behind those. `Short`, `Extended` and `Length` come for any other one.
+/// # Errors
+///
+/// - `Short`, `Extended`, `Length`: the command is anything else.
 pub fn tpdu_of_command(alloc: Global, command: &[u8]) -> Result<Tpdu, PairFault>
     ensures reports { IfOk result (IsCommand command.now) }
     ensures refused { IfErr result (λ why. IsBadCommand why command.now) }
@@ -73,7 +79,7 @@ pub fn tpdu_of_command(alloc: Global, command: &[u8]) -> Result<Tpdu, PairFault>
     tpdu_of(alloc, command, &[], &[])
 }
 
-/// The TPDU of a short command with these data of the card and this status.
+/// Returns the TPDU of a short command with these data of the card and this status.
 fn tpdu_of(alloc: Global, command: &[u8], brought: &[u8], status: &[u8]) -> Result<Tpdu, PairFault>
     ensures reports { IfOk result (λ t. (c : Command) × (command_in command.now ≡ Some c)
         × ReportsPair c brought.now status.now t) }
@@ -93,7 +99,7 @@ fn tpdu_of(alloc: Global, command: &[u8], brought: &[u8], status: &[u8]) -> Resu
     with_p3(alloc, header, command[4], rest, brought, status)
 }
 
-/// The same with this P3 behind CLA INS P1 P2, and with what stands behind that.
+/// The same with `header` CLA INS P1 P2 and `rest` after P3.
 fn with_p3(
     alloc: Global,
     header: &[u8],
@@ -117,8 +123,8 @@ fn with_p3(
     }
 }
 
-/// The TPDU with CLA INS P1 P2 and P3, these data of the terminal, Le of the command behind them,
-/// and these data of the card and this status.
+/// Returns the TPDU with this header, the terminal's data, Le after them, the card's data and the
+/// status.
 #[tactic(auto, using(crate::proofs::PairLemmas::reports))]
 fn whole(
     alloc: Global,
@@ -147,7 +153,7 @@ fn whole(
     })
 }
 
-/// Which way data went, those that are the TPDU's, and those of the card beside them.
+/// Returns which way the data of the TPDU go, these data, and those of the card beside them.
 fn parts<'a>(sent: &'a [u8], brought: &'a [u8]) -> (Option<Direction>, &'a [u8], &'a [u8])
     ensures way { result.0 ≡ way_of sent.now brought.now }
     ensures moved { result.1.now ≡ moved_of sent.now brought.now }
@@ -160,7 +166,7 @@ fn parts<'a>(sent: &'a [u8], brought: &'a [u8]) -> (Option<Direction>, &'a [u8],
     }
 }
 
-/// The bytes, and one more.
+/// Returns the bytes and one more.
 fn with_byte(alloc: Global, bytes: &[u8], byte: u8) -> Result<Vec<u8>, AllocError>
     ensures { IfOk result (λ all. all.items ≡ bytes.now ++ byte ∷ []) }
 {
@@ -169,7 +175,7 @@ fn with_byte(alloc: Global, bytes: &[u8], byte: u8) -> Result<Vec<u8>, AllocErro
     Ok(all)
 }
 
-/// The same bytes once more.
+/// Returns a copy of the bytes.
 fn copied(alloc: Global, bytes: &[u8]) -> Result<Vec<u8>, AllocError>
     ensures { IfOk result (λ all. all.items ≡ bytes.now) }
 {

@@ -1,4 +1,4 @@
-//! The lines of a trace of characters, with signs or without.
+//! The lines of a trace of characters, with or without signs.
 ghost use Rattle.std.specs.Prelude.{◌≡◌, IfOk, IfErr};
 ghost use Rattle.trace_explain.specs.Lines.{Says, SaysSigned, SaysUnsigned, SpellsNothing, IsBadLine, IsBadSigned, IsBadUnsigned, begins_with_word, ends_word, is_signed};
 ghost use Rattle.trace_explain.specs.Times.{behind_time, time_in};
@@ -14,35 +14,35 @@ use t0_core::End;
 /// Who sends the characters of a line.
 #[derive(Clone, Copy)]
 pub enum Source {
-    /// The end of a sign, which is of this form.
+    /// The end of the line's sign, which has this form.
     Sign(Form, End),
-    /// The end whose turn it is, where this is said of the ways of instructions.
+    /// The end whose turn it is. The options give these ways of instructions.
     Turn(Ways),
 }
 
-/// What a line of a trace is.
+/// What a line of a trace contains.
 #[derive(Drop)]
 pub enum TraceLine<'a> {
-    /// Characters, behind a time or none.
+    /// Characters, perhaps after a time.
     Characters(Source, Vec<u8>),
     /// `reset`: the card was reset.
     Reset,
-    /// Any other line.
+    /// Anything else.
     Note(&'a [u8]),
 }
 
 /// Why a line is refused.
 #[derive(Clone, Copy)]
 pub enum LineFault {
-    /// It begins with a sign, and behind that there is no space with digits of bytes.
+    /// It begins with a sign, and no space and digits of bytes follow.
     Hex,
-    /// Its sign is of another form than this one, of which the lines are.
+    /// Its sign has another form than this one of the lines before.
     OtherForm(Form),
-    /// It has digits and no sign, and no line before it has one.
+    /// It has digits without a sign, and no line before has a sign.
     NoSign,
-    /// It begins with a sign, and lines have none.
+    /// It begins with a sign, and `--unsigned` expects none.
     Signed,
-    /// Memory was wanting.
+    /// Memory ran out.
     OutOfMemory,
 }
 
@@ -57,7 +57,7 @@ impl From<AllocError> for LineFault {
     }
 }
 
-/// What the line is, as lines are read: it has this time, and this behind it.
+/// Reads a line. `time` is its time, and `rest` is what follows that.
 pub fn read_line<'a>(
     alloc: Global,
     reading: &Reading,
@@ -76,7 +76,7 @@ pub fn read_line<'a>(
     }
 }
 
-/// What the line is, where lines have signs of this form, if that is known.
+/// Reads a line of a trace with signs; `known` is their form.
 fn read_signed<'a>(
     alloc: Global,
     known: Option<Form>,
@@ -98,8 +98,12 @@ fn read_signed<'a>(
     }
 }
 
-/// What the line is, where lines have no signs. `Hex` is one of digits that are not two for each
-/// byte, and `Signed` one that begins with a sign.
+/// Reads a line of a trace without signs.
+///
+/// # Errors
+///
+/// - `Hex`: it contains digits, but not two for each byte.
+/// - `Signed`: it begins with a sign.
 fn read_unsigned<'a>(
     alloc: Global,
     ways: Ways,
@@ -125,7 +129,7 @@ fn read_unsigned<'a>(
     })
 }
 
-/// What a line is, behind whose time or none this stands, of which the first word is no sign.
+/// Reads a line whose first word is not a sign. `behind` is what follows its time.
 fn without_sign<'a>(
     known: Option<Form>,
     line: &'a [u8],
@@ -146,7 +150,7 @@ fn without_sign<'a>(
     }
 }
 
-/// Whether the line begins with a sign; one of letters alone is a word.
+/// Whether the line begins with a sign. A sign of letters alone must be a whole word.
 fn is_signed(line: &[u8]) -> bool
     ensures { result ≡ is_signed line.now }
 {
@@ -171,7 +175,7 @@ fn begins_with_word(line: &[u8], word: &[u8]) -> bool
     line.starts_with(word) && ends_word(&line[word.len()..])
 }
 
-/// Whether a word ends before these bytes: no letter or digit is the first of them.
+/// Whether a word ends before these bytes: the first is not a letter or digit.
 fn ends_word(rest: &[u8]) -> bool
     ensures { result ≡ ends_word rest.now }
 {

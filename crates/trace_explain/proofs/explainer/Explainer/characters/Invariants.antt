@@ -4,7 +4,7 @@ use Rattle.trace_explain.specs.Explained.{ExplainsCharacters, HasExplained}
 use Rattle.trace_explain.specs.Reports.{Report}
 use Rattle.trace_explain.proofs.explainer.Explainer.characters.Given as goal
 
--- the characters so far are explained
+-- The characters so far are explained.
 abbrev pub invariant-loop-place : goal.invariant-loop-place
 invariant-loop-place l = ((events : List Event) (before : List Report)
     → HasExplained events before l.initial.self

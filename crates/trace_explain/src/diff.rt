@@ -2,7 +2,7 @@
 //! time, and would hide what differs.
 
 use crate::describe::mask::Mask;
-use crate::diff_fault::{DiffFault, Which};
+use crate::diff_fault::DiffFault;
 use crate::explain::{CHUNK, TRACE_LIMIT, explain_chunk, explain_last};
 use crate::explain_fault::ExplainFault;
 use crate::explainer::Explainer;
@@ -22,7 +22,8 @@ const LAYOUT: Layout = Layout {
 
 #[derive(Drop)]
 struct Trace<'r, R: Read> {
-    which: Which,
+    /// `A` or `B`.
+    name: &'static str,
     reader: &'r mut R,
     explainer: Explainer,
     size: usize,
@@ -46,8 +47,8 @@ pub fn diff<R: Read, S: Read, W: Write>(
 ) -> Result<bool, DiffFault> {
     let (reader_a, reader_b) = readers;
     let other = mask.copied(alloc)?;
-    let mut a = Trace::new(alloc, Which::A, other, resumes, reading, reader_a);
-    let mut b = Trace::new(alloc, Which::B, mask, resumes, reading, reader_b);
+    let mut a = Trace::new(alloc, "A", other, resumes, reading, reader_a);
+    let mut b = Trace::new(alloc, "B", mask, resumes, reading, reader_b);
     let mut text = Sheet::new(alloc, LAYOUT);
     let outcome = compare(&mut a, &mut b, &mut text);
     written(outcome, &mut text, writer)
@@ -83,11 +84,11 @@ fn compare<R: Read, S: Read>(
                 return Ok(true);
             }
             (Some(kept), None) => {
-                push_only(out, Which::B, before, kept);
+                push_only(out, ("B", "A"), before, kept);
                 return Ok(false);
             }
             (None, Some(kept)) => {
-                push_only(out, Which::A, before, kept);
+                push_only(out, ("A", "B"), before, kept);
                 return Ok(false);
             }
             (Some(one), Some(other)) => {
@@ -103,12 +104,12 @@ fn compare<R: Read, S: Read>(
 }
 
 /// Reports that this trace has no more TPDUs, and the next one of the other.
-fn push_only(out: &mut Sheet, which: Which, before: u64, next: &Kept) {
+fn push_only(out: &mut Sheet, names: (&str, &str), before: u64, next: &Kept) {
     let unit = if before == 1 { "TPDU" } else { "TPDUs" };
-    let other = which.other();
+    let (name, other) = names;
     writeln!(
         out,
-        "{which} ends after {before} {unit}, and {other} goes on:"
+        "{name} ends after {before} {unit}, and {other} goes on:"
     );
     out.push_str(next.text.as_str());
 }
@@ -151,7 +152,7 @@ impl<'r, R: Read> Trace<'r, R> {
     /// Starts before its first byte.
     fn new(
         alloc: Global,
-        which: Which,
+        name: &'static str,
         mask: Mask,
         resumes: bool,
         reading: Reading,
@@ -160,7 +161,7 @@ impl<'r, R: Read> Trace<'r, R> {
         let mut explainer = Explainer::new(alloc, LAYOUT, mask, resumes, reading);
         explainer.teller.keeping.is_on = true;
         Trace {
-            which,
+            name,
             reader,
             explainer,
             size: 0,
@@ -189,7 +190,7 @@ impl<'r, R: Read> Trace<'r, R> {
         if self.passed >= self.kept().len()
             && let Some(fault) = self.fault.take()
         {
-            return Err(DiffFault::Trace(self.which, fault));
+            return Err(DiffFault::Trace(self.name, fault));
         }
         Ok(self.kept().get(self.passed))
     }

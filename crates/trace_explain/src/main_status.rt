@@ -5,7 +5,7 @@ ghost use Rattle.trace_explain.specs.Trace.{status_of};
 use crate::command_line::{Request, parsed};
 use crate::describe::mask::Mask;
 use crate::diff::diff;
-use crate::diff_fault::{DiffFault, Which};
+use crate::diff_fault::DiffFault;
 use crate::explain::explain;
 use crate::explain_fault::ExplainFault;
 use crate::help;
@@ -82,16 +82,16 @@ fn diff_files<D: Files, W: Write>(
     output: &mut W,
 ) -> Result<bool, DiffFault> {
     let (path_a, path_b) = paths;
-    let mut a = opened(files, path_a, Which::A)?;
-    let mut b = opened(files, path_b, Which::B)?;
+    let mut a = opened(files, path_a, "A")?;
+    let mut b = opened(files, path_b, "B")?;
     diff(alloc, mask, resumes, reading, (&mut a, &mut b), output)
 }
 
 /// The file that has a trace.
-fn opened<D: Files>(files: &D, path: &str, which: Which) -> Result<D::File, DiffFault> {
+fn opened<D: Files>(files: &D, path: &str, name: &'static str) -> Result<D::File, DiffFault> {
     match File::open(files, path) {
         Ok(file) => Ok(file),
-        Err(_) => Err(DiffFault::Open(which)),
+        Err(_) => Err(DiffFault::Open(name)),
     }
 }
 

@@ -12,11 +12,17 @@ use t0_core::End;
 #[derive(Drop)]
 pub struct Preface {
     stage: Stage,
-    turned: Convention,
-    answer: Vec<u8>,
-    request: Vec<u8>,
-    response: Vec<u8>,
-    line: u64,
+    /// What turned the answer's characters: the inverse convention if a receiver of the direct one
+    /// read an answer of the inverse one.
+    pub turned: Convention,
+    /// The characters of the answer, as the card means them.
+    pub answer: Vec<u8>,
+    /// The characters of the last PPS request.
+    pub request: Vec<u8>,
+    /// The characters of the response to it.
+    pub response: Vec<u8>,
+    /// The line, counted from 1, in which the answer or the last request began.
+    pub line: u64,
 }
 
 impl Preface {
@@ -40,37 +46,11 @@ impl Preface {
         self.stage
     }
 
-    /// Returns the convention that turned the answer's characters: inverse if a receiver of the
-    /// direct convention read an answer of the inverse one.
-    pub fn turned(&self) -> Convention {
-        self.turned
-    }
-
-    /// Returns the characters of the answer, as the card means them.
-    pub fn answer(&self) -> &[u8] {
-        self.answer.as_slice()
-    }
-
     /// Whether an answer has begun.
     pub fn has_answered(&self) -> bool
         ensures { result ≡ has_answered (opening_of self.now) }
     {
         !self.answer.is_empty()
-    }
-
-    /// Returns the characters of the last PPS request.
-    pub fn request(&self) -> &[u8] {
-        self.request.as_slice()
-    }
-
-    /// Returns the characters of the response to it.
-    pub fn response(&self) -> &[u8] {
-        self.response.as_slice()
-    }
-
-    /// Returns the line, counted from 1, in which the answer or the last request began.
-    pub fn line(&self) -> u64 {
-        self.line
     }
 
     /// Returns what the next character is.

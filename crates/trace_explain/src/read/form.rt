@@ -6,28 +6,19 @@ ghost use Rattle.trace_explain.specs.Lines.{sign_of};
 use std::fmt;
 use t0_core::End;
 
-/// The two signs of a trace. The first line with a sign decides, unless `--form` does.
+/// The two signs of a trace, as in `signs`. The first line with a sign decides, unless `--form`
+/// does.
 #[derive(Clone, Copy, Debug, PartialEq, Eq)]
 pub enum Form {
-    /// `>` and `<`.
     Angle,
-    /// `>>` and `<<`.
     Angles,
-    /// `->` and `<-`.
     Arrow,
-    /// `=>` and `<=`.
     Double,
-    /// `TX` and `RX`.
     Wire,
-    /// `TX:` and `RX:`.
     WireColon,
-    /// `Tx:` and `Rx:`.
     WireMixed,
-    /// `T:` and `C:`.
     Letter,
-    /// `IFD` and `ICC`.
     Device,
-    /// `IFD:` and `ICC:`.
     DeviceColon,
 }
 

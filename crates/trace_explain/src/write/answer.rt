@@ -12,15 +12,16 @@ use atr_core::{Atr, AtrFault, Category, Fi, di};
 /// Adds the box of an answer: all of it, or how far it came. What is none may be data of which the
 /// front was not heard, and is then not shown where something is not.
 pub fn tell_answer(mask: &Mask, preface: &Preface, page: &mut Page) {
-    let read = Atr::read(preface.answer());
-    page.open_titled(kind_of(&read), "answer to reset", preface.line());
+    let bytes = preface.answer.as_slice();
+    let read = Atr::read(bytes);
+    page.open_titled(kind_of(&read), "answer to reset", preface.line);
     if read.is_err() {
-        mask.push_unknown(&mut page.lines, preface.answer());
+        mask.push_unknown(&mut page.lines, bytes);
     } else {
-        push_hex_lines(&mut page.lines, preface.answer());
+        push_hex_lines(&mut page.lines, bytes);
     }
     page.row(Side::Card, "characters");
-    if !is_direct(preface.turned()) {
+    if !is_direct(preface.turned) {
         let turned = "by the direct convention, which shows TS as 03; here all are turned\n";
         page.line_row("read", turned);
     }

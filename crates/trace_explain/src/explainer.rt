@@ -12,7 +12,7 @@ ghost use Rattle.trace_explain.specs.Noted.{ended_by};
 ghost use Rattle.trace_explain.specs.Openings.{begins_answer, opening_of, unopened};
 ghost use Rattle.trace_explain.specs.Reports.{Report, report_of};
 ghost use Rattle.trace_explain.specs.Trace.{IsOfEnd};
-ghost use Rattle.trace_explain.specs.Turns.{source_at, turn_at};
+ghost use Rattle.trace_explain.specs.Turns.{source_at};
 ghost use Rattle.trace_explain.specs.UnderWay.{IsOfLines};
 
 use crate::describe::complaint::{Complaint, Seen};
@@ -108,23 +108,8 @@ impl Explainer {
         ensures of_lines { IfErr result IsOfLines }
     {
         if self.reading.of_tpdus {
-            self.log_line(line)
-        } else {
-            self.line_of_characters(line)
+            return self.log_line(line);
         }
-    }
-
-    /// Explains the next line of a trace of characters.
-    fn line_of_characters(&mut self, line: &[u8]) -> Result<(), ExplainFault>
-        ensures explained { (events : List Event) (before : List Report) →
-            HasExplained events before self.old →
-            OnOk result (ExplainsLine line.now events before self.old self.new) }
-        ensures stops { (events : List Event) (before : List Report) →
-            HasExplained events before self.old →
-            IfErr result (λ fault. StopsAtLine fault line.now self.old events before) }
-        ensures counts { OnOk result (self.new.line ≡ next_line self.old) }
-        ensures of_lines { IfErr result IsOfLines }
-    {
         self.line = self.line.saturating_add(1);
         let (time, rest) = cut_time(line);
         self.teller.pass(self.line, self.reading.counted(time))?;
@@ -202,31 +187,26 @@ impl Explainer {
         is_terminals && bytes.len() == 5 && !self.teller.mask.hides()
     }
 
-    /// Returns who sends the next character.
+    /// Returns who sends the next character: the end of the sign, or the one whose turn it is.
     fn sender(&self, source: &Source, byte: u8) -> Result<End, TurnFault>
         ensures { result ≡ source_at source.now self.now.reading (opening_of self.now.preface)
             self.now.listener byte }
     {
         match source {
             Source::Sign(_, from) => Ok(self.reading.sender(*from)),
-            Source::Turn(ways) => self.turn(ways, byte),
-        }
-    }
-
-    /// Returns whose turn it is to send the next character.
-    fn turn(&self, ways: &Ways, byte: u8) -> Result<End, TurnFault>
-        ensures { result ≡ turn_at ways.now (opening_of self.now.preface) self.now.listener byte }
-    {
-        let stage = self.preface.stage();
-        if stage.has_begun() {
-            turn_within(
-                ways,
-                self.listener.expected(),
-                self.listener.under_way(),
-                byte,
-            )
-        } else {
-            turn_before(stage, self.preface.has_answered(), byte)
+            Source::Turn(ways) => {
+                let stage = self.preface.stage();
+                if stage.has_begun() {
+                    turn_within(
+                        ways,
+                        self.listener.expected(),
+                        self.listener.under_way(),
+                        byte,
+                    )
+                } else {
+                    turn_before(stage, self.preface.has_answered(), byte)
+                }
+            }
         }
     }
 

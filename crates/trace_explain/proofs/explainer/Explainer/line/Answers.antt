@@ -8,7 +8,7 @@ use Rattle.trace_explain.specs.Lines.{Says, TakesCharacters}
 use Rattle.trace_explain.specs.Openings.{unopened}
 use Rattle.trace_explain.proofs.AccountLemmas.{boxes_from, boxes_stay}
 use Rattle.trace_explain.proofs.ExplainedLemmas.{as_line, explains_from, explains_nothing, line_refused, line_stops, read_on_hears}
-use Rattle.trace_explain.proofs.explainer.Explainer.line_of_characters.Goals as goal
+use Rattle.trace_explain.proofs.explainer.Explainer.line.Goals as goal
 
 pub returns-in-Ok-Characters-clause-explained : goal.returns-in-Ok-Characters-clause-explained
 returns-in-Ok-Characters-clause-explained c = λ events before h.

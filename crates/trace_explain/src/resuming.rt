@@ -50,8 +50,6 @@ impl Resuming {
         ensures resumes { self.new.resumes ≡ self.old.resumes }
         ensures none { self.new.passed ≡ None }
     {
-        let passed = self.passed;
-        self.passed = None;
-        passed
+        self.passed.take()
     }
 }

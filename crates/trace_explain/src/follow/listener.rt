@@ -152,8 +152,5 @@ impl Listener {
 fn is_last(heard: &Heard) -> bool
     ensures { result ≡ is_last heard.now }
 {
-    match heard {
-        Heard::SecondStatus { .. } => true,
-        _ => false,
-    }
+    matches!(heard, Heard::SecondStatus { .. })
 }

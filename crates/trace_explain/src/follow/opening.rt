@@ -71,10 +71,7 @@ impl Role {
     pub fn is_dialogue(self) -> bool
         ensures { result ≡ is_dialogue self }
     {
-        match self {
-            Role::Dialogue => true,
-            _ => false,
-        }
+        matches!(self, Role::Dialogue)
     }
 }
 
@@ -83,10 +80,7 @@ impl Stage {
     pub fn has_begun(self) -> bool
         ensures { result ≡ has_begun self }
     {
-        match self {
-            Stage::Begun => true,
-            _ => false,
-        }
+        matches!(self, Stage::Begun)
     }
 }
 
@@ -153,20 +147,14 @@ pub fn turned_by(byte: u8) -> Option<Convention>
 pub fn begins_answer(from: End, byte: u8) -> bool
     ensures { result ≡ begins_answer from byte }
 {
-    match from {
-        End::Terminal => false,
-        End::Card => turned_by(byte).is_some(),
-    }
+    matches!(from, End::Card) && turned_by(byte).is_some()
 }
 
 /// Whether characters of this convention need no turning.
 pub fn is_direct(turned: Convention) -> bool
     ensures { result ≡ is_direct turned }
 {
-    match turned {
-        Convention::Direct => true,
-        Convention::Inverse => false,
-    }
+    matches!(turned, Convention::Direct)
 }
 
 /// Returns the stage after these characters of an answer.
@@ -196,10 +184,7 @@ fn after_reading(fault: Option<AtrFault>) -> Stage
 pub fn is_short(reason: Reason) -> bool
     ensures { result ≡ is_short reason }
 {
-    match reason {
-        Reason::Cut | Reason::CheckMissing => true,
-        _ => false,
-    }
+    matches!(reason, Reason::Cut | Reason::CheckMissing)
 }
 
 /// Whether a request or response has as many characters as it announces.

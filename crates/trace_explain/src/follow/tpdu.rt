@@ -7,6 +7,7 @@ ghost use Rattle.trace_explain.specs.Noted.{AreStatus, are_status, as_ended, bar
 use crate::follow::tally::Tally;
 use apdu_core::Status;
 use std::alloc::{AllocError, Global};
+use std::mem;
 use t0_core::{Direction, Heard};
 
 /// What was heard of a TPDU: all of it, or its first characters.
@@ -86,20 +87,13 @@ impl Tpdu {
     }
 
     /// Returns the same with these two as its status.
-    pub fn bared(self) -> Tpdu
+    pub fn bared(mut self) -> Tpdu
         ensures { report_of result ≡ bared (report_of self) }
     {
-        let mut none = self.status;
-        none.clear();
-        Tpdu {
-            header: self.header,
-            tally: self.tally,
-            way: None,
-            moved: none,
-            status: self.moved,
-            le: self.le,
-            answer: self.answer,
-        }
+        self.way = None;
+        mem::swap(&mut self.moved, &mut self.status);
+        self.moved.clear();
+        self
     }
 
     /// Returns what it is once no more characters follow: whole, if its data were its status.

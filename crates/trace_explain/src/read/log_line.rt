@@ -227,10 +227,7 @@ fn size_of_dump(text: &[u8]) -> Result<usize, LineFault>
     if !unit.starts_with(b" byte):") && !unit.starts_with(b" bytes):") {
         return Err(LineFault::Hex);
     }
-    match number_of(digits) {
-        Some(size) => Ok(size),
-        None => Err(LineFault::Hex),
-    }
+    number_of(digits).ok_or(LineFault::Hex)
 }
 
 /// Returns the number that at most seven decimal digits spell.

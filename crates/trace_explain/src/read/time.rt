@@ -147,10 +147,7 @@ fn is_shift(word: &[u8]) -> bool
 fn is_unit(word: &[u8]) -> bool
     ensures { result ≡ is_unit word.now }
 {
-    match word {
-        b"s" | b"ms" | b"us" => true,
-        _ => false,
-    }
+    matches!(word, b"s" | b"ms" | b"us")
 }
 
 /// Whether each byte is a digit, a point or a colon.

@@ -179,8 +179,5 @@ fn begins_with_word(line: &[u8], word: &[u8]) -> bool
 fn ends_word(rest: &[u8]) -> bool
     ensures { result ≡ ends_word rest.now }
 {
-    match rest {
-        [b'0'..=b'9' | b'A'..=b'Z' | b'a'..=b'z', ..] => false,
-        _ => true,
-    }
+    !matches!(rest, [b'0'..=b'9' | b'A'..=b'Z' | b'a'..=b'z', ..])
 }

@@ -118,8 +118,9 @@ impl Pps {
     }
 }
 
-/// Whether the response accepts the request (ISO/IEC 7816-3, 9.3): it names the same T, and repeats
-/// or omits each of PPS1 to PPS3. An omitted one is not agreed.
+/// Returns whether the response accepts the request (ISO/IEC 7816-3, 9.3): it names the same T, and
+/// repeats or omits each of PPS1 to PPS3. An omitted one is not agreed: without PPS1, Fi is 372 and
+/// Di 1, as `rate_code` of the response returns.
 pub fn agreed(request: &Pps, response: &Pps) -> bool
     ensures { result ≡ agreed request.now response.now }
 {

@@ -112,7 +112,11 @@ fn read_whole(bytes: &[u8]) -> Option<Block<'_>>
     }
 }
 
-/// Returns the PCB and the field of a whole block. `None` if NAD, PCB, LEN or LRC is wrong.
+/// Returns the PCB and the field, 0 to 254 bytes, of a whole block. Unlike `read`, it accepts any
+/// field with any PCB.
+///
+/// `None` if there are fewer than 4 bytes, NAD is not `00`, the PCB is invalid, LEN is `FF` or not
+/// the size of the field, or the LRC is wrong.
 pub fn parts(bytes: &[u8]) -> Option<(Pcb, &[u8])>
     ensures exact { Reads (λ b. (b.0, b.1.now)) result (parts_of bytes.now) }
 

@@ -900,8 +900,8 @@ GT_MUST_CHECK int32_t gt_terminal_new_within(gt_terminal *t, size_t limit) {
     return galliumtoad_terminal_new_within(t, limit);
 }
 
-/* Drops the operation that has started, if any, at any point of it, and frees the memory kept for
- * the next. The card does not notice: reset it too. Returns GT_OK. */
+/* Drops the last operation, at any point of it, and its answer. Frees the memory kept for the next.
+ * The limit stays. The card does not notice: reset it too. Returns GT_OK. */
 GT_FUNCTION int32_t gt_terminal_reset(gt_terminal *t) {
     if (!t) return GT_NULL;
     return galliumtoad_terminal_reset(t);
@@ -1652,8 +1652,8 @@ GT_MUST_CHECK int32_t gt_session_heard(gt_session *s, gt_character *line, size_t
     return galliumtoad_session_heard(s, line ? line : &none, room, count);
 }
 
-/* Resets the card: nothing is selected, and a pending chain is dropped. Data objects, plans and the
- * last answer stay. Returns GT_OK. */
+/* Resets the card: nothing is selected or pending. Data objects, plans, the last answer and the
+ * noted characters stay, and noting continues. Returns GT_OK. */
 GT_FUNCTION int32_t gt_session_reset(gt_session *s) {
     if (!s) return GT_NULL;
     return galliumtoad_session_reset(s);

@@ -185,7 +185,8 @@ impl Card {
         turn(&self.0 .0, raw::galliumtoad_card_turn)
     }
 
-    /// Resets the card: nothing is selected or pending, and its objects stay.
+    /// Resets the card, at any time: a TPDU in progress is dropped, and nothing is selected or
+    /// pending. Data objects and plans stay.
     ///
     /// # Errors
     ///

@@ -208,8 +208,8 @@ impl Terminal {
         exchange::answer_into(&self.0, raw::galliumtoad_terminal_answer, room)
     }
 
-    /// Drops the operation that is in progress, and wipes and frees the memory that was kept for
-    /// the next, which may begin. Reset the card too.
+    /// Drops the last operation, at any point of it, and its answer. Wipes and frees the memory
+    /// that was kept for the next operation, which may begin. The limit stays. Reset the card too.
     ///
     /// # Errors
     ///

@@ -226,7 +226,8 @@ impl<A: Allocator + Copy> ApduTerminal<A> {
         }
     }
 
-    /// Drops the operation, even one in progress, and frees its memory. Sends nothing to the card.
+    /// Drops the last operation, in any state, with its answer, and frees its memory. The limit
+    /// stays. It sends nothing to the card.
     pub fn reset(&mut self)
         ensures { self.new ≡ at_rest self.old.limit }
     {

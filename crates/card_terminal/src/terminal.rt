@@ -310,8 +310,8 @@ impl<A: Allocator + Copy> Terminal<A> {
         }
     }
 
-    /// Drops the operation, in whatever state it is, and frees its memory. It sends nothing to the
-    /// card.
+    /// Drops the last operation, in any state, with its answer, and frees its memory. The limit
+    /// stays. It sends nothing to the card.
     pub fn reset(&mut self)
         ensures { self.new ≡ at_rest self.old.limit }
     {

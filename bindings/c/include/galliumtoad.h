@@ -92,8 +92,9 @@ extern "C" {
 enum {
     GT_OK = 0,              /* success; of a turn (.._next, .._turn): the end listens */
     GT_SENDS = 1,           /* of a turn: a character to send; of .._send_bytes: the buffer is
-                             * full */
-    GT_DONE = 2,            /* of an exchange's turn: it has ended, and has an answer */
+                             * full; at T=1: the received block is whole, or dropped */
+    GT_DONE = 2,            /* of an exchange's turn: it has ended, and has an answer; at T=1:
+                             * there is no block to send */
 
     GT_NULL = -1,           /* a pointer is NULL */
     GT_EMPTY = -2,          /* the handle holds nothing */
@@ -104,7 +105,8 @@ enum {
                              * gt_objects, which fills it as far as it goes */
     GT_BUSY = -7,           /* a chain is pending at the card */
     GT_NOT_FOUND = -8,      /* what was asked for is not there */
-    GT_FAILED = -9,         /* of an exchange's turn: it has failed for good */
+    GT_FAILED = -9,         /* of an exchange's turn: it has failed for good; at T=1: the end
+                             * gave up */
     GT_PLANS = -10,         /* GT_PLANS_LIMIT plans wait already */
 
     /* of a card under construction */
@@ -121,7 +123,7 @@ enum {
     GT_BAD_PROCEDURE = -31, /* unexpected byte: neither a procedure byte nor a first status byte */
     GT_TOO_LONG = -32,      /* the response exceeds its limit: 16,384 bytes, or fewer */
     GT_STALLED = -33,       /* a GET RESPONSE brought nothing, and the card announces more */
-    GT_AFTER_END = -34,     /* the exchange has ended, or has failed */
+    GT_AFTER_END = -34,     /* the exchange has ended or failed, or no operation has started */
 
     /* of objects */
     GT_TAG_CUT = -40,       /* the list ends inside a tag */

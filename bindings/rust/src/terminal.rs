@@ -143,7 +143,8 @@ impl Terminal {
         done(unsafe { raw::galliumtoad_terminal_take(self.0.at(), byte) })
     }
 
-    /// The next whole TPDU, if none of its characters was sent.
+    /// The next whole TPDU, if none of its characters was sent. It is `None` too if no operation
+    /// has begun, or if the operation has ended or has failed.
     #[must_use]
     pub fn tpdu(&self) -> Option<Tpdu> {
         whole::tpdu(&self.0, raw::galliumtoad_terminal_tpdu)

@@ -41,7 +41,7 @@ pub fn an_exchange_holds_what_came()
         × (StallsAt c wanted pairs ⊎ IsTooLong c wanted pairs ex.gather.limit)) }
 {}
 
-/// An exchange that brings r bytes takes at most 2(r + 2) commands.
+/// A whole exchange that brings r bytes takes at most 2(r + 2) commands.
 pub fn an_exchange_has_few_commands()
     ensures { (c : Command) (wanted : Wanted) (pairs : List Pair) (gathered : List ℕ)
         (status : StatusWord) → Brings c wanted pairs gathered status →
@@ -61,7 +61,7 @@ pub fn an_operation_by_whole_commands_is_one_step()
 {}
 
 /// Operations by whole commands, one after another, have the answers of the card that carries out
-/// each in one step, and leave its tables.
+/// each in one step, and leave its tables. No chain is pending before, and none afterwards.
 pub fn operations_by_whole_commands_are_single_steps()
     ensures { (old new : CardState) (operations : List Operation)
         (talks : List (List (List Pair))) (replies : List Reply) → is_idle old.pending ≡ true

@@ -20,9 +20,9 @@ ghost use Rattle.apdu_terminal.specs.declared.stage.Stage.TheVariants.{Failed};
 
 use object_card::DataCard;
 
-/// How far an operation is carried out if it stops before one of its commands, or after it. Only
-/// the last piece of a put stores the value. Only GET RESPONSE follows a command that carries out
-/// the operation.
+/// How far an operation is carried out if it stops before one of its commands, or after it. No
+/// chain is pending before the first. Only the last piece of a put stores the value. Only GET
+/// RESPONSE follows a command that carries out the operation.
 pub fn an_operation_that_stops()
     ensures before { (old new : CardState) (operation : Operation) (pairs : List Pair)
         (due : Command) → is_idle old.pending ≡ true → IsUnderWay operation pairs due →
@@ -39,7 +39,8 @@ pub fn a_due_command_is_agreed()
         IsUnderWay operation pairs due → IsAgreed MayReceive MaySend due }
 {}
 
-/// No operation with a card of data objects fails: the terminal takes each response of the card.
+/// No operation with a sound card of data objects fails: the terminal takes each response of the
+/// card. Its limit is the largest, `RESPONSE_LIMIT`. The card stays sound.
 pub fn a_card_of_data_objects_is_taken()
     ensures taken { (old mid new : CardState) (commands : List Command) (pairs : List Pair)
         (o : ApduOperationOf) (due : Command) (content : List ℕ) (status : StatusWord)

@@ -109,7 +109,8 @@ pub fn a_tap_takes_the_dialogues_that_it_reads()
         × AreTold told dialogues }
 {}
 
-/// The same for dialogues that follow plans, whatever the plans: a tap can read each of them.
+/// A tap can read each dialogue that follows a plan, whatever the plan. So it takes such dialogues
+/// to their ends, one after another, and reports each of them. The characters must be bytes.
 pub fn a_tap_takes_dialogues_under_plans()
     ensures { (dialogues : List Dialogue) (plans : List Course) →
         AllByRecursion IsDialogue dialogues → FollowInTurn dialogues plans →

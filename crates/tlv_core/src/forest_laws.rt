@@ -10,7 +10,7 @@ pub fn one_forest()
         Spells f bytes level → Spells g bytes level → f ≡ g }
 {}
 
-/// The written bytes of objects spell those objects.
+/// The written bytes of objects that can be written spell those objects at level 1.
 pub fn written_bytes_spell()
     ensures { (f : Forest) → IsWritable f → Spells f (encoding f) 1 }
 {}

@@ -19,16 +19,18 @@ ghost use Rattle.object_card.specs.ShownPuts.{shown_puts, with_puts};
 
 use crate::DataCard;
 
-/// However a terminal uses a card, its tables are the first ones with exactly the puts applied that
-/// the history shows, in order. So an abandoned chain, an unfinished data field, and a reset
-/// between SW1 and SW2 change no entry.
+/// Take a card at which nothing is selected or pending, as after a reset. However a terminal uses
+/// it, its tables are the first ones with exactly the puts applied that the history shows, in
+/// order. So an abandoned chain, an unfinished data field, and a reset between SW1 and SW2 change
+/// no entry.
 pub fn the_tables_are_those_of_the_shown_puts()
     ensures { (first last : CardState) (items : List Item) → first.selected ≡ None →
         first.pending ≡ NothingPending → RunsOver Does after_reset first items last →
         last.applications ≡ with_puts (shown_puts items) first.applications }
 {}
 
-/// The same holds for any card of data objects, by what its own states stand for.
+/// `the_tables_are_those_of_the_shown_puts`, for any `DataCard` whose states stand for card states.
+/// Nothing is selected or pending in the card state that its first state stands for.
 pub fn so_are_those_of_any_card<C: DataCard>()
     ensures { (state_of : C.State → CardState) → StandsFor C.Does C.after_reset state_of →
         (first last : C.State) (items : List Item) → (state_of first).selected ≡ None →
@@ -44,8 +46,9 @@ pub fn an_answer_does_not_hang_on_what_is_pending()
         × SameTables a' b' }
 {}
 
-/// The commands that carry a value, one TPDU each under any cuts, up to the first whose status is
-/// not `9000`, are the put of the value in one step. Afterwards no chain is pending.
+/// The commands that carry a value are the put of the value in one step, if no chain is pending
+/// before. Each is one TPDU under any cut. The first status other than `9000` ends them. Afterwards
+/// no chain is pending.
 pub fn the_commands_of_a_value_put_it()
     ensures { (old new : CardState) (tag value : List ℕ) (p1 p2 : ℕ) (pieces : List (List ℕ))
         (status : StatusWord) →
@@ -54,8 +57,8 @@ pub fn the_commands_of_a_value_put_it()
         IsCarriedOut old (Put tag value) status [] new }
 {}
 
-/// A SELECT, followed by GET RESPONSE for all that is announced, each under any cut, selects in one
-/// step.
+/// A SELECT, followed by GET RESPONSE for all that is announced, selects in one step, if no chain
+/// is pending before. Each is under any cut. Afterwards no chain is pending.
 pub fn a_select_with_its_fetches_selects()
     ensures { (old mid new : CardState) (cut : ℕ) (aid : List ℕ) (t : Tpdu) (fetches : List Tpdu)
         (last : StatusWord) →
@@ -64,8 +67,9 @@ pub fn a_select_with_its_fetches_selects()
         IsCarriedOut old (Select aid) last (flat_map (λ t. t.received) (t ∷ fetches)) new }
 {}
 
-/// A GET DATA, repeated with the length of a `6CXX`, followed by GET RESPONSE for all that is
-/// announced, each under any cut, gets the object in one step.
+/// A GET DATA, followed by GET RESPONSE for all that is announced, gets the object in one step, if
+/// no chain is pending before. If its status is `6CXX`, it is first repeated with that length. Each
+/// is under any cut. Afterwards no chain is pending.
 pub fn a_get_with_its_fetches_gets()
     ensures once { (old mid new : CardState) (tag : List ℕ) (p1 p2 cut : ℕ) (t : Tpdu)
         (fetches : List Tpdu) (last : StatusWord) →

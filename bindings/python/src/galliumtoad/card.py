@@ -61,7 +61,8 @@ class Holder(Lasting):
         `cut`, 1 to 256, is the most that a status 61XX announces.
 
         Errors, after which nothing has changed:
-        - CallError, GT_ARGUMENT: another letter, or a cut out of range.
+        - CallError, GT_ARGUMENT: another letter, or a cut of 0 or above 256.
+        - ValueError: `cut` is below 0 or above 65,535, or `steps` is not ASCII.
         - CallError, GT_PLANS: too many plans wait.
         """
         self._call("plan", str.encode(steps, "ascii"), within(cut, 0, 0xFFFF, "a cut"))

@@ -41,6 +41,7 @@ use Rattle.card_terminal.specs.Conversing.{Point, point, next_plan, HaveGone, Ha
 use Rattle.card_terminal.specs.Line.{Line, Start, line, point_of, Begins, left, IsAtPlan, StandsUnder, IsGoing, IsDone, IsOneOf, HasPassed}
 use Rattle.card_terminal.proofs.GoneLemmas.{none_gone, one_gone, gone_both}
 use Rattle.card_terminal.proofs.UnitLemmas.{unit_ends, unit_goes_on, unit_dialogues}
+use Rattle.card_terminal.proofs.EndLemmas.{asked_card}
 use Rattle.card_terminal.proofs.ComesToLemmas.{over_turn}
 
 -- ---- plans in turn
@@ -184,11 +185,6 @@ never_followed R S c [] n left agreed followed = absurd (fetch_is_no_command n c
 never_followed R S c (u ∷ units) n left agreed followed =
     never_fetches R S c.header c.content c.le (length (unit_data u)) followed.0
     (last_of u).status agreed followed.1.fetched
-
-asked_card : (direction : Direction) (left : Wanted) (corrected : Option ℕ) (n : ℕ)
-    → correction_of direction left corrected ≡ Some n → direction ≡ FromCard
-asked_card ToCard left corrected n e = absurd (cc)
-asked_card FromCard left corrected n e = refl
 
 to_is_not_from : ToCard ≡ FromCard → ⊥
 to_is_not_from e = absurd (cc)

@@ -270,13 +270,8 @@ pub same_status : (a b : StatusWord) → Some a ≡ Some b → a ≡ b
 same_status a b e = cc
 
 abbrev pub taken_on : ExchangeOf → Hosting → Room → Attempt → ExchangeOf
-taken_on ex host gather attempt = record {
-  host = host;
-  gather = gather;
-  attempt = attempt;
-  wanted = ex.wanted;
-  stalled = ex.stalled;
-}
+taken_on ex host gather attempt =
+    record ex { host = host; gather = gather; attempt = attempt }
 
 abbrev next_exchange : ExchangeOf → Hosting → Attempt → ExchangeOf
 next_exchange ex host attempt = taken_on ex host ex.gather attempt

@@ -55,7 +55,7 @@ same_parts end gather attempt wanted stalled content host ex is view =
 pub end_has_only : (mark : HostMark) (content : List ℕ) (host : Hosting)
     → host ≡ with_data mark content → HasOnly content host
 end_has_only mark content host is =
-    subst (λ (h : Hosting). HasOnly content h) (sym is) refl
+    rw is refl
 
 begun_within : (fetches repeats : Bool) (before number bytes : ℕ) → before ≤ bytes
     → number ≤ most_begun fetches before + one_more repeats → number ≤ 2 * (bytes + 2)
@@ -86,8 +86,7 @@ turned ex turn host kept going is after request stays goes_on =
     record {
       turn_is = does;
       stays = λ none. ap (λ (h : Hosting). with_host ex h ex.gather) (stays none);
-      bounds = let within = bounded ex kept in
-          record { room = within.room; fits = within.fits; tpdus = within.tpdus };
+      bounds = bounded ex kept;
       limit = refl;
       goes_on = λ c units first front byte under sends.
           sends_further c ex host units first front byte under after request

@@ -27,7 +27,7 @@ no_answer ex none = record {
   led = λ c came leads. tt;
 }
 
-same_done : (a b : StatusWord) → Done a ≡ Done b → a ≡ b
+pub same_done : (a b : StatusWord) → Done a ≡ Done b → a ≡ b
 same_done a b e = cc
 
 pub answers : (ex : ExchangeOf) (status : StatusWord) (bytes : List ℕ)
@@ -86,7 +86,8 @@ turned ex turn host kept going is after request stays goes_on =
     record {
       turn_is = does;
       stays = λ none. ap (λ (h : Hosting). with_host ex h ex.gather) (stays none);
-      bounds = bounded ex kept;
+      bounds = let within = bounded ex kept in
+          record { room = within.room; fits = within.fits; tpdus = within.tpdus };
       limit = refl;
       goes_on = λ c units first front byte under sends.
           sends_further c ex host units first front byte under after request

@@ -90,7 +90,8 @@ all_taken o new [] ex last settled same over =
     ap (λ x. Some x) (stays (with_exchange o ex) new last settled over same)
 all_taken o new (b ∷ []) ex last settled (next, step, same) over = (
   Some new,
-  takes (with_exchange o ex) new next settled (rw same at over) b (Ok tt) step,
+  takes (with_exchange o ex) new next settled
+      (subst (λ x. GoesOver (with_exchange o x) new) same over) b (Ok tt) step,
   refl,
 )
 all_taken o new (b ∷ c ∷ cs) ex last settled (next, step, rest) over =
@@ -165,7 +166,7 @@ takes_all : (o new : OperationOf) (bytes : List ℕ) (count : ℕ)
 takes_all o new bytes count (Ok u) ex settled taking over none = record {
   last = Some new;
   steps = all_taken o new (take count bytes) o.exchange taking.last settled taking.steps
-      (rw taking.outcome.1 at over);
+      (subst (λ x. GoesOver (with_exchange o x) new) taking.outcome.1 over);
   outcome = (taking.outcome.0, refl);
 }
 takes_all o new bytes count (Err fault) ex settled taking over none =

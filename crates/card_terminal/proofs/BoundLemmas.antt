@@ -247,8 +247,9 @@ pub never_stalls : (c : Command) (units : List UnitOf) (s t : CardState) → Sta
 never_stalls c units s t stall goes =
     let o = stall.is_open in
     let (mid, first, last) = last_apart c units o s t goes in
-    let waits = rw stall.is_fetch at (waits_on (By_command c) (wanted_by c.le) o.before o.opening
-    o.left s mid tt o.followed first) in
-    let some = fetch_brings stall.asked o.left o.last mid t waits (rw stall.is_fetch at o.opens)
-    o.is_unit last in
+    let waits : Waits (By_fetch stall.asked) mid = subst (λ x. Waits x mid) stall.is_fetch
+    (waits_on (By_command c) (wanted_by c.le) o.before o.opening o.left s mid tt o.followed
+    first) in
+    let some = fetch_brings stall.asked o.left o.last mid t waits
+    (subst (λ x. OpensWith x (first_of o.last)) stall.is_fetch o.opens) o.is_unit last in
     omega (arith, some, ap length stall.brought_none)

@@ -33,6 +33,7 @@ use Rattle.card_terminal.specs.Operations.{operation_of}
 use Rattle.card_terminal.specs.Running.{new_answers, carried_out}
 use Rattle.card_terminal.specs.RunLaws.{HaveReplies, no_replies, one_more_reply, replies_come}
 use Rattle.card_terminal.proofs.FetchLemmas.{Goes, goes_by_runs, goes_sound}
+use Rattle.card_terminal.proofs.OwnedLemmas.{same_done}
 use Rattle.card_terminal.proofs.ComesToLemmas.{over_turn}
 use Rattle.card_terminal.proofs.GoneLemmas.{gone_both}
 use Rattle.card_terminal.proofs.BoundLemmas.{so_far_brings, never_stalls}
@@ -138,7 +139,7 @@ few_of : (host : Hosting) (b : Body) → IsOpenedBy host b
     → length (from_card b.direction b.moved) ≤ 256
 few_of host b by is ends = few_in b.direction b.p3 b.segments b.moved ends (elim is [
   | inl to ↦ inl (by.2 ∙ to)
-  | inr few ↦ inr (subst (λ n. n < 256) (sym by.1) few)
+  | inr few ↦ inr (rw by.1 few)
 ])
 
 -- the data of the current dialogue are at most 256 bytes
@@ -240,25 +241,19 @@ pub record HaveBeen {State : Type 0} (Does : State → ℕ → Tpdu → State �
   pub over : IsOver current ex units status
   pub gone : HaveGone Does from (talk_dialogues (before ++ units ∷ [])) to
 
-gone_as : {State : Type 0} (Does : State → ℕ → Tpdu → State → Type 0) (from to : Point State)
-    (ds es : List Dialogue) → ds ≡ es → HaveGone Does from ds to → HaveGone Does from es to
-gone_as Does from to ds es is gone = subst (λ xs. HaveGone Does from xs to) is gone
-
 pub first_has_been : {State : Type 0} (Does : State → ℕ → Tpdu → State → Type 0)
     (from to : Point State) (c : Command) (left : List Command) (ex : ExchangeOf)
     (units : List UnitOf) (status : StatusWord) → IsOver c ex units status
     → HaveGone Does from (flat_map dialogues_of units) to
     → HaveBeen Does from (c ∷ left) left ex status to
-first_has_been Does from to c left ex units status over gone =
-    record {
-      before = [];
-      current = c;
-      units = units;
-      taken = refl;
-      over = over;
-      gone = gone_as Does from to (flat_map dialogues_of units)
-          (talk_dialogues ([] ++ units ∷ [])) (sym (one_more_exchange [] units)) gone;
-    }
+first_has_been Does from to c left ex units status over gone = record {
+  before = [];
+  current = c;
+  units = units;
+  taken = refl;
+  over = over;
+  gone = rw (one_more_exchange [] units) gone;
+}
 
 pub next_has_been : {State : Type 0} (Does : State → ℕ → Tpdu → State → Type 0)
     (from mid to : Point State) (commands left : List Command) (c : Command)
@@ -273,13 +268,10 @@ next_has_been Does from mid to commands left c ex after units status next been i
       current = c;
       units = units;
       taken = taken_more commands been.before been.current (c ∷ left) been.units ex.gather.bytes
-          been.taken
-          (subst (λ s. Gathers been.current been.units ex.gather.bytes s) is been.over.gathers);
+          been.taken (rw is at been.over.gathers);
       over = over;
-      gone = gone_as Does from to (talk_dialogues before ++ flat_map dialogues_of units)
-          (talk_dialogues (before ++ units ∷ [])) (sym (one_more_exchange before units))
-          (gone_both Does from mid to (talk_dialogues before) (flat_map dialogues_of units)
-          been.gone gone);
+      gone = rw (one_more_exchange before units) (gone_both Does from mid to
+          (talk_dialogues before) (flat_map dialogues_of units) been.gone gone);
     }
 
 -- no command follows: these are the exchanges of the commands, with this answer
@@ -294,8 +286,7 @@ all_have_been Does from to commands left ex status answer been ends is =
     let whole : Reply = record { status = status; content = ex.gather.bytes } in
     let exchanges = been.before ++ been.units ∷ [] in (
       exchanges,
-      subst (λ r. AreExchangesOf commands exchanges r) (sym is)
-          (taken_to_end commands been.before been.current left been.units whole been.taken
+      rw is (taken_to_end commands been.before been.current left been.units whole been.taken
           been.over.gathers ends),
       been.gone,
     )
@@ -309,23 +300,17 @@ ok_unless (Err e) P Q is never = absurd (never e is)
 
 pub when_ok : {A E : Type 0} (r : Result A E) (x : A) (P : A → Type 0) (Q : E → Type 0)
     → r ≡ Ok x → MatchResult r P Q → P x
-when_ok r x P Q is holds = let M : Result _ _ → Type 0 = λ s. MatchResult s P Q in
-    subst M is holds
+when_ok r x P Q is holds = rw is at holds
 
 pub done_is_no_character : (status : StatusWord) (byte : ℕ) → Done status ≡ Sends byte → ⊥
 done_is_no_character status byte e = absurd (cc)
-
-same_status : (a b : StatusWord) → Done a ≡ Done b → a ≡ b
-same_status a b e = cc
 
 pub over_then : (c : Command) (ex after : ExchangeOf) (units : List UnitOf)
     (status told : StatusWord) → IsOver c ex units status → after ≡ ex
     → Done told ≡ exchange_turn ex → IsOver c after units told
 over_then c ex after units status told over stays turn =
-    let is : told ≡ status = same_status told status
-    (turn ∙ over_turn c ex units status over) in
-    subst (λ e. IsOver c e units told) (sym stays)
-    (subst (λ s. IsOver c ex units s) (sym is) over)
+    let is : told ≡ status = same_done told status (turn ∙ over_turn c ex units status over) in
+    rw (stays, is) over
 
 -- the own state of a sound card stands for a sound state
 pub sound_at : {C State : Type 0} (state_of : State → CardState) (state : C → CardState)
@@ -333,19 +318,18 @@ pub sound_at : {C State : Type 0} (state_of : State → CardState) (state : C �
     → (card seen : C) → card ≡ seen → IsCardState (state seen)
     → IsCardState (state_of (standing card))
 sound_at state_of state standing means card seen same sound =
-    subst IsCardState (sym (means card ∙ ap state same)) sound
+    rw (means card ∙ ap state same) sound
 
 pub gone_from : {State : Type 0} (Does : State → ℕ → Tpdu → State → Type 0)
     (from was to : Point State) (ds : List Dialogue) → from ≡ was → HaveGone Does from ds to
     → HaveGone Does was ds to
-gone_from Does from was to ds is gone = subst (λ p. HaveGone Does p ds to) is gone
+gone_from Does from was to ds is gone = rw is at gone
 
 pub as_left : {State : Type 0} (Does : State → ℕ → Tpdu → State → Type 0)
     (from to : Point State) (commands left others : List Command) (ex : ExchangeOf)
     (status : StatusWord) → left ≡ others → HaveBeen Does from commands left ex status to
     → HaveBeen Does from commands others ex status to
-as_left Does from to commands left others ex status is been =
-    subst (λ cs. HaveBeen Does from commands cs ex status to) is been
+as_left Does from to commands left others ex status is been = rw is at been
 
 pub never_both : (b : Bool) → b ≡ true → b ≡ false → ⊥
 never_both true one two = absurd (cc)
@@ -373,8 +357,7 @@ pub sent_alone : {State : Type 0} (Does : State → ℕ → Tpdu → State → T
 sent_alone Does from to c r (units, gathers, gone) = (
   units ∷ [],
   (gathers, inl refl),
-  gone_as Does from to (flat_map dialogues_of units) (talk_dialogues (units ∷ []))
-      (sym (one_more_exchange [] units)) gone,
+  rw (one_more_exchange [] units) gone,
 )
 
 -- or those of an operation
@@ -394,7 +377,7 @@ talked Does from to commands operation r are gone = (gone.0, (commands, are, gon
 pub talked_as : {State : Type 0} (Does : State → ℕ → Tpdu → State → Type 0)
     (from to : Point State) (a b : Operation) (r : Reply) → a ≡ b → Talked Does from to a r
     → Talked Does from to b r
-talked_as Does from to a b r is talk = subst (λ o. Talked Does from to o r) is talk
+talked_as Does from to a b r is talk = rw is at talk
 
 -- ---- one operation
 
@@ -489,10 +472,7 @@ pub still_answered : {State A : Type 0} (Does : State → ℕ → Tpdu → State
     → HaveAnswers Does from old ops before n given to new → given' ≡ given → to' ≡ to
     → new' ≡ new → HaveAnswers Does from old ops before n given' to' new'
 still_answered Does from old ops before n given given' to to' new new' have same_given same_point
-    same =
-    subst (λ x. HaveAnswers Does from old ops before n x to' new') (sym same_given)
-    (subst (λ p. HaveAnswers Does from old ops before n given p new') (sym same_point)
-    (subst (λ s. HaveAnswers Does from old ops before n given to s) (sym same) have))
+    same = rw (same_given, same_point, same) have
 
 pub same_point : {State : Type 0} (standing standing' : State) (cursor cursor' : Cursor)
     (now now' : Hearing) → standing' ≡ standing → cursor' ≡ cursor → now' ≡ now

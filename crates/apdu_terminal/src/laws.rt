@@ -13,8 +13,8 @@ ghost use Rattle.object_card.specs.State.{CardState, is_idle};
 ghost use Rattle.object_card.specs.OneStep.{Operation, Reply, Answers, AnswersAll, SameTables};
 ghost use Rattle.object_card.specs.CardMeaning.{Does};
 
-/// The pairs settle the next command. If the pairs so far begin a whole exchange, and there is room
-/// for its data, the exchange's next command is that one's.
+/// The pairs settle the next command. If the pairs so far begin a whole exchange, are not all of
+/// it, and there is room for its data, the exchange's next command is that one's.
 pub fn the_next_command_is_settled()
     ensures { (c : Command) (wanted : Wanted) (came rest : List Pair) (p : Pair)
         (ex : ApduExchangeOf) (gathered : List ℕ) (status : StatusWord) →
@@ -70,7 +70,7 @@ pub fn operations_by_whole_commands_are_single_steps()
         AnswersAll old operations replies new × (is_idle new.pending ≡ true) }
 {}
 
-/// No exchange with a card of data objects stalls: each GET RESPONSE brings data.
+/// No exchange with a card of data objects stalls: each GET RESPONSE that fetches brings data.
 pub fn no_exchange_of_commands_stalls()
     ensures { (c : Command) (wanted : Wanted) (pairs : List Pair) (old new : CardState) →
         StallsAt c wanted pairs → RespondsToAll Does old pairs new → ⊥ }

@@ -9,11 +9,11 @@ use std::fmt;
 /// unchanged.
 #[derive(Clone, Copy, Debug, PartialEq, Eq)]
 pub enum AnswerFault {
-    /// No TPDU is about to start: some of its characters have been sent, or it has ended or failed.
+    /// No TPDU is about to start: it has begun, ended or failed.
     NotDue,
-    /// The TPDU sends data, and the answer contains data.
+    /// The TPDU sends data, possibly none, and the answer contains data.
     NotAsked,
-    /// The answer contains more data than P3 asks for.
+    /// The answer contains more data than P3 asks for (`00`: 256).
     TooMany,
     /// The data exceed the room of the gather.
     TooLong,

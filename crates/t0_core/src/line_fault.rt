@@ -18,7 +18,7 @@ pub enum LineFault {
     /// A `GET RESPONSE` brought no data, and the card announces more. Only an exchange of several
     /// TPDUs returns this, never the end of one TPDU.
     Stalled,
-    /// The end has characters to send first.
+    /// The end has header or data characters to send first.
     NotListening,
 }
 

@@ -19,7 +19,7 @@ pub enum Edc {
     Crc,
 }
 
-/// Why settings are refused.
+/// Why settings are refused. `Crc` comes first if both hold.
 #[derive(Clone, Copy, Debug, PartialEq, Eq)]
 pub enum SettingsFault {
     /// The card uses CRC, and only LRC is supported (profile).
@@ -33,9 +33,10 @@ pub enum SettingsFault {
 pub struct Settings {
     /// IFSC, the longest field in bytes that the card takes: 1 to 254.
     pub ifsc: u8,
-    /// The number of receptions in a row without progress that the terminal survives.
+    /// The number of receptions in a row without progress that the terminal survives, 0 to 255.
     pub tries: u8,
-    /// The number of requests of the card that the terminal grants per command.
+    /// The number of S(WTX request) and S(IFS request) that the terminal grants per command, 0 to
+    /// 255.
     pub extensions: u8,
     /// The longest response that the terminal takes, in bytes.
     pub limit: usize,
@@ -46,6 +47,8 @@ impl Settings {
     /// Makes settings from the EDC and IFSC of an answer to reset, and from the terminal's limits.
     ///
     /// # Errors
+    /// The first that holds; there are no settings after either:
+    ///
     /// - `Crc`: the card uses CRC, which is not supported (profile).
     /// - `Ifsc`: `ifsc` is 0 or 255, which are reserved.
     pub fn new(

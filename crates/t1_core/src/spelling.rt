@@ -25,7 +25,8 @@ pub fn lrc(bytes: &[u8]) -> u8
     sum
 }
 
-/// Returns the bytes of a block, 4 to 258. Its field has at most 254 bytes.
+/// Returns the bytes of a block, 4 to 258. Its field must have at most 254 bytes. An R-block is
+/// written as one that reports no error.
 ///
 /// # Errors
 /// - `AllocError`: memory ran out; nothing has changed.

@@ -47,8 +47,8 @@ pub fn an_answer_does_not_hang_on_what_is_pending()
 {}
 
 /// The commands that carry a value are the put of the value in one step, if no chain is pending
-/// before. Each is one TPDU under any cut. The first status other than `9000` ends them. Afterwards
-/// no chain is pending.
+/// before and P1-P2 name the tag. Each is one TPDU under any cut. The first status other than
+/// `9000` ends them. Afterwards no chain is pending.
 pub fn the_commands_of_a_value_put_it()
     ensures { (old new : CardState) (tag value : List ℕ) (p1 p2 : ℕ) (pieces : List (List ℕ))
         (status : StatusWord) →
@@ -57,8 +57,9 @@ pub fn the_commands_of_a_value_put_it()
         IsCarriedOut old (Put tag value) status [] new }
 {}
 
-/// A SELECT, followed by GET RESPONSE for all that is announced, selects in one step, if no chain
-/// is pending before. Each is under any cut. Afterwards no chain is pending.
+/// A SELECT, followed by GET RESPONSE for all that is announced, selects in one step. No chain may
+/// be pending before, and the identifier has 5 to 16 bytes. Each command is under any cut, 1 to
+/// 256. Afterwards no chain is pending.
 pub fn a_select_with_its_fetches_selects()
     ensures { (old mid new : CardState) (cut : ℕ) (aid : List ℕ) (t : Tpdu) (fetches : List Tpdu)
         (last : StatusWord) →
@@ -67,9 +68,10 @@ pub fn a_select_with_its_fetches_selects()
         IsCarriedOut old (Select aid) last (flat_map (λ t. t.received) (t ∷ fetches)) new }
 {}
 
-/// A GET DATA, followed by GET RESPONSE for all that is announced, gets the object in one step, if
-/// no chain is pending before. If its status is `6CXX`, it is first repeated with that length. Each
-/// is under any cut. Afterwards no chain is pending.
+/// A GET DATA, followed by GET RESPONSE for all that is announced, gets the object in one step. No
+/// chain may be pending before, and P1-P2 name the tag. If the status is `6CXX`, the GET DATA is
+/// first repeated with that length. Each command is under any cut, 1 to 256. Afterwards no chain is
+/// pending.
 pub fn a_get_with_its_fetches_gets()
     ensures once { (old mid new : CardState) (tag : List ℕ) (p1 p2 cut : ℕ) (t : Tpdu)
         (fetches : List Tpdu) (last : StatusWord) →
@@ -84,9 +86,9 @@ pub fn a_get_with_its_fetches_gets()
         IsCarriedOut old (Get tag) last (flat_map (λ t. t.received) (t ∷ u ∷ fetches)) new }
 {}
 
-/// What `61XX` announces waits. A GET RESPONSE for no more than what waits brings as many bytes as
-/// its P3 states. So a fetch that the card announced brings data, without a `6CXX`, and no exchange
-/// stalls.
+/// What `61XX` announces waits, if the cut is 1 to 256. A GET RESPONSE for no more than what waits
+/// brings as many bytes as its P3 states. So a fetch that the card announced brings data, without a
+/// `6CXX`, and no exchange stalls.
 pub fn what_is_announced_is_brought()
     ensures waits { (old new : CardState) (cut n : ℕ) (t : Tpdu) → Does old cut t new → IsCut cut →
         announces t.status ≡ Some n → (1 ≤ n) × (n ≤ length (waiting new.pending)) }
@@ -99,9 +101,10 @@ pub fn what_is_announced_is_brought()
         × (length fetch.received ≡ count fetch.p3) × (corrects fetch.status ≡ None) }
 {}
 
-/// No exchange brings more than a terminal gathers. The bytes that a TPDU brings, and those that
-/// wait afterwards, are at most a value with its tag and length. `6CXX` comes without data, and
-/// each GET RESPONSE takes from what waits. That leaves room for the data of one more TPDU.
+/// No exchange brings more than a terminal gathers (`RESPONSE_LIMIT`). From a sound state, the
+/// bytes that a TPDU brings and those that wait afterwards are together at most a value with its
+/// tag and length. `6CXX` comes without data, and each GET RESPONSE takes from what waits. That
+/// leaves room for the data of one more TPDU.
 pub fn an_exchange_brings_no_more_than_is_gathered()
     ensures first { (old new : CardState) (cut : ℕ) (t : Tpdu) → Does old cut t new →
         IsCardState old →

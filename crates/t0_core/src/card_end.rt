@@ -169,7 +169,7 @@ impl<C: TpduCard> CardEnd<C> {
         self.came = [0; 255];
     }
 
-    /// Takes a character of the terminal.
+    /// Takes a character of the terminal, of the header or its data.
     ///
     /// # Errors
     ///

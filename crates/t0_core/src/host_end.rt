@@ -25,7 +25,8 @@ use apdu_core::{Header, Status, count};
 use std::alloc::Allocator;
 use std::marker::Model;
 
-/// What a terminal's end does next.
+/// What a terminal's end does next, or an exchange of several TPDUs, for which `Done` and `Failed`
+/// are about all of them.
 #[derive(Clone, Copy, Debug, PartialEq, Eq)]
 pub enum HostTurn {
     /// It sends this character.
@@ -302,7 +303,7 @@ impl<'a> HostEnd<'a> {
     /// The first that holds; `gather` is unchanged after each (profile):
     ///
     /// - `NotDue`: the TPDU has begun, ended or failed; the end is unchanged.
-    /// - `NotAsked`: the end was made by `sending`, and `bytes` is not empty; it is unchanged.
+    /// - `NotAsked`: the TPDU asks for no data, and `bytes` is not empty; the end is unchanged.
     /// - `TooMany`: `bytes` is longer than P3 states (`00`: 256); the end is unchanged.
     /// - `TooLong`: `gather` has too little room; the end has failed for good.
     pub fn take_up_to_sw2<A: Allocator>(

@@ -38,8 +38,8 @@ pub fn a_front_begins_a_dialogue()
         × IsDialogue d × (characters d ≡ front_characters front ++ c ∷ rest) }
 {}
 
-/// Each front at which a terminal's end is begins a dialogue that this end opened, with its own
-/// data, and is not the whole of it.
+/// If a terminal's end is at a front, some dialogue that this end opened, with its own data, begins
+/// with that front and is longer.
 pub fn a_front_begins_its_own_dialogue()
     ensures { (host : Hosting) (front : Front) → IsRequest host → HostStandsAt host front
         → IsFront front →
@@ -73,7 +73,7 @@ pub fn the_next_character_is_settled()
 {}
 
 /// The bytes that a terminal's end writes for a whole TPDU are read as the TPDU that it opened. If
-/// P3 is a byte, they are 4 to 260. So no end guesses the direction of data.
+/// P3 is a byte, they are 4 to 260 bytes. So no end guesses the direction of data.
 pub fn a_whole_tpdu_is_read_as_it_is_written()
     ensures read { (host : Hosting) → IsRequest host →
         asked_in (tpdu_bytes (asked_by host)) ≡ Some (asked_by host) }

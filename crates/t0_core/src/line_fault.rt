@@ -11,7 +11,7 @@ use std::fmt;
 pub enum LineFault {
     /// A procedure byte is expected, and this byte is neither one nor a SW1.
     BadProcedure(u8),
-    /// The TPDU has ended, or the end has failed.
+    /// The TPDU has ended, the end has failed, or no operation has begun.
     AfterEnd,
     /// A data character is expected from the card, and the gather is full.
     TooLong,

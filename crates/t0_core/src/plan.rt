@@ -22,7 +22,7 @@ pub enum Step {
 
 /// The procedure bytes that a card sends in a TPDU, and its cut: the most response bytes, 1 to 256,
 /// that one `61XX` announces (profile). The card skips `One` and `All` if no data characters are
-/// left, so under a refused header. If some are left after the last step, it sends one more `All`.
+/// left, as after a refused header. If some are left after the last step, it sends one more `All`.
 #[derive(Drop)]
 pub struct Plan<A: Allocator = Global> {
     steps: Vec<Step, A>,

@@ -65,8 +65,8 @@ impl<'a> WholeTpdu<'a> {
     }
 
     /// Writes the TPDU to the front of `out`, in the format of `read`, and returns its size in
-    /// bytes: 4 if no data move, else 5 and the data to the card. It is at most 260 for a TPDU of a
-    /// terminal's end. `None`, with no change, if `out` is too short. The rest of `out` stays.
+    /// bytes. It is 4 if no data move, else 5 and the data to the card; at most 260 for a TPDU of a
+    /// terminal's end. The rest of `out` stays. `None`, with no change, if `out` is too short.
     pub fn write(&self, out: &mut [u8]) -> Option<usize>
         ensures { let bytes = tpdu_bytes (asked_of self.now) in MatchOption result
             ((length out.old < length bytes) × (out.new ≡ out.old))

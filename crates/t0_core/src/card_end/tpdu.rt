@@ -50,7 +50,7 @@ impl<C: TpduCard> CardEnd<C> {
     /// - `TooLong`: the card sends more data than `gather` has room for; the card is reset, and
     ///   `gather` is full.
     ///
-    /// After the last three the plan is used up, and the end waits for a header.
+    /// Except after the first two, the plan is used up, and the end waits for a header.
     pub fn tpdu<A: Allocator, B: Allocator>(
         &mut self,
         bytes: &[u8],

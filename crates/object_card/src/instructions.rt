@@ -35,8 +35,8 @@ pub enum Instruction {
 }
 
 impl Instruction {
-    /// Returns the instruction with this INS. `None` for any other byte, which the card refuses
-    /// with `6D00`.
+    /// Returns the instruction with this INS. `None` for any other byte, which the card does not
+    /// support (`6D00`).
     pub fn of(ins: u8) -> Option<Instruction>
         ensures { result ≡ instruction_of ins }
     {

@@ -46,8 +46,8 @@ pub fn an_answer_does_not_hang_on_what_is_pending()
         × SameTables a' b' }
 {}
 
-/// The commands that carry a value are the put of the value in one step, if no chain is pending
-/// before and P1-P2 name the tag. Each is one TPDU under any cut. The first status other than
+/// The commands that carry a value are the put of the value in one step. No chain may be pending
+/// before, and P1-P2 name the tag. Each is one TPDU under any cut. The first status other than
 /// `9000` ends them. Afterwards no chain is pending.
 pub fn the_commands_of_a_value_put_it()
     ensures { (old new : CardState) (tag value : List ℕ) (p1 p2 : ℕ) (pieces : List (List ℕ))
@@ -101,10 +101,10 @@ pub fn what_is_announced_is_brought()
         × (length fetch.received ≡ count fetch.p3) × (corrects fetch.status ≡ None) }
 {}
 
-/// No exchange brings more than a terminal gathers (`RESPONSE_LIMIT`). From a sound state, the
-/// bytes that a TPDU brings and those that wait afterwards are together at most a value with its
-/// tag and length. `6CXX` comes without data, and each GET RESPONSE takes from what waits. That
-/// leaves room for the data of one more TPDU.
+/// No exchange brings more than a terminal gathers (`RESPONSE_LIMIT`). From a sound state, a TPDU
+/// brings, and leaves waiting, together at most a value with its tag and length. `6CXX` comes
+/// without data, and each GET RESPONSE takes from what waits. That leaves room for the data of one
+/// more TPDU.
 pub fn an_exchange_brings_no_more_than_is_gathered()
     ensures first { (old new : CardState) (cut : ℕ) (t : Tpdu) → Does old cut t new →
         IsCardState old →

@@ -50,10 +50,11 @@ impl Attempt {
     /// `RESPONSE_LIMIT`, and `left` is what it wants after them. `self` must be the place of a TPDU
     /// that an exchange has reached.
     ///
-    /// - `6CXX`, if this TPDU asks for data, repeats none, and `left` covers the count: it again.
-    /// - `61XX`, if `left` is not nothing: a GET RESPONSE for the count, or for `left` if that is
-    ///   less. If this TPDU fetches and brought nothing, the exchange stalls.
-    /// - Any other status, and these in other cases: the end.
+    /// - After `6CXX`, if this TPDU asks for data and repeats none, and the count is not above
+    ///   `left`: the same TPDU for the count.
+    /// - After `61XX`, if `left` is not nothing: a GET RESPONSE for the count, or for `left` if
+    ///   that is less. If this TPDU fetches and brought nothing, the exchange stalls.
+    /// - Otherwise the exchange ends.
     pub fn followed(self, gathered: usize, left: Wanted, status: Status) -> Next
         requires counted { IsCounted self gathered }
         requires room { gathered ≤ response_limit }

@@ -35,8 +35,9 @@ use taking::{all_taken_by, taken_by};
 /// The most bytes of a response that any exchange gathers (profile).
 pub const RESPONSE_LIMIT: usize = 16_384;
 
-/// The terminal's side of one command (ISO/IEC 7816-3, clause 12): its TPDU, the same again after
-/// `6CXX`, and a GET RESPONSE after each `61XX` while the command wants more data.
+/// The terminal's side of one command (ISO/IEC 7816-3, clause 12): its TPDU, and a GET RESPONSE
+/// after each `61XX` while the command wants more data. After `6CXX` a TPDU that asks for data is
+/// sent once more with that count, if it is not above what is still wanted (profile).
 ///
 /// `next` returns each character to send, and `take` takes each character of the card, until `next`
 /// returns `Done`. `into_answer` then returns the status and the data. `tpdu` and `answered` pass

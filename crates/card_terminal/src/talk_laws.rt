@@ -41,9 +41,9 @@ pub fn a_talk_is_answered_in_single_steps()
         × IsCardState last }
 {}
 
-/// An exchange of any command with a sound card of data objects, under plans with cuts of 1 to 256,
-/// brings at most a value with its tag and length. That is less than a terminal gathers. It holds
-/// at each point of the exchange.
+/// An exchange of any command with a sound card of data objects brings at most a value with its tag
+/// and length. That is less than a terminal gathers. It holds at each point of the exchange. The
+/// plans have cuts of 1 to 256.
 pub fn an_exchange_fits()
     ensures whole { (c : Command) (units : List UnitOf) (plans : List Course)
         (old new : CardState) → IsCardState old → HaveCuts plans → IsOpenExchange c units →
@@ -58,8 +58,8 @@ pub fn an_exchange_fits()
         length (flat_map received (so_far units first)) ≤ VALUE_LIMIT + HEAD_LIMIT }
 {}
 
-/// No exchange of any command with a card of data objects stalls, under plans with cuts of 1 to
-/// 256: each GET RESPONSE that fetches brings data.
+/// No exchange of any command with a card of data objects stalls: each GET RESPONSE that fetches
+/// brings data. The plans have cuts of 1 to 256.
 pub fn no_exchange_stalls()
     ensures { (c : Command) (units : List UnitOf) (plans : List Course) (old new : CardState) →
         HaveCuts plans → Runs Does old (flat_map dialogues_of units) plans new → Stall c units → ⊥ }

@@ -109,7 +109,8 @@ impl<A: Allocator + Copy> Terminal<A> {
         self.send(select_command(aid))
     }
 
-    /// Begins to read the data object with this tag. The errors are those of `select`.
+    /// Begins to read the data object with this tag. The errors, and the state after each, are
+    /// those of `select`.
     pub fn get(&mut self, tag: ObjectTag) -> Result<(), BeginFault>
         ensures begins { IsBeginning (AreCommandsOf (Get tag)) self.old.operation result
             self.new.operation }
@@ -119,8 +120,8 @@ impl<A: Allocator + Copy> Terminal<A> {
     }
 
     /// Begins to store a copy of this value, of any length, under the tag. The terminal sends it in
-    /// pieces of at most 255 bytes, up to the first status other than `9000`. The errors are those
-    /// of `select`.
+    /// pieces of at most 255 bytes, up to the first status other than `9000`. The errors, and the
+    /// state after each, are those of `select`.
     pub fn put(&mut self, tag: ObjectTag, value: &[u8]) -> Result<(), BeginFault>
         ensures begins { IsBeginning (AreCommandsOf (Put tag value.now)) self.old.operation result
             self.new.operation }
@@ -137,7 +138,8 @@ impl<A: Allocator + Copy> Terminal<A> {
         Ok(())
     }
 
-    /// Begins the exchange of a command, with a copy of its data. The errors are those of `select`.
+    /// Begins the exchange of a command, with a copy of its data. The errors, and the state after
+    /// each, are those of `select`.
     pub fn send(&mut self, command: Command<'_>) -> Result<(), BeginFault>
         ensures begins { IsBeginning (λ commands. commands ≡ command.entry ∷ [])
             self.old.operation result self.new.operation }

@@ -36,8 +36,8 @@ impl Wanted {
         }
     }
 
-    /// Returns what is still wanted after `gathered` bytes: never less than nothing, and always
-    /// `Everything` of `Everything`.
+    /// Returns what is still wanted after `gathered` bytes. `Bytes` falls by them, at lowest to 0;
+    /// `Everything` stays.
     #[inline(never)]
     pub fn less(self, gathered: usize) -> Wanted
         ensures { result ≡ less self gathered }

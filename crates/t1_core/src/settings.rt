@@ -4,8 +4,8 @@ ghost use Rattle.std.specs.Prelude.{◌≡◌, ◌<◌, IfOk};
 ghost use Rattle.std.specs.Result.{result_err};
 ghost use Rattle.t1_core.specs.Settings.{fault_of};
 
-/// The default number of receptions in a row without progress that a terminal survives: the fifth
-/// is a fault (profile). EMV has 2.
+/// The default number of fruitless receptions since the last progress that a terminal survives: the
+/// fifth is a fault (profile). EMV has 2.
 pub const TRIES: u8 = 4;
 
 /// The default number of S(WTX request) and S(IFS request) that a terminal grants per command
@@ -33,7 +33,8 @@ pub enum SettingsFault {
 pub struct Settings {
     /// IFSC, the longest field in bytes that the card takes: 1 to 254.
     pub ifsc: u8,
-    /// The number of receptions in a row without progress that the terminal survives, 0 to 255.
+    /// The number of fruitless receptions since the last progress that the terminal survives, 0 to
+    /// 255 (see `Cause::TriesSpent`).
     pub tries: u8,
     /// The number of S(WTX request) and S(IFS request) that the terminal grants per command, 0 to
     /// 255.

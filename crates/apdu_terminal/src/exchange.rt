@@ -22,7 +22,8 @@ use std::marker::Model;
 use t0_core::{AnswerFault, Gather};
 
 /// The terminal's side of one command. The command is sent first. After `6CXX` a command of case 2
-/// is sent once more with that count. After `61XX` GET RESPONSE follows, while more is wanted.
+/// is sent once more with that count, if it is not above what is still wanted (profile). After
+/// `61XX` GET RESPONSE follows, while more is wanted.
 ///
 /// Send what `apdu` returns, and give `responded` the response, until `apdu` is `None`. Then
 /// `answer` returns the status and the data, or `None` if the exchange has failed.

@@ -13,8 +13,8 @@ ghost use Rattle.object_card.specs.State.{CardState, is_idle};
 ghost use Rattle.object_card.specs.OneStep.{Operation, Reply, Answers, AnswersAll, SameTables};
 ghost use Rattle.object_card.specs.CardMeaning.{Does};
 
-/// The pairs settle the next command. If the pairs so far begin a whole exchange, are not all of
-/// it, and there is room for its data, the exchange's next command is that one's.
+/// The pairs settle the next command. Take a whole exchange that begins with the pairs so far and
+/// is longer, and whose data fit the room. The exchange's next command is that one's.
 pub fn the_next_command_is_settled()
     ensures { (c : Command) (wanted : Wanted) (came rest : List Pair) (p : Pair)
         (ex : ApduExchangeOf) (gathered : List ℕ) (status : StatusWord) →

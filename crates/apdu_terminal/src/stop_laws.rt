@@ -20,8 +20,8 @@ ghost use Rattle.apdu_terminal.specs.declared.stage.Stage.TheVariants.{Failed};
 
 use object_card::DataCard;
 
-/// How far an operation with a card of data objects is carried out if it stops. No chain may be
-/// pending before its first command.
+/// How far an operation with a card of data objects is carried out if it stops. No chain is pending
+/// before its first command.
 ///
 /// - Before a GET RESPONSE the operation is carried out. Before every other of its commands no
 ///   table has changed.

@@ -90,7 +90,8 @@ impl<A: Allocator + Copy> ApduTerminal<A> {
         self.send(select_command(aid))
     }
 
-    /// Begins the reading of the data object with this tag. The errors are those of `select`.
+    /// Begins the reading of the data object with this tag. The errors, and the state after each,
+    /// are those of `select`.
     pub fn get(&mut self, tag: ObjectTag) -> Result<(), BeginFault>
         ensures begins { IsBeginning (AreCommandsOf (Get tag)) self.old.operation result
             self.new.operation }
@@ -100,8 +101,8 @@ impl<A: Allocator + Copy> ApduTerminal<A> {
     }
 
     /// Begins to store a copy of the value, of any length, under this tag. It is sent in pieces of
-    /// at most 255 bytes, up to the first whose status is not `9000`. The errors are those of
-    /// `select`.
+    /// at most 255 bytes, up to the first whose status is not `9000`. The errors, and the state
+    /// after each, are those of `select`.
     pub fn put(&mut self, tag: ObjectTag, value: &[u8]) -> Result<(), BeginFault>
         ensures begins { IsBeginning (AreCommandsOf (Put tag value.now)) self.old.operation result
             self.new.operation }
@@ -124,7 +125,8 @@ impl<A: Allocator + Copy> ApduTerminal<A> {
         Ok(())
     }
 
-    /// Begins the exchange of a command, with a copy of its data. The errors are those of `select`.
+    /// Begins the exchange of a command, with a copy of its data. The errors, and the state after
+    /// each, are those of `select`.
     pub fn send(&mut self, command: Command<'_>) -> Result<(), BeginFault>
         ensures begins { IsBeginning (λ commands. commands ≡ command.entry ∷ [])
             self.old.operation result self.new.operation }

@@ -25,15 +25,16 @@ pub struct Operated<C: DataCard> {
     pub fault: Option<Fault>,
 }
 
-/// Carries out operations with a card of data objects over a line, from a reset of both ends on,
-/// until all have answers or the terminal gives up. The card keeps its state. No chain may be
-/// pending at it (`DataCard::is_idle`), and without a fault none is afterwards.
+/// Carries out operations with a card of data objects over a line, until all have answers or the
+/// terminal gives up. Both ends start as after a reset; the card starts in its own state. No chain
+/// may be pending at it (`DataCard::is_idle`), and without a fault none is afterwards.
 ///
 /// Whatever the line damages or loses, the answers are the first of those of the card that answers
-/// each operation in one step. After a fault the card has carried out the answered operations and
-/// at most the next one; the outcome in the fault is true of that one. On a mild line there is no
-/// fault: with at most f failed blocks between two steps, `tries` at least 2 f, `extensions` at
-/// least f, `limit` at least `RESPONSE_ROOM`.
+/// each operation in one step. After a fault the card has carried out the answered operations, and
+/// at most the next one, and a chain may be pending. The outcome in the fault is true of that
+/// operation. There is no fault on a mild line, where at most f blocks fail between two steps, if
+/// the settings suffice. `tries` must be at least 2 f, `extensions` at least f, and `limit` at
+/// least `RESPONSE_ROOM`.
 ///
 /// # Errors
 /// - `AllocError`: memory ran out; both ends and the card are dropped.

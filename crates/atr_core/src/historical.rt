@@ -46,8 +46,8 @@ impl Atr {
     }
 
     /// Returns the card status in the historical bytes. In category `00` it is the last three
-    /// bytes. In category `80` it is the value of the last object, if that has tag 8 and 1 to 3
-    /// bytes. Otherwise `None`.
+    /// bytes, if at least three follow the first. In category `80` it is the value of the last
+    /// object, if that has tag 8 and 1 to 3 bytes. Otherwise `None`.
     pub fn card_status(&self) -> Option<CardStatus>
         ensures { result ≡ status_of self.now.historical }
     {

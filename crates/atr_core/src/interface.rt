@@ -142,8 +142,8 @@ impl Atr {
         ClockStop::of(self.supply_code())
     }
 
-    /// Returns the voltage classes of the card, by bits 6 to 1 of the first TA for T=15. Class A
-    /// alone if there is no such TA.
+    /// Returns the voltage classes of the card, by bits 6 to 1 of the first TA for T=15. If there
+    /// is no such TA, it is class A alone.
     ///
     /// # Errors
     ///

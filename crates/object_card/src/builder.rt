@@ -86,7 +86,7 @@ impl<A: Allocator + Copy> CardBuilder<A> {
     /// - `NoApp`: there is no application.
     /// - `ValueTooLong`: the value has more than `VALUE_LIMIT` bytes.
     /// - `NotObjects`: the tag is constructed, and the value is not a list of objects, or one of
-    ///   them is deeper than level 16. The first in the value are at level 2.
+    ///   them is deeper than level 16. The object itself is at level 1.
     /// - `Full`: the tag is new, and the application has `ENTRY_LIMIT` data objects.
     /// - `OutOfMemory`: memory ran out.
     pub fn object(&mut self, tag: ObjectTag, value: &[u8]) -> Result<(), BuilderFault>

@@ -19,10 +19,10 @@ pub fn alike_items_show_the_same_puts()
         shown_puts items ≡ shown_puts others }
 {}
 
-/// Whatever happens at the end of a card of data objects, its tables are the first ones with the
-/// shown puts applied, exactly these and in order. The events can be cut into whole dialogues,
-/// parts that resets cut off, and the part in progress. The law holds for each such cutting. The
-/// characters must be bytes.
+/// Whatever happens at the end of a card of data objects, its tables are the first ones with
+/// exactly the shown puts applied, in order. The events can be cut into whole dialogues, parts that
+/// resets cut off, and the part in progress. The law holds for each such cutting. The characters
+/// must be bytes.
 ///
 /// `first` is the card when the end was made, as `finish` makes one, or after a reset: nothing is
 /// selected or pending. `card` is the card now, at an end of this stage. A reset keeps the tables.

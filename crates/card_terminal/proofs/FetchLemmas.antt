@@ -253,9 +253,9 @@ begun h bytes units content status old new g goes =
             rest = λ prior cut in_range does. (
               flat_map unit_data (before ++ last ∷ []),
               content_is,
-              rw status_is (fetched_all n cut (tpdu_of (last_of u)) before last opening left prior mid new
-                  does in_range (announced_by (last_of u).status n is.fetched) followed opens
-                  is_unit ends others),
+              rw status_is (fetched_all n cut (tpdu_of (last_of u)) before last opening left prior
+                  mid new does in_range (announced_by (last_of u).status n is.fetched) followed
+                  opens is_unit ends others),
             );
           },
         )

@@ -223,10 +223,10 @@ answers_more old mid new (p ∷ operations) (q ∷ replies) o r (state, first, o
 module _ {State : Type 0} (Does : State → ℕ → Tpdu → State → Type 0) where
   -- ---- the commands of an operation
 
-  -- The exchange of a command has ended, after those of the commands before it, each with the status
-  -- 9000.
-  pub record HaveBeen (from : Point State) (commands left : List Command) (ex : ExchangeOf) (status : StatusWord)
-      (to : Point State) : Type 0 where
+  -- The exchange of a command has ended, after those of the commands before it, each with the
+  -- status 9000.
+  pub record HaveBeen (from : Point State) (commands left : List Command) (ex : ExchangeOf)
+      (status : StatusWord) (to : Point State) : Type 0 where
     pub before : List (List UnitOf)
     pub current : Command
     pub units : List UnitOf
@@ -281,8 +281,8 @@ module _ {State : Type 0} (Does : State → ℕ → Tpdu → State → Type 0) w
         been.gone,
       )
 
-  pub gone_from : (from was to : Point State) (ds : List Dialogue) → from ≡ was → HaveGone Does from ds to
-      → HaveGone Does was ds to
+  pub gone_from : (from was to : Point State) (ds : List Dialogue) → from ≡ was
+      → HaveGone Does from ds to → HaveGone Does was ds to
   gone_from from was to ds is gone = rw is at gone
 
   pub as_left : (from to : Point State) (commands left others : List Command) (ex : ExchangeOf)
@@ -330,9 +330,9 @@ module _ {State : Type 0} (Does : State → ℕ → Tpdu → State → Type 0) w
 
   -- ---- one operation
 
-  unfoldable one_talk : (from to : Point State) (o : Operation) (r : Reply) (talked : Talked from to o r)
-      → Talk Does from.standing from.plans (o ∷ []) (r ∷ []) to.standing to.plans
-      (flat_map characters (talk_dialogues talked.0))
+  unfoldable one_talk : (from to : Point State) (o : Operation) (r : Reply)
+      (talked : Talked from to o r) → Talk Does from.standing from.plans (o ∷ []) (r ∷ [])
+      to.standing to.plans (flat_map characters (talk_dialogues talked.0))
   one_talk from to o r (exchanges, talk, gone) = record {
     dialogues = talk_dialogues exchanges;
     talks = exchanges ∷ [];
@@ -362,18 +362,19 @@ module _ {State : Type 0} (Does : State → ℕ → Tpdu → State → Type 0) w
   -- ---- operations in turn
 
   -- The watch has heard the talk of operations, and the answers are those of the one-step card.
-  abbrev pub HaveCome : Point State → CardState → Point State → CardState → List Operation → List Reply → Type 0
+  abbrev pub HaveCome : Point State → CardState → Point State → CardState → List Operation
+      → List Reply → Type 0
   HaveCome from old to new operations replies =
       IsHeard from operations replies to × AnswersAll old operations replies new
 
   -- The first operations were carried out, as many as there are new answers.
-  abbrev pub HaveAnswers : {A : Type 0} → Point State
-      → CardState → List (Op A) → List Reply → ℕ → List Reply → Point State → CardState → Type 0
+  abbrev pub HaveAnswers : {A : Type 0} → Point State → CardState → List (Op A) → List Reply → ℕ
+      → List Reply → Point State → CardState → Type 0
   HaveAnswers from old ops before n given to new =
       HaveReplies (HaveCome from old to new) ops before n given
 
-  pub none_answered : {A : Type 0} (at : Point State) (old : CardState) (ops : List (Op A)) (before : List Reply)
-      → HaveAnswers at old ops before 0 before at old
+  pub none_answered : {A : Type 0} (at : Point State) (old : CardState) (ops : List (Op A))
+      (before : List Reply) → HaveAnswers at old ops before 0 before at old
   none_answered at old ops before = no_replies (HaveCome at old at old) ops before (
     (
       [],
@@ -394,16 +395,18 @@ module _ {State : Type 0} (Does : State → ℕ → Tpdu → State → Type 0) w
   )
 
   -- this holds if nothing has changed
-  pub still_answered : {A : Type 0} (from : Point State) (old : CardState) (ops : List (Op A)) (before : List Reply) (n : ℕ)
-      (given given' : List Reply) (to to' : Point State) (new new' : CardState)
+  pub still_answered : {A : Type 0} (from : Point State) (old : CardState) (ops : List (Op A))
+      (before : List Reply) (n : ℕ) (given given' : List Reply) (to to' : Point State)
+      (new new' : CardState)
       → HaveAnswers from old ops before n given to new → given' ≡ given → to' ≡ to
       → new' ≡ new → HaveAnswers from old ops before n given' to' new'
   still_answered from old ops before n given given' to to' new new' have same_given same_point
       same = rw (same_given, same_point, same) have
 
   -- one more operation was carried out
-  pub one_more_answered : {A : Type 0} (from mid to : Point State) (old now new : CardState) (ops : List (Op A))
-      (before : List Reply) (n : ℕ) (given given' : List Reply) (op : Op A) (r : Reply)
+  pub one_more_answered : {A : Type 0} (from mid to : Point State) (old now new : CardState)
+      (ops : List (Op A)) (before : List Reply) (n : ℕ) (given given' : List Reply) (op : Op A)
+      (r : Reply)
       → HaveAnswers from old ops before n given mid now → n < length ops
       → drop n ops ≡ op ∷ drop (n + 1) ops → given' ≡ given ++ r ∷ []
       → IsHeard mid (operation_of op ∷ []) (r ∷ []) to
@@ -425,8 +428,8 @@ module _ {State : Type 0} (Does : State → ℕ → Tpdu → State → Type 0) w
       ))
 
   -- what holds for the operations, by the new answers
-  pub have_come : {A : Type 0} (from : Point State) (old : CardState) (ops : List (Op A)) (before : List Reply) (n : ℕ)
-      (given : List Reply) (to : Point State) (new : CardState)
+  pub have_come : {A : Type 0} (from : Point State) (old : CardState) (ops : List (Op A))
+      (before : List Reply) (n : ℕ) (given : List Reply) (to : Point State) (new : CardState)
       → HaveAnswers from old ops before n given to new
       → HaveCome from old to new (carried_out ops (new_answers before given))
       (new_answers before given)

@@ -23,7 +23,7 @@ use Rattle.t0_core.specs.Watch.{Hearing, Hears}
 use Rattle.t0_core.specs.Room.{Room}
 use Rattle.t0_core.specs.HostSide.{Hosting, HostStandsAt, turn_of, fault_of}
 use Rattle.t0_core.specs.HostLaws.{opened, going, unbroken, too_long}
-use Rattle.t0_core.specs.CardSide.{Stage, EndOf, Taking_header, Refusing, Serving, Ending, StandsAt, Advances, IsOnPlan, IsPermitted, PermitsData, SuitsFront, begins_with, listens, takes_plan, with_character, still_to_go}
+use Rattle.t0_core.specs.CardSide.{Stage, EndOf, Taking_header, Serving, StandsAt, Advances, IsOnPlan, IsPermitted, PermitsData, SuitsFront, begins_with, listens, takes_plan, with_character, still_to_go}
 use Rattle.t0_core.specs.CardHistory.{under_way}
 use Rattle.t0_core.specs.CardLaws.{begun, answers_on, taken_stays}
 use Rattle.card_terminal.specs.Line as on_line
@@ -33,7 +33,7 @@ use Rattle.t0_core.specs.DialogueLaws.{ends_with}
 use Rattle.card_terminal.specs.declared.wanted.Wanted.{Wanted}
 use Rattle.card_terminal.specs.declared.wanted.Wanted.TheVariants.{Bytes}
 use Rattle.object_card.specs.CarryingOut.{get_response}
-use Rattle.card_terminal.specs.Gathered.{wanted_by, less, correction_of, after_dialogue, after_unit, fetched_of, fetched_after, Opening, By_command, By_fetch, OpensWith, UnitOf, last_of, unit_data, AreFollowed, Gathers, dialogues_of}
+use Rattle.card_terminal.specs.Gathered.{wanted_by, less, after_dialogue, after_unit, fetched_of, fetched_after, Opening, By_command, By_fetch, OpensWith, UnitOf, last_of, unit_data, AreFollowed, Gathers, dialogues_of}
 use Rattle.object_card.specs.OneStep.{Reply}
 use Rattle.object_card.specs.Agreed.{IsAgreed}
 use Rattle.card_terminal.specs.ExchangeSide.{ExchangeOf, HostAsks, HostSends, HostOpensBy, IsOpenedAs, UnderWay, IsOver, IsBounded, Stall, Continues, so_far, ended_with, exchange_turn, response_limit}

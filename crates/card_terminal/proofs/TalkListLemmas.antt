@@ -129,8 +129,8 @@ talk_more Does first mid last plans left rest operations replies line more o r t
       dialogues_are = ap (λ ds. ds ++ ys) talk.dialogues_are
           ∙ ap (λ ds. flat_map talk_dialogues talk.talks ++ ds) next.dialogues_are
           ∙ sym (flat_map-append talk_dialogues talk.talks next.talks);
-      are_talks = rw alone
-          (talks_more Gathers operations talk.talks replies o exchanges r talk.are_talks one);
+      are_talks = rw alone (talks_more Gathers operations talk.talks replies o exchanges r
+          talk.are_talks one);
     }
 
 -- A card whose own states stand for states of a card of data objects: what runs over its own states

@@ -93,9 +93,8 @@ to_next commands came o new next l =
       taken = taken_more commands l.gone l.current (c ∷ after) units o.exchange.gather.bytes
           (rw left_is at l.taken) gathers;
       is_first = λ is. let later = next.later in absurd (cc);
-      are_dialogues = rw (one_more_exchange l.gone units)
-          (all_both IsDialogue (talk_dialogues l.gone) (flat_map dialogues_of units)
-          l.are_dialogues are);
+      are_dialogues = rw (one_more_exchange l.gone units) (all_both IsDialogue
+          (talk_dialogues l.gone) (flat_map dialogues_of units) l.are_dialogues are);
       are_left = are_left;
       here = [];
       led = led;

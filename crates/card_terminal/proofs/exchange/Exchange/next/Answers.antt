@@ -1,7 +1,4 @@
 use Rattle.std.proofs.Common.{sym}
-use Rattle.card_terminal.specs.ExchangeSide.{ExchangeOf}
-use Rattle.card_terminal.specs.ExchangeSteps.{IsTurn}
-use Rattle.card_terminal.specs.OwnedExchange.{of_parts}
 use Rattle.card_terminal.proofs.OwnedLemmas.{turned}
 use Rattle.card_terminal.proofs.TurnLemmas.{over_by_turn}
 use Rattle.card_terminal.proofs.exchange.Exchange.next.Goals as goal

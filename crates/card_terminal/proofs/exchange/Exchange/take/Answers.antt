@@ -1,7 +1,4 @@
 use Rattle.std.proofs.Common.{sym}
-use Rattle.card_terminal.specs.ExchangeSide.{ExchangeOf}
-use Rattle.card_terminal.specs.ExchangeSteps.{IsTaking}
-use Rattle.card_terminal.specs.OwnedExchange.{of_parts}
 use Rattle.card_terminal.proofs.exchange.Exchange.take.Goals as goal
 
 pub returns-clause-taking : goal.returns-clause-taking

@@ -1,9 +1,9 @@
--- What comes before a dialogue.
+-- What precedes a dialogue.
 use Rattle.std.proofs.Common.{◌≡◌, ◌↔◌, Option, Some, None, is_some, Result, Ok, Err, true, false, refl, sym, ap}
 use Rattle.std.specs.Result.{result_err}
 use Rattle.atr_core.specs.declared.fault.AtrFault.{AtrFault}
 
--- what a reading tells is the first fault
+-- A reading returns the first fault.
 pub fault_of : {T : Type 0} (r : Result T AtrFault) (f : Option AtrFault)
     → ((e : AtrFault) → (r ≡ Err e) ↔ (f ≡ Some e)) → result_err r ≡ f
 fault_of (Ok x) None reads = refl

@@ -4,20 +4,20 @@ use Rattle.t0_core.specs.declared.end.End.TheVariants as end
 use Rattle.trace_explain.specs.declared.read.log_line.LineKind.{LineKind}
 use Rattle.trace_explain.specs.declared.read.log_line.LineKind.TheVariants as kind
 use Rattle.trace_explain.specs.declared.read.log_line.LogLine.{LogLine}
-use Rattle.trace_explain.specs.declared.read.log_line.LogLine.TheVariants as said
+use Rattle.trace_explain.specs.declared.read.log_line.LogLine.TheVariants as log_line
 use Rattle.trace_explain.specs.declared.read.log_line.Rest.{Rest}
 use Rattle.trace_explain.specs.declared.read.log_line.Rest.TheVariants as rest
-use Rattle.trace_explain.specs.declared.read.trace_line.BadLine.{BadLine}
-use Rattle.trace_explain.specs.declared.read.trace_line.BadLine.TheVariants as bad
+use Rattle.trace_explain.specs.declared.read.trace_line.LineFault.{LineFault}
+use Rattle.trace_explain.specs.declared.read.trace_line.LineFault.TheVariants as bad
 use Rattle.trace_explain.specs.Lines.{begins_with, bytes_in, is_in}
 use Rattle.trace_explain.specs.Times.{behind_time, place_of}
 
--- an answer behind its sign: words may follow it behind a colon
+-- An answer after its sign; words may follow it after a colon.
 abbrev pub cut_answer : List ℕ → LineKind × List ℕ
 cut_answer behind = if nat_lt (place_of 58 behind) (length behind)
     then (kind.Answer, take (place_of 58 behind) behind) else (kind.OpenAnswer, behind)
 
--- a line with `>` or `<`, as scriptor and gt_pcsc write it
+-- A line with `>` or `<`, as scriptor and gt_pcsc write it.
 abbrev pub cut_signed : List ℕ → LineKind × List ℕ
 cut_signed line = if begins_with line (codes "> RESET") then (kind.Reset, line)
     else if begins_with line (codes "> ") then (kind.Command, drop 2 line)
@@ -25,7 +25,7 @@ cut_signed line = if begins_with line (codes "> RESET") then (kind.Reset, line)
     then (kind.Note, line)
     else if begins_with line (codes "< ") then cut_answer (drop 2 line) else (kind.Bad, line)
 
--- what pcscd writes before its text: a time, the number of a thread, the beginnings of colours
+-- What pcscd writes before its text: a time, a thread number, the codes of colours.
 abbrev pub is_of_prefix : ℕ → Bool
 is_of_prefix b = is_in 48 57 b || (b == 32) || (b == 91) || (b == 93) || (b == 59) || (b == 109)
     || (b == 27)
@@ -34,11 +34,11 @@ abbrev pub behind_prefix : List ℕ → List ℕ
 behind_prefix [] = []
 behind_prefix (b ∷ line) = if is_of_prefix b then behind_prefix line else b ∷ line
 
--- its text ends where a colour does
+-- Its text ends at the code of a colour.
 abbrev pub text_in : List ℕ → List ℕ
 text_in line = take (place_of 27 (behind_prefix line)) (behind_prefix line)
 
--- a line of `pcscd --apdu`, or the head of one of OpenSC's dumps
+-- A line of `pcscd --apdu`, or the head of a dump by OpenSC.
 abbrev pub cut_text : List ℕ → List ℕ → LineKind × List ℕ
 cut_text line text = if begins_with text (codes "APDU:") then (kind.Command, drop 5 text)
     else if begins_with text (codes "SW:") then (kind.Answer, drop 3 text)
@@ -50,14 +50,14 @@ cut_text line text = if begins_with text (codes "APDU:") then (kind.Command, dro
 abbrev pub is_reset : List ℕ → Bool
 is_reset line = begins_with line (codes "reset") && (length line == 5)
 
--- what a line is, and the part of it that says bytes, or how many
+-- What a line is, and the part of it that spells bytes or their number.
 abbrev pub cut_line : List ℕ → LineKind × List ℕ
 cut_line line = if begins_with (behind_time line) (codes ">")
     || begins_with (behind_time line) (codes "<") then cut_signed (behind_time line)
     else if is_reset (behind_time line) then (kind.Reset, behind_time line)
     else cut_text line (text_in line)
 
--- a number of at most seven decimal digits
+-- A number of at most seven decimal digits.
 abbrev pub number_from : ℕ → List ℕ → Option ℕ
 number_from n [] = Some n
 number_from n (d ∷ digits) = if nat_lt 999999 n || not (is_in 48 57 d) then None
@@ -67,7 +67,7 @@ abbrev pub number_in : List ℕ → Option ℕ
 number_in [] = None
 number_in (d ∷ digits) = number_from 0 (d ∷ digits)
 
--- how many bytes a dump has, in its head
+-- The size of a dump, in its head.
 abbrev pub has_unit : List ℕ → Bool
 has_unit unit = begins_with unit (codes " byte):") || begins_with unit (codes " bytes):")
 
@@ -75,32 +75,32 @@ abbrev pub size_in : List ℕ → Option ℕ
 size_in text = if has_unit (drop (place_of 32 text) text)
     then number_in (take (place_of 32 text) text) else None
 
-abbrev pub IsBadSize : BadLine → List ℕ → Type 0
+abbrev pub IsBadSize : LineFault → List ℕ → Type 0
 IsBadSize bad.Hex text = size_in text ≡ None
 IsBadSize other text = ⊥
 
--- an answer of which no word says that it ends goes on, perhaps, where it fills a line
+-- An answer without words after it may continue if it fills a line.
 abbrev pub SaysOpen : List ℕ → LogLine → Type 0
-SaysOpen bytes (said.Answer same) = (same.items ≡ bytes) × ((length bytes == 16) ≡ false)
-SaysOpen bytes (said.Front same) = (same.items ≡ bytes) × ((length bytes == 16) ≡ true)
+SaysOpen bytes (log_line.Answer same) = (same.items ≡ bytes) × ((length bytes == 16) ≡ false)
+SaysOpen bytes (log_line.Front same) = (same.items ≡ bytes) × ((length bytes == 16) ≡ true)
 SaysOpen bytes other = ⊥
 
--- what a line says that is of this kind, with this part
+-- What a line of this kind says with this part.
 abbrev pub SaysPart : LineKind × List ℕ → LogLine → Type 0
-SaysPart (kind.Command, part) (said.Command bytes) = bytes_in part ≡ Some bytes.items
-SaysPart (kind.Answer, part) (said.Answer bytes) = bytes_in part ≡ Some bytes.items
+SaysPart (kind.Command, part) (log_line.Command bytes) = bytes_in part ≡ Some bytes.items
+SaysPart (kind.Answer, part) (log_line.Answer bytes) = bytes_in part ≡ Some bytes.items
 SaysPart (kind.OpenAnswer, part) line =
     (bytes : List ℕ) × (bytes_in part ≡ Some bytes) × SaysOpen bytes line
-SaysPart (kind.Dump from, part) (said.Dump sender size) =
+SaysPart (kind.Dump from, part) (log_line.Dump sender size) =
     (sender ≡ from) × (size_in part ≡ Some size)
-SaysPart (kind.Reset, part) said.Reset = Unit {0}
-SaysPart (kind.Note, part) said.Note = Unit {0}
+SaysPart (kind.Reset, part) log_line.Reset = Unit {0}
+SaysPart (kind.Note, part) log_line.Note = Unit {0}
 SaysPart (other, part) line = ⊥
 
 abbrev pub SaysLog : List ℕ → LogLine → Type 0
-SaysLog line said = SaysPart (cut_line line) said
+SaysLog line log_line = SaysPart (cut_line line) log_line
 
--- it says nothing that can be read
+-- Its part can't be read.
 abbrev pub IsBadPart : LineKind × List ℕ → Type 0
 IsBadPart (kind.Command, part) = bytes_in part ≡ None
 IsBadPart (kind.Answer, part) = bytes_in part ≡ None
@@ -109,16 +109,16 @@ IsBadPart (kind.Dump from, part) = size_in part ≡ None
 IsBadPart (kind.Bad, part) = Unit {0}
 IsBadPart (other, part) = ⊥
 
-abbrev pub IsBadLogLine : BadLine → List ℕ → Type 0
+abbrev pub IsBadLogLine : LineFault → List ℕ → Type 0
 IsBadLogLine bad.Hex line = IsBadPart (cut_line line)
 IsBadLogLine bad.OutOfMemory line = Unit {0}
 IsBadLogLine other line = ⊥
 
--- bytes that go on with an answer, up to a colon with words behind it
+-- The bytes that continue an answer, up to a colon with words after it.
 abbrev pub rest_in : List ℕ → Option (List ℕ)
 rest_in line = bytes_in (take (place_of 58 line) line)
 
--- no bytes are none that go on; they may go on where they fill a line
+-- No bytes continue nothing. Bytes that fill a line may be continued again.
 abbrev pub SaysRest : List ℕ → Rest → Type 0
 SaysRest line rest.None = (bytes : List ℕ) → rest_in line ≡ Some bytes → bytes ≡ []
 SaysRest line (rest.Last bytes) = (rest_in line ≡ Some bytes.items)
@@ -126,7 +126,7 @@ SaysRest line (rest.Last bytes) = (rest_in line ≡ Some bytes.items)
 SaysRest line (rest.More bytes) = (rest_in line ≡ Some bytes.items)
     × (((length bytes.items == 16) && (place_of 58 line == length line)) ≡ true)
 
--- the bytes of a line of a dump of which so many are left, each with a space behind it
+-- The number of bytes in a line of a dump, if this many are left. A space follows each.
 abbrev pub row : ℕ → ℕ
 row left = min left 16
 
@@ -138,7 +138,7 @@ abbrev pub dumped_in : ℕ → List ℕ → Option (List ℕ)
 dumped_in left line = if nat_lt (length line) (3 * row left) then None
     else of_count (row left) (bytes_in (take (3 * row left) line))
 
-abbrev pub IsBadDump : BadLine → ℕ → List ℕ → Type 0
+abbrev pub IsBadDump : LineFault → ℕ → List ℕ → Type 0
 IsBadDump bad.Hex left line = dumped_in left line ≡ None
 IsBadDump bad.OutOfMemory left line = Unit {0}
 IsBadDump other left line = ⊥

@@ -1,8 +1,8 @@
--- The time that may stand before the sign of a line.
+-- The time that may precede the sign of a line.
 use Rattle.std.specs.Prelude.{ℕ, ◌+◌, ◌-◌, List, [], ◌∷◌, take, drop, length, Bool, true, false, ◌==◌, ◌&&◌, ◌||◌, nat_le, nat_lt, if◌then◌else◌}
 use Rattle.std.specs.List.{position_or_len}
 
--- how many bytes come before the first that is this one, or all where none is
+-- The place of the first such byte; the length if there is none.
 abbrev pub place_of : ℕ → List ℕ → ℕ
 place_of byte line = position_or_len (λ b. b == byte) line
 
@@ -10,7 +10,7 @@ abbrev pub behind_spaces : List ℕ → List ℕ
 behind_spaces [] = []
 behind_spaces (b ∷ line) = if b == 32 then behind_spaces line else b ∷ line
 
--- digits, points and colons
+-- Digits, points and colons.
 abbrev pub is_of_time : ℕ → Bool
 is_of_time b = (nat_le 48 b && nat_le b 57) || (b == 46) || (b == 58)
 
@@ -18,17 +18,17 @@ abbrev pub are_of_time : List ℕ → Bool
 are_of_time [] = true
 are_of_time (b ∷ bytes) = is_of_time b && are_of_time bytes
 
--- a digit, and such bytes behind it
+-- A digit, and then such bytes.
 abbrev pub is_stamp : List ℕ → Bool
 is_stamp [] = false
 is_stamp (b ∷ rest) = nat_le 48 b && nat_le b 57 && are_of_time rest
 
--- in brackets, of which this is what stands before the second
+-- Such a word in brackets; the second bracket is left out.
 abbrev pub is_bracketed : List ℕ → Bool
 is_bracketed [] = false
 is_bracketed (b ∷ rest) = (b == 91) && is_stamp (behind_spaces rest)
 
--- with a `+`, and a unit in a word of its own
+-- Such a word after `+`; its unit is a word of its own.
 abbrev pub is_shift : List ℕ → Bool
 is_shift [] = false
 is_shift (b ∷ rest) = (b == 43) && is_stamp rest
@@ -39,7 +39,7 @@ is_unit (b ∷ []) = b == 115
 is_unit (b ∷ c ∷ []) = ((b == 109) || (b == 117)) && (c == 115)
 is_unit (b ∷ c ∷ d ∷ rest) = false
 
--- how many bytes of a line are a time of each kind, before its sign; 0 where none are
+-- The length of a time of each kind before the sign; 0 if there is none.
 abbrev pub stamp_len : List ℕ → ℕ
 stamp_len line = if is_stamp (take (place_of 32 line) line) then place_of 32 line else 0
 
@@ -63,7 +63,7 @@ time_len [] = 0
 time_len (b ∷ rest) = if b == 91 then bracket_len (b ∷ rest)
     else if b == 43 then shift_len (b ∷ rest) else stamp_len (b ∷ rest)
 
--- the time before a line's sign, and what stands behind it and its spaces
+-- The time before a line's sign, and what follows it and its spaces.
 abbrev pub time_in : List ℕ → List ℕ
 time_in line = take (time_len line) line
 
@@ -71,7 +71,7 @@ abbrev pub behind_time : List ℕ → List ℕ
 behind_time line =
     if time_len line == 0 then line else behind_spaces (drop (time_len line) line)
 
--- Where lines have no signs a time is one that no digits of bytes can be: a count is none.
+-- Without signs, decimal digits alone are bytes and not a time.
 abbrev pub are_decimal : List ℕ → Bool
 are_decimal [] = true
 are_decimal (b ∷ bytes) = nat_le 48 b && nat_le b 57 && are_decimal bytes

@@ -11,37 +11,37 @@ use Rattle.t0_core.specs.TapSide.{due_at, other_end}
 use Rattle.trace_explain.specs.declared.follow.listener.Listener.{Listener}
 use Rattle.trace_explain.specs.declared.follow.opening.Stage.{Stage}
 use Rattle.trace_explain.specs.declared.follow.opening.Stage.TheVariants as stage
-use Rattle.trace_explain.specs.declared.follow.turn.NoTurn.{NoTurn}
-use Rattle.trace_explain.specs.declared.follow.turn.NoTurn.TheVariants as unknown
+use Rattle.trace_explain.specs.declared.follow.turn.TurnFault.{TurnFault}
+use Rattle.trace_explain.specs.declared.follow.turn.TurnFault.TheVariants as unknown
 use Rattle.trace_explain.specs.declared.read.reading.Reading.{Reading}
 use Rattle.trace_explain.specs.declared.read.trace_line.Source.{Source}
 use Rattle.trace_explain.specs.declared.read.trace_line.Source.TheVariants.{Sign, Turn}
 use Rattle.trace_explain.specs.declared.read.ways.Ways.{Ways}
 use Rattle.trace_explain.specs.Openings.{Opening, has_answered, has_begun, turned_by}
-use Rattle.trace_explain.specs.Told.{Told, told_by}
+use Rattle.trace_explain.specs.Reports.{Report, report_of}
 use Rattle.trace_explain.specs.WaysOf.{way_of}
 
--- the end that a character is of: the card, where this holds
+-- The card if this holds, otherwise the terminal.
 abbrev pub card_if : Bool → End
 card_if true = Card
 card_if false = Terminal
 
--- Where nothing has come since the trace began or a reset, the card's answer begins with TS, which
--- may be turned (ISO/IEC 7816-3, 8.1); with any other character the terminal's first header does.
+-- When the trace begins and after a reset, TS begins the card's answer; TS may be turned (ISO/IEC
+-- 7816-3, 8.1). Any other character begins the terminal's first header.
 abbrev pub at_first : ℕ → End
 at_first b = card_if (is_some (turned_by b))
 
--- Behind an answer or a PPS exchange, and between two TPDUs, so it is with `3B` and `3F`, which are
--- classes of no command (ISO/IEC 7816-4, 5.1.1); `03` is that of one in channel 3.
+-- After an answer or a PPS exchange, and between two TPDUs, the same holds for `3B` and `3F` alone.
+-- They are not a class of a command (ISO/IEC 7816-4, 5.1.1), but `03` is one, of channel 3.
 abbrev pub between : ℕ → End
 between b = card_if (is_some (convention_of b))
 
--- where a PPS response is due, `FF` begins it (ISO/IEC 7816-3, 9.2)
+-- `FF` begins a PPS response (ISO/IEC 7816-3, 9.2).
 abbrev pub ask_or_answer : ℕ → End
 ask_or_answer b = if b == 0xFF then Card else between b
 
--- Before the dialogue. Behind an answer at fault it is not known where that ends.
-abbrev pub turn_before : Stage → Bool → ℕ → Result End NoTurn
+-- Before the dialogue. The end of an invalid answer is unknown.
+abbrev pub turn_before : Stage → Bool → ℕ → Result End TurnFault
 turn_before stage.Ready answered b = Ok (if answered then between b else at_first b)
 turn_before stage.Answer answered b = Ok Card
 turn_before stage.Astray answered b = Err unknown.Answer
@@ -50,35 +50,35 @@ turn_before stage.Asked answered b = Ok (ask_or_answer b)
 turn_before stage.Response answered b = Ok Card
 turn_before stage.Begun answered b = Ok Terminal
 
--- a header is the terminal's, whole (ISO/IEC 7816-3, 10.3.2)
+-- The terminal sends a whole header (ISO/IEC 7816-3, 10.3.2).
 abbrev pub header_turn : Bool → ℕ → End
 header_turn true b = between b
 header_turn false b = Terminal
 
--- the end that sends data that go this way
+-- The end that sends data that go this way.
 abbrev pub sent : Direction → End
 sent ToCard = Terminal
 sent FromCard = Card
 
--- data go the way that the first of them went, or that of the instruction, if it is known
-abbrev pub data_turn : Option Direction → Option Direction → ℕ → Result End NoTurn
+-- Data go as the first of them did, or as those of the instruction do if that is known.
+abbrev pub data_turn : Option Direction → Option Direction → ℕ → Result End TurnFault
 data_turn (Some way) known ins = Ok (sent way)
 data_turn None (Some way) ins = Ok (sent way)
 data_turn None None ins = Err (unknown.Way ins)
 
--- P3 `00` asks for 256 bytes of the card (10.3.2). Where data go to the card it has none, and SW1
--- and SW2 come behind INS.
-abbrev pub with_p3_00 : Option Direction → ℕ → ℕ → Result End NoTurn
-with_p3_00 (Some FromCard) ins came = Ok Card
-with_p3_00 (Some ToCard) ins came = Ok (card_if (nat_lt came 2))
-with_p3_00 None ins came = Err (unknown.Way ins)
+-- P3 `00` asks the card for 256 bytes (10.3.2). If the data go to the card there are none, and SW1
+-- and SW2 follow INS.
+abbrev pub with_p3_00 : Option Direction → ℕ → ℕ → Result End TurnFault
+with_p3_00 (Some FromCard) ins count = Ok Card
+with_p3_00 (Some ToCard) ins count = Ok (card_if (nat_lt count 2))
+with_p3_00 None ins count = Err (unknown.Way ins)
 
-abbrev pub data_at : Option Direction → Option Direction → ℕ → ℕ → ℕ → Result End NoTurn
-data_at seen known p3 ins came =
-    if p3 == 0 then with_p3_00 known ins came else data_turn seen known ins
+abbrev pub data_at : Option Direction → Option Direction → ℕ → ℕ → ℕ → Result End TurnFault
+data_at seen known p3 ins count =
+    if p3 == 0 then with_p3_00 known ins count else data_turn seen known ins
 
--- Within the dialogue: a procedure byte, SW1 and SW2 are the card's (10.3.3).
-abbrev pub turn_within : Ways → Due → Told → ℕ → Result End NoTurn
+-- In the dialogue, the card sends procedure bytes, SW1 and SW2 (10.3.3).
+abbrev pub turn_within : Ways → Due → Report → ℕ → Result End TurnFault
 turn_within ways due.Header t b = Ok (header_turn (length t.header == 0) b)
 turn_within ways due.Procedure t b = Ok Card
 turn_within ways (due.Data seen) t b =
@@ -86,17 +86,17 @@ turn_within ways (due.Data seen) t b =
     (get_or t.header 1 0) (length t.moved)
 turn_within ways due.SecondStatus t b = Ok Card
 
--- whose a character is that comes next
-abbrev pub turn_at : Ways → Opening → Listener → ℕ → Result End NoTurn
+-- Whose turn it is to send the next character.
+abbrev pub turn_at : Ways → Opening → Listener → ℕ → Result End TurnFault
 turn_at ways o l b =
-    if has_begun o.stage then turn_within ways (due_at l.tap) (told_by l.under_way) b
+    if has_begun o.stage then turn_within ways (due_at l.tap) (report_of l.under_way) b
     else turn_before o.stage (has_answered o) b
 
--- the end whose characters stand behind a sign: the other one, where the signs are swapped
+-- The end whose characters follow this end's sign: the other one if signs are swapped.
 abbrev pub sender : Reading → End → End
 sender reading from = if reading.swaps then other_end from else from
 
--- who sends a character that comes next
-abbrev pub source_at : Source → Reading → Opening → Listener → ℕ → Result End NoTurn
+-- Who sends the next character.
+abbrev pub source_at : Source → Reading → Opening → Listener → ℕ → Result End TurnFault
 source_at (Sign form from) reading o l b = Ok (sender reading from)
 source_at (Turn ways) reading o l b = turn_at ways o l b

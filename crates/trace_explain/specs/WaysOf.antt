@@ -1,4 +1,4 @@
--- Which way the data of an instruction go, where no sign says who sent them.
+-- Which way the data of an instruction go, for traces without signs.
 use Rattle.std.specs.Prelude.{ℕ, List, [], ◌∷◌, Option, Some, None, Bool, false, ◌==◌, ◌||◌, nat_lt, if◌then◌else◌, get_or}
 use Rattle.t0_core.specs.declared.direction.Direction.{Direction}
 use Rattle.t0_core.specs.declared.direction.Direction.TheVariants.{ToCard, FromCard}
@@ -13,8 +13,8 @@ is_among ins (one ∷ others) = (ins == one) || is_among ins others
 abbrev pub interindustry_from_card : List ℕ
 interindustry_from_card = 0x70 ∷ 0x84 ∷ 0xB0 ∷ 0xB2 ∷ 0xC0 ∷ 0xCA ∷ []
 
--- And those whose data the terminal sends, if there are any. One with an odd INS that reads sends
--- which part it wants.
+-- Those whose data the terminal sends, if there are any. With an odd INS the terminal also sends
+-- data to read: they name the part that it wants.
 abbrev pub interindustry_to_card : List ℕ
 interindustry_to_card = 0x04 ∷ 0x0C ∷ 0x0E ∷ 0x0F ∷ 0x10 ∷ 0x12 ∷ 0x14 ∷ 0x20 ∷ 0x21 ∷ 0x22
     ∷ 0x24 ∷ 0x26 ∷ 0x28 ∷ 0x2A ∷ 0x2C ∷ 0x44 ∷ 0x46 ∷ 0x82 ∷ 0x86 ∷ 0x87 ∷ 0x88 ∷ 0xA0 ∷ 0xA1
@@ -25,20 +25,20 @@ abbrev pub interindustry : ℕ → Option Direction
 interindustry ins = if is_among ins interindustry_from_card then Some FromCard
     else if is_among ins interindustry_to_card then Some ToCard else None
 
--- Of the own classes of EMV (4.3, Book 3, 6.5): CARD BLOCK, APPLICATION UNBLOCK and BLOCK, PIN
+-- EMV's own classes (4.3, Book 3, 6.5): CARD BLOCK, APPLICATION UNBLOCK and BLOCK, PIN
 -- CHANGE/UNBLOCK, GET PROCESSING OPTIONS, GENERATE AC.
 abbrev pub payment : ℕ → Option Direction
 payment ins = if is_among ins (0x16 ∷ 0x18 ∷ 0x1E ∷ 0x24 ∷ 0xA8 ∷ 0xAE ∷ []) then Some ToCard
     else None
 
--- Of a SIM card (3GPP TS 51.011, 9.2): the card sends data under FETCH, READ BINARY, READ RECORD
--- and STATUS, and under GET RESPONSE, which is one of those below.
+-- A SIM card's class (3GPP TS 51.011, 9.2): the card sends data under FETCH, READ BINARY, READ
+-- RECORD and STATUS, and under GET RESPONSE, which `everywhere` lists.
 abbrev pub sim : ℕ → Option Direction
 sim ins = if is_among ins (0x12 ∷ 0xB0 ∷ 0xB2 ∷ 0xF2 ∷ []) then Some FromCard
     else if is_among ins (0x04 ∷ 0x10 ∷ 0x14 ∷ 0x20 ∷ 0x24 ∷ 0x26 ∷ 0x28 ∷ 0x2C ∷ 0x32 ∷ 0x44 ∷ 0x88
     ∷ 0xA2 ∷ 0xC2 ∷ 0xD6 ∷ 0xDC ∷ 0xFA ∷ []) then Some ToCard else None
 
--- of every class: GET RESPONSE and GET DATA, SELECT and PUT DATA (this project's profile)
+-- Every class: GET RESPONSE and GET DATA, SELECT and PUT DATA (profile).
 abbrev pub everywhere : ℕ → Option Direction
 everywhere ins = if is_among ins (0xC0 ∷ 0xCA ∷ []) then Some FromCard
     else if is_among ins (0xA4 ∷ 0xDA ∷ []) then Some ToCard else None
@@ -48,12 +48,12 @@ own_way cla ins = if nat_lt cla 0x80 then interindustry ins
     else if nat_lt cla 0x90 then payment ins
     else if cla == 0xA0 then sim ins else None
 
--- the way of a row of the program's table
+-- The way in a row of the program's table.
 abbrev pub way_in : {N P : Type 0} → Option (N × Direction × P) → Option Direction
 way_in None = None
 way_in (Some row) = Some row.1
 
--- the first of two that is known
+-- The first of two that is known.
 abbrev pub or_else : Option Direction → Option Direction → Option Direction
 or_else (Some way) other = Some way
 or_else None other = other
@@ -61,6 +61,6 @@ or_else None other = other
 abbrev pub by_standard : ℕ → ℕ → Option Direction
 by_standard cla ins = or_else (own_way cla ins) (everywhere ins)
 
--- what the words say of INS, in every class, and else the standards
+-- The way that the options give to INS in every class, or else that of the standards.
 abbrev pub way_of : Ways → ℕ → ℕ → Option Direction
-way_of ways cla ins = or_else (get_or ways.said ins None) (by_standard cla ins)
+way_of ways cla ins = or_else (get_or ways.given ins None) (by_standard cla ins)

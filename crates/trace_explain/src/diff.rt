@@ -1,8 +1,8 @@
-//! Two traces compared, TPDU by TPDU. Procedure bytes are left out: how many NULLs come is a matter
-//! of time, and hides what differs.
+//! Compares two traces, TPDU by TPDU. It ignores procedure bytes: the number of NULLs depends on
+//! time, and would hide what differs.
 
 use crate::describe::mask::Mask;
-use crate::diff_fault::{DiffFault, Which};
+use crate::diff_fault::DiffFault;
 use crate::explain::{CHUNK, TRACE_LIMIT, explain_chunk, explain_last};
 use crate::explain_fault::ExplainFault;
 use crate::explainer::Explainer;
@@ -14,29 +14,29 @@ use std::alloc::{AllocError, Global};
 use std::io;
 use std::io::{Read, Write};
 
-/// How what is compared is told of.
+/// The layout of the TPDUs that differ.
 const LAYOUT: Layout = Layout {
     medium: Medium::Text,
     is_summary: false,
 };
 
-/// One of the two traces.
 #[derive(Drop)]
 struct Trace<'r, R: Read> {
-    which: Which,
+    /// `A` or `B`.
+    name: &'static str,
     reader: &'r mut R,
     explainer: Explainer,
     size: usize,
     line: Vec<u8>,
-    /// How many of the TPDUs that are kept were compared.
+    /// How many of the kept TPDUs were compared.
     passed: usize,
     is_over: bool,
     fault: Option<ExplainFault>,
 }
 
-/// Compares two traces, and writes the first TPDU that differs, and in what; it answers whether
-/// they are alike, also where nobody reads that any more. Procedure bytes are not compared, nor
-/// what stands between TPDUs.
+/// Compares two traces, and writes the first TPDU that differs, and in what. Returns whether they
+/// are alike, even if nobody reads the output any more. Ignores procedure bytes, and what is
+/// between TPDUs.
 pub fn diff<R: Read, S: Read, W: Write>(
     alloc: Global,
     mask: Mask,
@@ -47,14 +47,14 @@ pub fn diff<R: Read, S: Read, W: Write>(
 ) -> Result<bool, DiffFault> {
     let (reader_a, reader_b) = readers;
     let other = mask.copied(alloc)?;
-    let mut a = Trace::new(alloc, Which::A, other, resumes, reading, reader_a);
-    let mut b = Trace::new(alloc, Which::B, mask, resumes, reading, reader_b);
+    let mut a = Trace::new(alloc, "A", other, resumes, reading, reader_a);
+    let mut b = Trace::new(alloc, "B", mask, resumes, reading, reader_b);
     let mut text = Sheet::new(alloc, LAYOUT);
     let outcome = compare(&mut a, &mut b, &mut text);
     written(outcome, &mut text, writer)
 }
 
-/// Writes what a comparison with this outcome has told, if it came to an end.
+/// Writes the text of a comparison that ended without an error.
 fn written<W: Write>(
     outcome: Result<bool, DiffFault>,
     text: &mut Sheet,
@@ -84,11 +84,11 @@ fn compare<R: Read, S: Read>(
                 return Ok(true);
             }
             (Some(kept), None) => {
-                push_only(out, Which::B, before, kept);
+                push_only(out, ("B", "A"), before, kept);
                 return Ok(false);
             }
             (None, Some(kept)) => {
-                push_only(out, Which::A, before, kept);
+                push_only(out, ("A", "B"), before, kept);
                 return Ok(false);
             }
             (Some(one), Some(other)) => {
@@ -103,18 +103,18 @@ fn compare<R: Read, S: Read>(
     Ok(true)
 }
 
-/// Tells that this trace has no more TPDUs, and which is the next of the other.
-fn push_only(out: &mut Sheet, which: Which, before: u64, next: &Kept) {
+/// Reports that this trace has no more TPDUs, and the next one of the other.
+fn push_only(out: &mut Sheet, names: (&str, &str), before: u64, next: &Kept) {
     let unit = if before == 1 { "TPDU" } else { "TPDUs" };
-    let other = which.other();
+    let (name, other) = names;
     writeln!(
         out,
-        "{which} ends after {before} {unit}, and {other} goes on:"
+        "{name} ends after {before} {unit}, and {other} goes on:"
     );
     out.push_str(next.text.as_str());
 }
 
-/// Whether two TPDUs differ; then it tells of them, and in what.
+/// Whether two TPDUs differ. Reports them, and in what they differ.
 fn differ(out: &mut Sheet, number: u64, a: &Kept, b: &Kept) -> bool {
     let parts = [
         ("header", a.tpdu.header == b.tpdu.header),
@@ -149,10 +149,10 @@ fn differ(out: &mut Sheet, number: u64, a: &Kept, b: &Kept) -> bool {
 }
 
 impl<'r, R: Read> Trace<'r, R> {
-    /// Nothing of it has been read.
+    /// Starts before its first byte.
     fn new(
         alloc: Global,
-        which: Which,
+        name: &'static str,
         mask: Mask,
         resumes: bool,
         reading: Reading,
@@ -161,7 +161,7 @@ impl<'r, R: Read> Trace<'r, R> {
         let mut explainer = Explainer::new(alloc, LAYOUT, mask, resumes, reading);
         explainer.teller.keeping.is_on = true;
         Trace {
-            which,
+            name,
             reader,
             explainer,
             size: 0,
@@ -172,8 +172,11 @@ impl<'r, R: Read> Trace<'r, R> {
         }
     }
 
-    /// The next TPDU; `None` where there are no more. The error is what ended the trace before its
-    /// end, or came at its end.
+    /// Returns the next TPDU; `None` after the last.
+    ///
+    /// # Errors
+    ///
+    /// - `Trace`: this fault stopped the trace, or came at its end.
     fn front(&mut self) -> Result<Option<&Kept>, DiffFault> {
         for _chunk in 0..u64::MAX {
             if self.is_over || self.passed < self.kept().len() {
@@ -187,17 +190,17 @@ impl<'r, R: Read> Trace<'r, R> {
         if self.passed >= self.kept().len()
             && let Some(fault) = self.fault.take()
         {
-            return Err(DiffFault::Trace(self.which, fault));
+            return Err(DiffFault::Trace(self.name, fault));
         }
         Ok(self.kept().get(self.passed))
     }
 
-    /// The TPDUs that are kept.
+    /// Returns the kept TPDUs.
     fn kept(&self) -> &[Kept] {
         self.explainer.teller.keeping.all.as_slice()
     }
 
-    /// Reads a chunk more, and keeps its TPDUs.
+    /// Reads one more chunk, and keeps its TPDUs.
     fn read(&mut self) -> Result<(), AllocError> {
         match self.read_chunk() {
             Ok(true) => return Ok(()),
@@ -208,7 +211,7 @@ impl<'r, R: Read> Trace<'r, R> {
         self.explainer.end()
     }
 
-    /// Explains what ends in a chunk more; it answers whether there was one.
+    /// Explains the lines that end in one more chunk. Returns false if there is none.
     fn read_chunk(&mut self) -> Result<bool, ExplainFault> {
         let mut chunk = [0; CHUNK];
         match self.reader.read(&mut chunk) {

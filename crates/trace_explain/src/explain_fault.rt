@@ -1,96 +1,93 @@
-//! The reasons why the program ends with status 1, with their texts.
+//! Why the program ends with status 1, with the texts of these faults.
 
 ghost use Rattle.trace_explain.specs.Trace.{IsOfWriting};
 
 use crate::describe::complaint::Complaint;
-use crate::follow::exchange::BadExchange;
-use crate::follow::turn::NoTurn;
+use crate::follow::pair::PairFault;
+use crate::follow::turn::TurnFault;
 use crate::read::form::Form;
 use std::alloc::AllocError;
 use std::io;
 use thiserror::Error;
 
-/// Why the program ends with status 1.
+/// Why the program ends with status 1. Lines are counted from 1, places in a line from 0.
 #[derive(Debug, Drop, Error)]
 pub enum ExplainFault {
-    /// Characters of a line, counted from 1, are not of their form; what the lines before it say
-    /// was explained.
+    /// Characters of a line are not digits of bytes. The lines before it were explained.
     #[error("line {line}: bad hex")]
     BadHex {
         line: u64,
     },
-    /// The sign of a line, counted from 1, is of another form than this one, of which the lines
-    /// are; what the lines before it say was explained.
+    /// The sign of a line has another form than this one of the lines before, which were explained.
     #[error("line {line}: a sign of another form than {form}")]
     OtherForm {
         line: u64,
         form: Form,
     },
-    /// A line, counted from 1, has digits and no sign, and no line before it has one.
+    /// A line has digits without a sign, and no line before has a sign.
     #[error("line {line}: no sign says which end sent these digits, and no line before has one: \
         `--unsigned` reads such lines")]
     NoSign {
         line: u64,
     },
-    /// A line, counted from 1, begins with a sign, and lines have none; what the lines before it
-    /// say was explained.
+    /// A line begins with a sign, and `--unsigned` expects none. The lines before it were
+    /// explained.
     #[error("line {line}: a sign, and with `--unsigned` lines have none")]
     Signed {
         line: u64,
     },
-    /// Which end sends a character of lines without signs can't be known; what stands before it was
-    /// explained. The line is counted from 1, and the character's place in it from 0.
+    /// In a trace without signs the sender of a character is unknown. What precedes it was
+    /// explained.
     #[error("line {line}, character {}: {why}", .place.saturating_add(1))]
     NoTurn {
         line: u64,
         place: usize,
-        why: NoTurn,
+        why: TurnFault,
     },
-    /// A line has more bytes than a line may have.
+    /// A line exceeds the limit.
     #[error("line {line}: line too long")]
     LineTooLong {
         line: u64,
     },
-    /// No dialogue goes on with a character.
+    /// No dialogue continues with a character.
     #[error("{0}")]
     NoDialogue(Complaint),
-    /// There are such characters, after which the explanation went on.
+    /// The explanation continued after such characters; this is the first.
     #[error("{first} (complaints: {complaints})")]
     Resumed {
         complaints: u64,
         first: Complaint,
     },
-    /// There are commands of a log that are told as no TPDU, after which the explanation went on:
-    /// the first began in this line.
+    /// Commands of a log are not TPDUs. The explanation continued; the first began in this line.
     #[error("line {line}: no exchange that it reads: {why} (complaints: {complaints})")]
-    BadExchanges {
+    BadPairs {
         complaints: u64,
         line: u64,
-        why: BadExchange,
+        why: PairFault,
     },
-    /// The trace came to its end, and no line has a character of either end.
+    /// The trace has ended, and no line has a character of either end.
     #[error("no characters heard")]
     NoCharacters,
-    /// The reader failed; what came before was explained.
+    /// The reader failed. What it read before was explained.
     #[error("read fault")]
     Read,
-    /// The writer failed; how much it took is not known.
+    /// The writer failed. How much it took is unknown.
     #[error("write fault")]
     Write,
-    /// Nobody reads any more what is written, as behind `| head`: that ends the program, and is no
-    /// fault of it.
+    /// Nobody reads the output any more, as with `| head`. This ends the program, and is not its
+    /// fault.
     #[error("closed output")]
     Closed,
-    /// The trace has more bytes than a trace may have; what came before was explained.
+    /// The trace exceeds the limit. What it contained before was explained.
     #[error("input too long")]
     InputTooLong,
-    /// Memory was wanting.
+    /// Memory ran out.
     #[error("out of memory")]
     OutOfMemory,
 }
 
 impl ExplainFault {
-    /// What an error of the writer is.
+    /// Returns the fault for an error of the writer.
     pub fn of_writing(error: &io::Error) -> ExplainFault
         ensures { IsOfWriting result }
     {

@@ -1,16 +1,16 @@
-//! Explains a trace line by line: finds who sent each character, hears it, and has a `Teller` tell
-//! what ends with it.
+//! Explains a trace line by line: finds who sent each character, hears it, and lets a `Teller`
+//! print what ends with it.
 
 ghost use Rattle.std.specs.Prelude.{◌≡◌, ◌∷◌, ◌==◌, ◌&&◌, List, [], None, true, false, get_or, length, OnOk, IfErr, IfOk};
 ghost use Rattle.std.specs.Result.{IsErrAnd};
 ghost use Rattle.t0_core.specs.History.{Event, Reset};
 ghost use Rattle.t0_core.specs.TapSide.{due_at};
 ghost use Rattle.trace_explain.specs.Account.{AddsBoxes, HasWritten, first_out};
-ghost use Rattle.trace_explain.specs.Explained.{HasExplained, ExplainsCharacters, ExplainsLine, ExplainsMore, StopsAmong, StopsAtLine, Stopped, TakesOrStops, is_astray, next_line, refused, standing_of};
+ghost use Rattle.trace_explain.specs.Explained.{HasExplained, ExplainsCharacters, ExplainsLine, ExplainsMore, StopsAmong, StopsAtLine, Stopped, TakesOrStops, is_astray, next_line, refused, position_of};
 ghost use Rattle.trace_explain.specs.Lines.{first_of_all};
 ghost use Rattle.trace_explain.specs.Noted.{ended_by};
 ghost use Rattle.trace_explain.specs.Openings.{begins_answer, opening_of, unopened};
-ghost use Rattle.trace_explain.specs.Told.{Told, told_by};
+ghost use Rattle.trace_explain.specs.Reports.{Report, report_of};
 ghost use Rattle.trace_explain.specs.Trace.{IsOfEnd};
 ghost use Rattle.trace_explain.specs.Turns.{source_at, turn_at};
 ghost use Rattle.trace_explain.specs.UnderWay.{IsOfLines};
@@ -21,12 +21,12 @@ use crate::explain_fault::ExplainFault;
 use crate::follow::listener::Listener;
 use crate::follow::opening::begins_answer;
 use crate::follow::preface::Preface;
-use crate::follow::turn::{NoTurn, turn_before, turn_within};
+use crate::follow::turn::{TurnFault, turn_before, turn_within};
 use crate::read::log::Log;
 use crate::read::log_line::time_of;
 use crate::read::reading::Reading;
 use crate::read::time::cut_time;
-use crate::read::trace_line::{BadLine, Source, TraceLine, read_line};
+use crate::read::trace_line::{LineFault, Source, TraceLine, read_line};
 use crate::read::ways::Ways;
 use crate::resuming::{Passed, Resuming};
 use crate::write::layout::Layout;
@@ -35,24 +35,23 @@ use crate::write::teller::Teller;
 use std::alloc::{AllocError, Global};
 use t0_core::End;
 
-/// Explains the lines of a trace, one after another.
+/// Explains the lines of a trace, one by one.
 #[derive(Drop)]
 pub struct Explainer {
     alloc: Global,
     reading: Reading,
     resuming: Resuming,
-    came: bool,
+    has_characters: bool,
     line: u64,
     preface: Preface,
     listener: Listener,
     log: Log,
-    /// What is told.
+    /// What prints the explanation.
     pub teller: Teller,
 }
 
 impl Explainer {
-    /// No line has come, and lines are read so. If it resumes, it continues after a character that
-    /// no dialogue expects.
+    /// Starts before the first line. If it resumes, it continues after an unexpected character.
     pub fn new(
         alloc: Global,
         layout: Layout,
@@ -64,14 +63,14 @@ impl Explainer {
             HasExplained [] [] result }
         ensures blank { reading.of_tpdus ≡ false →
             HasWritten (first_out layout mask) [] result }
-        ensures standing { standing_of result ≡ first_of_all reading }
+        ensures position { position_of result ≡ first_of_all reading }
         ensures line { result.line ≡ 0 }
     {
         Explainer {
             alloc,
             reading,
             resuming: Resuming::new(resumes),
-            came: false,
+            has_characters: false,
             line: 0,
             preface: Preface::new(alloc),
             listener: Listener::new(alloc),
@@ -80,7 +79,7 @@ impl Explainer {
         }
     }
 
-    /// The number of the line that comes next, from 1.
+    /// Returns the number of the next line, counted from 1.
     pub fn next_line(&self) -> u64
         ensures { result ≡ next_line self.now }
     {
@@ -91,17 +90,18 @@ impl Explainer {
     ///
     /// # Errors
     ///
-    /// - `BadHex`: characters are not of their form, or the line of a log can't be read.
-    /// - `OtherForm`, `NoSign`: its sign is not that of the lines before; it is digits alone, and
-    ///   no line before has a sign.
-    /// - `Signed`, `NoTurn`: of lines without signs it has one; who sends a character is not known.
+    /// - `BadHex`: characters are not digits of bytes, or the line of a log can't be read.
+    /// - `OtherForm`: its sign has another form than those before.
+    /// - `NoSign`: it contains digits alone, and no line before has a sign.
+    /// - `Signed`: it has a sign, and `--unsigned` expects none.
+    /// - `NoTurn`: who sends a character is unknown.
     /// - `NoDialogue`: no dialogue continues with a character, and it does not resume.
-    /// - `OutOfMemory`: may come after a part of the line.
+    /// - `OutOfMemory`: a part of the line may have been explained.
     pub fn line(&mut self, line: &[u8]) -> Result<(), ExplainFault>
-        ensures explained { (events : List Event) (before : List Told) →
+        ensures explained { (events : List Event) (before : List Report) →
             HasExplained events before self.old →
             OnOk result (ExplainsLine line.now events before self.old self.new) }
-        ensures stops { (events : List Event) (before : List Told) →
+        ensures stops { (events : List Event) (before : List Report) →
             HasExplained events before self.old →
             IfErr result (λ fault. StopsAtLine fault line.now self.old events before) }
         ensures counts { OnOk result (self.new.line ≡ next_line self.old) }
@@ -116,10 +116,10 @@ impl Explainer {
 
     /// Explains the next line of a trace of characters.
     fn line_of_characters(&mut self, line: &[u8]) -> Result<(), ExplainFault>
-        ensures explained { (events : List Event) (before : List Told) →
+        ensures explained { (events : List Event) (before : List Report) →
             HasExplained events before self.old →
             OnOk result (ExplainsLine line.now events before self.old self.new) }
-        ensures stops { (events : List Event) (before : List Told) →
+        ensures stops { (events : List Event) (before : List Report) →
             HasExplained events before self.old →
             IfErr result (λ fault. StopsAtLine fault line.now self.old events before) }
         ensures counts { OnOk result (self.new.line ≡ next_line self.old) }
@@ -145,15 +145,15 @@ impl Explainer {
         }
     }
 
-    /// Explains the characters of a line, if they are not passed over.
+    /// Explains the characters of a line, or passes over them.
     fn characters(&mut self, source: &Source, bytes: &[u8]) -> Result<(), ExplainFault>
-        ensures explained { (events : List Event) (before : List Told) →
+        ensures explained { (events : List Event) (before : List Report) →
             HasExplained events before self.old → OnOk result
             (ExplainsCharacters source.now bytes.now events before self.old self.new) }
-        ensures stops { (events : List Event) (before : List Told) →
+        ensures stops { (events : List Event) (before : List Report) →
             HasExplained events before self.old →
             IfErr result (λ fault. StopsAmong fault source.now self.old.line
-            (standing_of self.old) bytes.now events before) }
+            (position_of self.old) bytes.now events before) }
         ensures counts { OnOk result (self.new.line ≡ self.old.line) }
         ensures of_lines { IfErr result IsOfLines }
     {
@@ -174,7 +174,7 @@ impl Explainer {
         Ok(())
     }
 
-    /// Whether the characters of such a line are passed over; a header ends that.
+    /// Whether a line is passed over; a header ends that.
     fn is_passed_over(&mut self, source: &Source, bytes: &[u8]) -> bool
         ensures none { self.old.resuming.passed ≡ None →
             (result ≡ false) × (self.new ≡ self.old) }
@@ -192,8 +192,8 @@ impl Explainer {
         true
     }
 
-    /// Whether it continues with this line, as with a header: not if something is not shown, since
-    /// what is taken for a header is shown, and may be data.
+    /// Whether it continues with this line, as with a header. It does not if a mask hides
+    /// something: a header is shown, and this one may be data.
     fn may_begin(&self, source: &Source, bytes: &[u8]) -> bool {
         let is_terminals = match source {
             Source::Sign(_, from) => self.reading.sender(*from) == End::Terminal,
@@ -202,8 +202,8 @@ impl Explainer {
         is_terminals && bytes.len() == 5 && !self.teller.mask.hides()
     }
 
-    /// Who sends this character, which comes next.
-    fn sender(&self, source: &Source, byte: u8) -> Result<End, NoTurn>
+    /// Returns who sends the next character.
+    fn sender(&self, source: &Source, byte: u8) -> Result<End, TurnFault>
         ensures { result ≡ source_at source.now self.now.reading (opening_of self.now.preface)
             self.now.listener byte }
     {
@@ -213,34 +213,39 @@ impl Explainer {
         }
     }
 
-    /// Whose turn it is to send this character.
-    fn turn(&self, ways: &Ways, byte: u8) -> Result<End, NoTurn>
+    /// Returns whose turn it is to send the next character.
+    fn turn(&self, ways: &Ways, byte: u8) -> Result<End, TurnFault>
         ensures { result ≡ turn_at ways.now (opening_of self.now.preface) self.now.listener byte }
     {
         let stage = self.preface.stage();
         if stage.has_begun() {
-            turn_within(ways, self.listener.due(), self.listener.under_way(), byte)
+            turn_within(
+                ways,
+                self.listener.expected(),
+                self.listener.under_way(),
+                byte,
+            )
         } else {
             turn_before(stage, self.preface.has_answered(), byte)
         }
     }
 
-    /// Takes a character, with which `rest` of its line begins: of an opening, or of the dialogue,
-    /// or one with which the card answers again. It answers whether it is none of these.
+    /// Takes a character of an opening, of the dialogue, or with which the card answers again.
+    /// Returns true if it is none of these. `rest` is its line from there on.
     fn character(&mut self, from: End, byte: u8, rest: &[u8]) -> Result<bool, AllocError>
-        ensures takes { (events : List Event) (before : List Told) →
+        ensures takes { (events : List Event) (before : List Report) →
             HasExplained events before self.old → IfOk result
             (λ stops. TakesOrStops stops from byte events before self.old self.new) }
         ensures counts { OnOk result (self.new.line ≡ self.old.line) }
     {
-        self.came = true;
+        self.has_characters = true;
         let begun = self.preface.stage().has_begun();
         let opens = self.teller.open(&mut self.preface, from, byte, rest)?;
         if opens {
             return Ok(false);
         }
-        let goes_on = self.teller.hear(&mut self.listener, from, byte)?;
-        if goes_on {
+        let continues = self.teller.hear(&mut self.listener, from, byte)?;
+        if continues {
             return Ok(false);
         }
         if self.answers_again(begun, from, byte) {
@@ -252,8 +257,8 @@ impl Explainer {
         Ok(true)
     }
 
-    /// Whether the card answers again with this character, with which no dialogue continues, where
-    /// one had begun before it.
+    /// Whether the card answers again with this character, which no dialogue expects. `begun`: a
+    /// dialogue had begun before.
     fn answers_again(&self, begun: bool, from: End, byte: u8) -> bool
         ensures { result ≡ (begun && begins_answer from byte
             && (length self.now.listener.under_way.header.items == 0)) }
@@ -261,24 +266,23 @@ impl Explainer {
         begun && begins_answer(from, byte) && self.listener.under_way().is_empty()
     }
 
-    /// Stops at a character of which it can't be known which end sends it, or passes over what
-    /// follows an answer at fault.
-    fn stop_unsent(&mut self, place: usize, why: NoTurn) -> Result<(), ExplainFault>
+    /// Stops at a character with an unknown sender, or passes over what follows an invalid answer.
+    fn stop_unsent(&mut self, place: usize, why: TurnFault) -> Result<(), ExplainFault>
         ensures stopped { self.old.resuming.resumes ≡ false → IsErrAnd result (λ fault. fault
             ≡ ExplainFault.NoTurn self.old.line place why) }
         ensures counts { OnOk result (self.new.line ≡ self.old.line) }
         ensures of_lines { IfErr result IsOfLines }
     {
         let line = self.line;
-        if self.resuming.resumes && why == NoTurn::Answer {
+        if self.resuming.resumes && why == TurnFault::Answer {
             self.resuming.pass(line, place);
             return Ok(());
         }
         Err(ExplainFault::NoTurn { line, place, why })
     }
 
-    /// Tells of a character at this place of a line, with which no dialogue continues, and stops or
-    /// passes over what follows.
+    /// Reports the unexpected character at this place of a line, and stops, or passes over what
+    /// follows.
     fn stop(
         &mut self,
         source: &Source,
@@ -289,9 +293,9 @@ impl Explainer {
         ensures stopped { self.old.resuming.resumes ≡ false → Stopped result (record {
           line = self.old.line;
           place = place;
-          due = due_at self.old.listener.tap;
+          expected = due_at self.old.listener.tap;
           from = from;
-          came = record {
+          received = record {
             byte = get_or bytes.now place 0;
             hides = self.old.teller.mask.hides;
           };
@@ -303,9 +307,9 @@ impl Explainer {
         let complaint = Complaint {
             line: self.line,
             place,
-            due: self.listener.due(),
+            expected: self.listener.expected(),
             from,
-            came: Seen {
+            received: Seen {
                 byte: bytes.get(place).copied().unwrap_or(0),
                 hides: self.teller.mask.hides(),
             },
@@ -327,9 +331,9 @@ impl Explainer {
 
     /// Explains a reset.
     fn reset(&mut self) -> Result<(), AllocError>
-        ensures explained { (events : List Event) (before : List Told) →
+        ensures explained { (events : List Event) (before : List Report) →
             HasExplained events before self.old →
-            OnOk result (ExplainsMore (Reset ∷ []) (record (standing_of self.old) {
+            OnOk result (ExplainsMore (Reset ∷ []) (record (position_of self.old) {
               opening = unopened;
             }) events before self.old self.new) }
         ensures counts { OnOk result (self.new.line ≡ self.old.line) }
@@ -338,7 +342,7 @@ impl Explainer {
         self.teller.reset(&mut self.preface, &mut self.listener)
     }
 
-    /// Explains the next line of a log of TPDUs.
+    /// Explains the next line of a log of whole TPDUs.
     fn log_line(&mut self, line: &[u8]) -> Result<(), ExplainFault>
         ensures counts { OnOk result (self.new.line ≡ next_line self.old) }
         ensures of_lines { IfErr result IsOfLines }
@@ -347,41 +351,41 @@ impl Explainer {
         self.teller.pass(self.line, time_of(line))?;
         let mut logged = Vec::new(self.alloc);
         let taken = self.log.take(line, &mut logged);
-        self.came = self.came || self.log.has_come();
+        self.has_characters = self.has_characters || self.log.has_begun();
         self.teller.tell_logged(logged.as_slice(), line)?;
         match taken {
             Ok(()) => Ok(()),
-            Err(BadLine::OutOfMemory) => Err(ExplainFault::OutOfMemory),
+            Err(LineFault::OutOfMemory) => Err(ExplainFault::OutOfMemory),
             Err(_) => Err(ExplainFault::BadHex { line: self.line }),
         }
     }
 
-    /// Whether all of it was a dialogue, in which some character came.
+    /// Returns an error unless all of it was dialogues and some line has a character.
     pub fn outcome(&self) -> Result<(), ExplainFault>
-        ensures came { OnOk result (self.now.came ≡ true) }
-        ensures ended { IfErr result (λ fault. IsOfEnd fault self.now.came) }
+        ensures has_characters { OnOk result (self.now.has_characters ≡ true) }
+        ensures ended { IfErr result (λ fault. IsOfEnd fault self.now.has_characters) }
     {
         let complaints = self.teller.counts.complaints();
         if let Some((line, why)) = self.teller.first_bad {
-            return Err(ExplainFault::BadExchanges {
+            return Err(ExplainFault::BadPairs {
                 complaints,
                 line,
                 why,
             });
         }
         match self.resuming.first {
-            None if self.came => Ok(()),
+            None if self.has_characters => Ok(()),
             None => Err(ExplainFault::NoCharacters),
             Some(first) => Err(ExplainFault::Resumed { complaints, first }),
         }
     }
 
-    /// Explains what is under way where the trace ends, and adds the last block; nothing if memory
-    /// ran out before.
+    /// Explains what the end of the trace cuts off, and writes the last block. Does nothing if
+    /// memory ran out before.
     pub fn end(&mut self) -> Result<(), AllocError>
-        ensures stands { OnOk result (standing_of self.new ≡ standing_of self.old) }
+        ensures position { OnOk result (position_of self.new ≡ position_of self.old) }
         ensures adds { self.old.reading.of_tpdus ≡ false → OnOk result (AddsBoxes
-            (ended_by (told_by self.old.listener.under_way)) self.old.teller self.new.teller) }
+            (ended_by (report_of self.old.listener.under_way)) self.old.teller self.new.teller) }
     {
         if self.teller.output.outcome().is_err() {
             return Ok(());
@@ -393,9 +397,9 @@ impl Explainer {
         self.teller.end(&self.preface, &mut self.listener)
     }
 
-    /// Tells what is open where a log ends, and adds the last block.
+    /// Explains what the end of a log cuts off, and writes the last block.
     fn end_log(&mut self) -> Result<(), AllocError>
-        ensures { OnOk result (standing_of self.new ≡ standing_of self.old) }
+        ensures { OnOk result (position_of self.new ≡ position_of self.old) }
     {
         let mut logged = Vec::new(self.alloc);
         self.log.end(&mut logged)?;
@@ -404,15 +408,15 @@ impl Explainer {
     }
 }
 
-/// The fault of a line with this number that is refused for this.
-fn refused(line: u64, why: BadLine) -> ExplainFault
+/// Returns the fault of a refused line.
+fn refused(line: u64, why: LineFault) -> ExplainFault
     ensures { result ≡ refused line why }
 {
     match why {
-        BadLine::Hex => ExplainFault::BadHex { line },
-        BadLine::OtherForm(form) => ExplainFault::OtherForm { line, form },
-        BadLine::NoSign => ExplainFault::NoSign { line },
-        BadLine::Signed => ExplainFault::Signed { line },
-        BadLine::OutOfMemory => ExplainFault::OutOfMemory,
+        LineFault::Hex => ExplainFault::BadHex { line },
+        LineFault::OtherForm(form) => ExplainFault::OtherForm { line, form },
+        LineFault::NoSign => ExplainFault::NoSign { line },
+        LineFault::Signed => ExplainFault::Signed { line },
+        LineFault::OutOfMemory => ExplainFault::OutOfMemory,
     }
 }

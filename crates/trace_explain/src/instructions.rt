@@ -14,7 +14,7 @@ use t0_core::Direction::{FromCard, ToCard};
 /// The class of a SIM card.
 pub const SIM_CLASS: u8 = 0xA0;
 
-/// What P1 and P2 of a command say (ISO/IEC 7816-4, 7).
+/// What P1 and P2 of a command mean (ISO/IEC 7816-4, 7).
 #[derive(Clone, Copy)]
 pub enum Parts {
     /// What is selected, and which of several.
@@ -31,11 +31,11 @@ pub enum Parts {
     Channel,
     /// Which cryptogram is asked for.
     Cryptogram,
-    /// Nothing that the program knows.
+    /// Something that the program does not show.
     Others,
 }
 
-/// What an instruction is called, which way its data go if it has any, and what P1 and P2 say.
+/// The name of an instruction, which way its data go if it has any, and what P1 and P2 mean.
 pub type Instruction = (&'static str, Direction, Parts);
 
 /// Returns the instruction of a class; `None` if the program does not know it.
@@ -60,8 +60,8 @@ fn of_class(cla: u8, ins: u8) -> Option<Instruction>
     }
 }
 
-/// The instructions of ISO/IEC 7816-4 (7, and table 4 for those of its other parts). One with an
-/// odd INS that reads sends which part it wants.
+/// Returns an instruction of ISO/IEC 7816-4 (7, and table 4 for its other parts). With an odd INS
+/// the terminal also sends data to read: they name the part that it wants.
 fn interindustry(ins: u8) -> Option<Instruction>
     ensures { way_in result ≡ interindustry ins }
 {
@@ -121,7 +121,7 @@ fn interindustry(ins: u8) -> Option<Instruction>
     })
 }
 
-/// The instructions of EMV's own classes `80` to `8F` (EMV 4.3, Book 3, 6.3.2).
+/// Returns an instruction of EMV's classes `80` to `8F` (EMV 4.3, Book 3, 6.3.2).
 fn payment(ins: u8) -> Option<Instruction>
     ensures { way_in result ≡ payment ins }
 {
@@ -136,7 +136,7 @@ fn payment(ins: u8) -> Option<Instruction>
     })
 }
 
-/// The instructions of a SIM card's class `A0` (3GPP TS 51.011, 9.2).
+/// Returns an instruction of a SIM card's class `A0` (3GPP TS 51.011, 9.2).
 fn sim(ins: u8) -> Option<Instruction>
     ensures { way_in result ≡ sim ins }
 {
@@ -165,7 +165,7 @@ fn sim(ins: u8) -> Option<Instruction>
     })
 }
 
-/// The instructions of ISO/IEC 7816-4 that the program takes for the same in each class (profile).
+/// Returns an instruction of ISO/IEC 7816-4 that the program reads alike in every class (profile).
 fn everywhere(ins: u8) -> Option<Instruction>
     ensures { way_in result ≡ everywhere ins }
 {
@@ -183,22 +183,22 @@ pub fn is_interindustry(header: Header) -> bool {
     header.cla & 0x80 == 0
 }
 
-/// Whether the data of a command are secret, or may be: VERIFY, CHANGE REFERENCE DATA, DISABLE and
-/// ENABLE VERIFICATION REQUIREMENT, RESET RETRY COUNTER, in any class.
+/// Whether the data of a command may be secret: VERIFY, CHANGE REFERENCE DATA, DISABLE and ENABLE
+/// VERIFICATION REQUIREMENT, RESET RETRY COUNTER, in any class.
 pub fn is_secret(ins: u8) -> bool
     ensures { result ≡ is_secret ins }
 {
     matches!(ins, 0x20 | 0x21 | 0x24 | 0x25 | 0x26 | 0x28 | 0x2C | 0x2D)
 }
 
-/// Whether `63CX` counts the tries that are left after such a command: those of reference data, and
+/// Whether `63CX` counts the remaining tries after such a command: one of reference data, or
 /// EXTERNAL AUTHENTICATE.
 pub fn counts_tries(header: Header) -> bool {
     is_interindustry(header) && (is_secret(header.ins) || header.ins == 0x82)
 }
 
-/// Whether data of the terminal may be objects: not a name or a path, nor reference data, unless
-/// bit 1 of INS says that they are objects (ISO/IEC 7816-4, 5.4.2, 7.1.1 and 7.5.6 to 7.5.10).
+/// Whether the terminal's data may be objects: not a name or a path, nor reference data, unless bit
+/// 1 of INS is set (ISO/IEC 7816-4, 5.4.2, 7.1.1 and 7.5.6 to 7.5.10).
 pub fn may_have_objects(ins: u8) -> bool {
     ins != 0xA4 && (ins & 1 == 1 || !is_secret(ins))
 }

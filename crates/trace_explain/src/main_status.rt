@@ -5,7 +5,7 @@ ghost use Rattle.trace_explain.specs.Trace.{status_of};
 use crate::command_line::{Request, parsed};
 use crate::describe::mask::Mask;
 use crate::diff::diff;
-use crate::diff_fault::{DiffFault, Which};
+use crate::diff_fault::DiffFault;
 use crate::explain::explain;
 use crate::explain_fault::ExplainFault;
 use crate::help;
@@ -61,7 +61,7 @@ fn carried_out<D: Files, R: Read, W: Write, F: Write>(
         Some(paths) => {
             match diff_files(alloc, mask, resumes, reading, files, paths, output) {
                 Ok(alike) => u8::from(!alike),
-                Err(fault) => told(&fault, faults),
+                Err(fault) => print_fault(&fault, faults),
             }
         }
         None => status(
@@ -82,16 +82,16 @@ fn diff_files<D: Files, W: Write>(
     output: &mut W,
 ) -> Result<bool, DiffFault> {
     let (path_a, path_b) = paths;
-    let mut a = opened(files, path_a, Which::A)?;
-    let mut b = opened(files, path_b, Which::B)?;
+    let mut a = opened(files, path_a, "A")?;
+    let mut b = opened(files, path_b, "B")?;
     diff(alloc, mask, resumes, reading, (&mut a, &mut b), output)
 }
 
 /// The file that has a trace.
-fn opened<D: Files>(files: &D, path: &str, which: Which) -> Result<D::File, DiffFault> {
+fn opened<D: Files>(files: &D, path: &str, name: &'static str) -> Result<D::File, DiffFault> {
     match File::open(files, path) {
         Ok(file) => Ok(file),
-        Err(_) => Err(DiffFault::Open(which)),
+        Err(_) => Err(DiffFault::Open(name)),
     }
 }
 
@@ -101,7 +101,7 @@ fn answered<W: Write, F: Write>(error: &Error, output: &mut W, faults: &mut F) -
     ensures status { result ≤ 2 }
 {
     match error.kind() {
-        ErrorKind::OutOfMemory => told(&ExplainFault::OutOfMemory, faults),
+        ErrorKind::OutOfMemory => print_fault(&ExplainFault::OutOfMemory, faults),
         ErrorKind::DisplayHelp | ErrorKind::DisplayVersion => status(&shown(error, output), faults),
         _ => {
             let _ = faults.write_fmt(error);
@@ -126,12 +126,12 @@ fn status<F: Write>(outcome: &Result<(), ExplainFault>, faults: &mut F) -> u8
 {
     match outcome {
         Ok(()) | Err(ExplainFault::Closed) => 0,
-        Err(fault) => told(fault, faults),
+        Err(fault) => print_fault(fault, faults),
     }
 }
 
 /// Tells a fault on `faults` in one line, and answers its status.
-fn told<E: fmt::Display, F: Write>(fault: &E, faults: &mut F) -> u8
+fn print_fault<E: fmt::Display, F: Write>(fault: &E, faults: &mut F) -> u8
     ensures { result ≡ 1 }
 {
     let _ = faults.writeln(fault);
@@ -144,7 +144,7 @@ pub fn status_without_words<F: Write>(error: &io::Error, faults: &mut F) -> u8
     ensures status { result ≤ 2 }
 {
     match error.kind() {
-        io::ErrorKind::OutOfMemory => told(&ExplainFault::OutOfMemory, faults),
+        io::ErrorKind::OutOfMemory => print_fault(&ExplainFault::OutOfMemory, faults),
         _ => {
             let _ = faults.write_all(help::NO_UTF_8.as_bytes());
             2

@@ -1,4 +1,4 @@
-//! What a line says: characters, a reset or a note; of a log a command or an answer.
+//! Reads one line: of a trace characters, a reset or a note; of a log a command or an answer.
 pub mod digits;
 pub mod form;
 pub mod log;

@@ -1,4 +1,4 @@
-//! What `--resume` passes over, after a character with which no dialogue goes on.
+//! What `--resume` passes over after an unexpected character.
 
 ghost use Rattle.std.specs.Prelude.{◌≡◌, None};
 
@@ -7,27 +7,27 @@ use crate::describe::complaint::Complaint;
 /// Lines whose characters are passed over.
 #[derive(Clone, Copy)]
 pub struct Passed {
-    /// The line of the character behind which they are, counted from 1.
+    /// The line of the unexpected character, counted from 1.
     pub line: u64,
     /// Its place in the line, counted from 0.
     pub place: usize,
-    /// The last line of which characters are passed over.
+    /// The last line that is passed over.
     pub last: u64,
 }
 
-/// Whether an explanation goes on after a complaint, and what it passes over now.
+/// Whether an explanation continues after a protocol error, and what it passes over now.
 #[derive(Drop)]
 pub struct Resuming {
-    /// Whether it does.
+    /// Whether it continues.
     pub resumes: bool,
-    /// What is passed over now, if anything is.
+    /// The lines that it passes over now.
     pub passed: Option<Passed>,
-    /// The first complaint after which it went on.
+    /// The first protocol error after which it continued.
     pub first: Option<Complaint>,
 }
 
 impl Resuming {
-    /// Nothing is passed over.
+    /// Passes over nothing yet.
     pub fn new(resumes: bool) -> Resuming
         ensures resumes { result.resumes ≡ resumes }
         ensures none { result.passed ≡ None }
@@ -39,13 +39,13 @@ impl Resuming {
         }
     }
 
-    /// Passes over what follows from this place of a line on.
+    /// Passes over what follows this place of a line.
     pub fn pass(&mut self, line: u64, place: usize) {
         let last = line;
         self.passed = Some(Passed { line, place, last });
     }
 
-    /// Passes over nothing more, and gives what was.
+    /// Ends that, and returns what was passed over.
     pub fn end(&mut self) -> Option<Passed>
         ensures resumes { self.new.resumes ≡ self.old.resumes }
         ensures none { self.new.passed ≡ None }

@@ -44,7 +44,7 @@ pub struct Clock {
     /// How long that is behind the one before it.
     since: Option<u64>,
     /// The time of the last line of characters that had one.
-    heard: Option<Moment>,
+    counted: Option<Moment>,
     /// How long it is from the first of these lines to the last, where that is known.
     whole: Option<u64>,
     /// Whether a TPDU has begun in the last line.
@@ -60,7 +60,7 @@ impl Clock {
             shown: Vec::new(alloc),
             began: None,
             since: None,
-            heard: None,
+            counted: None,
             whole: Some(0),
             has_begun: false,
         }
@@ -78,14 +78,14 @@ impl Clock {
     }
 
     /// The last line has characters that are heard. Once a TPDU has begun in it, it counts no more.
-    pub fn hear(&mut self) {
+    pub fn count(&mut self) {
         if self.text.is_empty() || self.has_begun {
             return;
         }
-        if self.heard.is_some() {
-            self.whole = sum(self.whole, span(self.heard, self.now));
+        if self.counted.is_some() {
+            self.whole = sum(self.whole, span(self.counted, self.now));
         }
-        self.heard = self.now;
+        self.counted = self.now;
     }
 
     /// A TPDU begins in the last line. Of a second one there it is not known how long after the
@@ -123,7 +123,7 @@ impl Clock {
     /// Adds how long it is from the first line of characters with a time to the last: nothing,
     /// where none has one.
     pub fn push_whole(&self, text: &mut Sheet) {
-        if self.heard.is_none() {
+        if self.counted.is_none() {
             return;
         }
         match self.whole {

@@ -35,11 +35,11 @@ pub struct Complaint {
     /// The character's place in the line, counted from 0.
     pub place: usize,
     /// What a dialogue goes on with.
-    pub due: Due,
+    pub expected: Due,
     /// Who sent the character.
     pub from: End,
     /// The character.
-    pub came: Seen,
+    pub received: Seen,
     /// Whether no sign says so, and no answer to reset, line `reset` or whole TPDU came before it.
     pub is_astray: bool,
 }
@@ -48,8 +48,8 @@ impl fmt::Display for Complaint {
     fn fmt<W: fmt::Write>(&self, f: &mut fmt::Formatter<W>) -> fmt::Result {
         let line = self.line;
         let character = self.place.saturating_add(1);
-        let due = due_text(self.due);
-        let came = self.came;
+        let due = expected_text(self.expected);
+        let came = self.received;
         let from = end_text(self.from);
         let (or, astray) = if self.is_astray {
             ("; ", ASTRAY)
@@ -65,7 +65,7 @@ impl fmt::Display for Complaint {
 }
 
 /// What a dialogue goes on with, in words.
-pub fn due_text(due: Due) -> &'static str {
+pub fn expected_text(due: Due) -> &'static str {
     match due {
         Due::Header => "a character of a header",
         Due::Procedure => "a procedure byte or SW1 of the card",

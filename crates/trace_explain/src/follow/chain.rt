@@ -4,31 +4,31 @@ use crate::follow::links::Link;
 use apdu_core::Header;
 use std::alloc::{AllocError, Global};
 
-/// The least bytes of a value that is not told as a whole (this project's profile): a hostile
-/// trace can't make the program hold more.
+/// A value of this many bytes or more is not shown as a whole (profile): so a hostile trace can't
+/// fill the memory.
 pub const VALUE_LIMIT: usize = 65_536;
 
 /// Bit 5 of CLA: more commands of the chain follow.
 const MORE: u8 = 0x10;
 
-/// Bit 8 of CLA: a class of its own, where bit 5 says nothing of chains.
+/// Bit 8 of CLA: a proprietary class, in which bit 5 has nothing to do with chains.
 const PROPRIETARY: u8 = 0x80;
 
-/// The chain that is pending, if one is, as the characters show it.
+/// The pending chain, if there is one, as a listener reads it.
 #[derive(Drop)]
-pub struct ChainHeard {
+pub struct PendingChain {
     pending: Option<Header>,
     pieces: u64,
-    /// Whether each piece was heard whole.
+    /// Whether all bytes of each piece were received.
     pub is_whole: bool,
-    /// The bytes of the pieces: the first of them, if they are `VALUE_LIMIT` or more.
+    /// The bytes of the pieces; only the first of them from `VALUE_LIMIT` on.
     pub value: Vec<u8>,
 }
 
-impl ChainHeard {
-    /// None is pending.
-    pub fn new(alloc: Global) -> ChainHeard {
-        ChainHeard {
+impl PendingChain {
+    /// Starts without a chain.
+    pub fn new(alloc: Global) -> PendingChain {
+        PendingChain {
             pending: None,
             pieces: 0,
             is_whole: true,
@@ -49,22 +49,22 @@ impl ChainHeard {
         self.value.clear();
     }
 
-    /// Some of what came was not heard, so that pieces of the chain may lack.
+    /// Notes that characters were missed, so pieces may be missing.
     pub fn lose_some(&mut self) {
         self.is_whole = false;
     }
 
-    /// Whether a command with this header goes on with the chain that is pending.
-    pub fn goes_on_with(&self, header: Header) -> bool {
+    /// Whether a command with this header continues the pending chain.
+    pub fn continues_with(&self, header: Header) -> bool {
         self.pending == Some(as_last(header))
     }
 
-    /// Which piece a command with this header is, if it goes on with the chain or begins one.
+    /// Returns which piece a command with this header is, if it continues the chain or begins one.
     pub fn link_of(&self, header: Header) -> Link {
-        let goes_on = self.goes_on_with(header);
-        let before = if goes_on { self.pieces } else { 0 };
+        let continues = self.continues_with(header);
+        let before = if continues { self.pieces } else { 0 };
         let number = before.saturating_add(1);
-        match (goes_on, has_more(header)) {
+        match (continues, has_more(header)) {
             (false, false) => Link::None,
             (true, true) if !self.is_whole => Link::LaterPiece,
             (true, false) if !self.is_whole => Link::LastOfLater,
@@ -73,18 +73,23 @@ impl ChainHeard {
         }
     }
 
-    /// Takes a command that goes on with the chain, or begins one; `has_come` says whether all its
-    /// data have come.
-    pub fn take(&mut self, header: Header, piece: &[u8], has_come: bool) -> Result<(), AllocError> {
-        let goes_on = self.goes_on_with(header);
-        if !goes_on {
+    /// Takes a command that continues the chain or begins one. `is_complete`: all its data were
+    /// received.
+    pub fn take(
+        &mut self,
+        header: Header,
+        piece: &[u8],
+        is_complete: bool,
+    ) -> Result<(), AllocError> {
+        let continues = self.continues_with(header);
+        if !continues {
             self.drop_all();
         }
-        if !goes_on && !has_more(header) {
+        if !continues && !has_more(header) {
             return Ok(());
         }
         self.pieces = self.pieces.saturating_add(1);
-        self.is_whole = self.is_whole && has_come;
+        self.is_whole = self.is_whole && is_complete;
         if self.value.len() < VALUE_LIMIT {
             self.value.extend_from_slice(piece)?;
         }
@@ -93,7 +98,7 @@ impl ChainHeard {
     }
 }
 
-/// The header without the bit that says that more follow.
+/// Returns the header without the bit for more commands.
 fn as_last(header: Header) -> Header {
     Header {
         cla: header.cla & !MORE,
@@ -101,7 +106,7 @@ fn as_last(header: Header) -> Header {
     }
 }
 
-/// Whether the header says that more commands of the chain follow.
+/// Whether more commands of the chain follow this header.
 fn has_more(header: Header) -> bool {
     header.cla & PROPRIETARY == 0 && header.cla & MORE != 0
 }

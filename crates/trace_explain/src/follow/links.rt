@@ -1,32 +1,32 @@
-//! What a TPDU is among those before it: a piece, a part, or a command once more.
+//! How a TPDU is linked to those before it: as a piece, a part, or a command that is sent again.
 
 use apdu_core::Header;
 
-/// How a command goes on with those before it.
+/// How a command continues those before it.
 #[derive(Clone, Copy, PartialEq, Eq)]
 pub enum Link {
-    /// It stands alone.
+    /// Not at all.
     None,
-    /// The one before it, which was answered `6CXX`, with this many bytes asked for.
+    /// It repeats the one before it, whose status was `6CXX`, for this many bytes.
     AskedAgain(u16),
-    /// A GET RESPONSE after a status that announces data, for this many bytes, the first.
+    /// The first GET RESPONSE after a status that announces data, for this many bytes.
     Fetches(u16),
-    /// The same where others have come.
+    /// A later GET RESPONSE, for this many bytes.
     FetchesMore(u16),
-    /// The piece of this number of a chain, which goes on.
+    /// The piece with this number of a chain that continues.
     Piece(u64),
-    /// The piece of this number of a chain, which is its last.
+    /// The last piece of a chain, with this number.
     LastPiece(u64),
-    /// A piece of a chain of which some were not heard, and which goes on.
+    /// A piece of a chain that continues, some pieces of which were missed.
     LaterPiece,
     /// The last piece of such a chain.
     LastOfLater,
 }
 
-/// What has come together with a TPDU.
+/// What is complete with a TPDU.
 #[derive(Clone, Copy)]
 pub enum Whole {
-    /// Nothing, or all of it in this TPDU.
+    /// Nothing, or something that is in this TPDU alone.
     None,
     /// A response, in this many parts.
     Response(u64),
@@ -34,23 +34,23 @@ pub enum Whole {
     Value(u64),
 }
 
-/// What a TPDU is among the others.
+/// How a TPDU is linked to the others.
 #[derive(Clone, Copy)]
 pub struct Links {
     /// The number of the TPDU, counted from 1.
     pub number: u64,
-    /// How it goes on with those before it.
+    /// How it continues those before it.
     pub link: Link,
-    /// A chain was pending, and it does not go on with it.
+    /// It does not continue the chain that was pending, which is dropped.
     pub drops_before: bool,
     /// It is of a chain, and its status drops that.
     pub drops_after: bool,
-    /// What has come together with it.
+    /// What is complete with it.
     pub whole: Whole,
-    /// The command whose response its data are, if they are the card's.
+    /// The command whose response the card's data are.
     pub asker: Option<Header>,
-    /// Others of its data came before, as those of a chain or of a response in parts.
-    pub goes_on: bool,
-    /// The same of the data of the card that came beside those of the terminal.
-    pub answer_goes_on: bool,
+    /// Its data continue those of earlier TPDUs: of a chain, or of a response in parts.
+    pub continues: bool,
+    /// The same for the card's data beside the terminal's.
+    pub answer_continues: bool,
 }

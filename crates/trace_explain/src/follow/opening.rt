@@ -1,5 +1,5 @@
-//! What a character is before the dialogue has begun: of an answer to reset, of a PPS exchange, or
-//! of neither.
+//! What a character is before the dialogue: part of an answer to reset, of a PPS exchange, or of
+//! neither.
 ghost use Rattle.std.specs.Prelude.{◌≡◌};
 ghost use Rattle.atr_core.specs.FirstFault.{first_fault};
 ghost use Rattle.trace_explain.specs.Openings.{after_answer, as_ts, begins_answer, card_role, has_begun, is_dialogue, is_direct, is_full, is_short, role_at, terminal_role, turned_by};
@@ -13,21 +13,20 @@ pub const PPSS: u8 = 0xFF;
 /// TS of the inverse convention as a receiver of the direct one reads it (ISO/IEC 7816-3, 8.1).
 const TURNED_TS: u8 = 0x03;
 
-/// How far the characters are that came since the trace began or the card was reset.
+/// Where the characters are that followed the beginning of the trace or the last reset.
 #[derive(Clone, Copy)]
 pub enum Stage {
-    /// An answer may begin: nothing has come, or an answer or a response is over.
+    /// An answer may begin: nothing was received, or an answer or a response has ended.
     Ready,
-    /// An answer is under way.
+    /// An answer has started.
     Answer,
-    /// Characters of the card have come that are none of an answer, or of one behind its first
-    /// fault.
+    /// The card sent characters that are not part of an answer, or follow its first fault.
     Astray,
-    /// A PPS request is under way.
+    /// A PPS request has started.
     Request,
-    /// The response to it is due.
+    /// The response to it is next.
     Asked,
-    /// The response is under way.
+    /// The response has started.
     Response,
     /// The dialogue has begun.
     Begun,
@@ -36,27 +35,27 @@ pub enum Stage {
 /// What a character is.
 #[derive(Clone, Copy, PartialEq, Eq)]
 pub enum Role {
-    /// TS of an answer, which is turned by this convention.
+    /// TS of an answer whose characters this convention turns.
     Ts(Convention),
     /// Another character of an answer.
     Answer,
-    /// The first of a PPS request.
+    /// The first character of a PPS request.
     RequestPpss,
-    /// Another one of a request.
+    /// Another character of a request.
     Request,
-    /// The first of the response.
+    /// The first character of a response.
     ResponsePpss,
-    /// Another one of a response.
+    /// Another character of a response.
     Response,
     /// The card's, and none of these.
     Stray,
-    /// The dialogue's.
+    /// Part of the dialogue.
     Dialogue,
 }
 
 impl Role {
-    /// Whether a part that is under way goes on with it.
-    pub fn goes_on(self) -> bool {
+    /// Whether it continues a part that has started.
+    pub fn continues(self) -> bool {
         matches!(
             self,
             Role::Answer | Role::Request | Role::ResponsePpss | Role::Response
@@ -91,7 +90,7 @@ impl Stage {
     }
 }
 
-/// What a character of this end is; `may_ask` says whether PPS may be asked for.
+/// Returns what a character of this end is. `may_ask`: the terminal may ask by PPS.
 pub fn role_at(stage: Stage, may_ask: bool, from: End, byte: u8) -> Role
     ensures { result ≡ role_at stage may_ask from byte }
 {
@@ -101,7 +100,7 @@ pub fn role_at(stage: Stage, may_ask: bool, from: End, byte: u8) -> Role
     }
 }
 
-/// What a character of the card is.
+/// Returns what a character of the card is.
 fn card_role(stage: Stage, byte: u8) -> Role
     ensures { result ≡ card_role stage byte }
 {
@@ -115,7 +114,7 @@ fn card_role(stage: Stage, byte: u8) -> Role
     }
 }
 
-/// What a character of the terminal is.
+/// Returns what a character of the terminal is.
 fn terminal_role(stage: Stage, may_ask: bool, byte: u8) -> Role
     ensures { result ≡ terminal_role stage may_ask byte }
 {
@@ -127,7 +126,7 @@ fn terminal_role(stage: Stage, may_ask: bool, byte: u8) -> Role
     }
 }
 
-/// A character of the card where an answer may begin.
+/// Returns what a character of the card is where an answer may begin.
 fn as_ts(byte: u8) -> Role
     ensures { result ≡ as_ts (turned_by byte) }
 {
@@ -137,7 +136,7 @@ fn as_ts(byte: u8) -> Role
     }
 }
 
-/// How an answer that begins with this character is turned.
+/// Returns how the characters of an answer are turned that begins with this one.
 pub fn turned_by(byte: u8) -> Option<Convention>
     ensures { result ≡ turned_by byte }
 {
@@ -160,7 +159,7 @@ pub fn begins_answer(from: End, byte: u8) -> bool
     }
 }
 
-/// Whether what is read by this convention is read as it is meant.
+/// Whether characters of this convention need no turning.
 pub fn is_direct(turned: Convention) -> bool
     ensures { result ≡ is_direct turned }
 {
@@ -170,14 +169,14 @@ pub fn is_direct(turned: Convention) -> bool
     }
 }
 
-/// How far it is behind these characters of an answer.
+/// Returns the stage after these characters of an answer.
 pub fn after_answer(bytes: &[u8]) -> Stage
     ensures { result ≡ after_answer (first_fault bytes.now) }
 {
     after_reading(Atr::read(bytes).err())
 }
 
-/// How far it is where an answer so far has this fault, or none.
+/// Returns the stage of an answer with this first fault, or without one.
 fn after_reading(fault: Option<AtrFault>) -> Stage
     ensures { result ≡ after_answer fault }
 {
@@ -193,7 +192,7 @@ fn after_reading(fault: Option<AtrFault>) -> Stage
     }
 }
 
-/// Whether an answer with this fault wants nothing but more characters.
+/// Whether the only fault is that characters are missing.
 pub fn is_short(reason: Reason) -> bool
     ensures { result ≡ is_short reason }
 {
@@ -203,7 +202,7 @@ pub fn is_short(reason: Reason) -> bool
     }
 }
 
-/// Whether a request or response has as many characters as it says.
+/// Whether a request or response has as many characters as it announces.
 pub fn is_full(bytes: &[u8]) -> bool
     ensures { result ≡ is_full bytes.now }
 {

@@ -1,6 +1,6 @@
-//! What comes before a dialogue: the card's answer to reset, and PPS exchanges.
+//! What precedes a dialogue: the card's answer to reset, and PPS exchanges.
 ghost use Rattle.std.specs.Prelude.{◌≡◌, if◌then◌else◌, OnOk};
-ghost use Rattle.trace_explain.specs.Openings.{has_answered, is_full, opening_of, opens, role_of, standing_in, unopened};
+ghost use Rattle.trace_explain.specs.Openings.{has_answered, is_full, opening_of, opens, role_of, opening_at, unopened};
 
 use crate::follow::opening::{Role, Stage, after_answer, is_direct, is_full, role_at};
 use crate::read::digits::push;
@@ -8,19 +8,25 @@ use atr_core::Convention;
 use std::alloc::{AllocError, Global};
 use t0_core::End;
 
-/// What has come since the trace began or the card was reset, until the dialogue begins.
+/// The characters since the trace began or the card was reset, up to the dialogue.
 #[derive(Drop)]
 pub struct Preface {
     stage: Stage,
-    turned: Convention,
-    answer: Vec<u8>,
-    request: Vec<u8>,
-    response: Vec<u8>,
-    line: u64,
+    /// What turned the answer's characters: the inverse convention if a receiver of the direct one
+    /// read an answer of the inverse one.
+    pub turned: Convention,
+    /// The characters of the answer, as the card means them.
+    pub answer: Vec<u8>,
+    /// The characters of the last PPS request.
+    pub request: Vec<u8>,
+    /// The characters of the response to it.
+    pub response: Vec<u8>,
+    /// The line, counted from 1, in which the answer or the last request began.
+    pub line: u64,
 }
 
 impl Preface {
-    /// Nothing has come.
+    /// Starts before the first character.
     pub fn new(alloc: Global) -> Preface
         ensures { opening_of result ≡ unopened }
     {
@@ -34,22 +40,10 @@ impl Preface {
         }
     }
 
-    /// How far it is.
     pub fn stage(&self) -> Stage
         ensures { result ≡ self.now.stage }
     {
         self.stage
-    }
-
-    /// The convention by which the answer's characters were turned: inverse, where they are read by
-    /// the direct one and are of the inverse one.
-    pub fn turned(&self) -> Convention {
-        self.turned
-    }
-
-    /// The characters of the answer, as they are meant.
-    pub fn answer(&self) -> &[u8] {
-        self.answer.as_slice()
     }
 
     /// Whether an answer has begun.
@@ -59,22 +53,7 @@ impl Preface {
         !self.answer.is_empty()
     }
 
-    /// The characters of the last PPS request.
-    pub fn request(&self) -> &[u8] {
-        self.request.as_slice()
-    }
-
-    /// The characters of the response to it.
-    pub fn response(&self) -> &[u8] {
-        self.response.as_slice()
-    }
-
-    /// The line, counted from 1, in which the answer or the last request began.
-    pub fn line(&self) -> u64 {
-        self.line
-    }
-
-    /// What a character is that comes next.
+    /// Returns what the next character is.
     pub fn role_of(&self, from: End, byte: u8) -> Role
         ensures { result ≡ role_of (opening_of self.now) from byte }
     {
@@ -82,7 +61,7 @@ impl Preface {
         role_at(self.stage, may_ask, from, byte)
     }
 
-    /// Takes a character of this line, which is this. The error is want of memory.
+    /// Takes a character of this line, in this role.
     pub fn take(&mut self, role: Role, byte: u8, line: u64) -> Result<(), AllocError>
         ensures { OnOk result (opening_of self.new ≡ opens (opening_of self.old) role byte) }
     {
@@ -131,16 +110,16 @@ impl Preface {
         }
     }
 
-    /// Forgets all, as the card was reset.
+    /// Forgets all characters after a reset.
     pub fn reset(&mut self)
         ensures { opening_of self.new ≡ unopened }
     {
         self.begin(Stage::Ready);
     }
 
-    /// Forgets all characters, and is this far.
+    /// Forgets all characters, and continues at this stage.
     fn begin(&mut self, stage: Stage)
-        ensures { opening_of self.new ≡ standing_in stage }
+        ensures { opening_of self.new ≡ opening_at stage }
     {
         self.stage = stage;
         self.turned = Convention::Direct;
@@ -150,7 +129,7 @@ impl Preface {
     }
 }
 
-/// How far it is if a request or response has these characters: all of it, or part.
+/// Returns the stage after these characters of a request or response: `all` if it is full.
 fn if_full(bytes: &[u8], all: Stage, part: Stage) -> Stage
     ensures { result ≡ (if is_full bytes.now then all else part) }
 {

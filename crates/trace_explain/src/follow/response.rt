@@ -1,16 +1,16 @@
-//! A response that comes in parts (ISO/IEC 7816-3, clause 12).
+//! A response in parts (ISO/IEC 7816-3, clause 12).
 
 use crate::follow::links::Link;
 use crate::instructions::SIM_CLASS;
 use apdu_core::{Header, Status, count};
 use std::alloc::{AllocError, Global};
 
-/// The least bytes of a response that is not told as a whole (this project's profile): a hostile
-/// trace can't make the program hold more.
-pub const UNTOLD_SIZE: usize = 65_536;
+/// A response of this many bytes or more is not shown as a whole (profile): so a hostile trace
+/// can't fill the memory.
+pub const RESPONSE_LIMIT: usize = 65_536;
 
-/// How many bytes of the response wait after this status of a command: `count(XX)` of `61XX`, and
-/// of `9FXX` in the class of a SIM card (3GPP TS 51.011, 9.4.1).
+/// Returns how many bytes wait after this status: `count(XX)` of `61XX`, and of `9FXX` in the class
+/// of a SIM card (3GPP TS 51.011, 9.4.1).
 pub fn waiting(header: Header, status: Status) -> Option<u16> {
     match status.sw1() {
         0x61 => Some(count(status.sw2())),
@@ -23,27 +23,27 @@ pub fn waiting(header: Header, status: Status) -> Option<u16> {
 #[derive(Clone, Copy)]
 enum Asked {
     Nothing,
-    /// `61XX`, or `9FXX` of a SIM card: a GET RESPONSE.
+    /// `61XX`, or `9FXX` of a SIM card: GET RESPONSE.
     Fetch,
     /// `6CXX`: the same header with this P3.
     Again(Header, u8),
 }
 
-/// The response under way, as the characters show it.
+/// The current response, as a listener reads it.
 #[derive(Drop)]
-pub struct ResponseHeard {
+pub struct PendingResponse {
     asked: Asked,
     /// The command that asked for it.
     pub asker: Option<Header>,
     parts: u64,
-    /// The bytes of its parts: the first of them, if they are `UNTOLD_SIZE` or more.
+    /// The bytes of its parts; only the first of them from `RESPONSE_LIMIT` on.
     pub bytes: Vec<u8>,
 }
 
-impl ResponseHeard {
-    /// None has come.
-    pub fn new(alloc: Global) -> ResponseHeard {
-        ResponseHeard {
+impl PendingResponse {
+    /// Starts without a response.
+    pub fn new(alloc: Global) -> PendingResponse {
+        PendingResponse {
             asked: Asked::Nothing,
             asker: None,
             parts: 0,
@@ -51,14 +51,14 @@ impl ResponseHeard {
         }
     }
 
-    /// Begins that of a command with this header.
+    /// Begins the response to a command with this header.
     pub fn begin(&mut self, header: Header) {
         self.drop_all();
         self.asker = Some(header);
     }
 
-    /// Whether some of its data have come.
-    pub fn has_come(&self) -> bool {
+    /// Whether some of its data were received.
+    pub fn has_data(&self) -> bool {
         self.parts > 0
     }
 
@@ -70,7 +70,7 @@ impl ResponseHeard {
         self.bytes.clear();
     }
 
-    /// How a command with this header and P3 goes on with what the last status asked.
+    /// Returns how a command with this header and P3 continues what the last status asked.
     pub fn link_of(&self, header: Header, p3: u8) -> Link {
         match self.asked {
             Asked::Again(other, le) if other == header && le == p3 => Link::AskedAgain(count(p3)),
@@ -85,15 +85,15 @@ impl ResponseHeard {
         if part.is_empty() {
             return Ok(());
         }
-        if self.bytes.len() < UNTOLD_SIZE {
+        if self.bytes.len() < RESPONSE_LIMIT {
             self.bytes.extend_from_slice(part)?;
         }
         self.parts = self.parts.saturating_add(1);
         Ok(())
     }
 
-    /// Ends a command with this header by its status, and says in how many parts the response came,
-    /// where it is over and all of it came: its last status is no error.
+    /// Ends a command by its status. Returns the number of parts if the whole response was received
+    /// and the status is not an error; otherwise 0.
     pub fn end(&mut self, header: Header, status: Status) -> u64 {
         if waiting(header, status).is_some() {
             self.asked = Asked::Fetch;

@@ -1,38 +1,38 @@
-//! What goes over several TPDUs: their numbers, chains, and responses in parts.
+//! What several TPDUs share: their numbers, chains, and responses in parts.
 
 ghost use Rattle.std.specs.Prelude.{◌≡◌, ◌≢◌, length, None, Some, IfOk, IfSome, IsSome};
 ghost use Rattle.trace_explain.specs.Boxes.{HasAsker};
-ghost use Rattle.trace_explain.specs.Told.{IsOfCommand, one_more};
+ghost use Rattle.trace_explain.specs.Reports.{IsOfCommand, one_more};
 
-use crate::follow::chain::{ChainHeard, VALUE_LIMIT};
+use crate::follow::chain::{PendingChain, VALUE_LIMIT};
 use crate::follow::links::{Link, Links, Whole};
-use crate::follow::response::{ResponseHeard, UNTOLD_SIZE};
+use crate::follow::response::{PendingResponse, RESPONSE_LIMIT};
 use crate::follow::tpdu::Tpdu;
 use apdu_core::{Header, Status};
 use std::alloc::{AllocError, Global};
 use t0_core::Direction;
 
-/// What goes over several TPDUs: chains, responses in parts, and their numbers.
+/// What several TPDUs share: their numbers, chains, and responses in parts.
 #[derive(Drop)]
 pub struct Story {
     number: u64,
-    chain: ChainHeard,
-    response: ResponseHeard,
+    chain: PendingChain,
+    response: PendingResponse,
 }
 
 impl Story {
-    /// No TPDU has come.
+    /// Starts before the first TPDU.
     pub fn new(alloc: Global) -> Story
         ensures { result.number ≡ 0 }
     {
         Story {
             number: 0,
-            chain: ChainHeard::new(alloc),
-            response: ResponseHeard::new(alloc),
+            chain: PendingChain::new(alloc),
+            response: PendingResponse::new(alloc),
         }
     }
 
-    /// What this TPDU is among those before it. The error is want of memory.
+    /// Counts a TPDU, and returns how it is linked to those before it.
     pub fn tell(&mut self, tpdu: &Tpdu) -> Result<Links, AllocError>
         ensures next { self.new.number ≡ one_more self.old.number }
         ensures number { IfOk result (λ links. links.number ≡ self.new.number) }
@@ -46,7 +46,7 @@ impl Story {
         }
     }
 
-    /// What this TPDU is, with its header, P3 and status.
+    /// The same for a TPDU with this header, P3 and status.
     fn tell_whole(
         &mut self,
         tpdu: &Tpdu,
@@ -59,7 +59,7 @@ impl Story {
         ensures asker { IfOk result (λ links.
             header.ins ≢ 0xC0 → links.asker ≡ Some header) }
     {
-        let drops_before = self.chain.is_pending() && !self.chain.goes_on_with(header);
+        let drops_before = self.chain.is_pending() && !self.chain.continues_with(header);
         let piece = self.chain.link_of(header);
         let le = le_of(tpdu, p3);
         let links = self.linked(tpdu, header, le);
@@ -77,13 +77,12 @@ impl Story {
         Ok(Links {
             drops_before,
             drops_after,
-            whole: self.come_together(piece, parts),
+            whole: self.completed(piece, parts),
             ..links
         })
     }
 
-    /// How a TPDU with this header, and this P3 or Le, goes on with those before it, and its data
-    /// with theirs.
+    /// Returns how a TPDU and its data continue those before it. `le` is its P3 or Le.
     fn linked(&self, tpdu: &Tpdu, header: Header, le: u8) -> Links
         ensures number { result.number ≡ self.now.number }
         ensures asker { header.ins ≢ 0xC0 → result.asker ≡ Some header }
@@ -93,20 +92,20 @@ impl Story {
             0xC0 if is_asked => self.response.asker,
             _ => Some(header),
         };
-        let answer_goes_on = is_asked && self.response.has_come();
-        let goes_on = match tpdu.way {
-            Some(Direction::FromCard) => answer_goes_on,
-            _ => self.chain.goes_on_with(header),
+        let answer_continues = is_asked && self.response.has_data();
+        let continues = match tpdu.way {
+            Some(Direction::FromCard) => answer_continues,
+            _ => self.chain.continues_with(header),
         };
         Links {
             asker,
-            goes_on,
-            answer_goes_on,
+            continues,
+            answer_continues,
             ..self.with(self.link_of(header, le))
         }
     }
 
-    /// How a command with this header, and this P3 or Le, goes on with those before it.
+    /// Returns how a command with this header, and this P3 or Le, continues those before it.
     fn link_of(&self, header: Header, le: u8) -> Link {
         match self.response.link_of(header, le) {
             Link::None => self.chain.link_of(header),
@@ -114,20 +113,22 @@ impl Story {
         }
     }
 
-    /// What has come together, with this piece or in so many parts.
-    fn come_together(&self, piece: Link, parts: u64) -> Whole {
+    /// Returns what is complete with this piece, or in this many parts.
+    fn completed(&self, piece: Link, parts: u64) -> Whole {
         match piece {
             Link::LastPiece(pieces)
                 if self.chain.is_whole && self.chain.value.len() < VALUE_LIMIT => {
                 Whole::Value(pieces)
             }
-            _ if parts > 1 && self.response.bytes.len() < UNTOLD_SIZE => { Whole::Response(parts) }
+            _ if parts > 1 && self.response.bytes.len() < RESPONSE_LIMIT => {
+                Whole::Response(parts)
+            }
             _ => Whole::None,
         }
     }
 
-    /// Some of what came was not heard: a response under way ends, and of a chain it is not known
-    /// which piece comes next.
+    /// Notes that characters were missed: the current response ends, and the number of the next
+    /// piece of a chain is unknown.
     pub fn lose_some(&mut self)
         ensures { self.new.number ≡ self.old.number }
     {
@@ -135,7 +136,7 @@ impl Story {
         self.chain.lose_some();
     }
 
-    /// A reset came; it answers whether it drops a chain.
+    /// Forgets all after a reset. Returns whether that drops a chain.
     pub fn reset(&mut self) -> bool
         ensures { self.new.number ≡ self.old.number }
     {
@@ -145,7 +146,7 @@ impl Story {
         drops
     }
 
-    /// The bytes of what has come together.
+    /// Returns the bytes of what is complete.
     pub fn whole(&self, whole: Whole) -> &[u8] {
         match whole {
             Whole::None => &[],
@@ -154,7 +155,7 @@ impl Story {
         }
     }
 
-    /// A TPDU that goes on so with those before it, and does nothing else to them.
+    /// Returns the links of a TPDU that only continues others so.
     fn with(&self, link: Link) -> Links
         ensures number { result.number ≡ self.now.number }
         ensures asker { result.asker ≡ None }
@@ -166,13 +167,13 @@ impl Story {
             drops_after: false,
             whole: Whole::None,
             asker: None,
-            goes_on: false,
-            answer_goes_on: false,
+            continues: false,
+            answer_continues: false,
         }
     }
 }
 
-/// The whole header of a TPDU, and P3.
+/// Returns the header of a TPDU and P3, if all of it was received.
 pub fn header_of(tpdu: &Tpdu) -> Option<(Header, u8)>
     ensures header { IfSome result (λ found. IsOfCommand tpdu.now.header.items found.0) }
     ensures whole { length tpdu.now.header.items ≡ 5 → IsSome result }
@@ -191,7 +192,7 @@ pub fn header_of(tpdu: &Tpdu) -> Option<(Header, u8)>
     }
 }
 
-/// The status of a TPDU that is whole.
+/// Returns the status of a whole TPDU.
 pub fn status_of(tpdu: &Tpdu) -> Option<Status> {
     match tpdu.status.as_slice() {
         [sw1, sw2] => Status::new(*sw1, *sw2),
@@ -199,7 +200,7 @@ pub fn status_of(tpdu: &Tpdu) -> Option<Status> {
     }
 }
 
-/// The data that the terminal sent.
+/// Returns the terminal's data.
 pub fn sent(tpdu: &Tpdu) -> &[u8] {
     if tpdu.way == Some(Direction::ToCard) {
         tpdu.moved.as_slice()
@@ -208,7 +209,7 @@ pub fn sent(tpdu: &Tpdu) -> &[u8] {
     }
 }
 
-/// The data that the card sent.
+/// Returns the card's data.
 pub fn brought(tpdu: &Tpdu) -> &[u8] {
     if tpdu.way == Some(Direction::FromCard) {
         tpdu.moved.as_slice()
@@ -217,7 +218,7 @@ pub fn brought(tpdu: &Tpdu) -> &[u8] {
     }
 }
 
-/// What is asked for: Le of a command APDU, and else P3.
+/// Returns how many bytes are asked for: Le of a command APDU, or P3.
 fn le_of(tpdu: &Tpdu, p3: u8) -> u8 {
     tpdu.le.unwrap_or(p3)
 }

@@ -1,10 +1,10 @@
-//! How many procedure bytes of each kind a TPDU had.
+//! The number of procedure bytes of each kind in a TPDU.
 
 ghost use Rattle.std.specs.Prelude.{◌≡◌};
 
 use t0_core::Step;
 
-/// How many procedure bytes of each kind have come, up to the greatest number that it can hold.
+/// The number of procedure bytes of each kind, up to the greatest that fits.
 #[derive(Clone, Copy)]
 pub struct Tally {
     /// NULLs.
@@ -16,16 +16,16 @@ pub struct Tally {
 }
 
 impl Tally {
-    ghost use Rattle.trace_explain.specs.Told.{counted};
+    ghost use Rattle.trace_explain.specs.Reports.{counted};
 
-    /// None has come.
+    /// No procedure byte.
     pub const NONE: Tally = Tally {
         nulls: 0,
         ones: 0,
         alls: 0,
     };
 
-    /// With one more.
+    /// Returns the same with one more.
     pub fn with(self, step: Step) -> Tally
         ensures { result ≡ counted self step }
     {

@@ -1,7 +1,7 @@
 //! What was heard of one TPDU.
 
 ghost use Rattle.std.specs.Prelude.{◌≡◌, ◌==◌, length, true, OnOk};
-ghost use Rattle.trace_explain.specs.Told.{told_by, untold, noted};
+ghost use Rattle.trace_explain.specs.Reports.{report_of, no_report, noted};
 ghost use Rattle.trace_explain.specs.Noted.{AreStatus, are_status, as_ended, bared, is_bare};
 
 use crate::follow::tally::Tally;
@@ -9,29 +9,27 @@ use apdu_core::Status;
 use std::alloc::{AllocError, Global};
 use t0_core::{Direction, Heard};
 
-/// What was heard of a TPDU: all of it, or how far it came.
+/// What was heard of a TPDU: all of it, or its first characters.
 #[derive(Drop)]
 pub struct Tpdu {
-    /// CLA INS P1 P2 P3, as many as have come.
+    /// CLA INS P1 P2 P3, as far as received.
     pub header: Vec<u8>,
-    /// The procedure bytes.
     pub tally: Tally,
-    /// Which way the data went; `None` where there were none.
+    /// Which way the data went; `None` without data.
     pub way: Option<Direction>,
-    /// The data.
     pub moved: Vec<u8>,
-    /// SW1 and SW2, as many as have come.
+    /// SW1 and SW2, as far as received.
     pub status: Vec<u8>,
-    /// Le behind the data of a command APDU, which no TPDU has.
+    /// Le after the data of a command APDU; a TPDU has none.
     pub le: Option<u8>,
-    /// The data of the card that came in one exchange with those of the terminal.
+    /// The card's data beside the terminal's, which a pair may have.
     pub answer: Vec<u8>,
 }
 
 impl Tpdu {
-    /// Nothing of it has come.
+    /// Starts before the first character.
     pub fn new(alloc: Global) -> Tpdu
-        ensures { told_by result ≡ untold }
+        ensures { report_of result ≡ no_report }
     {
         Tpdu {
             header: Vec::new(alloc),
@@ -44,7 +42,7 @@ impl Tpdu {
         }
     }
 
-    /// The same once more. The error is want of memory.
+    /// Returns a copy.
     pub fn copied(&self) -> Result<Tpdu, AllocError> {
         Ok(Tpdu {
             header: self.header.clone()?,
@@ -55,9 +53,9 @@ impl Tpdu {
         })
     }
 
-    /// Notes one more character, which was this. The error is want of memory.
+    /// Notes one more character.
     pub fn note(&mut self, heard: &Heard, byte: u8) -> Result<(), AllocError>
-        ensures { OnOk result (told_by self.new ≡ noted (told_by self.old) heard.now byte) }
+        ensures { OnOk result (report_of self.new ≡ noted (report_of self.old) heard.now byte) }
     {
         match heard {
             Heard::Header => self.header.push(byte)?,
@@ -75,10 +73,10 @@ impl Tpdu {
         Ok(())
     }
 
-    /// Whether P3 is `00`, and INS was followed by two characters that may be a status, and by no
-    /// third one yet: then they are the status of a command without data, if none follows.
+    /// Whether P3 is `00`, and exactly two characters that may be a status follow INS. They are
+    /// then the status of a command without data, unless a third one follows.
     pub fn is_bare(&self) -> bool
-        ensures value { result ≡ is_bare (told_by self.now) }
+        ensures value { result ≡ is_bare (report_of self.now) }
         ensures status { result ≡ true → AreStatus self.now.moved.items }
     {
         self.header.get(4).copied().unwrap_or(0) == 0
@@ -87,9 +85,9 @@ impl Tpdu {
             && are_status(self.moved.as_slice())
     }
 
-    /// The same, where the two were the status.
+    /// Returns the same with these two as its status.
     pub fn bared(self) -> Tpdu
-        ensures { told_by result ≡ bared (told_by self) }
+        ensures { report_of result ≡ bared (report_of self) }
     {
         let mut none = self.status;
         none.clear();
@@ -104,15 +102,15 @@ impl Tpdu {
         }
     }
 
-    /// The same where it goes on no more: whole, if its data were its status.
+    /// Returns what it is once no more characters follow: whole, if its data were its status.
     pub fn as_ended(self) -> Tpdu
-        ensures value { told_by result ≡ as_ended (told_by self) }
-        ensures status { is_bare (told_by self) ≡ true → AreStatus self.moved.items }
+        ensures value { report_of result ≡ as_ended (report_of self) }
+        ensures status { is_bare (report_of self) ≡ true → AreStatus self.moved.items }
     {
         if self.is_bare() { self.bared() } else { self }
     }
 
-    /// Whether nothing of it has come.
+    /// Whether nothing of it was received.
     pub fn is_empty(&self) -> bool
         ensures { result ≡ (length self.now.header.items == 0) }
     {

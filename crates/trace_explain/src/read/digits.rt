@@ -3,12 +3,16 @@ ghost use Rattle.std.specs.Prelude.{◌≡◌, ◌++◌, ◌∷◌, [], IfOk, If
 ghost use Rattle.hex.specs.Hex.{hex_digit_value};
 ghost use Rattle.trace_explain.specs.Lines.{AreBadDigits, byte_of, bytes_in, is_digits};
 
-use crate::read::trace_line::BadLine;
+use crate::read::trace_line::LineFault;
 use std::alloc::{AllocError, Global};
 
-/// Returns the bytes that digits say: two digits each, in either case, with any number of spaces
-/// before and behind them. `Hex` for anything else.
-pub fn bytes_of(alloc: Global, digits: &[u8]) -> Result<Vec<u8>, BadLine>
+/// Returns the bytes that digits spell: two digits each, in either case, with any number of spaces
+/// between bytes.
+///
+/// # Errors
+///
+/// - `Hex`: `digits` contains anything else.
+pub fn bytes_of(alloc: Global, digits: &[u8]) -> Result<Vec<u8>, LineFault>
     ensures says { IfOk result (λ bytes. bytes_in digits.now ≡ Some bytes.items) }
     ensures refused { IfErr result (λ why. AreBadDigits why digits.now) }
 {
@@ -20,7 +24,7 @@ pub fn bytes_of(alloc: Global, digits: &[u8]) -> Result<Vec<u8>, BadLine>
             None => first = Some(digit),
             Some(high) => {
                 let Some(byte) = byte_of(high, digit) else {
-                    return Err(BadLine::Hex);
+                    return Err(LineFault::Hex);
                 };
                 push(&mut bytes, byte)?;
                 first = None;
@@ -29,7 +33,7 @@ pub fn bytes_of(alloc: Global, digits: &[u8]) -> Result<Vec<u8>, BadLine>
     }
     match first {
         None => Ok(bytes),
-        Some(_) => Err(BadLine::Hex),
+        Some(_) => Err(LineFault::Hex),
     }
 }
 
@@ -40,29 +44,29 @@ pub fn push(bytes: &mut Vec<u8>, byte: u8) -> Result<(), AllocError>
     bytes.push(byte).map_err(AllocError::from)
 }
 
-/// Returns the byte of two digits; `None` if one of them is no digit.
+/// Returns the byte of two digits; `None` if one of them is not a digit.
 pub fn byte_of(high: u8, low: u8) -> Option<u8>
     ensures { result ≡ byte_of (hex_digit_value high) (hex_digit_value low) }
 {
     Some(value_of(high)? * 16 + value_of(low)?)
 }
 
-/// Whether these are digits, with nothing else but spaces behind the first one.
+/// Whether a line begins with a digit, and contains digits and spaces alone.
 pub fn is_digits(line: &[u8]) -> bool
     ensures { result ≡ is_digits line.now }
 {
-    let mut came = false;
+    let mut has_digit = false;
     for &byte in line {
         if value_of(byte).is_some() {
-            came = true;
-        } else if byte != b' ' || !came {
+            has_digit = true;
+        } else if byte != b' ' || !has_digit {
             return false;
         }
     }
-    came
+    has_digit
 }
 
-/// The value of a digit, if it is one.
+/// Returns the value of a digit; `None` if it is not one.
 pub fn value_of(digit: u8) -> Option<u8>
     ensures { result ≡ hex_digit_value digit }
 {

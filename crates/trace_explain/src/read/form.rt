@@ -1,4 +1,4 @@
-//! The forms of lines: which sign stands before the characters of each end.
+//! The forms of lines: the two signs that mark the characters of each end.
 ghost use Rattle.std.specs.Prelude.{◌≡◌, ◌≢◌, None, IfSome};
 ghost use Rattle.t0_core.specs.declared.end.End.{End as Side};
 ghost use Rattle.trace_explain.specs.Lines.{sign_of};
@@ -6,40 +6,30 @@ ghost use Rattle.trace_explain.specs.Lines.{sign_of};
 use std::fmt;
 use t0_core::End;
 
-/// Which two signs the lines of a trace have. The first line that has one says it, if nothing has
-/// said it before.
+/// The two signs of a trace, as in `signs`. The first line with a sign decides, unless `--form`
+/// does.
 #[derive(Clone, Copy, Debug, PartialEq, Eq)]
 pub enum Form {
-    /// `>` and `<`.
     Angle,
-    /// `>>` and `<<`.
     Angles,
-    /// `->` and `<-`.
     Arrow,
-    /// `=>` and `<=`.
     Double,
-    /// `TX` and `RX`.
     Wire,
-    /// `TX:` and `RX:`.
     WireColon,
-    /// `Tx:` and `Rx:`.
     WireMixed,
-    /// `T:` and `C:`.
     Letter,
-    /// `IFD` and `ICC`.
     Device,
-    /// `IFD:` and `ICC:`.
     DeviceColon,
 }
 
-/// The names of the forms: words of the first four, whose signs a shell takes for its own, and the
-/// terminal's signs of the others.
+/// The names of the forms for `--form`. A shell reads the first four signs as its own, so those
+/// have words; the others are named by the terminal's sign.
 pub const FORM_NAMES: [&str; 10] = [
     "angle", "angles", "arrow", "double", "TX", "TX:", "Tx:", "T:", "IFD", "IFD:",
 ];
 
 impl Form {
-    /// The form of one of the names.
+    /// Returns the form with this name.
     pub fn of_name(name: &str) -> Option<Form> {
         match name {
             "angle" => Some(Form::Angle),
@@ -50,7 +40,7 @@ impl Form {
         }
     }
 
-    /// Its two signs, the terminal's first.
+    /// Returns its two signs, the terminal's first.
     fn signs(self) -> [&'static str; 2] {
         match self {
             Form::Angle => [">", "<"],
@@ -74,17 +64,16 @@ impl fmt::Display for Form {
     }
 }
 
-/// A sign: of which form it is, and which end's characters stand behind it.
+/// A sign, which precedes the characters of one end.
 #[derive(Clone, Copy)]
 pub struct Sign {
-    /// Its form.
     pub form: Form,
-    /// The end.
+    /// The end that sends what follows the sign.
     pub from: End,
 }
 
 impl Sign {
-    /// The sign that this word is, if it is one.
+    /// Returns the sign that this word is.
     pub fn of_word(word: &[u8]) -> Option<Sign>
         ensures is { IfSome result (λ sign. word.now ≡ sign_of sign.form sign.from) }
         ensures none { result ≡ None → (form : Form) (from : Side) →

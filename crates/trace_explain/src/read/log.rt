@@ -1,92 +1,93 @@
-//! A log of whole TPDUs or APDUs, read line by line: each command finds its answer.
+//! A log of whole TPDUs or APDUs, read line by line: pairs each command with its answer.
 ghost use Rattle.std.specs.Prelude.{◌≡◌, ◌++◌, ◌∷◌, ◌-◌, [], IfErr, List, OnOk, Some, length, map, ℕ};
 ghost use Rattle.trace_explain.specs.LogLines.{IsBadDump, IsBadLogLine, SaysLog, dumped_in};
 ghost use Rattle.trace_explain.specs.declared.read.log.Open.TheVariants.{Nothing};
-ghost use Rattle.trace_explain.specs.Logs.{IsBadIn, Step, TakesLogLine, Took, answered, at_first, begun, behind_answer, came_by, closed, ended, given_up, gone_on, log_at, opened, resumed, taken, with_bytes};
+ghost use Rattle.trace_explain.specs.Logs.{IsBadIn, Step, TakesLogLine, Took, answered, at_first, begun, behind_answer, logged_of, closed, ended, given_up, continued, log_at, opened, resumed, taken, with_bytes};
 
 use crate::read::log_line::{LogLine, Rest, read_dump, read_log_line, read_rest};
-use crate::read::trace_line::BadLine;
+use crate::read::trace_line::LineFault;
 use std::alloc::{AllocError, Global};
 use std::mem;
 use t0_core::End;
 
-/// What comes of a line, in turn.
+/// What a line adds to a log.
 #[derive(Drop)]
 pub enum Logged {
     /// A command begins.
     Begins,
-    /// A command with its answer.
-    Exchange(Vec<u8>, Vec<u8>),
-    /// A command to which no answer comes.
+    /// A command and its answer.
+    Pair(Vec<u8>, Vec<u8>),
+    /// A command without an answer.
     Unanswered(Vec<u8>),
-    /// An answer that comes before a command.
+    /// An answer without a command.
     Stray(Vec<u8>),
-    /// As much as came of a command or an answer, at the end of the log.
+    /// The first bytes of a command or an answer, which the end of the log cut off.
     Part(End, Vec<u8>),
     /// The card was reset.
     Reset,
-    /// The line says something else.
+    /// The line contains something else.
     Note,
 }
 
 impl Logged {
-    /// Whether the card was reset.
     pub fn is_reset(&self) -> bool {
         matches!(self, Logged::Reset)
     }
 }
 
-/// What the next line may go on with.
+/// What the next line may continue.
 #[derive(Clone, Copy)]
 pub enum Open {
     /// Nothing.
     Nothing,
     /// An answer.
     Answer,
-    /// A dump of a command or an answer, of which so many bytes are left.
+    /// A dump of a command or an answer, with the number of bytes left.
     Dump(End, usize),
 }
 
-/// A log: what is open of it, and the command to which no answer has come yet.
+/// A log: what may continue, and the last command if it has no answer yet.
 #[derive(Drop)]
 pub struct Log {
     alloc: Global,
-    goes_on: Open,
-    /// The bytes so far of what is open.
+    pending: Open,
+    /// The bytes so far of what may continue.
     bytes: Vec<u8>,
     command: Option<Vec<u8>>,
-    has_come: bool,
+    has_begun: bool,
 }
 
 impl Log {
-    /// No line has come.
+    /// Starts a log.
     pub fn new(alloc: Global) -> Log
         ensures { log_at result ≡ at_first }
     {
         Log {
             alloc,
-            goes_on: Open::Nothing,
+            pending: Open::Nothing,
             bytes: Vec::new(alloc),
             command: None,
-            has_come: false,
+            has_begun: false,
         }
     }
 
-    /// Whether a command or an answer has come, or has begun.
-    pub fn has_come(&self) -> bool {
-        self.has_come
+    /// Whether a command or an answer has begun.
+    pub fn has_begun(&self) -> bool {
+        self.has_begun
     }
 
-    /// Takes the next line, and adds what comes of it.
+    /// Takes the next line, and appends what it adds to `logged`.
     ///
-    /// `Hex` is a line that can't be read; what is open has ended before it, if it is an answer.
-    /// After `OutOfMemory` it is not to be used.
-    pub fn take(&mut self, line: &[u8], logged: &mut Vec<Logged>) -> Result<(), BadLine>
+    /// # Errors
+    ///
+    /// - `Hex`: the line can't be read. If an answer was open, it has ended before this line.
+    /// - `OutOfMemory`: don't use the log any more.
+    pub fn take(&mut self, line: &[u8], logged: &mut Vec<Logged>) -> Result<(), LineFault>
         ensures takes { OnOk result ((step : Step) × TakesLogLine (log_at self.old) line.now step
             × Took step logged.old.items logged.new.items self.new) }
-        ensures refused { IfErr result (λ why. IsBadIn self.old.goes_on why line.now) }
+        ensures refused { IfErr result (λ why. IsBadIn self.old.pending why line.now) }
     {
-        match self.goes_on {
+        match self.pending {
             Open::Dump(from, left) => self.take_dump(from, left, line, logged),
             Open::Answer => match read_rest(self.alloc, line)? {
                 Rest::None => self.take_behind_answer(line, logged),
@@ -96,11 +97,11 @@ impl Log {
         }
     }
 
-    /// Takes a line before which the answer that was open has ended.
+    /// Takes a line that ends an open answer and does not continue it.
     #[tactic(auto, using(crate::proofs::LogLemmas::both_took))]
-    fn take_behind_answer(&mut self, line: &[u8], logged: &mut Vec<Logged>) -> Result<(), BadLine>
-        ensures takes { OnOk result ((said : LogLine) × SaysLog line.now said
-            × Took (behind_answer (log_at self.old) said) logged.old.items logged.new.items
+    fn take_behind_answer(&mut self, line: &[u8], logged: &mut Vec<Logged>) -> Result<(), LineFault>
+        ensures takes { OnOk result ((log_line : LogLine) × SaysLog line.now log_line
+            × Took (behind_answer (log_at self.old) log_line) logged.old.items logged.new.items
             self.new) }
         ensures refused { IfErr result (λ why. IsBadLogLine why line.now) }
     {
@@ -108,23 +109,27 @@ impl Log {
         self.take_line(line, logged)
     }
 
-    /// Takes a line where nothing is open.
-    fn take_line(&mut self, line: &[u8], logged: &mut Vec<Logged>) -> Result<(), BadLine>
-        ensures takes { OnOk result ((said : LogLine) × SaysLog line.now said
-            × Took (taken (log_at self.old) said) logged.old.items logged.new.items self.new) }
+    /// Takes a line while nothing is open.
+    fn take_line(&mut self, line: &[u8], logged: &mut Vec<Logged>) -> Result<(), LineFault>
+        ensures takes { OnOk result ((log_line : LogLine) × SaysLog line.now log_line
+            × Took (taken (log_at self.old) log_line) logged.old.items logged.new.items self.new) }
         ensures refused { IfErr result (λ why. IsBadLogLine why line.now) }
     {
-        let said = read_log_line(self.alloc, line)?;
-        Ok(self.take_said(said, logged)?)
+        let log_line = read_log_line(self.alloc, line)?;
+        Ok(self.take_log_line(log_line, logged)?)
     }
 
-    /// Takes what a line says, where nothing is open.
-    fn take_said(&mut self, said: LogLine, logged: &mut Vec<Logged>) -> Result<(), AllocError>
+    /// Takes the content of a line while nothing is open.
+    fn take_log_line(
+        &mut self,
+        log_line: LogLine,
+        logged: &mut Vec<Logged>,
+    ) -> Result<(), AllocError>
         ensures { OnOk result
-            (Took (taken (log_at self.old) said) logged.old.items logged.new.items self.new) }
+            (Took (taken (log_at self.old) log_line) logged.old.items logged.new.items self.new) }
     {
-        self.has_come = self.has_come || !matches!(&said, LogLine::Reset | LogLine::Note);
-        match said {
+        self.has_begun = self.has_begun || !matches!(&log_line, LogLine::Reset | LogLine::Note);
+        match log_line {
             LogLine::Command(bytes) => {
                 self.begin(logged)?;
                 self.command = Some(bytes);
@@ -132,7 +137,7 @@ impl Log {
             }
             LogLine::Answer(bytes) => self.answer(bytes, logged),
             LogLine::Front(bytes) => {
-                self.goes_on = Open::Answer;
+                self.pending = Open::Answer;
                 self.bytes = bytes;
                 Ok(())
             }
@@ -145,7 +150,7 @@ impl Log {
         }
     }
 
-    /// A dump of so many bytes follows.
+    /// Opens a dump of `size` bytes.
     fn open_dump(
         &mut self,
         from: End,
@@ -158,40 +163,45 @@ impl Log {
         if from == End::Terminal {
             self.begin(logged)?;
         }
-        self.go_on(from, size, logged)
+        self.continue_dump(from, size, logged)
     }
 
-    /// So many bytes of a dump are left: where none are, what it has is whole.
-    fn go_on(&mut self, from: End, left: usize, logged: &mut Vec<Logged>) -> Result<(), AllocError>
-        ensures { OnOk result (Took (gone_on (log_at self.old) from left) logged.old.items
+    /// Continues a dump with `left` more bytes; closes it if that is 0.
+    fn continue_dump(
+        &mut self,
+        from: End,
+        left: usize,
+        logged: &mut Vec<Logged>,
+    ) -> Result<(), AllocError>
+        ensures { OnOk result (Took (continued (log_at self.old) from left) logged.old.items
             logged.new.items self.new) }
     {
         if left == 0 {
             return self.close(from, logged);
         }
-        self.goes_on = Open::Dump(from, left);
+        self.pending = Open::Dump(from, left);
         Ok(())
     }
 
-    /// Takes a line of a dump of which so many bytes are left.
+    /// Takes a line of a dump with `left` more bytes.
     fn take_dump(
         &mut self,
         from: End,
         left: usize,
         line: &[u8],
         logged: &mut Vec<Logged>,
-    ) -> Result<(), BadLine>
+    ) -> Result<(), LineFault>
         ensures takes { OnOk result ((bytes : List ℕ) × (dumped_in left line.now ≡ Some bytes)
-            × Took (gone_on (with_bytes (log_at self.old) bytes) from (left - length bytes))
+            × Took (continued (with_bytes (log_at self.old) bytes) from (left - length bytes))
             logged.old.items logged.new.items self.new) }
         ensures refused { IfErr result (λ why. IsBadDump why left line.now) }
     {
         let bytes = read_dump(self.alloc, left, line)?;
         self.bytes.extend_from_slice(bytes.as_slice())?;
-        Ok(self.go_on(from, left.saturating_sub(bytes.len()), logged)?)
+        Ok(self.continue_dump(from, left.saturating_sub(bytes.len()), logged)?)
     }
 
-    /// Takes more of the answer that is open.
+    /// Takes more of the open answer.
     fn take_rest(&mut self, rest: Rest, logged: &mut Vec<Logged>) -> Result<(), AllocError>
         ensures { OnOk result (Took (resumed (log_at self.old) rest) logged.old.items
             logged.new.items self.new) }
@@ -209,7 +219,7 @@ impl Log {
         }
     }
 
-    /// What is open is whole: a command or an answer.
+    /// Ends an open command or answer, which is now whole.
     fn close(&mut self, from: End, logged: &mut Vec<Logged>) -> Result<(), AllocError>
         ensures { OnOk result (Took (closed (log_at self.old) from) logged.old.items
             logged.new.items self.new) }
@@ -224,28 +234,28 @@ impl Log {
         }
     }
 
-    /// Takes the bytes of what is open, so that nothing is.
+    /// Returns the bytes of what is open, and closes it.
     fn cut(&mut self) -> Vec<u8>
         ensures bytes { result.items ≡ self.old.bytes.items }
-        ensures left { (self.new.goes_on ≡ Nothing) × (self.new.bytes.items ≡ [])
+        ensures left { (self.new.pending ≡ Nothing) × (self.new.bytes.items ≡ [])
             × (self.new.command ≡ self.old.command) }
     {
-        self.goes_on = Open::Nothing;
+        self.pending = Open::Nothing;
         mem::replace(&mut self.bytes, Vec::new(self.alloc))
     }
 
-    /// An answer has come.
+    /// Takes an answer.
     fn answer(&mut self, bytes: Vec<u8>, logged: &mut Vec<Logged>) -> Result<(), AllocError>
         ensures { OnOk result (Took (answered (log_at self.old) bytes.items) logged.old.items
             logged.new.items self.new) }
     {
         match self.command.take() {
-            Some(command) => push(logged, Logged::Exchange(command, bytes)),
+            Some(command) => push(logged, Logged::Pair(command, bytes)),
             None => push(logged, Logged::Stray(bytes)),
         }
     }
 
-    /// A command begins.
+    /// Begins a command.
     fn begin(&mut self, logged: &mut Vec<Logged>) -> Result<(), AllocError>
         ensures { OnOk result (Took (begun (log_at self.old)) logged.old.items
             logged.new.items self.new) }
@@ -254,7 +264,7 @@ impl Log {
         push(logged, Logged::Begins)
     }
 
-    /// No answer comes any more to the last command.
+    /// Reports the last command without an answer, if it has none.
     fn cut_off(&mut self, logged: &mut Vec<Logged>) -> Result<(), AllocError>
         ensures { OnOk result (Took (given_up (log_at self.old)) logged.old.items
             logged.new.items self.new) }
@@ -265,12 +275,12 @@ impl Log {
         }
     }
 
-    /// The log ends, and adds what comes of that.
+    /// Ends the log, and appends what that adds to `logged`.
     pub fn end(&mut self, logged: &mut Vec<Logged>) -> Result<(), AllocError>
-        ensures { OnOk result (map came_by logged.new.items
-            ≡ map came_by logged.old.items ++ ended (log_at self.old)) }
+        ensures { OnOk result (map logged_of logged.new.items
+            ≡ map logged_of logged.old.items ++ ended (log_at self.old)) }
     {
-        match self.goes_on {
+        match self.pending {
             Open::Nothing => {}
             Open::Answer => self.close(End::Card, logged)?,
             Open::Dump(from, _) => {
@@ -282,11 +292,10 @@ impl Log {
     }
 }
 
-/// Adds what comes of a line.
-#[tactic(auto, using(crate::proofs::LogLemmas::came_more))]
+#[tactic(auto, using(crate::proofs::LogLemmas::logged_more))]
 fn push(logged: &mut Vec<Logged>, one: Logged) -> Result<(), AllocError>
-    ensures { OnOk result (map came_by logged.new.items
-        ≡ map came_by logged.old.items ++ came_by one ∷ []) }
+    ensures { OnOk result (map logged_of logged.new.items
+        ≡ map logged_of logged.old.items ++ logged_of one ∷ []) }
 {
     logged.push(one).map_err(AllocError::from)
 }

@@ -1,48 +1,44 @@
-//! The lines of a log of whole TPDUs or APDUs, as programs of PC/SC write them.
+//! The lines of a log of whole TPDUs or APDUs, as PC/SC programs write them.
 ghost use Rattle.std.specs.Prelude.{◌≡◌, Some, IfOk, IfErr};
 ghost use Rattle.trace_explain.specs.LogLines.{IsBadDump, IsBadLogLine, IsBadSize, SaysLog, SaysOpen, SaysRest, behind_prefix, cut_answer, cut_line, cut_signed, cut_text, dumped_in, is_of_prefix, is_reset, number_in, size_in};
 
 use crate::read::digits::bytes_of;
 use crate::read::time::{cut_time, place_of};
-use crate::read::trace_line::BadLine;
+use crate::read::trace_line::LineFault;
 use std::alloc::Global;
 use t0_core::End;
 
-/// The most bytes in a line of a dump, and in one of an answer that goes on in the next line.
+/// The most bytes in a line of a dump. An answer that fills such a line may continue in the next.
 const ROW: usize = 16;
 
-/// ESC, with which a colour begins.
+/// ESC, which begins a colour.
 const ESC: u8 = 0x1B;
 
-/// What a line is, by how it begins.
+/// What a line is, by its first characters.
 #[derive(Clone, Copy)]
 pub enum LineKind {
-    /// A command.
     Command,
-    /// An answer, which ends in this line.
+    /// An answer that ends in this line.
     Answer,
-    /// An answer of which it is not said that it ends in this line.
+    /// An answer that may continue in the next line.
     OpenAnswer,
     /// The head of a dump of a command or an answer.
     Dump(End),
-    /// A reset.
     Reset,
     /// Any other line.
     Note,
-    /// A line that begins with a sign, and can't be read.
+    /// A line that begins with a sign and can't be read.
     Bad,
 }
 
-/// What a line says.
+/// The content of a line.
 #[derive(Drop)]
 pub enum LogLine {
-    /// A command.
     Command(Vec<u8>),
-    /// An answer.
     Answer(Vec<u8>),
-    /// An answer, with which the next line may go on.
+    /// An answer that the next line may continue.
     Front(Vec<u8>),
-    /// A dump of so many bytes follows, of a command or an answer.
+    /// The head of a dump of this many bytes: of a command or an answer.
     Dump(End, usize),
     /// The card was reset.
     Reset,
@@ -50,37 +46,40 @@ pub enum LogLine {
     Note,
 }
 
-/// What a line says that goes on with an answer.
+/// How a line continues an answer.
 #[derive(Drop)]
 pub enum Rest {
-    /// Nothing of it: the answer has ended before.
+    /// Not at all: the answer has ended before.
     None,
-    /// The last bytes of it.
+    /// With its last bytes.
     Last(Vec<u8>),
-    /// More bytes of it, with which the next line may go on.
+    /// With more bytes, which the next line may continue.
     More(Vec<u8>),
 }
 
-/// What the line says, where neither an answer nor a dump is open. `Hex` is one that begins as one
-/// of a log and can't be read.
-pub fn read_log_line(alloc: Global, line: &[u8]) -> Result<LogLine, BadLine>
-    ensures says { IfOk result (λ said. SaysLog line.now said) }
+/// Reads a line while neither an answer nor a dump is open.
+///
+/// # Errors
+///
+/// - `Hex`: the line begins as one of a log, and can't be read.
+pub fn read_log_line(alloc: Global, line: &[u8]) -> Result<LogLine, LineFault>
+    ensures says { IfOk result (λ log_line. SaysLog line.now log_line) }
     ensures refused { IfErr result (λ why. IsBadLogLine why line.now) }
 {
     let (kind, part) = cut_line(line);
     match kind {
         LineKind::Command => Ok(LogLine::Command(bytes_of(alloc, part)?)),
         LineKind::Answer => Ok(LogLine::Answer(bytes_of(alloc, part)?)),
-        LineKind::OpenAnswer => Ok(said_open(bytes_of(alloc, part)?)),
+        LineKind::OpenAnswer => Ok(open_answer(bytes_of(alloc, part)?)),
         LineKind::Dump(from) => Ok(LogLine::Dump(from, size_of_dump(part)?)),
         LineKind::Reset => Ok(LogLine::Reset),
         LineKind::Note => Ok(LogLine::Note),
-        LineKind::Bad => Err(BadLine::Hex),
+        LineKind::Bad => Err(LineFault::Hex),
     }
 }
 
-/// What a line says that has these bytes of an answer, and no word behind them.
-fn said_open(bytes: Vec<u8>) -> LogLine
+/// Returns the content of a line with these bytes of an answer and no words after them.
+fn open_answer(bytes: Vec<u8>) -> LogLine
     ensures { SaysOpen bytes.items result }
 {
     if bytes.len() == ROW {
@@ -90,15 +89,15 @@ fn said_open(bytes: Vec<u8>) -> LogLine
     }
 }
 
-/// What the line says where an answer is open.
-pub fn read_rest(alloc: Global, line: &[u8]) -> Result<Rest, BadLine>
+/// Reads a line while an answer is open.
+pub fn read_rest(alloc: Global, line: &[u8]) -> Result<Rest, LineFault>
     ensures says { IfOk result (λ rest. SaysRest line.now rest) }
-    ensures wants { IfErr result (λ why. why ≡ BadLine.OutOfMemory) }
+    ensures wants { IfErr result (λ why. why ≡ LineFault.OutOfMemory) }
 {
     let end = place_of(b':', line);
     let bytes = match bytes_of(alloc, &line[..end]) {
         Ok(bytes) => bytes,
-        Err(BadLine::OutOfMemory) => return Err(BadLine::OutOfMemory),
+        Err(LineFault::OutOfMemory) => return Err(LineFault::OutOfMemory),
         Err(_) => return Ok(Rest::None),
     };
     if bytes.is_empty() {
@@ -110,25 +109,25 @@ pub fn read_rest(alloc: Global, line: &[u8]) -> Result<Rest, BadLine>
     }
 }
 
-/// The bytes of a line of a dump of which so many are left: as many as a line has, or all that are
-/// left, each with a space behind it. What stands behind those is the same as text.
-pub fn read_dump(alloc: Global, left: usize, line: &[u8]) -> Result<Vec<u8>, BadLine>
+/// Reads a line of a dump with `left` more bytes: 16 of them, or all if fewer are left. A space
+/// follows each; the rest of the line repeats them as text.
+pub fn read_dump(alloc: Global, left: usize, line: &[u8]) -> Result<Vec<u8>, LineFault>
     ensures says { IfOk result (λ bytes. dumped_in left line.now ≡ Some bytes.items) }
     ensures refused { IfErr result (λ why. IsBadDump why left line.now) }
 {
     let count = left.min(ROW);
     let width = 3 * count;
     if line.len() < width {
-        return Err(BadLine::Hex);
+        return Err(LineFault::Hex);
     }
     let bytes = bytes_of(alloc, &line[..width])?;
     if bytes.len() != count {
-        return Err(BadLine::Hex);
+        return Err(LineFault::Hex);
     }
     Ok(bytes)
 }
 
-/// What the line is, and the part of it that says bytes, or how many.
+/// Returns what the line is, and the part of it that spells bytes or their number.
 fn cut_line(line: &[u8]) -> (LineKind, &[u8])
     ensures kind { result.0 ≡ (cut_line line.now).0 }
     ensures part { result.1.now ≡ (cut_line line.now).1 }
@@ -144,14 +143,14 @@ fn cut_line(line: &[u8]) -> (LineKind, &[u8])
     cut_text(line, &text[..place_of(ESC, text)])
 }
 
-/// Whether this is `reset` and nothing else.
+/// Whether the line is `reset` alone.
 fn is_reset(rest: &[u8]) -> bool
     ensures { result ≡ is_reset rest.now }
 {
     rest.starts_with(b"reset") && rest.len() == 5
 }
 
-/// The same of a line with `>` or `<`, as `scriptor` and `gt_pcsc` write it.
+/// Cuts a line with `>` or `<`, as `scriptor` and `gt_pcsc` write it.
 fn cut_signed(rest: &[u8]) -> (LineKind, &[u8])
     ensures kind { result.0 ≡ (cut_signed rest.now).0 }
     ensures part { result.1.now ≡ (cut_signed rest.now).1 }
@@ -169,7 +168,7 @@ fn cut_signed(rest: &[u8]) -> (LineKind, &[u8])
     }
 }
 
-/// The same of an answer behind its sign: words may follow it behind a colon.
+/// Cuts an answer after its sign; words may follow it after a colon.
 fn cut_answer(behind: &[u8]) -> (LineKind, &[u8])
     ensures kind { result.0 ≡ (cut_answer behind.now).0 }
     ensures part { result.1.now ≡ (cut_answer behind.now).1 }
@@ -182,7 +181,7 @@ fn cut_answer(behind: &[u8]) -> (LineKind, &[u8])
     }
 }
 
-/// The same of a line without a sign, whose text behind what `pcscd` writes before it is this.
+/// Cuts a line without a sign. `text` is the line without what `pcscd` writes before its text.
 fn cut_text<'a>(line: &'a [u8], text: &'a [u8]) -> (LineKind, &'a [u8])
     ensures kind { result.0 ≡ (cut_text line.now text.now).0 }
     ensures part { result.1.now ≡ (cut_text line.now text.now).1 }
@@ -200,7 +199,7 @@ fn cut_text<'a>(line: &'a [u8], text: &'a [u8]) -> (LineKind, &'a [u8])
     }
 }
 
-/// What stands behind a time, the number of a thread and the beginnings of colours.
+/// Returns what follows a time, a thread number and the codes of colours.
 fn behind_prefix(line: &[u8]) -> &[u8]
     ensures value { result.now ≡ behind_prefix line.now }
 {
@@ -212,29 +211,29 @@ fn behind_prefix(line: &[u8]) -> &[u8]
     &line[line.len()..]
 }
 
-/// Whether this may stand there.
+/// Whether a byte may be part of these.
 fn is_of_prefix(byte: u8) -> bool
     ensures { result ≡ is_of_prefix byte }
 {
     matches!(byte, b'0'..=b'9' | b' ' | b'[' | b']' | b';' | b'm' | ESC)
 }
 
-/// How many bytes a dump has: a number, and ` byte):` or ` bytes):` behind it.
-fn size_of_dump(text: &[u8]) -> Result<usize, BadLine>
+/// Returns the size of a dump: a number before ` byte):` or ` bytes):`.
+fn size_of_dump(text: &[u8]) -> Result<usize, LineFault>
     ensures says { IfOk result (λ size. size_in text.now ≡ Some size) }
     ensures refused { IfErr result (λ why. IsBadSize why text.now) }
 {
     let (digits, unit) = text.split_at(place_of(b' ', text));
     if !unit.starts_with(b" byte):") && !unit.starts_with(b" bytes):") {
-        return Err(BadLine::Hex);
+        return Err(LineFault::Hex);
     }
     match number_of(digits) {
         Some(size) => Ok(size),
-        None => Err(BadLine::Hex),
+        None => Err(LineFault::Hex),
     }
 }
 
-/// The number of at most seven decimal digits that these are.
+/// Returns the number that at most seven decimal digits spell.
 fn number_of(digits: &[u8]) -> Option<usize>
     ensures { result ≡ number_in digits.now }
 {
@@ -251,7 +250,7 @@ fn number_of(digits: &[u8]) -> Option<usize>
     Some(number)
 }
 
-/// The time before the sign of a line, or before `reset`; nothing before any other line.
+/// Returns the time before the sign of a line, or before `reset`; of any other line, nothing.
 pub fn time_of(line: &[u8]) -> &[u8] {
     let (time, rest) = cut_time(line);
     match rest {

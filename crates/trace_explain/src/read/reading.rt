@@ -11,21 +11,21 @@ use crate::read::trace_line::Source;
 use crate::read::ways::Ways;
 use t0_core::End;
 
-/// How the lines of a trace are read: what the words say of it, and the lines before.
+/// How the lines of a trace are read, by the options and the lines before.
 #[derive(Clone, Copy)]
 pub struct Reading {
-    /// The form of the lines, where it is known.
+    /// The form of the lines, once it is known.
     pub form: Option<Form>,
-    /// Whether each sign stands for the other end.
+    /// Whether each sign marks the other end.
     pub swaps: bool,
-    /// Where lines have no signs, what the words say of the ways of instructions.
+    /// Lines have no signs; the options give these ways of instructions.
     pub unsigned: Option<Ways>,
-    /// Whether they are those of a log of whole TPDUs or APDUs.
+    /// Whether the lines are a log of whole TPDUs or APDUs.
     pub of_tpdus: bool,
 }
 
 impl Reading {
-    /// The same behind a line of characters of this source, whose sign says the form.
+    /// The same after a line of characters of this source, whose sign decides the form.
     pub fn with(self, source: &Source) -> Reading
         ensures { result ≡ read_on source.now self }
     {
@@ -38,7 +38,7 @@ impl Reading {
         }
     }
 
-    /// The time that is counted: where lines have no signs, digits alone are none.
+    /// Returns the time that counts: without signs, digits alone are bytes and no time.
     pub fn counted<'a>(&self, time: &'a [u8]) -> &'a [u8] {
         if self.unsigned.is_some() && are_decimal(time) {
             &[]
@@ -47,7 +47,7 @@ impl Reading {
         }
     }
 
-    /// The end whose characters stand behind the sign of this one.
+    /// Returns the end whose characters follow this end's sign.
     pub fn sender(self, from: End) -> End
         ensures { result ≡ sender self from }
     {
@@ -55,7 +55,6 @@ impl Reading {
     }
 }
 
-/// The end on the other side of the line.
 fn other_end(from: End) -> End
     ensures { result ≡ other_end from }
 {

@@ -1,9 +1,9 @@
-//! The time that may stand before the sign of a line, or before digits without one.
+//! The time before the sign of a line, or before digits without one.
 ghost use Rattle.std.specs.Prelude.{◌≡◌, ◌≤◌, length};
 ghost use Rattle.trace_explain.specs.Times.{are_decimal, are_of_time, behind_clock, behind_spaces, behind_time, bracket_len, is_bracketed, is_shift, is_stamp, is_unit, place_of, shift_len, stamp_len, time_in, time_len};
 
-/// The time before a line's sign, which is empty where there is none, and what stands behind it and
-/// its spaces.
+/// Returns the time that a line begins with, which may be empty, and what follows it and its
+/// spaces.
 pub fn cut_time(line: &[u8]) -> (&[u8], &[u8])
     ensures time { result.0.now ≡ time_in line.now }
     ensures rest { result.1.now ≡ behind_time line.now }
@@ -16,8 +16,8 @@ pub fn cut_time(line: &[u8]) -> (&[u8], &[u8])
     (time, behind_spaces(rest))
 }
 
-/// What stands behind the time of a line without a sign, which has this time and this behind it: a
-/// count is none, as it is digits like bytes.
+/// Returns what follows the time of a line without a sign. Decimal digits alone are not a time
+/// there, because bytes look the same. `time` and `rest` are the parts of the line.
 pub fn behind_clock<'a>(line: &'a [u8], time: &[u8], rest: &'a [u8]) -> &'a [u8]
     requires time { time.now ≡ time_in line.now }
     requires rest { rest.now ≡ behind_time line.now }
@@ -26,7 +26,7 @@ pub fn behind_clock<'a>(line: &'a [u8], time: &[u8], rest: &'a [u8]) -> &'a [u8]
     if are_decimal(time) { line } else { rest }
 }
 
-/// Whether each of these is a digit from `0` to `9`.
+/// Whether the bytes are decimal digits alone.
 pub fn are_decimal(bytes: &[u8]) -> bool
     ensures { result ≡ are_decimal bytes.now }
 {
@@ -38,7 +38,7 @@ pub fn are_decimal(bytes: &[u8]) -> bool
     true
 }
 
-/// How many bytes of a line are a time; 0 where it begins with none.
+/// Returns the length of the time that a line begins with; 0 if it has none.
 fn time_len(line: &[u8]) -> usize
     ensures value { result ≡ time_len line.now }
     ensures within { result ≤ length line.now }
@@ -50,7 +50,7 @@ fn time_len(line: &[u8]) -> usize
     }
 }
 
-/// The same of digits, with points and colons between them.
+/// The same for digits with points and colons between them.
 fn stamp_len(line: &[u8]) -> usize
     ensures value { result ≡ stamp_len line.now }
     ensures within { result ≤ length line.now }
@@ -59,7 +59,7 @@ fn stamp_len(line: &[u8]) -> usize
     if is_stamp(&line[..size]) { size } else { 0 }
 }
 
-/// The same of such digits in brackets, with spaces before them, or none.
+/// The same for such digits in brackets, perhaps with spaces before them.
 fn bracket_len(line: &[u8]) -> usize
     ensures value { result ≡ bracket_len line.now }
     ensures within { result ≤ length line.now }
@@ -72,7 +72,7 @@ fn bracket_len(line: &[u8]) -> usize
     }
 }
 
-/// The same of a sign `+`, digits and a unit.
+/// The same for `+`, digits and a unit.
 fn shift_len(line: &[u8]) -> usize
     ensures value { result ≡ shift_len line.now }
     ensures within { result ≤ length line.now }
@@ -87,7 +87,7 @@ fn shift_len(line: &[u8]) -> usize
     }
 }
 
-/// How many bytes come before the first that is this one.
+/// Returns the place of the first byte that equals `byte`; the length if there is none.
 pub fn place_of(byte: u8, line: &[u8]) -> usize
     ensures value { result ≡ place_of byte line.now }
     ensures within { result ≤ length line.now }
@@ -100,7 +100,7 @@ pub fn place_of(byte: u8, line: &[u8]) -> usize
     line.len()
 }
 
-/// The line without the spaces that it begins with.
+/// Returns the line without its leading spaces.
 fn behind_spaces(line: &[u8]) -> &[u8]
     ensures value { result.now ≡ behind_spaces line.now }
     ensures within { length result.now ≤ length line.now }
@@ -113,7 +113,7 @@ fn behind_spaces(line: &[u8]) -> &[u8]
     &[]
 }
 
-/// Whether these are a digit, and digits, points and colons behind it.
+/// Whether the word is a digit, and then digits, points and colons.
 fn is_stamp(word: &[u8]) -> bool
     ensures { result ≡ is_stamp word.now }
 {
@@ -123,7 +123,7 @@ fn is_stamp(word: &[u8]) -> bool
     }
 }
 
-/// Whether these are a bracket, and such digits behind it and spaces.
+/// Whether the bytes are a bracket, spaces and such a word.
 fn is_bracketed(front: &[u8]) -> bool
     ensures { result ≡ is_bracketed front.now }
 {
@@ -133,7 +133,7 @@ fn is_bracketed(front: &[u8]) -> bool
     }
 }
 
-/// Whether these are a `+`, and such digits behind it.
+/// Whether the word is `+` and then such a word.
 fn is_shift(word: &[u8]) -> bool
     ensures { result ≡ is_shift word.now }
 {
@@ -143,7 +143,7 @@ fn is_shift(word: &[u8]) -> bool
     }
 }
 
-/// Whether these are a unit of time.
+/// Whether the word is a unit of time.
 fn is_unit(word: &[u8]) -> bool
     ensures { result ≡ is_unit word.now }
 {
@@ -153,7 +153,7 @@ fn is_unit(word: &[u8]) -> bool
     }
 }
 
-/// Whether each of these is a digit, a point or a colon.
+/// Whether each byte is a digit, a point or a colon.
 fn are_of_time(bytes: &[u8]) -> bool
     ensures { result ≡ are_of_time bytes.now }
 {

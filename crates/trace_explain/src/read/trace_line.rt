@@ -1,4 +1,4 @@
-//! The lines of a trace of characters, with signs or without.
+//! The lines of a trace of characters, with or without signs.
 ghost use Rattle.std.specs.Prelude.{◌≡◌, IfOk, IfErr};
 ghost use Rattle.trace_explain.specs.Lines.{Says, SaysSigned, SaysUnsigned, SpellsNothing, IsBadLine, IsBadSigned, IsBadUnsigned, begins_with_word, ends_word, is_signed};
 ghost use Rattle.trace_explain.specs.Times.{behind_time, time_in};
@@ -14,60 +14,60 @@ use t0_core::End;
 /// Who sends the characters of a line.
 #[derive(Clone, Copy)]
 pub enum Source {
-    /// The end of a sign, which is of this form.
+    /// The end of the line's sign, which has this form.
     Sign(Form, End),
-    /// The end whose turn it is, where this is said of the ways of instructions.
+    /// The end whose turn it is. The options give these ways of instructions.
     Turn(Ways),
 }
 
-/// What a line of a trace is.
+/// What a line of a trace contains.
 #[derive(Drop)]
 pub enum TraceLine<'a> {
-    /// Characters, behind a time or none.
+    /// Characters, perhaps after a time.
     Characters(Source, Vec<u8>),
     /// `reset`: the card was reset.
     Reset,
-    /// Any other line.
+    /// Anything else.
     Note(&'a [u8]),
 }
 
 /// Why a line is refused.
 #[derive(Clone, Copy)]
-pub enum BadLine {
-    /// It begins with a sign, and behind that there is no space with digits of bytes.
+pub enum LineFault {
+    /// It begins with a sign, and no space and digits of bytes follow.
     Hex,
-    /// Its sign is of another form than this one, of which the lines are.
+    /// Its sign has another form than this one of the lines before.
     OtherForm(Form),
-    /// It has digits and no sign, and no line before it has one.
+    /// It has digits without a sign, and no line before has a sign.
     NoSign,
-    /// It begins with a sign, and lines have none.
+    /// It begins with a sign, and `--unsigned` expects none.
     Signed,
-    /// Memory was wanting.
+    /// Memory ran out.
     OutOfMemory,
 }
 
-impl From<AllocError> for BadLine {
+impl From<AllocError> for LineFault {
     ghost use Rattle.std.specs.Prelude.{◌≡◌};
-    ghost use Rattle.trace_explain.specs.declared.read.trace_line.BadLine.TheVariants.{OutOfMemory};
+    ghost use Rattle.trace_explain.specs.declared.read.trace_line.LineFault.TheVariants.{OutOfMemory};
 
     ghost from_gives = { λ _ why. why ≡ OutOfMemory };
 
-    fn from(_error: AllocError) -> BadLine {
-        BadLine::OutOfMemory
+    fn from(_error: AllocError) -> LineFault {
+        LineFault::OutOfMemory
     }
 }
 
-/// What the line is, as lines are read: it has this time, and this behind it.
+/// Reads a line. `time` is its time, and `rest` is what follows that.
 pub fn read_line<'a>(
     alloc: Global,
     reading: &Reading,
     line: &'a [u8],
     time: &[u8],
     rest: &[u8],
-) -> Result<TraceLine<'a>, BadLine>
+) -> Result<TraceLine<'a>, LineFault>
     requires time { time.now ≡ time_in line.now }
     requires rest { rest.now ≡ behind_time line.now }
-    ensures says { IfOk result (λ said. Says reading.now line.now said) }
+    ensures says { IfOk result (λ trace_line. Says reading.now line.now trace_line) }
     ensures refused { IfErr result (λ why. IsBadLine why reading.now line.now) }
 {
     match reading.unsigned {
@@ -76,15 +76,15 @@ pub fn read_line<'a>(
     }
 }
 
-/// What the line is, where lines have signs of this form, if that is known.
+/// Reads a line of a trace with signs; `known` is their form.
 fn read_signed<'a>(
     alloc: Global,
     known: Option<Form>,
     line: &'a [u8],
     rest: &[u8],
-) -> Result<TraceLine<'a>, BadLine>
+) -> Result<TraceLine<'a>, LineFault>
     requires { rest.now ≡ behind_time line.now }
-    ensures says { IfOk result (λ said. SaysSigned known line.now said) }
+    ensures says { IfOk result (λ trace_line. SaysSigned known line.now trace_line) }
     ensures refused { IfErr result (λ why. IsBadSigned why known line.now) }
 {
     let (word, digits) = rest.split_at(place_of(b' ', rest));
@@ -93,23 +93,27 @@ fn read_signed<'a>(
     };
     let bytes = bytes_of(alloc, digits)?;
     match known {
-        Some(expected) if expected != sign.form => Err(BadLine::OtherForm(expected)),
+        Some(expected) if expected != sign.form => Err(LineFault::OtherForm(expected)),
         _ => Ok(TraceLine::Characters(Source::Sign(sign.form, sign.from), bytes)),
     }
 }
 
-/// What the line is, where lines have no signs. `Hex` is one of digits that are not two for each
-/// byte, and `Signed` one that begins with a sign.
+/// Reads a line of a trace without signs.
+///
+/// # Errors
+///
+/// - `Hex`: it contains digits, but not two for each byte.
+/// - `Signed`: it begins with a sign.
 fn read_unsigned<'a>(
     alloc: Global,
     ways: Ways,
     line: &'a [u8],
     time: &[u8],
     rest: &[u8],
-) -> Result<TraceLine<'a>, BadLine>
+) -> Result<TraceLine<'a>, LineFault>
     requires time { time.now ≡ time_in line.now }
     requires rest { rest.now ≡ behind_time line.now }
-    ensures says { IfOk result (λ said. SaysUnsigned ways line.now said) }
+    ensures says { IfOk result (λ trace_line. SaysUnsigned ways line.now trace_line) }
     ensures refused { IfErr result (λ why. IsBadUnsigned why line.now) }
 {
     let digits = behind_clock(line, time, rest);
@@ -117,7 +121,7 @@ fn read_unsigned<'a>(
         return Ok(TraceLine::Characters(Source::Turn(ways), bytes_of(alloc, digits)?));
     }
     if is_signed(rest) {
-        return Err(BadLine::Signed);
+        return Err(LineFault::Signed);
     }
     Ok(match rest {
         b"reset" => TraceLine::Reset,
@@ -125,28 +129,28 @@ fn read_unsigned<'a>(
     })
 }
 
-/// What a line is, behind whose time or none this stands, of which the first word is no sign.
+/// Reads a line whose first word is not a sign. `behind` is what follows its time.
 fn without_sign<'a>(
     known: Option<Form>,
     line: &'a [u8],
     behind: &[u8],
-) -> Result<TraceLine<'a>, BadLine>
+) -> Result<TraceLine<'a>, LineFault>
     requires { behind.now ≡ behind_time line.now }
-    ensures says { IfOk result (λ said. SaysSigned known line.now said) }
+    ensures says { IfOk result (λ trace_line. SaysSigned known line.now trace_line) }
     ensures refused { IfErr result (λ why.
         SpellsNothing line.now → IsBadSigned why known line.now) }
 {
     if is_signed(behind) {
-        return Err(BadLine::Hex);
+        return Err(LineFault::Hex);
     }
     match behind {
         b"reset" => Ok(TraceLine::Reset),
-        _ if known.is_none() && (is_digits(line) || is_digits(behind)) => Err(BadLine::NoSign),
+        _ if known.is_none() && (is_digits(line) || is_digits(behind)) => Err(LineFault::NoSign),
         _ => Ok(TraceLine::Note(line)),
     }
 }
 
-/// Whether the line begins with a sign; one of letters alone is a word.
+/// Whether the line begins with a sign. A sign of letters alone must be a whole word.
 fn is_signed(line: &[u8]) -> bool
     ensures { result ≡ is_signed line.now }
 {
@@ -171,7 +175,7 @@ fn begins_with_word(line: &[u8], word: &[u8]) -> bool
     line.starts_with(word) && ends_word(&line[word.len()..])
 }
 
-/// Whether a word ends before these bytes: no letter or digit is the first of them.
+/// Whether a word ends before these bytes: the first is not a letter or digit.
 fn ends_word(rest: &[u8]) -> bool
     ensures { result ≡ ends_word rest.now }
 {

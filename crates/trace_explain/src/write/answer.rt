@@ -12,23 +12,24 @@ use atr_core::{Atr, AtrFault, Category, Fi, di};
 /// Adds the box of an answer: all of it, or how far it came. What is none may be data of which the
 /// front was not heard, and is then not shown where something is not.
 pub fn tell_answer(mask: &Mask, preface: &Preface, page: &mut Page) {
-    let read = Atr::read(preface.answer());
-    page.open_titled(kind_of(&read), "answer to reset", preface.line());
+    let bytes = preface.answer.as_slice();
+    let read = Atr::read(bytes);
+    page.open_titled(kind_of(&read), "answer to reset", preface.line);
     if read.is_err() {
-        mask.push_unknown(&mut page.lines, preface.answer());
+        mask.push_unknown(&mut page.lines, bytes);
     } else {
-        push_hex_lines(&mut page.lines, preface.answer());
+        push_hex_lines(&mut page.lines, bytes);
     }
     page.row(Side::Card, "characters");
-    if !is_direct(preface.turned()) {
+    if !is_direct(preface.turned) {
         let turned = "by the direct convention, which shows TS as 03; here all are turned\n";
-        page.told("read", turned);
+        page.line_row("read", turned);
     }
     match read {
         Ok(answer) => tell_values(&answer, page),
         Err(fault) => {
             writeln!(page.lines, "{fault}, where TS is at 0");
-            page.row(Side::Told, "fault");
+            page.row(Side::Nobody, "fault");
         }
     }
     page.close();
@@ -46,18 +47,18 @@ fn kind_of(read: &Result<Atr, AtrFault>) -> Kind {
 /// Adds what a whole answer says.
 fn tell_values(answer: &Atr, page: &mut Page) {
     writeln!(page.lines, "{}", answer.convention());
-    page.row(Side::Told, "convention");
+    page.row(Side::Nobody, "convention");
     push_protocols(&mut page.lines, answer);
-    page.row(Side::Told, "protocols");
+    page.row(Side::Nobody, "protocols");
     push_rate(&mut page.lines, answer.rate_code());
-    page.told("rate", "\n");
+    page.line_row("rate", "\n");
     push_guard_times(&mut page.lines, answer);
-    page.row(Side::Told, "guard time");
+    page.row(Side::Nobody, "guard time");
     push_waiting_time(&mut page.lines, answer);
-    page.row(Side::Told, "waiting");
+    page.row(Side::Nobody, "waiting");
     push_digits(&mut page.lines, answer.historical());
     page.lines.push('\n');
-    page.told("historical", form_of(answer));
+    page.line_row("historical", form_of(answer));
 }
 
 /// Adds the protocols, in the order in which they are offered.

@@ -26,7 +26,7 @@ pub enum Side {
     /// The card, to the terminal.
     Card,
     /// Nobody: it is told of them.
-    Told,
+    Nobody,
 }
 
 /// What a box of rows is about.

@@ -11,19 +11,21 @@ use atr_core::{Pps, PpsFault, agreed};
 
 /// Adds the box of an exchange: the request with what it asks for, and the response, as far as they
 /// came.
-pub fn tell_exchange(mask: &Mask, preface: &Preface, page: &mut Page) {
-    let request = Pps::read(preface.request());
-    let response = Pps::read(preface.response());
+pub fn tell_pps(mask: &Mask, preface: &Preface, page: &mut Page) {
+    let asked = preface.request.as_slice();
+    let answered = preface.response.as_slice();
+    let request = Pps::read(asked);
+    let response = Pps::read(answered);
     let is_whole = request.is_ok() && response.is_ok();
     let kind = if is_whole { Kind::Well } else { Kind::CutOff };
-    page.open_titled(kind, "PPS", preface.line());
-    push_characters(&mut page.lines, mask, preface.request(), request.is_ok());
+    page.open_titled(kind, "PPS", preface.line);
+    push_characters(&mut page.lines, mask, asked, request.is_ok());
     push_pps(&mut page.lines, &request);
     page.row(Side::Terminal, "request");
-    if preface.response().is_empty() {
-        page.told("response", "none\n");
+    if answered.is_empty() {
+        page.line_row("response", "none\n");
     } else {
-        push_characters(&mut page.lines, mask, preface.response(), response.is_ok());
+        push_characters(&mut page.lines, mask, answered, response.is_ok());
         push_agreed(&mut page.lines, &request, &response);
         push_pps(&mut page.lines, &response);
         page.row(Side::Card, "response");

@@ -2,6 +2,6 @@ use Rattle.std.proofs.Common.{◌≡◌, drop}
 use Rattle.trace_explain.specs.LogLines.{behind_prefix}
 use Rattle.trace_explain.proofs.read.log_line.behind_prefix.Given as goal
 
--- nothing else stands before here
+-- Nothing else precedes this place.
 abbrev pub invariant-loop-place : goal.invariant-loop-place
 invariant-loop-place l = behind_prefix l.line ≡ behind_prefix (drop l.place l.line)

@@ -2,7 +2,7 @@ use Rattle.std.proofs.Common.{◌≡◌, ◌≤◌, drop}
 use Rattle.trace_explain.specs.LogLines.{number_from}
 use Rattle.trace_explain.proofs.read.log_line.number_of.Given as goal
 
--- the number so far, and the digits that are left
+-- The number so far, and the digits that are left.
 abbrev pub invariant-loop-digit : goal.invariant-loop-digit
 invariant-loop-digit l =
     (number_from 0 l.digits ≡ number_from l.number (drop l.digit-index l.digits))

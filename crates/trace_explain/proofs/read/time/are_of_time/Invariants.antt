@@ -2,6 +2,6 @@ use Rattle.std.proofs.Common.{◌≡◌, drop}
 use Rattle.trace_explain.specs.Times.{are_of_time}
 use Rattle.trace_explain.proofs.read.time.are_of_time.Given as goal
 
--- what is left decides
+-- The rest decides.
 abbrev pub invariant-loop-byte : goal.invariant-loop-byte
 invariant-loop-byte l = are_of_time l.bytes ≡ are_of_time (drop l.byte-index l.bytes)

@@ -1,22 +1,22 @@
--- A command and its answer, as a log of PC/SC has them, and the TPDU that is told of them.
+-- A command and its answer in a log of PC/SC, and the TPDU that they are.
 use Rattle.std.specs.Prelude.{◌≡◌, ◌≤◌, ◌<◌, ℕ, ◌+◌, ◌-◌, List, [], ◌∷◌, ◌++◌, take, drop, length, slice_index, Option, Some, None, Bool, true, false, ◌==◌, ◌&&◌, nat_lt, if◌then◌else◌}
 use Rattle.t0_core.specs.declared.direction.Direction.{Direction}
 use Rattle.t0_core.specs.declared.direction.Direction.TheVariants.{ToCard, FromCard}
-use Rattle.trace_explain.specs.declared.follow.exchange.BadExchange.{BadExchange}
-use Rattle.trace_explain.specs.declared.follow.exchange.BadExchange.TheVariants as bad
+use Rattle.trace_explain.specs.declared.follow.pair.PairFault.{PairFault}
+use Rattle.trace_explain.specs.declared.follow.pair.PairFault.TheVariants as bad
 use Rattle.trace_explain.specs.declared.follow.tpdu.Tpdu.{Tpdu}
 use Rattle.trace_explain.specs.Noted.{are_status}
-use Rattle.trace_explain.specs.Told.{told_by, uncounted}
+use Rattle.trace_explain.specs.Reports.{report_of, uncounted}
 
--- A short command (ISO/IEC 7816-4, 5.1): CLA INS P1 P2 and P3, data of the terminal, and Le behind
--- them, where it stands there.
+-- A short command (ISO/IEC 7816-4, 5.1): CLA INS P1 P2 and P3, the terminal's data, and Le if it
+-- follows them.
 pub record Command : Type 0 where
   pub header : List ℕ
   pub sent : List ℕ
   pub le : Option ℕ
 
--- behind P3 nothing, which is Le then (case 2); or, where it is Lc and not 00, as many data as it
--- says (case 3), and Le behind them (case 4)
+-- P3 is Le if nothing follows it (case 2). Otherwise it is Lc, which is not 00: as many data follow
+-- (case 3), and perhaps Le (case 4).
 abbrev pub with_p3 : List ℕ → ℕ → List ℕ → Option Command
 with_p3 header p3 rest = if length rest == 0
     then Some (record { header = header ++ p3 ∷ []; sent = []; le = None })
@@ -30,25 +30,25 @@ with_p3 header p3 rest = if length rest == 0
     })
     else None
 
--- CLA INS P1 P2 alone (case 1) have P3 00 (ISO/IEC 7816-3, 12.2)
+-- CLA INS P1 P2 alone (case 1) have P3 00 (ISO/IEC 7816-3, 12.2).
 abbrev pub command_in : List ℕ → Option Command
 command_in command = if nat_lt (length command) 4 then None
     else if length command == 4
     then Some (record { header = command ++ 0 ∷ []; sent = []; le = None })
     else with_p3 (take 4 command) (slice_index command 4) (drop 5 command)
 
--- its length fields are extended: 00, and two bytes more or longer, where P3 stands
+-- Extended length fields: 00 in the place of P3, and at least two bytes after it.
 abbrev pub is_extended : List ℕ → Bool
 is_extended command = nat_lt 6 (length command) && (slice_index command 4 == 0)
 
--- an answer: data of the card, and SW1-SW2 behind them
+-- An answer: data of the card, and then SW1-SW2.
 abbrev pub data_in : List ℕ → List ℕ
 data_in answer = take (length answer - 2) answer
 
 abbrev pub status_in : List ℕ → List ℕ
 status_in answer = drop (length answer - 2) answer
 
--- Which way data moved: where both sent some, they are the terminal's, and the card's are beside.
+-- Which way data moved. If both ends sent some, the terminal's count, and the card's are beside.
 abbrev pub way_of : List ℕ → List ℕ → Option Direction
 way_of [] [] = None
 way_of [] (b ∷ brought) = Some FromCard
@@ -62,9 +62,10 @@ abbrev pub beside : List ℕ → List ℕ → List ℕ
 beside [] brought = []
 beside (b ∷ sent) brought = brought
 
--- the TPDU tells the command, these data of the card, and this status, and no procedure byte
-pub record TellsExchange (c : Command) (brought status : List ℕ) (t : Tpdu) : Type 0 where
-  pub told_is : told_by t ≡ record {
+-- The TPDU consists of the command, these data of the card and this status, without procedure
+-- bytes.
+pub record ReportsPair (c : Command) (brought status : List ℕ) (t : Tpdu) : Type 0 where
+  pub report_is : report_of t ≡ record {
     header = c.header;
     tally = uncounted;
     way = way_of c.sent brought;
@@ -74,19 +75,19 @@ pub record TellsExchange (c : Command) (brought status : List ℕ) (t : Tpdu) : 
   pub beside_is : t.answer.items ≡ beside c.sent brought
   pub le_is : t.le ≡ c.le
 
--- the TPDU of a command without an answer
+-- The TPDU of a command without an answer.
 abbrev pub IsCommand : List ℕ → Tpdu → Type 0
 IsCommand command t =
-    (c : Command) × (command_in command ≡ Some c) × TellsExchange c [] [] t
+    (c : Command) × (command_in command ≡ Some c) × ReportsPair c [] [] t
 
--- and with its answer
-abbrev pub IsExchange : List ℕ → List ℕ → Tpdu → Type 0
-IsExchange command answer t = (c : Command) × (command_in command ≡ Some c)
-    × TellsExchange c (data_in answer) (status_in answer) t
+-- The TPDU of a command with its answer.
+abbrev pub IsPair : List ℕ → List ℕ → Tpdu → Type 0
+IsPair command answer t = (c : Command) × (command_in command ≡ Some c)
+    × ReportsPair c (data_in answer) (status_in answer) t
     × (are_status (status_in answer) ≡ true)
 
--- why a command is none that is short
-abbrev pub IsBadCommand : BadExchange → List ℕ → Type 0
+-- Why a command is not a short one.
+abbrev pub IsBadCommand : PairFault → List ℕ → Type 0
 IsBadCommand bad.Short command = length command < 4
 IsBadCommand bad.Extended command = is_extended command ≡ true
 IsBadCommand bad.Length command =
@@ -94,13 +95,13 @@ IsBadCommand bad.Length command =
 IsBadCommand bad.NoStatus command = ⊥
 IsBadCommand bad.OutOfMemory command = Unit {0}
 
-abbrev pub IsBadRest : BadExchange → List ℕ → ℕ → List ℕ → Type 0
+abbrev pub IsBadRest : PairFault → List ℕ → ℕ → List ℕ → Type 0
 IsBadRest bad.Length header p3 rest = with_p3 header p3 rest ≡ None
 IsBadRest bad.OutOfMemory header p3 rest = Unit {0}
 IsBadRest other header p3 rest = ⊥
 
--- or, of a short one, that its answer does not end with a status
-abbrev pub IsBadExchange : BadExchange → List ℕ → List ℕ → Type 0
-IsBadExchange bad.NoStatus command answer =
+-- Why a pair is refused: for its command, or because the answer does not end with a status.
+abbrev pub IsBadPair : PairFault → List ℕ → List ℕ → Type 0
+IsBadPair bad.NoStatus command answer =
     ((c : Command) × (command_in command ≡ Some c)) × (are_status (status_in answer) ≡ false)
-IsBadExchange other command answer = IsBadCommand other command
+IsBadPair other command answer = IsBadCommand other command

@@ -1,4 +1,4 @@
--- What is told of a TPDU, and of which dialogue that is true.
+-- The report of a TPDU: its view, and the dialogue that it describes.
 use Rattle.std.specs.Prelude.{◌≡◌, ℕ, ◌+◌, ◌-◌, ◌^◌, min, List, [], ◌∷◌, ◌++◌, get_or, Option, Some, None, Bool, true, false, fold}
 use Rattle.apdu_core.specs.HeaderBytes.{header_bytes}
 use Rattle.apdu_core.specs.declared.header.Header.{Header}
@@ -13,17 +13,17 @@ use Rattle.t0_core.specs.TapSide.{Shows}
 use Rattle.trace_explain.specs.declared.follow.tally.Tally.{Tally}
 use Rattle.trace_explain.specs.declared.follow.tpdu.Tpdu.{Tpdu}
 
--- the characters of the header, how many procedure bytes, which way data moved, the data, and the
--- characters of the status
-pub record Told : Type 0 where
+-- The characters of the header, the number of procedure bytes, which way data moved, the data, and
+-- the characters of the status.
+pub record Report : Type 0 where
   pub header : List ℕ
   pub tally : Tally
   pub way : Option Direction
   pub moved : List ℕ
   pub status : List ℕ
 
-abbrev pub told_by : Tpdu → Told
-told_by t = record {
+abbrev pub report_of : Tpdu → Report
+report_of t = record {
   header = t.header.items;
   tally = t.tally;
   way = t.way;
@@ -31,11 +31,11 @@ told_by t = record {
   status = t.status.items;
 }
 
-abbrev pub told_of : Option Tpdu → List Told
-told_of None = []
-told_of (Some t) = told_by t ∷ []
+abbrev pub reports_of : Option Tpdu → List Report
+reports_of None = []
+reports_of (Some t) = report_of t ∷ []
 
--- one more, up to the greatest number that is counted
+-- One more, up to the greatest number that fits.
 abbrev pub one_more : ℕ → ℕ
 one_more n = min (n + 1) (2 ^ 64 - 1)
 
@@ -47,39 +47,39 @@ counted t All = record { nulls = t.nulls; ones = t.ones; alls = one_more t.alls 
 abbrev pub uncounted : Tally
 uncounted = record { nulls = 0; ones = 0; alls = 0 }
 
--- how many procedure bytes of each kind began these segments
+-- The number of procedure bytes of each kind that began these segments.
 abbrev pub tally_of : List Step → Tally
 tally_of segments = fold counted uncounted segments
 
-abbrev pub untold : Told
-untold = record { header = []; tally = uncounted; way = None; moved = []; status = [] }
+abbrev pub no_report : Report
+no_report = record { header = []; tally = uncounted; way = None; moved = []; status = [] }
 
--- this much is told of a header, segments and data
-pub record TellsBody (t : Told) (b : Body) : Type 0 where
+-- The report of a header, segments and data.
+pub record ReportsBody (t : Report) (b : Body) : Type 0 where
   pub header_is : t.header ≡ header_bytes b.header ++ b.p3 ∷ []
   pub tally_is : t.tally ≡ tally_of b.segments
   pub moved_is : t.moved ≡ b.moved
 
--- no more than some characters of a header is told
-pub record TellsHeader (t : Told) (bytes : List ℕ) : Type 0 where
+-- The report of some characters of a header.
+pub record ReportsHeader (t : Report) (bytes : List ℕ) : Type 0 where
   pub header_is : t.header ≡ bytes
   pub tally_is : t.tally ≡ uncounted
   pub moved_is : t.moved ≡ []
 
--- this much is told of a dialogue that has come so far
-abbrev pub TellsFront : Told → Front → Type 0
-TellsFront t (In_header bytes) = TellsHeader t bytes × (t.status ≡ [])
-TellsFront t (In_body b) = TellsBody t b × (t.status ≡ [])
-TellsFront t (After_first b sw1) = TellsBody t b × (t.status ≡ sw1 ∷ [])
+-- The report of the first characters of a dialogue.
+abbrev pub ReportsFront : Report → Front → Type 0
+ReportsFront t (In_header bytes) = ReportsHeader t bytes × (t.status ≡ [])
+ReportsFront t (In_body b) = ReportsBody t b × (t.status ≡ [])
+ReportsFront t (After_first b sw1) = ReportsBody t b × (t.status ≡ sw1 ∷ [])
 
--- and this is told of a whole one
-pub record Tells (t : Told) (d : Dialogue) : Type 0 where
-  pub body : TellsBody t d.body
+-- The report of a whole dialogue.
+pub record Reports (t : Report) (d : Dialogue) : Type 0 where
+  pub body : ReportsBody t d.body
   pub way : Shows t.way d.body.direction d.body.moved
   pub status_is : t.status ≡ d.status.0 ∷ d.status.1 ∷ []
 
--- what is told with one character more, which was this
-abbrev pub noted : Told → Heard → ℕ → Told
+-- The report with one more character.
+abbrev pub noted : Report → Heard → ℕ → Report
 noted t heard.Header byte = record t { header = t.header ++ byte ∷ [] }
 noted t (heard.Procedure step) byte = record t { tally = counted t.tally step }
 noted t (heard.Data direction) byte =
@@ -88,12 +88,12 @@ noted t heard.FirstStatus byte = record t { status = t.status ++ byte ∷ [] }
 noted t (heard.SecondStatus said status) byte =
     record t { way = said.direction; status = t.status ++ byte ∷ [] }
 
--- a dialogue ends with this
+-- A dialogue ends with this character.
 abbrev pub is_last : Heard → Bool
 is_last (heard.SecondStatus said status) = true
 is_last other = false
 
--- a header is that of the TPDU whose first characters these are
+-- The header of the TPDU with these first characters.
 pub record IsOfCommand (bytes : List ℕ) (header : Header) : Type 0 where
   pub cla : header.cla ≡ get_or bytes 0 0
   pub ins : header.ins ≡ get_or bytes 1 0

@@ -1,6 +1,6 @@
 -- What comes before a dialogue: the card's answer to reset, and PPS exchanges (ISO/IEC 7816-3,
 -- clauses 8 and 9).
-use Rattle.std.specs.Prelude.{ℕ, ◌+◌, List, [], ◌∷◌, ◌++◌, length, slice_index, Option, Some, None, Bool, true, false, not, ◌==◌, ◌&&◌, is_some, if◌then◌else◌}
+use Rattle.std.specs.Prelude.{ℕ, zero, suc, ◌+◌, List, [], ◌∷◌, ◌++◌, length, slice_index, Option, Some, None, Bool, true, false, not, ◌==◌, ◌&&◌, is_some, if◌then◌else◌}
 use Rattle.atr_core.specs.Conventions.{convention_of, as_sent}
 use Rattle.atr_core.specs.FirstFault.{first_fault}
 use Rattle.atr_core.specs.PpsBytes.{pps_end}
@@ -154,3 +154,9 @@ is_dialogue other = false
 abbrev pub begins_answer : End → ℕ → Bool
 begins_answer Terminal b = false
 begins_answer Card b = is_some (turned_by b)
+
+-- the first protocol that an answer offers, if the program does not read it: it reads T=0 only
+abbrev pub unread : List ℕ → Option ℕ
+unread [] = None
+unread (zero ∷ others) = None
+unread (suc t ∷ others) = Some (suc t)

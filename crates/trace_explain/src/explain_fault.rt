@@ -55,14 +55,15 @@ pub enum ExplainFault {
     #[error("{0}")]
     NoDialogue(Complaint),
     /// There are such characters, after which the explanation went on.
-    #[error("{first} (complaints: {complaints})")]
+    #[error("{first} (protocol errors: {complaints})")]
     Resumed {
         complaints: u64,
         first: Complaint,
     },
     /// There are commands of a log that are told as no TPDU, after which the explanation went on:
     /// the first began in this line.
-    #[error("line {line}: no exchange that it reads: {why} (complaints: {complaints})")]
+    #[error("line {line}: unexpected command or answer: {why} \
+        (protocol errors: {complaints})")]
     BadExchanges {
         complaints: u64,
         line: u64,

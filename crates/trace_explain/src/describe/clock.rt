@@ -128,7 +128,7 @@ impl Clock {
         }
         match self.whole {
             Some(nanos) => push_duration(text, nanos),
-            None => text.push_str("not known, as times go back or are of two kinds"),
+            None => text.push_str("unknown: times go back, or are of two kinds"),
         }
         text.push('\n');
     }

@@ -58,8 +58,8 @@ impl fmt::Display for Complaint {
         };
         write!(
             f,
-            "line {line}, character {character}: no dialogue that it reads: {due} was due, and \
-             {came} of the {from} came{or}{astray}"
+            "line {line}, character {character}: unexpected byte: the {from} sent {came} in place of \
+             {due}{or}{astray}"
         )
     }
 }

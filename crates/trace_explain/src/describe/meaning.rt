@@ -22,7 +22,7 @@ pub fn push_meaning(text: &mut Sheet, header: Header, status: Status) {
     }
     if let Some(bytes) = status.corrects() {
         let unit = unit_of(u64::from(bytes));
-        return write!(text, "wrong Le: {bytes} {unit} should have been asked for");
+        return write!(text, "wrong Le: ask for {bytes} {unit}");
     }
     match (header.cla, status.sw1(), status.sw2()) {
         (_, 0x63, 0xC0..=0xCF) => push_counter(text, header, status.sw2() & 0x0F),
@@ -68,7 +68,7 @@ fn push_waiting(text: &mut Sheet, status: Status, bytes: u16) {
 /// Adds what `63CX` says: the tries that are left, where the command has such a counter.
 fn push_counter(text: &mut Sheet, header: Header, left: u8) {
     if !counts_tries(header) {
-        return write!(text, "a warning: a counter stands at {left}");
+        return write!(text, "a warning: a counter is at {left}");
     }
     match left {
         0 => text.push_str("a warning: no try is left"),

@@ -1,5 +1,9 @@
 //! What is told of an answer to reset, in plain words.
 
+ghost use Rattle.std.specs.Prelude.{◌≡◌};
+ghost use Rattle.atr_core.specs.Values.{protocols_of};
+ghost use Rattle.trace_explain.specs.Openings.{unread};
+
 use crate::describe::mask::Mask;
 use crate::follow::opening::{is_direct, is_short};
 use crate::follow::preface::Preface;
@@ -21,13 +25,14 @@ pub fn tell_answer(mask: &Mask, preface: &Preface, page: &mut Page) {
     }
     page.row(Side::Card, "characters");
     if !is_direct(preface.turned()) {
-        let turned = "by the direct convention, which shows TS as 03; here all are turned\n";
+        let turned =
+            "by the direct convention, so that TS was 03; all characters are shown turned\n";
         page.told("read", turned);
     }
     match read {
         Ok(answer) => tell_values(&answer, page),
         Err(fault) => {
-            writeln!(page.lines, "{fault}, where TS is at 0");
+            writeln!(page.lines, "{fault} (TS is at 0)");
             page.row(Side::Told, "fault");
         }
     }
@@ -49,6 +54,7 @@ fn tell_values(answer: &Atr, page: &mut Page) {
     page.row(Side::Told, "convention");
     push_protocols(&mut page.lines, answer);
     page.row(Side::Told, "protocols");
+    tell_unread(answer, page);
     push_rate(&mut page.lines, answer.rate_code());
     page.told("rate", "\n");
     push_guard_times(&mut page.lines, answer);
@@ -58,6 +64,27 @@ fn tell_values(answer: &Atr, page: &mut Page) {
     push_digits(&mut page.lines, answer.historical());
     page.lines.push('\n');
     page.told("historical", form_of(answer));
+}
+
+/// Adds that the program does not read the protocol that the card offers first.
+fn tell_unread(answer: &Atr, page: &mut Page) {
+    if let Some(t) = unread(answer) {
+        writeln!(
+            page.lines,
+            "the card offers T={t} first, and this program reads T=0 only"
+        );
+        page.row(Side::Told, "hint");
+    }
+}
+
+/// Returns the first protocol that an answer offers, if it is not T=0.
+fn unread(answer: &Atr) -> Option<u8>
+    ensures { result ≡ unread (protocols_of answer.now.others) }
+{
+    match answer.protocols().as_slice() {
+        [t, ..] if *t != 0 => Some(*t),
+        _ => None,
+    }
 }
 
 /// Adds the protocols, in the order in which they are offered.
@@ -108,7 +135,7 @@ fn form_of(answer: &Atr) -> &'static str {
         Category::StatusBehind => "objects in COMPACT-TLV, and a status of three bytes\n",
         Category::DirReference => "a reference to EF.DIR\n",
         Category::Objects => "objects in COMPACT-TLV\n",
-        Category::Reserved => "a form that is reserved\n",
-        Category::Proprietary => "a form of the maker's own\n",
+        Category::Reserved => "a reserved form\n",
+        Category::Proprietary => "a proprietary form\n",
     }
 }

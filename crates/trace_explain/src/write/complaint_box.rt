@@ -9,19 +9,19 @@ use crate::write::page::Page;
 
 /// Adds the box of a complaint of this number, about a character.
 pub fn tell_complaint(number: u64, complaint: Complaint, page: &mut Page) {
-    page.lines.push_str("no dialogue that it reads");
+    page.lines.push_str("unexpected byte");
     page.open(head(number, complaint.line));
     let character = complaint.place.saturating_add(1);
     writeln!(page.lines, "line {}, character {character}", complaint.line);
     page.row(Side::Told, "place");
     writeln!(page.lines, "{}", due_text(complaint.due));
-    page.row(Side::Told, "due");
+    page.row(Side::Told, "expected");
     let came = complaint.came;
-    writeln!(page.lines, "{came} of the {}", end_text(complaint.from));
-    page.row(Side::Told, "came");
+    writeln!(page.lines, "{came} from the {}", end_text(complaint.from));
+    page.row(Side::Told, "received");
     if complaint.is_astray {
         page.lines.push_str(ASTRAY);
-        page.told("or", "\n");
+        page.told("hint", "\n");
     }
     page.close();
 }
@@ -37,7 +37,7 @@ pub fn tell_bad_exchange(
     mask: &Mask,
     page: &mut Page,
 ) {
-    page.lines.push_str("no exchange that it reads");
+    page.lines.push_str("unexpected command or answer");
     page.open(head(number, line));
     writeln!(page.lines, "{why}");
     page.row(Side::Told, "fault");

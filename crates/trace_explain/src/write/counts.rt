@@ -106,8 +106,8 @@ impl Counts {
         page.row(Side::Told, "commands");
         self.push_statuses(&mut page.lines);
         page.row(Side::Told, "statuses");
-        writeln!(page.lines, "{}", self.complaints);
-        page.row(Side::Told, "complaints");
+        writeln!(page.lines, "errors: {}", self.complaints);
+        page.row(Side::Told, "protocol");
         clock.push_whole(&mut page.lines);
         page.row(Side::Told, "time");
         page.complaint_links(self.complaint_lines.as_slice(), self.complaints);

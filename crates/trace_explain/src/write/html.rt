@@ -19,7 +19,7 @@ pub fn begin(out: &mut Sheet, head: Head<'_>) {
     match head.anchor {
         Anchor::None => {}
         Anchor::Tpdu(number) => write!(out, " id=\"t{number}\""),
-        Anchor::Complaint(number) => write!(out, " id=\"c{number}\""),
+        Anchor::Complaint(number) => write!(out, " id=\"e{number}\""),
     }
     if head.kind != Kind::Well {
         out.push_str(" open");
@@ -44,7 +44,7 @@ fn class_of(kind: Kind) -> &'static str {
         Kind::Warning => "warning",
         Kind::Failed => "failed",
         Kind::CutOff => "cut",
-        Kind::Complaint => "complaint",
+        Kind::Complaint => "error",
     }
 }
 
@@ -53,11 +53,11 @@ pub fn complaint_links(out: &mut Sheet, lines: &[u64], all: u64) {
     if lines.is_empty() {
         return;
     }
-    out.push_str("<p>complaints in");
+    out.push_str("<p>protocol errors in");
     let mut number: u64 = 0;
     for line in lines {
         number = number.saturating_add(1);
-        write!(out, " <a href=\"#c{number}\">line {line}</a>");
+        write!(out, " <a href=\"#e{number}\">line {line}</a>");
     }
     push_more(out, all.saturating_sub(number));
 }

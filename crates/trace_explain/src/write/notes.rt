@@ -22,7 +22,7 @@ pub fn tell_passed(passed: Option<Passed>, page: &mut Page) {
     let character = place.saturating_add(1);
     write!(
         page.lines,
-        "passed over: line {line} from character {character}"
+        "skipped: line {line} from character {character}"
     );
     if last > line {
         write!(page.lines, ", to line {last}");

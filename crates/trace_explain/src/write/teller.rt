@@ -149,7 +149,7 @@ impl Teller {
             (opening_of preface.new ≡ opens unopened (role_of unopened from byte) byte) }
         ensures boxes { OnOk result (AddsBoxes [] self.old self.new) }
     {
-        self.tell_reset("reset, though no line says so, as the card answers");
+        self.tell_reset("reset, as the card's answer shows (no line says so)");
         preface.reset();
         self.open(preface, from, byte, rest)
     }

@@ -56,7 +56,7 @@ WAYS = ["--to-card", "50,82,A8,AE,E2"]
 TOLD_BY_SIGNS = {
     # the trace begins inside a TPDU
     "a trace that begins within a dialogue with a character that may be TS: none is lost",
-    "what is told before a header is no answer, whatever comes next",
+    "characters before a header are no answer, whatever comes next",
     # after an invalid answer to reset, or after the first characters of PPS
     "a page of answers and an exchange",
     "answers_at_fault",
@@ -66,10 +66,10 @@ TOLD_BY_SIGNS = {
     # the same bytes in the other direction
     "two traces whose data go another way, and of which one is cut off",
     # characters of the card at the place of a header, and a sign without characters
-    "characters of the card behind a reset that begin no answer, in two lines",
+    "characters of the card after a reset that begin no answer, in two lines",
     "no TPDU begins with a sign alone, whose line has a time",
     # notes that consist of digits
-    "digits without a sign are notes behind a line that has one",
+    "digits without a sign are notes after a line that has one",
     "a sign without characters is one, too",
     "a time before a reset, and before a note",
 }

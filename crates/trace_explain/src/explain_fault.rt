@@ -1,4 +1,4 @@
-//! The reasons why the program ends with status 1, with their texts.
+//! Why the program ends with status 1, with the text of each reason.
 
 ghost use Rattle.trace_explain.specs.Trace.{IsOfWriting};
 
@@ -10,58 +10,55 @@ use std::alloc::AllocError;
 use std::io;
 use thiserror::Error;
 
-/// Why the program ends with status 1.
+/// Why the program ends with status 1. The lines before the fault were explained.
 #[derive(Debug, Drop, Error)]
 pub enum ExplainFault {
-    /// Characters of a line, counted from 1, are not of their form; what the lines before it say
-    /// was explained.
+    /// The digits of a line can't be read. Lines are counted from 1, here and below.
     #[error("line {line}: bad hex")]
     BadHex {
         line: u64,
     },
-    /// The sign of a line, counted from 1, is of another form than this one, of which the lines
-    /// are; what the lines before it say was explained.
+    /// The sign of a line has another form than those before.
     #[error("line {line}: a sign of another form than {form}")]
     OtherForm {
         line: u64,
         form: Form,
     },
-    /// A line, counted from 1, has digits and no sign, and no line before it has one.
+    /// A line has digits and no sign, and no line before has a sign.
     #[error("line {line}: no sign says which end sent these digits, and no line before has one: \
         `--unsigned` reads such lines")]
     NoSign {
         line: u64,
     },
-    /// A line, counted from 1, begins with a sign, and lines have none; what the lines before it
-    /// say was explained.
+    /// A line begins with a sign, although lines have none.
     #[error("line {line}: a sign, and with `--unsigned` lines have none")]
     Signed {
         line: u64,
     },
-    /// Which end sends a character of lines without signs can't be known; what stands before it was
-    /// explained. The line is counted from 1, and the character's place in it from 0.
+    /// It is unknown which end sent a character of a line without sign. The place of the character
+    /// in its line is counted from 0.
     #[error("line {line}, character {}: {why}", .place.saturating_add(1))]
     NoTurn {
         line: u64,
         place: usize,
         why: NoTurn,
     },
-    /// A line has more bytes than a line may have.
+    /// A line has more than `LINE_LIMIT` bytes.
     #[error("line {line}: line too long")]
     LineTooLong {
         line: u64,
     },
-    /// No dialogue goes on with a character.
+    /// No dialogue continues with a byte.
     #[error("{0}")]
     NoDialogue(Complaint),
-    /// There are such characters, after which the explanation went on.
+    /// There are such bytes, and the program continued after them.
     #[error("{first} (protocol errors: {complaints})")]
     Resumed {
         complaints: u64,
         first: Complaint,
     },
-    /// There are commands of a log that are told as no TPDU, after which the explanation went on:
-    /// the first began in this line.
+    /// There are commands or answers of a log that are not shown as a TPDU, and the program
+    /// continued after them. The first began in this line.
     #[error("line {line}: unexpected command or answer: {why} \
         (protocol errors: {complaints})")]
     BadExchanges {
@@ -69,29 +66,28 @@ pub enum ExplainFault {
         line: u64,
         why: BadExchange,
     },
-    /// The trace came to its end, and no line has a character of either end.
+    /// The trace ended, and no line has a character of either end.
     #[error("no characters heard")]
     NoCharacters,
-    /// The reader failed; what came before was explained.
+    /// The reader failed.
     #[error("read fault")]
     Read,
-    /// The writer failed; how much it took is not known.
+    /// The writer failed. It is unknown how much it has written.
     #[error("write fault")]
     Write,
-    /// Nobody reads any more what is written, as behind `| head`: that ends the program, and is no
-    /// fault of it.
+    /// Nobody reads the output any more, as after `| head`. The program ends with status 0.
     #[error("closed output")]
     Closed,
-    /// The trace has more bytes than a trace may have; what came before was explained.
+    /// The trace has more than `TRACE_LIMIT` bytes.
     #[error("input too long")]
     InputTooLong,
-    /// Memory was wanting.
+    /// Memory ran out.
     #[error("out of memory")]
     OutOfMemory,
 }
 
 impl ExplainFault {
-    /// What an error of the writer is.
+    /// Returns the fault for an error of the writer.
     pub fn of_writing(error: &io::Error) -> ExplainFault
         ensures { IsOfWriting result }
     {

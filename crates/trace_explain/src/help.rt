@@ -1,46 +1,46 @@
-//! What `--help` and `--version` say, and what is said of words that are not UTF-8.
+//! The texts of `--help` and `--version`, and the error for words that are not UTF-8.
 
-/// Of the program.
+/// The help of the program.
 pub const PROGRAM: &str = "Explains the trace of a dialogue with a smart card over T=0: each \
     command and its response";
 
 /// The version.
 pub const VERSION: &str = "0.2.0";
 
-/// Of `--diff`.
+/// The help of `--diff`.
 pub const DIFF: &str = "Compares the traces of two files, and shows the first TPDU that differs";
 
-/// Of `--html`.
+/// The help of `--html`.
 pub const HTML: &str = "Writes one page of HTML, which needs no other file, in place of text";
 
-/// Of `--mask`.
+/// The help of `--mask`.
 pub const MASK: &str = "Shows `**` for reference data, and for objects with tags such as `5A,57`";
 
-/// Of `--resume`.
+/// The help of `--resume`.
 pub const RESUME: &str = "Continues after an unexpected byte";
 
-/// Of `--form`.
+/// The help of `--form`.
 pub const FORM: &str = "Sets the signs of the lines, in place of the first sign";
 
-/// Of `--swap`.
+/// The help of `--swap`.
 pub const SWAP: &str = "Takes each sign for that of the other end, if TX is the card's";
 
-/// Of `--unsigned`.
+/// The help of `--unsigned`.
 pub const UNSIGNED: &str = "Reads lines without signs: the dialogue shows who sent each character";
 
-/// Of `--to-card`.
+/// The help of `--to-card`.
 pub const TO_CARD: &str = "Lists instructions whose data go to the card, as `5A,F0`";
 
-/// Of `--from-card`.
+/// The help of `--from-card`.
 pub const FROM_CARD: &str = "Lists instructions whose data come from the card";
 
-/// Of `--summary`.
+/// The help of `--summary`.
 pub const SUMMARY: &str = "Writes the last block alone, which contains the counts";
 
-/// Of `--tpdu`.
+/// The help of `--tpdu`.
 pub const TPDU: &str = "Reads a log of whole TPDUs or APDUs, as programs of PC/SC write them";
 
-/// What a trace is, and what comes where it is no dialogue.
+/// What the program reads and prints.
 pub const TRACE: &str = "\
 The trace is on standard input, in lines as `card_trace play` prints them:
 
@@ -118,7 +118,7 @@ Example:
   card_trace play < examples/read.play | trace_explain
   card_trace play < examples/read.play | trace_explain --html > read.html";
 
-/// Of words of which one is not UTF-8, in the form in which `clap` tells of a mistake.
+/// The error for a word that is not UTF-8, in the form of the errors of `clap`.
 pub const NO_UTF_8: &str = "\
 error: invalid UTF-8 was detected in one or more arguments
 

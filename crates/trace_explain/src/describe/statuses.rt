@@ -1,6 +1,6 @@
-//! What status words mean (ISO/IEC 7816-4, 5.1.3, tables 5 and 6).
+//! The meaning of status words (ISO/IEC 7816-4, 5.1.3, tables 5 and 6).
 
-/// What a word means that has a meaning of its own in table 6, or stands alone in table 5.
+/// The meaning of a word that table 6 lists, or that table 5 lists alone.
 pub fn of_word(word: u16) -> Option<&'static str> {
     Some(match word {
         0x9000 => "normal processing",
@@ -50,7 +50,7 @@ pub fn of_word(word: u16) -> Option<&'static str> {
     })
 }
 
-/// What a word of a SIM card means, in its class `A0` (3GPP TS 51.011, 9.4; GSM 11.11, 9.4).
+/// The meaning of a word in class `A0` of a SIM card (3GPP TS 51.011, 9.4; GSM 11.11, 9.4).
 pub fn of_sim(word: u16) -> Option<&'static str> {
     Some(match word {
         0x9240 => "memory problem",
@@ -69,7 +69,7 @@ pub fn of_sim(word: u16) -> Option<&'static str> {
     })
 }
 
-/// What a first status byte means, by table 5, if the word has no meaning of its own.
+/// The meaning of SW1 by table 5, if the word has no meaning of its own.
 pub fn of_first(sw1: u8) -> &'static str {
     match sw1 {
         0x62 => "a warning: what the card holds is unchanged",

@@ -1,4 +1,4 @@
-//! What is told of an answer to reset, in plain words.
+//! The box of an answer to reset.
 
 ghost use Rattle.std.specs.Prelude.{◌≡◌};
 ghost use Rattle.atr_core.specs.Values.{protocols_of};
@@ -13,8 +13,8 @@ use crate::write::page::Page;
 use crate::write::sheet::Sheet;
 use atr_core::{Atr, AtrFault, Category, Fi, di};
 
-/// Adds the box of an answer: all of it, or how far it came. What is none may be data of which the
-/// front was not heard, and is then not shown where something is not.
+/// Adds the box of an answer, whole or cut off. Each mask hides an invalid answer, since it may be
+/// the end of some data.
 pub fn tell_answer(mask: &Mask, preface: &Preface, page: &mut Page) {
     let read = Atr::read(preface.answer());
     page.open_titled(kind_of(&read), "answer to reset", preface.line());
@@ -39,7 +39,7 @@ pub fn tell_answer(mask: &Mask, preface: &Preface, page: &mut Page) {
     page.close();
 }
 
-/// Whether an answer is whole.
+/// The kind of the box: whether the answer is whole, cut off or invalid.
 fn kind_of(read: &Result<Atr, AtrFault>) -> Kind {
     match read {
         Ok(_) => Kind::Well,
@@ -48,7 +48,7 @@ fn kind_of(read: &Result<Atr, AtrFault>) -> Kind {
     }
 }
 
-/// Adds what a whole answer says.
+/// Adds the values of a whole answer.
 fn tell_values(answer: &Atr, page: &mut Page) {
     writeln!(page.lines, "{}", answer.convention());
     page.row(Side::Told, "convention");
@@ -66,7 +66,7 @@ fn tell_values(answer: &Atr, page: &mut Page) {
     page.told("historical", form_of(answer));
 }
 
-/// Adds that the program does not read the protocol that the card offers first.
+/// Adds a hint, if the program does not read the protocol that the card offers first.
 fn tell_unread(answer: &Atr, page: &mut Page) {
     if let Some(t) = unread(answer) {
         writeln!(
@@ -87,7 +87,7 @@ fn unread(answer: &Atr) -> Option<u8>
     }
 }
 
-/// Adds the protocols, in the order in which they are offered.
+/// Adds the protocols, in the order of the offer.
 fn push_protocols(text: &mut Sheet, answer: &Atr) {
     for t in &answer.protocols() {
         if !text.is_empty() {
@@ -117,7 +117,7 @@ fn push_guard_times(text: &mut Sheet, answer: &Atr) {
     }
 }
 
-/// Adds the waiting time, which T=0 alone has.
+/// Adds the waiting time of T=0, if offered.
 fn push_waiting_time(text: &mut Sheet, answer: &Atr) {
     if !answer.protocols().contains(&0) {
         return;
@@ -128,7 +128,7 @@ fn push_waiting_time(text: &mut Sheet, answer: &Atr) {
     }
 }
 
-/// Which form the historical bytes have.
+/// The form of the historical bytes.
 fn form_of(answer: &Atr) -> &'static str {
     match answer.category() {
         Category::Absent => "none\n",

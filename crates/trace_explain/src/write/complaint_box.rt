@@ -1,5 +1,4 @@
-//! What is told of a complaint: of a character with which no dialogue goes on, and of a command and
-//! its answer that are no TPDU.
+//! The boxes of protocol errors: unexpected bytes, and unexpected commands or answers.
 
 use crate::describe::complaint::{ASTRAY, Complaint, due_text, end_text};
 use crate::describe::mask::Mask;
@@ -7,7 +6,7 @@ use crate::follow::exchange::BadExchange;
 use crate::write::layout::{Anchor, Head, Kind, Side};
 use crate::write::page::Page;
 
-/// Adds the box of a complaint of this number, about a character.
+/// Adds the box of the protocol error with this number, an unexpected byte.
 pub fn tell_complaint(number: u64, complaint: Complaint, page: &mut Page) {
     page.lines.push_str("unexpected byte");
     page.open(head(number, complaint.line));
@@ -26,8 +25,7 @@ pub fn tell_complaint(number: u64, complaint: Complaint, page: &mut Page) {
     page.close();
 }
 
-/// Adds the box of a complaint of this number, about a command that began in this line, and its
-/// answer.
+/// Adds the box of the protocol error with this number, a command from this line with its answer.
 pub fn tell_bad_exchange(
     number: u64,
     line: u64,
@@ -51,7 +49,7 @@ pub fn tell_bad_exchange(
     page.close();
 }
 
-/// What stands above the rows of the complaint of this number.
+/// The head of the box of the protocol error with this number.
 fn head(number: u64, line: u64) -> Head<'static> {
     Head {
         kind: Kind::Complaint,

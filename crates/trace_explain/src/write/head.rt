@@ -1,6 +1,6 @@
-//! What a page of HTML begins with: its style stands in it, so that it needs nothing else.
+//! The start of a page of HTML. It contains the style, so that the page needs no other file.
 
-/// Up to the first box.
+/// The page up to its first box.
 pub const HEAD: &str = "\
 <!DOCTYPE html>
 <html lang=\"en\">

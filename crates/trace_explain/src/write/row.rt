@@ -1,4 +1,4 @@
-//! Rows, by one table of what stands before, between and behind the words of each.
+//! Rows, by one table of the text before, between and after the lines of each.
 
 ghost use Rattle.std.specs.Prelude.{◌≡◌, ℕ, List, flat_map, replicate};
 ghost use Rattle.trace_explain.specs.Sheets.{Adds, HasText};
@@ -7,10 +7,10 @@ ghost use Rattle.trace_explain.specs.Written.{before, behind, data_row, label_be
 use crate::write::layout::{Medium, Side};
 use crate::write::sheet::Sheet;
 
-/// How many columns stand before the words of a row.
+/// The number of columns before the text of a row.
 pub const ROW_INDENT: usize = 15;
 
-/// What stands between two lines of a row.
+/// The text between two lines of a row.
 pub fn between(medium: Medium) -> &'static str {
     match medium {
         Medium::Text => "\n               ",
@@ -18,7 +18,7 @@ pub fn between(medium: Medium) -> &'static str {
     }
 }
 
-/// Adds what stands before the words of a row: who says it, and its label.
+/// Adds the start of a row: the sign of its end, and its label.
 pub fn push_before(sheet: &mut Sheet, side: Side, label: &str)
     ensures { Adds sheet.old (before sheet.old.layout.medium side label.now) sheet.new }
 {
@@ -28,7 +28,7 @@ pub fn push_before(sheet: &mut Sheet, side: Side, label: &str)
     push_label_behind(sheet, medium, label.len());
 }
 
-/// What stands before a label.
+/// The text before a label.
 fn label_before(medium: Medium, side: Side) -> &'static str
     ensures { result.now ≡ label_before medium side }
 {
@@ -42,7 +42,7 @@ fn label_before(medium: Medium, side: Side) -> &'static str
     }
 }
 
-/// Adds what stands behind a label of this size.
+/// Adds the text after a label of this size.
 fn push_label_behind(sheet: &mut Sheet, medium: Medium, size: usize)
     ensures { Adds sheet.old (label_behind medium size) sheet.new }
 {
@@ -61,7 +61,7 @@ pub fn push_spaces(sheet: &mut Sheet, count: usize)
     }
 }
 
-/// What stands behind the words of a row.
+/// The end of a row.
 pub fn behind(medium: Medium, side: Side) -> &'static str
     ensures { result.now ≡ behind medium side }
 {
@@ -83,7 +83,7 @@ fn push_row(sheet: &mut Sheet, side: Side, label: &str, text: &[u8])
     sheet.push_str(behind(medium, side));
 }
 
-/// Adds text, in which nothing is markup.
+/// Adds text without markup.
 fn push_letters(sheet: &mut Sheet, medium: Medium, text: &[u8])
     ensures { Adds sheet.old (flat_map (letter medium) text.now) sheet.new }
 {
@@ -105,7 +105,7 @@ fn push_letter(sheet: &mut Sheet, medium: Medium, byte: u8)
     }
 }
 
-/// Adds the row of data that the lines are: none where there are no lines.
+/// Adds lines as the row of data. Adds nothing if there are no lines.
 pub fn push_data_row(sheet: &mut Sheet, side: Side, lines: &Sheet)
     ensures { (text : List ℕ) → HasText lines.now text →
         Adds sheet.old (data_row sheet.old.layout.medium side text) sheet.new }
@@ -118,7 +118,7 @@ pub fn push_data_row(sheet: &mut Sheet, side: Side, lines: &Sheet)
     }
 }
 
-/// Adds a row with this label, whose text the lines are.
+/// Adds lines as a row with this label.
 pub fn push_lines_row(sheet: &mut Sheet, side: Side, label: &str, lines: &Sheet)
     ensures { (text : List ℕ) → HasText lines.now text →
         Adds sheet.old (row sheet.old.layout.medium side label.now text) sheet.new }

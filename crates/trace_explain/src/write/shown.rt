@@ -1,4 +1,4 @@
-//! What shows a TPDU beside its data: its number, its line, its header and its status.
+//! The number, line, header and status of a TPDU.
 
 ghost use Rattle.std.specs.Prelude.{◌≡◌, ◌++◌, codes};
 ghost use Rattle.trace_explain.specs.Sheets.{Adds};
@@ -17,7 +17,7 @@ pub fn push_number(sheet: &mut Sheet, number: u64)
     sheet.push_str(" ");
 }
 
-/// Adds the line in which a TPDU begins, and ends its title.
+/// Adds the line where a TPDU begins, and the end of its title.
 pub fn push_line(sheet: &mut Sheet, line: u64)
     ensures { Adds sheet.old (line_text sheet.old.layout.medium line) sheet.new }
 {
@@ -27,7 +27,7 @@ pub fn push_line(sheet: &mut Sheet, line: u64)
     sheet.push_str(line_behind(medium));
 }
 
-/// What stands before the number of a line.
+/// The text before the number of a line.
 fn line_before(medium: Medium) -> &'static str
     ensures { result.now ≡ line_before medium }
 {
@@ -37,7 +37,7 @@ fn line_before(medium: Medium) -> &'static str
     }
 }
 
-/// What stands behind the number of a line.
+/// The text after the number of a line.
 fn line_behind(medium: Medium) -> &'static str
     ensures { result.now ≡ line_behind medium }
 {
@@ -47,7 +47,7 @@ fn line_behind(medium: Medium) -> &'static str
     }
 }
 
-/// Adds the row of a header; on a page each of its characters stands behind its name.
+/// Adds the row of a header. On a page each character follows its name.
 pub fn push_header(sheet: &mut Sheet, header: &[u8])
     ensures { Adds sheet.old (header_row sheet.old.layout.medium header.now) sheet.new }
 {
@@ -67,7 +67,7 @@ fn push_characters(sheet: &mut Sheet, medium: Medium, header: &[u8])
     }
 }
 
-/// Adds the characters of a header, each behind its name.
+/// Adds the characters of a header, each after its name.
 fn push_named(sheet: &mut Sheet, header: &[u8])
     ensures { Adds sheet.old (named 0 header.now) sheet.new }
 {
@@ -76,7 +76,7 @@ fn push_named(sheet: &mut Sheet, header: &[u8])
     }
 }
 
-/// Adds the character of a header at this place, counted from 0, behind its name.
+/// Adds the character of a header at this place, counted from 0, after its name.
 fn push_character(sheet: &mut Sheet, place: usize, byte: u8)
     ensures { Adds sheet.old (character_text place byte) sheet.new }
 {
@@ -84,7 +84,7 @@ fn push_character(sheet: &mut Sheet, place: usize, byte: u8)
     sheet.push_hex(&[byte]);
 }
 
-/// What stands before the character of a header at this place.
+/// The name of the character of a header at this place.
 fn name_before(place: usize) -> &'static str
     ensures { result.now ≡ name_before place }
 {
@@ -98,7 +98,7 @@ fn name_before(place: usize) -> &'static str
     }
 }
 
-/// Begins the row of a status with its characters, and a space if there are any.
+/// Adds the start of the row of a status: its characters, and a space if there are any.
 pub fn push_status(sheet: &mut Sheet, side: Side, status: &[u8])
     ensures { Adds sheet.old (before sheet.old.layout.medium side (codes "status")
         ++ status_digits status.now) sheet.new }

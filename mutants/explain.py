@@ -128,7 +128,7 @@ fn run{number}(rt: &HostRuntime, part: &[u8]) {{
     let mut ways = m{number}::ways::Ways::none();
     for way in [t0_core::Direction::ToCard, t0_core::Direction::FromCard] {{
         let said = str::from_utf8(parts.next().unwrap_or(&[])).unwrap_or("");
-        let _ = ways.say(way, said);
+        let _ = ways.give(way, said);
     }}
     let medium = if part[0] == b'h' {{
         m{number}::layout::Medium::Html

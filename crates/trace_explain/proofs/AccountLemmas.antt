@@ -11,11 +11,11 @@ use Rattle.trace_explain.specs.declared.write.layout.Medium.{Medium}
 use Rattle.trace_explain.specs.declared.follow.listener.Listener.{Listener}
 use Rattle.trace_explain.specs.declared.describe.mask.Mask.{Mask}
 use Rattle.trace_explain.specs.declared.write.sheet.Sheet.{Sheet}
-use Rattle.trace_explain.specs.Account.{Account, AddsBox, AddsBoxes, AddsText, AreBoxes, Boxed, HasWritten, Out, Shows, ShowsTold, WritesOut, WritesTold, number_after, out_with, parts_in, told_in}
+use Rattle.trace_explain.specs.Account.{Account, AddsBox, AddsBoxes, AddsText, AreBoxes, Boxed, HasWritten, Out, Shows, ShowsReports, WritesOut, WritesReports, number_after, out_with, parts_in, reports_in}
 use Rattle.trace_explain.specs.Boxes.{PutsBox}
 use Rattle.trace_explain.specs.Noted.{as_ended, bared, ended_by, is_bare}
 use Rattle.trace_explain.specs.Sheets.{Joins}
-use Rattle.trace_explain.specs.Told.{Told, one_more, told_by}
+use Rattle.trace_explain.specs.Reports.{Report, one_more, report_of}
 use Rattle.trace_explain.specs.Written.{InTurn}
 use Rattle.trace_explain.proofs.BoxLemmas.{in_turn_both}
 use Rattle.trace_explain.proofs.SheetLemmas.{adds_nothing}
@@ -35,17 +35,18 @@ parts_both [] ys = refl
 parts_both (x ∷ xs) ys = ap (λ t. x.parts ++ t) (parts_both xs ys)
     ∙ sym (append_assoc x.parts (parts_in xs) (parts_in ys))
 
-shows_both : (m : Medium) (mask : Mask) (n k l : ℕ) (ts us : List Told) (x y : List ℕ)
-    → ShowsTold m mask n ts x k → ShowsTold m mask k us y l
-    → ShowsTold m mask n (ts ++ us) (x ++ y) l
+shows_both : (m : Medium) (mask : Mask) (n k l : ℕ) (ts us : List Report) (x y : List ℕ)
+    → ShowsReports m mask n ts x k → ShowsReports m mask k us y l
+    → ShowsReports m mask n (ts ++ us) (x ++ y) l
 shows_both m mask n k l ts us x y h i =
     let P : ℕ → Type 0 = λ z. AreBoxes m mask z i.boxes in
     let Q : List (List ℕ) → Type 0 = λ ps. InTurn ps (x ++ y) in
     record {
       boxes = h.boxes ++ i.boxes;
       are = are_both m mask n h.boxes i.boxes h.are (subst P h.after_is i.are);
-      told_is = ap (λ t. t ++ us) h.told_is ∙ ap (λ t. told_in h.boxes ++ t) i.told_is
-          ∙ sym (map-append (λ (b : Boxed). b.told) h.boxes i.boxes);
+      reports_are = ap (λ t. t ++ us) h.reports_are
+          ∙ ap (λ t. reports_in h.boxes ++ t) i.reports_are
+          ∙ sym (map-append (λ (b : Boxed). b.report) h.boxes i.boxes);
       after_is = i.after_is ∙ ap (λ z. number_after z i.boxes) h.after_is
           ∙ sym (number_both n h.boxes i.boxes);
       has = subst Q (sym (parts_both h.boxes i.boxes))
@@ -53,7 +54,7 @@ shows_both m mask n k l ts us x y h i =
     }
 
 -- boxes behind boxes
-pub boxes_both : {ts us : List Told} {a b c : Account} → Shows ts a b → Shows us b c
+pub boxes_both : {ts us : List Report} {a b c : Account} → Shows ts a b → Shows us b c
     → Shows (ts ++ us) a c
 boxes_both {ts} {us} {a} {b} {c} h k = record {
   keeps = k.keeps ∙ h.keeps;
@@ -88,7 +89,7 @@ boxes_none keeps mask number (more, joins) = record {
     whole = joins.whole w;
     more = more;
     text_is = joins.text w;
-    shows = record { boxes = []; are = tt; told_is = refl; after_is = number; has = tt };
+    shows = record { boxes = []; are = tt; reports_are = refl; after_is = number; has = tt };
   };
 }
 
@@ -96,7 +97,7 @@ pub boxes_stay : {a : Account} → Shows [] a a
 boxes_stay {a} = boxes_none {a = a} {b = a} refl refl refl ([], adds_nothing a.sheet)
 
 -- one box
-pub boxes_one : (t : Told) (number line : ℕ) {a b c : Account} → b.keeps ≡ a.keeps
+pub boxes_one : (t : Report) (number line : ℕ) {a b c : Account} → b.keeps ≡ a.keeps
     → b.mask ≡ a.mask → b.sheet ≡ a.sheet → b.number ≡ one_more a.number → number ≡ b.number
     → AddsBox number line t b c → Shows (t ∷ []) a c
 boxes_one t number line {a} {b} {c} keeps mask sheet counted number_is h = record {
@@ -110,7 +111,7 @@ boxes_one t number line {a} {b} {c} keeps mask sheet counted number_is h = recor
       let (parts, is_box, puts) = subst R (number_is ∙ counted) (subst Q mask (subst P sheet
       (h.box (keeps ∙ writes) (ap (λ (s : Sheet). s.layout.is_summary) sheet ∙ all)))) in
       let (more, text_is, has) = puts.text w in
-      let one : Boxed = record { told = t; line = line; parts = parts } in
+      let one : Boxed = record { report = t; line = line; parts = parts } in
       let S : List (List ℕ) → Type 0 = λ ps. InTurn ps more in
       record {
         whole = puts.whole w;
@@ -119,7 +120,7 @@ boxes_one t number line {a} {b} {c} keeps mask sheet counted number_is h = recor
         shows = record {
           boxes = one ∷ [];
           are = (is_box, tt);
-          told_is = refl;
+          reports_are = refl;
           after_is = h.counted ∙ counted;
           has = subst S (sym (append-nil parts)) has;
         };
@@ -127,39 +128,39 @@ boxes_one t number line {a} {b} {c} keeps mask sheet counted number_is h = recor
 }
 
 -- words behind boxes
-pub boxes_words : {ts : List Told} {a b c : Account} → Shows ts a b → c.keeps ≡ b.keeps
+pub boxes_words : {ts : List Report} {a b c : Account} → Shows ts a b → c.keeps ≡ b.keeps
     → c.mask ≡ b.mask → c.number ≡ b.number → Joins b.sheet c.sheet → Shows ts a c
 boxes_words {ts} {a} {b} {c} h keeps mask number joins =
-    let P : List Told → Type 0 = λ x. Shows x a c in
+    let P : List Report → Type 0 = λ x. Shows x a c in
     subst P (append-nil ts) (boxes_both h (boxes_none {a = b} {b = c} keeps mask number joins))
 
 -- where what is written stays before boxes
-pub boxes_from : {ts : List Told} {a b c : Account} → b ≡ a → Shows ts b c → Shows ts a c
+pub boxes_from : {ts : List Report} {a b c : Account} → b ≡ a → Shows ts b c → Shows ts a c
 boxes_from {ts} {c = c} same h = let P : Account → Type 0 = λ x. Shows ts x c in subst P same h
 
 -- and behind them
-pub boxes_to : {ts : List Told} {a b c : Account} → Shows ts a b → c ≡ b → Shows ts a c
+pub boxes_to : {ts : List Report} {a b c : Account} → Shows ts a b → c ≡ b → Shows ts a c
 boxes_to {ts} {a} h same = let P : Account → Type 0 = λ x. Shows ts a x in subst P (sym same) h
 
 -- what ended has no box if nothing of it came, and else one
-same_header : (t : Told) (v : Bool) → length (if v then bared t else t).header ≡ length t.header
+same_header : (t : Report) (v : Bool) → length (if v then bared t else t).header ≡ length t.header
 same_header t true = refl
 same_header t false = refl
 
-pub ended_is : (t p : Told) (none : Bool) → p ≡ as_ended t → (length p.header == 0) ≡ none
+pub ended_is : (t p : Report) (none : Bool) → p ≡ as_ended t → (length p.header == 0) ≡ none
     → ended_by t ≡ (if none then [] else p ∷ [])
 ended_is t p none p_is header =
     let same : length p.header ≡ length t.header =
-    ap (λ (x : Told). length x.header) p_is ∙ same_header t (is_bare t) in
+    ap (λ (x : Report). length x.header) p_is ∙ same_header t (is_bare t) in
     ap (λ n. if n == 0 then [] else as_ended t ∷ []) (sym same)
     ∙ ap (λ v. if v then [] else as_ended t ∷ []) header
     ∙ ap (λ x. if none then [] else x ∷ []) (sym p_is)
 
-pub boxes_as : {ts us : List Told} {a b : Account} → ts ≡ us → Shows ts a b → Shows us a b
-boxes_as {a = a} {b = b} e h = let P : List Told → Type 0 = λ x. Shows x a b in subst P e h
+pub boxes_as : {ts us : List Report} {a b : Account} → ts ≡ us → Shows ts a b → Shows us a b
+boxes_as {a = a} {b = b} e h = let P : List Report → Type 0 = λ x. Shows x a b in subst P e h
 
 -- nothing is said where memory was wanting
-pub boxes_cut : {T E : Type 0} {ts : List Told} {a b : Account} (r : Result T E)
+pub boxes_cut : {T E : Type 0} {ts : List Report} {a b : Account} (r : Result T E)
     → b.keeps ≡ a.keeps → b.mask ≡ a.mask → Joins a.sheet b.sheet → is_err r ≡ true
     → IfErr r (λ _. b.sheet.is_cut ≡ true) → Shows ts a b
 boxes_cut (Ok x) keeps mask joins failed h = absurd (let no : false ≡ true = failed in cc)
@@ -171,7 +172,7 @@ boxes_cut (Err e) keeps mask joins failed h = record {
 }
 
 -- more is written
-pub written_more : (front : Out) (ts us : List Told) (a b : Explainer)
+pub written_more : (front : Out) (ts us : List Report) (a b : Explainer)
     → b.reading.of_tpdus ≡ false → HasWritten front ts a → AddsBoxes us a.teller b.teller
     → HasWritten front (ts ++ us) b
 written_more front ts us a b hears h k = record {
@@ -185,9 +186,9 @@ written_more front ts us a b hears h k = record {
       let text : List ℕ = string_bytes a.teller.output.sheet.text in
       let n : ℕ = a.teller.story.number in
       let m : ℕ = b.teller.story.number in
-      let P : List ℕ → Type 0 = λ x. ShowsTold front.layout.medium front.mask 0 (ts ++ us) x m in
-      let Q : Layout → Type 0 = λ l. ShowsTold l.medium a.teller.mask n us next.more m in
-      let R : Mask → Type 0 = λ v. ShowsTold front.layout.medium v n us next.more m in
+      let P : List ℕ → Type 0 = λ x. ShowsReports front.layout.medium front.mask 0 (ts ++ us) x m in
+      let Q : Layout → Type 0 = λ l. ShowsReports l.medium a.teller.mask n us next.more m in
+      let R : Mask → Type 0 = λ v. ShowsReports front.layout.medium v n us next.more m in
       subst P (append_assoc front.text text next.more
       ∙ ap (λ x. front.text ++ x) (sym next.text_is))
       (shows_both front.layout.medium front.mask 0 n m ts us (front.text ++ text) next.more first
@@ -195,7 +196,7 @@ written_more front ts us a b hears h k = record {
 }
 
 -- and written out
-pub written_out : (front : Out) (ts : List Told) (a : Explainer) (s : Sheet)
+pub written_out : (front : Out) (ts : List Report) (a : Explainer) (s : Sheet)
     → WritesOut a.teller.output.sheet s → HasWritten front ts a
     → HasWritten (out_with front (string_bytes a.teller.output.sheet.text)) ts
     (record a { teller = record a.teller { output = record a.teller.output { sheet = s } } })
@@ -206,33 +207,36 @@ written_out front ts a s k h = record {
   mask = h.mask;
   shows = λ writes all w.
       let text : List ℕ = front.text ++ string_bytes a.teller.output.sheet.text in
-      let P : List ℕ → Type 0 = λ x. ShowsTold front.layout.medium front.mask 0 ts x
+      let P : List ℕ → Type 0 = λ x. ShowsReports front.layout.medium front.mask 0 ts x
       a.teller.story.number in
       subst P (sym (append-nil text) ∙ ap (λ x. text ++ x) (sym k.text))
       (h.shows writes all (sym k.is_cut ∙ w));
 }
 
 -- at the end of a trace
-pub writes_told : (front : Out) (told : List Told) (l : Listener) (layout : Layout) (mask : Mask)
+pub writes_reports : (front : Out) (reports : List Report) (l : Listener) (layout : Layout)
+    (mask : Mask)
     (old mid new : Option (List ℕ)) (a b : Explainer) → front.keeps ≡ false
     → front.layout ≡ layout → front.mask ≡ mask → Appends old mid front.text
-    → Appends mid new (string_bytes b.teller.output.sheet.text) → HasWritten front told a
+    → Appends mid new (string_bytes b.teller.output.sheet.text) → HasWritten front reports a
     → l ≡ a.listener
     → (a.reading.of_tpdus ≡ false
-    → AddsBoxes (ended_by (told_by a.listener.under_way)) a.teller b.teller)
+    → AddsBoxes (ended_by (report_of a.listener.under_way)) a.teller b.teller)
     → b.teller.output.sheet.is_cut ≡ false
-    → b.reading.of_tpdus ≡ a.reading.of_tpdus → WritesTold layout mask old new told l
-writes_told front told l layout mask old mid new a b keeps layout_is mask_is first next h same adds
+    → b.reading.of_tpdus ≡ a.reading.of_tpdus → WritesReports layout mask old new reports l
+writes_reports front reports l layout mask old mid new a b keeps layout_is mask_is first next h same
+    adds
     whole reads = λ all.
-    let ends : Listener → List Told = λ x. told ++ ended_by (told_by x.under_way) in
-    let last = written_more front told (ended_by (told_by a.listener.under_way)) a b
+    let ends : Listener → List Report = λ x. reports ++ ended_by (report_of x.under_way) in
+    let last = written_more front reports (ended_by (report_of a.listener.under_way)) a b
     (reads ∙ h.hears) h (adds h.hears) in
     let shows = last.shows keeps (ap (λ (x : Layout). x.is_summary) layout_is ∙ all) whole in
     let text : List ℕ = front.text ++ string_bytes b.teller.output.sheet.text in
     let n : ℕ = b.teller.story.number in
-    let P : Listener → Type 0 = λ x. ShowsTold front.layout.medium front.mask 0 (ends x) text n in
-    let Q : Layout → Type 0 = λ x. ShowsTold x.medium front.mask 0 (ends l) text n in
-    let R : Mask → Type 0 = λ v. ShowsTold layout.medium v 0 (ends l) text n in (
+    let P : Listener → Type 0 = λ x.
+    ShowsReports front.layout.medium front.mask 0 (ends x) text n in
+    let Q : Layout → Type 0 = λ x. ShowsReports x.medium front.mask 0 (ends l) text n in
+    let R : Mask → Type 0 = λ v. ShowsReports layout.medium v 0 (ends l) text n in (
       text,
       n,
       Appends-trans old mid new front.text (string_bytes b.teller.output.sheet.text) first next,
@@ -240,8 +244,8 @@ writes_told front told l layout mask old mid new a b keeps layout_is mask_is fir
     )
 
 -- nothing is written out yet
-pub none_out : (first : Out) (told : List Told) (e : Explainer) → HasWritten first told e
-    → HasWritten (out_with first []) told e
-none_out first told e h =
-    let P : List ℕ → Type 0 = λ x. HasWritten (record first { text = x }) told e in
+pub none_out : (first : Out) (reports : List Report) (e : Explainer) → HasWritten first reports e
+    → HasWritten (out_with first []) reports e
+none_out first reports e h =
+    let P : List ℕ → Type 0 = λ x. HasWritten (record first { text = x }) reports e in
     subst P (sym (append-nil first.text)) h

@@ -21,10 +21,10 @@ use Rattle.t0_core.specs.TapHistory.{HasHeard, HearsOn}
 use Rattle.trace_explain.specs.declared.follow.listener.Listener.{Listener}
 use Rattle.trace_explain.specs.declared.follow.tally.Tally.{Tally}
 use Rattle.trace_explain.specs.declared.follow.tpdu.Tpdu.{Tpdu}
-use Rattle.trace_explain.specs.Told.{Told, told_by, counted, uncounted, untold, noted, is_last, Tells, TellsFront}
+use Rattle.trace_explain.specs.Reports.{Report, report_of, counted, uncounted, no_report, noted, is_last, Reports, ReportsFront}
 use Rattle.trace_explain.specs.Noted.{AreStatus, HasNoted, IsBare, IsNoted, bared, ended_by, is_bare}
 use Rattle.trace_explain.proofs.ExplainedLemmas.{both_hold}
-use Rattle.trace_explain.proofs.NotedLemmas.{alone, cut_of, heard_inside, heard_reset, tells_both, tells_nothing}
+use Rattle.trace_explain.proofs.NotedLemmas.{alone, cut_of, hears_inside, hears_reset, reports_both, reports_nothing}
 
 -- with P3 00 no data move to the card
 none_to_card : (segments : List Step) → all_moves segments 0 ≡ 0
@@ -100,18 +100,18 @@ as_dialogue b sw1 sw2 = record {
   status = (sw1, sw2);
 }
 
-abbrev IsOfBare : Told → Front → Dialogue → Type 0
+abbrev IsOfBare : Report → Front → Dialogue → Type 0
 IsOfBare t front d = IsDialogue d × IsBare d.body
-    × (front_characters front ≡ characters d) × Tells (bared t) d
+    × (front_characters front ≡ characters d) × Reports (bared t) d
 
-bare_body : (t : Told) (b : Body) (sw1 sw2 : ℕ) → TellsFront t (In_body b) → IsFront (In_body b)
+bare_body : (t : Report) (b : Body) (sw1 sw2 : ℕ) → ReportsFront t (In_body b) → IsFront (In_body b)
     → slice_index t.header 4 ≡ 0 → t.tally.ones ≡ 0 → t.moved ≡ sw1 ∷ sw2 ∷ []
     → IsStatusWord (sw1, sw2) → IsOfBare t (In_body b) (as_dialogue b sw1 sw2)
-bare_body t b sw1 sw2 tells front p3_read none moved_is status =
+bare_body t b sw1 sw2 reports front p3_read none moved_is status =
     let ins = b.header.ins in
     let two : List ℕ = sw1 ∷ sw2 ∷ [] in
-    let p3_is : b.p3 ≡ 0 = sym (ap (λ xs. slice_index xs 4) tells.0.header_is) ∙ p3_read in
-    let data_are : b.moved ≡ two = sym tells.0.moved_is ∙ moved_is in
+    let p3_is : b.p3 ≡ 0 = sym (ap (λ xs. slice_index xs 4) reports.0.header_is) ∙ p3_read in
+    let data_are : b.moved ≡ two = sym reports.0.moved_is ∙ moved_is in
     let way_is : b.direction ≡ FromCard =
     from_card b.direction b.segments b.p3 (length b.moved) p3_is (ap length data_are) front.in_last
     in
@@ -121,7 +121,7 @@ bare_body t b sw1 sw2 tells front p3_read none moved_is status =
     let Q : List ℕ → Type 0 = λ xs. EndInLast b.segments 256 (length xs) in
     let (nulls, are, is, same) = nulls_before ins sw1 sw2 b.segments uncounted
     (subst Q data_are (subst P all_is front.in_last))
-    (sym (ap (λ (x : Tally). x.ones) tells.0.tally_is) ∙ none) in
+    (sym (ap (λ (x : Tally). x.ones) reports.0.tally_is) ∙ none) in
     let opening = sent_by Terminal (header_bytes b.header ++ b.p3 ∷ []) in
     let to_card : ℕ → List Character = λ n. segment_characters ins ToCard b.segments n [] in (
       record {
@@ -146,8 +146,8 @@ bare_body t b sw1 sw2 tells front p3_read none moved_is status =
           ∙ sym (append_assoc opening (to_card b.p3) (sent_by Card two)),
       record {
         body = record {
-          header_is = tells.0.header_is;
-          tally_is = tells.0.tally_is;
+          header_is = reports.0.header_is;
+          tally_is = reports.0.tally_is;
           moved_is = refl;
         };
         way = refl;
@@ -155,37 +155,38 @@ bare_body t b sw1 sw2 tells front p3_read none moved_is status =
       },
     )
 
-bare_front : (t : Told) (front : Front) → TellsFront t front → IsFront front → is_bare t ≡ true
+bare_front : (t : Report) (front : Front) → ReportsFront t front → IsFront front → is_bare t ≡ true
     → AreStatus t.moved → (d : Dialogue) × IsOfBare t front d
-bare_front t (In_header bytes) tells front bare status =
-    let P : List ℕ → Type 0 = λ xs. AreStatus xs in absurd (subst P tells.0.moved_is status)
-bare_front t (After_first b sw1) tells front bare status =
+bare_front t (In_header bytes) reports front bare status =
+    let P : List ℕ → Type 0 = λ xs. AreStatus xs in absurd (subst P reports.0.moved_is status)
+bare_front t (After_first b sw1) reports front bare status =
     let three = both_hold ((slice_index t.header 4 == 0) && (t.tally.ones == 0)
     && (length t.status == 0)) _ bare in
     let none = both_hold ((slice_index t.header 4 == 0) && (t.tally.ones == 0)) _ three.0 in
-    absurd (omega (arith, eqb-true (length t.status) 0 none.1, ap length tells.1))
-bare_front t (In_body b) tells front bare status =
+    absurd (omega (arith, eqb-true (length t.status) 0 none.1, ap length reports.1))
+bare_front t (In_body b) reports front bare status =
     let three = both_hold ((slice_index t.header 4 == 0) && (t.tally.ones == 0)
     && (length t.status == 0)) _ bare in
     let first = both_hold ((slice_index t.header 4 == 0) && (t.tally.ones == 0)) _ three.0 in
     let both = both_hold (slice_index t.header 4 == 0) (t.tally.ones == 0) first.0 in
     let (sw1, sw2, moved_is, word) = two_of t.moved status in (
       as_dialogue b sw1 sw2,
-      bare_body t b sw1 sw2 tells front (eqb-true (slice_index t.header 4) 0 both.0)
+      bare_body t b sw1 sw2 reports front (eqb-true (slice_index t.header 4) 0 both.0)
           (eqb-true t.tally.ones 0 both.1) moved_is word,
     )
 
 -- it ends, and is told
-pub heard_bare : (events : List Event) (told : List Told) (old new : Listener)
-    → HasNoted events told old → is_bare (told_by old.under_way) ≡ true
-    → AreStatus (told_by old.under_way).moved → new.tap ≡ afresh → told_by new.under_way ≡ untold
-    → HasNoted events (told ++ bared (told_by old.under_way) ∷ []) new
-heard_bare events told old new n bare status tap_is is =
-    let t = told_by old.under_way in
+pub hears_bare : (events : List Event) (reports : List Report) (old new : Listener)
+    → HasNoted events reports old → is_bare (report_of old.under_way) ≡ true
+    → AreStatus (report_of old.under_way).moved → new.tap ≡ afresh
+    → report_of new.under_way ≡ no_report
+    → HasNoted events (reports ++ bared (report_of old.under_way) ∷ []) new
+hears_bare events reports old new n bare status tap_is is =
+    let t = report_of old.under_way in
     let (d, is_so) = bare_front t n.front n.under_way n.is_front bare status in
     let items = n.items ++ Whole d ∷ [] in
     let S : Place → Type 0 = λ p. TapStandsAt p fresh in
-    let Q : Told → Type 0 = λ x. TellsFront x fresh in
+    let Q : Report → Type 0 = λ x. ReportsFront x fresh in
     record {
       items = items;
       front = fresh;
@@ -195,30 +196,31 @@ heard_bare events told old new n bare status tap_is is =
           ∙ sym (append-nil (flat_map events_of items));
       are_noted = all_more IsNoted n.items (Whole d) n.are_noted (is_so.0, inr is_so.1);
       is_front = lit< tt;
-      stands = subst S (sym tap_is) (refl, lit< tt);
-      are_told = tells_both n.items told (Whole d ∷ []) (bared t ∷ []) n.are_told
+      is_at = subst S (sym tap_is) (refl, lit< tt);
+      are_reported = reports_both n.items reports (Whole d ∷ []) (bared t ∷ []) n.are_reported
           (is_so.3, tt);
-      under_way = subst Q (sym is) tells_nothing;
+      under_way = subst Q (sym is) reports_nothing;
     }
 
 -- and with the next character of the terminal a header begins
-pub heard_behind : (events : List Event) (before : List Told) (whole : Tpdu)
+pub hears_behind : (events : List Event) (before : List Report) (whole : Tpdu)
     (old mid new : Listener) (h : Heard) (byte : ℕ)
-    → HasNoted events before old → is_bare (told_by old.under_way) ≡ true
-    → AreStatus (told_by old.under_way).moved → mid.tap ≡ afresh → told_by mid.under_way ≡ untold
-    → told_by whole ≡ bared (told_by old.under_way)
+    → HasNoted events before old → is_bare (report_of old.under_way) ≡ true
+    → AreStatus (report_of old.under_way).moved → mid.tap ≡ afresh
+    → report_of mid.under_way ≡ no_report
+    → report_of whole ≡ bared (report_of old.under_way)
     → ((es : List Event) (led : HasHeard es mid.tap) → HearsOn led h (Terminal, byte) new.tap)
     → h ≡ heard_at mid.tap Terminal byte
-    → told_by new.under_way ≡ noted (told_by mid.under_way) h byte
-    → HasNoted (events ++ Passed (Terminal, byte) ∷ []) (before ++ told_by whole ∷ []) new
-heard_behind events before whole old mid new h byte n bare status tap_is is whole_is on h_is
+    → report_of new.under_way ≡ noted (report_of mid.under_way) h byte
+    → HasNoted (events ++ Passed (Terminal, byte) ∷ []) (before ++ report_of whole ∷ []) new
+hears_behind events before whole old mid new h byte n bare status tap_is is whole_is on h_is
     noted_is =
-    let told = before ++ told_by whole ∷ [] in
-    let P : Told → Type 0 = λ t. HasNoted events (before ++ t ∷ []) mid in
-    let ended : HasNoted events told mid =
-    subst P (sym whole_is) (heard_bare events before old mid n bare status tap_is is) in
-    heard_inside events told mid new h (Terminal, byte) ended
-    (on (passed (front_characters ended.front)) (alone events told mid ended))
+    let reports = before ++ report_of whole ∷ [] in
+    let P : Report → Type 0 = λ t. HasNoted events (before ++ t ∷ []) mid in
+    let ended : HasNoted events reports mid =
+    subst P (sym whole_is) (hears_bare events before old mid n bare status tap_is is) in
+    hears_inside events reports mid new h (Terminal, byte) ended
+    (on (passed (front_characters ended.front)) (alone events reports mid ended))
     (ap is_last (h_is ∙ ap (λ p. heard_at p Terminal byte) tap_is)) noted_is
 
 -- no character of the terminal is refused there
@@ -229,39 +231,39 @@ header_refused p byte why is refused =
     refused ∙ ap (λ q. tap_fault_at q Terminal byte) is in cc)
 
 -- something of such a command has come
-bare_some : (t : Told) (n : ℕ) → n ≡ length t.header → is_bare t ≡ true → (front : Front)
-    → TellsFront t front → AreStatus t.moved → (n == 0) ≡ false
-bare_some t n n_is bare (In_header bytes) tells status =
-    let P : List ℕ → Type 0 = λ xs. AreStatus xs in absurd (subst P tells.0.moved_is status)
-bare_some t n n_is bare (In_body b) tells status =
-    ne_eqb n 0 (omega (arith, n_is, ap length tells.0.header_is))
-bare_some t n n_is bare (After_first b sw1) tells status =
-    ne_eqb n 0 (omega (arith, n_is, ap length tells.0.header_is))
+bare_some : (t : Report) (n : ℕ) → n ≡ length t.header → is_bare t ≡ true → (front : Front)
+    → ReportsFront t front → AreStatus t.moved → (n == 0) ≡ false
+bare_some t n n_is bare (In_header bytes) reports status =
+    let P : List ℕ → Type 0 = λ xs. AreStatus xs in absurd (subst P reports.0.moved_is status)
+bare_some t n n_is bare (In_body b) reports status =
+    ne_eqb n 0 (omega (arith, n_is, ap length reports.0.header_is))
+bare_some t n n_is bare (After_first b sw1) reports status =
+    ne_eqb n 0 (omega (arith, n_is, ap length reports.0.header_is))
 
 -- a reset has come, behind such a command or anything else
-pub reset_noted : (events : List Event) (told : List Told) (old new : Listener)
-    → HasNoted events told old → new.tap ≡ afresh → told_by new.under_way ≡ untold
-    → (is_bare (told_by old.under_way) ≡ true → AreStatus (told_by old.under_way).moved)
-    → HasNoted (events ++ Reset ∷ []) (told ++ ended_by (told_by old.under_way)) new
-reset_noted events told old new n tap_is is status = split (is_bare t) refl
+pub reset_noted : (events : List Event) (reports : List Report) (old new : Listener)
+    → HasNoted events reports old → new.tap ≡ afresh → report_of new.under_way ≡ no_report
+    → (is_bare (report_of old.under_way) ≡ true → AreStatus (report_of old.under_way).moved)
+    → HasNoted (events ++ Reset ∷ []) (reports ++ ended_by (report_of old.under_way)) new
+reset_noted events reports old new n tap_is is status = split (is_bare t) refl
   where
-    t : Told
-    t = told_by old.under_way
+    t : Report
+    t = report_of old.under_way
 
-    P : List Told → Type 0
+    P : List Report → Type 0
     P ts = HasNoted (events ++ Reset ∷ []) ts new
 
-    split : (v : Bool) → is_bare t ≡ v → P (told ++ ended_by t)
+    split : (v : Bool) → is_bare t ≡ v → P (reports ++ ended_by t)
     split true e =
         let some = bare_some t (length t.header) refl e n.front n.under_way (status e) in
         let same : ended_by t ≡ bared t ∷ [] = rw some (rw e refl) in
-        let none : cut_of (told_by new.under_way) ≡ [] = ap cut_of is in
-        let nothing : (told ++ bared t ∷ []) ++ cut_of (told_by new.under_way)
-        ≡ told ++ bared t ∷ [] =
-        ap (λ ts. (told ++ bared t ∷ []) ++ ts) none ∙ append-nil (told ++ bared t ∷ []) in
-        subst P (nothing ∙ ap (λ ts. told ++ ts) (sym same))
-        (heard_reset events (told ++ bared t ∷ []) new new
-        (heard_bare events told old new n e (status e) tap_is is) tap_is is)
+        let none : cut_of (report_of new.under_way) ≡ [] = ap cut_of is in
+        let nothing : (reports ++ bared t ∷ []) ++ cut_of (report_of new.under_way)
+        ≡ reports ++ bared t ∷ [] =
+        ap (λ ts. (reports ++ bared t ∷ []) ++ ts) none ∙ append-nil (reports ++ bared t ∷ []) in
+        subst P (nothing ∙ ap (λ ts. reports ++ ts) (sym same))
+        (hears_reset events (reports ++ bared t ∷ []) new new
+        (hears_bare events reports old new n e (status e) tap_is is) tap_is is)
     split false e =
         let same : cut_of t ≡ ended_by t = rw e refl in
-        subst P (ap (λ ts. told ++ ts) same) (heard_reset events told old new n tap_is is)
+        subst P (ap (λ ts. reports ++ ts) same) (hears_reset events reports old new n tap_is is)

@@ -8,7 +8,7 @@ use Rattle.trace_explain.specs.declared.describe.mask.Mask.{Mask}
 use Rattle.trace_explain.specs.declared.write.sheet.Sheet.{Sheet}
 use Rattle.trace_explain.specs.Boxes.{DataText, Puts, PutsBox, PutsDataOf, PutsStatus, status_side}
 use Rattle.trace_explain.specs.Sheets.{Adds, Joins}
-use Rattle.trace_explain.specs.Told.{Told}
+use Rattle.trace_explain.specs.Reports.{Report}
 use Rattle.trace_explain.specs.Written.{InTurn, header_row, line_text, number_text, status_row}
 use Rattle.trace_explain.proofs.SheetLemmas.{adds_both}
 
@@ -77,7 +77,7 @@ titled n l a b c d e h i j k =
     (puts_both [] (number_text n ∷ []) a b c (puts_words a b h) (puts_one (number_text n) b c i))
     (puts_words c d j)) (puts_one (line_text d.layout.medium l) d e k)
 
-pub boxed : (mask : Mask) (number line : ℕ) (t : Told) (header status : List ℕ) (s : Side)
+pub boxed : (mask : Mask) (number line : ℕ) (t : Report) (header status : List ℕ) (s : Side)
     (a b c d e f g h i : Sheet) → header ≡ t.header → status ≡ t.status
     → s ≡ status_side t.header t.status
     → Puts (number_text number ∷ line_text a.layout.medium line ∷ []) a b → Joins b c

@@ -12,16 +12,16 @@ use Rattle.trace_explain.specs.declared.explain_fault.ExplainFault.TheVariants a
 use Rattle.trace_explain.specs.declared.explainer.Explainer.{Explainer}
 use Rattle.trace_explain.specs.declared.follow.listener.Listener.{Listener}
 use Rattle.trace_explain.specs.declared.read.reading.Reading.{Reading}
-use Rattle.trace_explain.specs.declared.read.trace_line.BadLine.{BadLine}
-use Rattle.trace_explain.specs.declared.read.trace_line.BadLine.TheVariants as bad
+use Rattle.trace_explain.specs.declared.read.trace_line.LineFault.{LineFault}
+use Rattle.trace_explain.specs.declared.read.trace_line.LineFault.TheVariants as bad
 use Rattle.trace_explain.specs.declared.read.trace_line.Source.{Source}
 use Rattle.trace_explain.specs.declared.read.trace_line.Source.TheVariants.{Sign, Turn}
 use Rattle.trace_explain.specs.declared.read.trace_line.TraceLine.{TraceLine}
-use Rattle.trace_explain.specs.Told.{Told, told_by, TellsFront}
+use Rattle.trace_explain.specs.Reports.{Report, report_of, ReportsFront}
 use Rattle.trace_explain.specs.Openings.{Opening, begins_answer, has_begun, is_dialogue, opening_of, role_of, unopened}
-use Rattle.trace_explain.specs.Lines.{AreOver, IsBadLine, Says, Standing, TakesCharacters, TakesLine, after_character, heard_of, read_on}
-use Rattle.trace_explain.specs.Noted.{HasNoted, NoneGoesOn, as_ended, ended_by}
-use Rattle.trace_explain.specs.Explained.{HasExplained, IsPlain, ExplainsMore, ExplainsCharacter, ExplainsCharacters, ExplainsLine, Hears, HoldsFor, IsRight, IsUnsent, StopsAmong, StopsAtLine, next_line, refused, standing_of}
+use Rattle.trace_explain.specs.Lines.{AreOver, IsBadLine, Says, Position, TakesCharacters, TakesLine, after_character, dialogue_events, read_on}
+use Rattle.trace_explain.specs.Noted.{HasNoted, NoneContinues, as_ended, ended_by}
+use Rattle.trace_explain.specs.Explained.{HasExplained, IsPlain, ExplainsMore, ExplainsCharacter, ExplainsCharacters, ExplainsLine, Hears, HoldsFor, IsRight, IsUnsent, StopsAmong, StopsAtLine, next_line, refused, position_of}
 use Rattle.trace_explain.specs.Account.{AddsBoxes}
 use Rattle.trace_explain.proofs.AccountLemmas.{boxes_both}
 
@@ -30,67 +30,69 @@ pub on_ok_too : {T E : Type 0} (r : Result T E) (P Q : Type 0) → OnOk r P → 
 on_ok_too (Ok x) P Q h next = next h
 on_ok_too (Err e) P Q h next = tt
 
-pub explains_nothing : (events : List Event) (before : List Told) (at : Standing)
-    (old e : Explainer) → HasExplained events before e → standing_of e ≡ at
+pub explains_nothing : (events : List Event) (before : List Report) (at : Position)
+    (old e : Explainer) → HasExplained events before e → position_of e ≡ at
     → AddsBoxes [] old.teller e.teller → ExplainsMore [] at events before old e
 explains_nothing events before at old e h is boxes =
     let P : List Event → Type 0 = λ es. HasExplained es (before ++ []) e in
-    let Q : List Told → Type 0 = λ ts. HasExplained events ts e in
+    let Q : List Report → Type 0 = λ ts. HasExplained events ts e in
     record {
-      told = [];
+      reports = [];
       explained = subst P (sym (append-nil events)) (subst Q (sym (append-nil before)) h);
-      standing_is = is;
+      position_is = is;
       boxes = boxes;
     }
 
 -- what was written before it stays
-pub explains_from : (more : List Event) (at : Standing) (events : List Event) (before : List Told)
+pub explains_from : (more : List Event) (at : Position) (events : List Event) (before : List Report)
     (old mid new : Explainer) → AddsBoxes [] old.teller mid.teller
     → ExplainsMore more at events before mid new
     → ExplainsMore more at events before old new
 explains_from more at events before old mid new begins h = record {
-  told = h.told;
+  reports = h.reports;
   explained = h.explained;
-  standing_is = h.standing_is;
+  position_is = h.position_is;
   boxes = boxes_both begins h.boxes;
 }
 
 -- it stands as before, but for the opening
-pub same_standing : (o p : Opening) (c : Bool) (r : Reading) → o ≡ p
-    → ◌≡◌ {A = Standing} (record { opening = o; came = c; reading = r })
-    (record { opening = p; came = c; reading = r })
-same_standing o p c r is =
-    let at : Opening → Standing = λ x. record { opening = x; came = c; reading = r } in ap at is
+pub same_position : (o p : Opening) (c : Bool) (r : Reading) → o ≡ p
+    → ◌≡◌ {A = Position} (record { opening = o; has_characters = c; reading = r })
+    (record { opening = p; has_characters = c; reading = r })
+same_position o p c r is =
+    let at : Opening → Position = λ x.
+    record { opening = x; has_characters = c; reading = r } in ap at is
 
 -- no dialogue is under way of which no character of a header is told
-front_of_none : (t : Told) (front : Front) → TellsFront t front → length t.header ≡ 0
+front_of_none : (t : Report) (front : Front) → ReportsFront t front → length t.header ≡ 0
     → passed (front_characters front) ≡ []
-front_of_none t (In_header bytes) tells none =
+front_of_none t (In_header bytes) reports none =
     ap (λ bs. passed (front_characters (In_header bs)))
-    (nil_from_length bytes (ap length (sym tells.0.header_is) ∙ none))
-front_of_none t (In_body b) tells none =
+    (nil_from_length bytes (ap length (sym reports.0.header_is) ∙ none))
+front_of_none t (In_body b) reports none =
     absurd (omega (
       arith,
       none,
-      ap length tells.0.header_is,
+      ap length reports.0.header_is,
       length-append (header_bytes b.header) (b.p3 ∷ []),
     ))
-front_of_none t (After_first b sw1) tells none =
+front_of_none t (After_first b sw1) reports none =
     absurd (omega (
       arith,
       none,
-      ap length tells.0.header_is,
+      ap length reports.0.header_is,
       length-append (header_bytes b.header) (b.p3 ∷ []),
     ))
 
-over_behind : (events : List Event) (told : List Told) (l : Listener) → HasNoted events told l
-    → (length (told_by l.under_way).header == 0) ≡ true → AreOver events
-over_behind events told l noted none = record {
+over_behind : (events : List Event) (reports : List Report) (l : Listener)
+    → HasNoted events reports l
+    → (length (report_of l.under_way).header == 0) ≡ true → AreOver events
+over_behind events reports l noted none = record {
   items = noted.items;
   events_are = noted.events_are
       ∙ ap (λ es. flat_map events_of noted.items ++ es)
-      (front_of_none (told_by l.under_way) noted.front noted.under_way
-      (eqb-true (length (told_by l.under_way).header) 0 none))
+      (front_of_none (report_of l.under_way) noted.front noted.under_way
+      (eqb-true (length (report_of l.under_way).header) 0 none))
       ∙ append-nil (flat_map events_of noted.items);
   are_noted = noted.are_noted;
 }
@@ -100,48 +102,50 @@ both_hold true b e = (refl, e)
 both_hold false b e = absurd (let no : false ≡ true = e in cc)
 
 -- a character is taken: of an opening, of the dialogue, or one with which the card answers again
-pub taken_before : (from : End) (b : ℕ) (events : List Event) (before : List Told)
+pub taken_before : (from : End) (b : ℕ) (events : List Event) (before : List Report)
     (old new : Explainer) → is_dialogue (role_of (opening_of old.preface) from b) ≡ false
-    → HasExplained events before new → standing_of new ≡ after_character (standing_of old) from b
+    → HasExplained events before new → position_of new ≡ after_character (position_of old) from b
     → AddsBoxes [] old.teller new.teller → ExplainsCharacter from b events before old new
 taken_before from b events before old new other h at boxes =
-    let none : [] ≡ heard_of (opening_of old.preface) from b = rw other refl in
-    let P : List Event → Type 0 = λ es. ExplainsMore es (after_character (standing_of old) from b)
+    let none : [] ≡ dialogue_events (opening_of old.preface) from b = rw other refl in
+    let P : List Event → Type 0 = λ es. ExplainsMore es (after_character (position_of old) from b)
     events before old new in (
-      heard_of (opening_of old.preface) from b,
-      after_character (standing_of old) from b,
+      dialogue_events (opening_of old.preface) from b,
+      after_character (position_of old) from b,
       inl (refl, refl),
       subst P none (explains_nothing events before _ old new h at boxes),
     )
 
-pub taken_within : (from : End) (b : ℕ) (events : List Event) (before : List Told)
+pub taken_within : (from : End) (b : ℕ) (events : List Event) (before : List Report)
     (old new : Explainer) → is_dialogue (role_of (opening_of old.preface) from b) ≡ true
     → IsPlain new
     → Hears true from b events before old.listener new.listener old.teller new.teller
-    → standing_of new ≡ after_character (standing_of old) from b
+    → position_of new ≡ after_character (position_of old) from b
     → ExplainsCharacter from b events before old new
-taken_within from b events before old new own plain (told, h, boxes) at =
-    let one : Passed (from, b) ∷ [] ≡ heard_of (opening_of old.preface) from b = rw own refl in
-    let P : List Event → Type 0 = λ es. ExplainsMore es (after_character (standing_of old) from b)
+taken_within from b events before old new own plain (reports, h, boxes) at =
+    let one : Passed (from, b) ∷ [] ≡ dialogue_events (opening_of old.preface) from b =
+    rw own refl in
+    let P : List Event → Type 0 = λ es. ExplainsMore es (after_character (position_of old) from b)
     events before old new in (
-      heard_of (opening_of old.preface) from b,
-      after_character (standing_of old) from b,
+      dialogue_events (opening_of old.preface) from b,
+      after_character (position_of old) from b,
       inl (refl, refl),
-      subst P one (record { told = told; explained = (h, plain); standing_is = at; boxes = boxes }),
+      subst P one
+          (record { reports = reports; explained = (h, plain); position_is = at; boxes = boxes }),
     )
 
-pub taken_again : (from : End) (b : ℕ) (events : List Event) (before : List Told)
+pub taken_again : (from : End) (b : ℕ) (events : List Event) (before : List Report)
     (old new : Explainer) (mid : Listener) → has_begun old.preface.stage ≡ true
-    → begins_answer from b ≡ true → (length (told_by mid.under_way).header == 0) ≡ true
-    → NoneGoesOn mid (from, b) → HasNoted events before mid
-    → HasNoted (events ++ Reset ∷ []) (before ++ ended_by (told_by mid.under_way)) new.listener
+    → begins_answer from b ≡ true → (length (report_of mid.under_way).header == 0) ≡ true
+    → NoneContinues mid (from, b) → HasNoted events before mid
+    → HasNoted (events ++ Reset ∷ []) (before ++ ended_by (report_of mid.under_way)) new.listener
     → IsPlain new
-    → standing_of new ≡ after_character (record (standing_of old) { opening = unopened }) from b
+    → position_of new ≡ after_character (record (position_of old) { opening = unopened }) from b
     → AddsBoxes [] old.teller new.teller → ExplainsCharacter from b events before old new
 taken_again from b events before old new mid begun begins empty none here reset plain at boxes =
-    let t = told_by mid.under_way in
-    let after = after_character (record (standing_of old) { opening = unopened }) from b in
-    let P : List Told → Type 0 = λ ts. HasNoted (events ++ Reset ∷ []) (before ++ ts)
+    let t = report_of mid.under_way in
+    let after = after_character (record (position_of old) { opening = unopened }) from b in
+    let P : List Report → Type 0 = λ ts. HasNoted (events ++ Reset ∷ []) (before ++ ts)
     new.listener in (
       Reset ∷ [],
       after,
@@ -149,7 +153,7 @@ taken_again from b events before old new mid begun begins empty none here reset 
         has_begun = begun;
         begins = begins;
         are_over = over_behind events before mid here empty;
-        told = before;
+        reports = before;
         listener = mid;
         noted = here;
         none = none;
@@ -157,9 +161,9 @@ taken_again from b events before old new mid begun begins empty none here reset 
         after_is = refl;
       }),
       record {
-        told = [];
+        reports = [];
         explained = (subst P (ap (λ v. if v then [] else as_ended t ∷ []) empty) reset, plain);
-        standing_is = at;
+        position_is = at;
         boxes = boxes;
       },
     )
@@ -172,11 +176,11 @@ read_on_hears (Turn ways) reading = refl
 
 -- what the characters of a line say, it says
 pub as_line : {T : Type 0} (result : Result T ExplainFault) (line : List ℕ) (this : TraceLine)
-    (source : Source) (given : List ℕ) (events : List Event) (before : List Told)
+    (source : Source) (given : List ℕ) (events : List Event) (before : List Report)
     (old mid new : Explainer) → Says old.reading line this
-    → ((more : List Event) (at : Standing)
-    → TakesCharacters source events (standing_of mid) given more at
-    → TakesLine events (standing_of old) this more at)
+    → ((more : List Event) (at : Position)
+    → TakesCharacters source events (position_of mid) given more at
+    → TakesLine events (position_of old) this more at)
     → AddsBoxes [] old.teller mid.teller
     → OnOk result (ExplainsCharacters source given events before mid new)
     → OnOk result (ExplainsLine line events before old new)
@@ -190,14 +194,15 @@ as_line (Ok x) line this source given events before old mid new says is begins
     )
 
 -- a line that is refused for what it is
-pub line_refused : (why : BadLine) (line : List ℕ) (n : ℕ) (f : ExplainFault) (events : List Event)
-    (before : List Told) (old : Explainer) → IsBadLine why old.reading line
+pub line_refused : (why : LineFault) (line : List ℕ) (n : ℕ) (f : ExplainFault)
+    (events : List Event)
+    (before : List Report) (old : Explainer) → IsBadLine why old.reading line
     → f ≡ refused n why → n ≡ next_line old → StopsAtLine f line old events before
 line_refused why line n f events before old is_bad f_is n_is =
     let P : ExplainFault → Type 0 = λ x. StopsAtLine x line old events before in
     subst P (sym f_is) (of_kind why is_bad)
   where
-    of_kind : (w : BadLine) → IsBadLine w old.reading line
+    of_kind : (w : LineFault) → IsBadLine w old.reading line
         → StopsAtLine (refused n w) line old events before
     of_kind bad.Hex h = (n_is, h)
     of_kind (bad.OtherForm expected) h = (n_is, h)
@@ -207,10 +212,10 @@ line_refused why line n f events before old is_bad f_is n_is =
 
 -- what stops it among the characters of a line stops it there
 pub line_stops : {T : Type 0} (result : Result T ExplainFault) (line : List ℕ) (n : ℕ)
-    (source : Source) (bytes : List ℕ) (events : List Event) (before : List Told)
-    (old : Explainer) (at : Standing) (this : TraceLine) → Says old.reading line this
-    → ((Holds : Source → Standing → List ℕ → Type 0) → Holds source at bytes
-    → HoldsFor Holds (standing_of old) this) → n ≡ next_line old
+    (source : Source) (bytes : List ℕ) (events : List Event) (before : List Report)
+    (old : Explainer) (at : Position) (this : TraceLine) → Says old.reading line this
+    → ((Holds : Source → Position → List ℕ → Type 0) → Holds source at bytes
+    → HoldsFor Holds (position_of old) this) → n ≡ next_line old
     → IfErr result (λ f. StopsAmong f source n at bytes events before)
     → IfErr result (λ f. StopsAtLine f line old events before)
 line_stops (Ok x) line n source bytes events before old at this says holds n_is h = tt

@@ -5,7 +5,7 @@ pub mod TakenLemmas
 pub mod TraceLemmas
 pub mod BareLemmas
 pub mod LogLemmas
-pub mod ExchangeLemmas
+pub mod PairLemmas
 pub mod SheetLemmas
 mod TreeLemmas
 pub mod BoxLemmas

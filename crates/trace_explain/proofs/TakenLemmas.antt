@@ -10,17 +10,17 @@ use Rattle.trace_explain.specs.declared.explain_fault.ExplainFault.TheVariants a
 use Rattle.trace_explain.specs.declared.explainer.Explainer.{Explainer}
 use Rattle.trace_explain.specs.declared.follow.listener.Listener.{Listener}
 use Rattle.trace_explain.specs.declared.read.trace_line.Source.{Source}
-use Rattle.trace_explain.specs.declared.follow.turn.NoTurn.{NoTurn}
-use Rattle.trace_explain.specs.Explained.{HasExplained, ExplainsCharacter, ExplainsCharacters, IsReachedAt, IsRight, StopsAmong, Stopped, TakesOrStops, answers_again, standing_of}
-use Rattle.trace_explain.specs.Lines.{IsSent, Standing, TakesCharacter, TakesCharacters}
+use Rattle.trace_explain.specs.declared.follow.turn.TurnFault.{TurnFault}
+use Rattle.trace_explain.specs.Explained.{HasExplained, ExplainsCharacter, ExplainsCharacters, IsReachedAt, IsRight, StopsAmong, Stopped, TakesOrStops, answers_again, position_of}
+use Rattle.trace_explain.specs.Lines.{IsSent, Position, TakesCharacter, TakesCharacters}
 use Rattle.trace_explain.specs.Openings.{is_dialogue, opening_of, role_of}
-use Rattle.trace_explain.specs.Told.{Told}
+use Rattle.trace_explain.specs.Reports.{Report}
 use Rattle.trace_explain.specs.Turns.{source_at}
 use Rattle.trace_explain.proofs.AccountLemmas.{boxes_both, boxes_stay}
 use Rattle.trace_explain.proofs.ExplainedLemmas.{explains_nothing}
 
 -- one character more is taken behind the others
-taken_more : (source : Source) (so_far : List Event) (at mid after : Standing) (front : List ℕ)
+taken_more : (source : Source) (so_far : List Event) (at mid after : Position) (front : List ℕ)
     (b : ℕ) (from : End) (events more : List Event)
     → TakesCharacters source so_far at front events mid
     → IsSent source (so_far ++ events) mid b from
@@ -29,9 +29,9 @@ taken_more : (source : Source) (so_far : List Event) (at mid after : Standing) (
 taken_more source so_far at mid after [] b from events more (none, same) sent takes =
     let here : so_far ++ events ≡ so_far = ap (λ es. so_far ++ es) none ∙ append-nil so_far in
     let P : List Event → Type 0 = λ es. IsSent source es mid b from in
-    let Q : Standing → Type 0 = λ s. IsSent source so_far s b from in
+    let Q : Position → Type 0 = λ s. IsSent source so_far s b from in
     let R : List Event → Type 0 = λ es. TakesCharacter es mid from b more after in
-    let S : Standing → Type 0 = λ s. TakesCharacter so_far s from b more after in (
+    let S : Position → Type 0 = λ s. TakesCharacter so_far s from b more after in (
       from,
       subst Q same (subst P here sent),
       more,
@@ -59,82 +59,82 @@ taken_more source so_far at mid after (one ∷ front) b from events more
     )
 
 -- none of them has come
-pub taken_none : (source : Source) (events : List Event) (before : List Told) (e : Explainer)
+pub taken_none : (source : Source) (events : List Event) (before : List Report) (e : Explainer)
     → HasExplained events before e → ExplainsCharacters source [] events before e e
 taken_none source events before e h = (
   [],
-  standing_of e,
+  position_of e,
   (refl, refl),
-  explains_nothing events before (standing_of e) e e h refl boxes_stay,
+  explains_nothing events before (position_of e) e e h refl boxes_stay,
 )
 
 -- one character more is explained, which is this end's
 pub taken_on : (source : Source) (bytes : List ℕ) (place : ℕ) (from : End)
-    (events : List Event) (before : List Told) (old mid new : Explainer) → place < length bytes
+    (events : List Event) (before : List Report) (old mid new : Explainer) → place < length bytes
     → source_at source mid.reading (opening_of mid.preface) mid.listener (get_or bytes place 0)
     ≡ Ok from
-    → ((es : List Event) (ts : List Told) → HasExplained es ts mid
+    → ((es : List Event) (ts : List Report) → HasExplained es ts mid
     → ExplainsCharacter from (get_or bytes place 0) es ts mid new)
     → ExplainsCharacters source (take place bytes) events before old mid
     → ExplainsCharacters source (take (place + 1) bytes) events before old new
 taken_on source bytes place from events before old mid new within sent explains
     (more, at, takes, explained) =
     let b : ℕ = get_or bytes place 0 in
-    let told : List Told = before ++ explained.told in
-    let (first, next, first_takes, goes) = explains (events ++ more) told explained.explained in
-    let S : Standing → Type 0 = λ s. source_at source s.reading s.opening mid.listener b ≡ Ok from
+    let reports : List Report = before ++ explained.reports in
+    let (first, next, first_takes, goes) = explains (events ++ more) reports explained.explained in
+    let S : Position → Type 0 = λ s. source_at source s.reading s.opening mid.listener b ≡ Ok from
     in
-    let T : Standing → Type 0 = λ s. TakesCharacter (events ++ more) s from b first next in
-    let W : List ℕ → Type 0 = λ bs. TakesCharacters source events (standing_of old) bs
+    let T : Position → Type 0 = λ s. TakesCharacter (events ++ more) s from b first next in
+    let W : List ℕ → Type 0 = λ bs. TakesCharacters source events (position_of old) bs
     (more ++ first) next in
-    let X : List Event → Type 0 = λ es. HasExplained es (told ++ goes.told) new in
-    let Y : List Told → Type 0 = λ ts. HasExplained (events ++ (more ++ first)) ts new in (
+    let X : List Event → Type 0 = λ es. HasExplained es (reports ++ goes.reports) new in
+    let Y : List Report → Type 0 = λ ts. HasExplained (events ++ (more ++ first)) ts new in (
       more ++ first,
       next,
-      subst W (sym (take_more bytes place 0 within)) (taken_more source events (standing_of old) at
+      subst W (sym (take_more bytes place 0 within)) (taken_more source events (position_of old) at
           next (take place bytes) b from more first takes
           (record {
-            told = told;
+            reports = reports;
             listener = mid.listener;
             noted = explained.explained.0;
-            sent = subst S explained.standing_is sent;
-          }) (subst T explained.standing_is first_takes)),
+            sent = subst S explained.position_is sent;
+          }) (subst T explained.position_is first_takes)),
       record {
-        told = explained.told ++ goes.told;
-        explained = subst Y (append_assoc before explained.told goes.told)
+        reports = explained.reports ++ goes.reports;
+        explained = subst Y (append_assoc before explained.reports goes.reports)
             (subst X (append_assoc events more first) goes.explained);
-        standing_is = goes.standing_is;
+        position_is = goes.position_is;
         boxes = boxes_both explained.boxes goes.boxes;
       },
     )
 
 -- an explainer that stops at a character does not resume
 pub none_resumes : (source : Source) (bytes : List ℕ) (from : End) (b : ℕ) (events : List Event)
-    (before : List Told) (old mid new : Explainer)
-    → ((es : List Event) (ts : List Told) → HasExplained es ts mid
+    (before : List Report) (old mid new : Explainer)
+    → ((es : List Event) (ts : List Report) → HasExplained es ts mid
     → TakesOrStops true from b es ts mid new)
     → ExplainsCharacters source bytes events before old mid → new.resuming.resumes ≡ false
 none_resumes source bytes from b events before old mid new stops (more, at, takes, explained) =
-    (stops (events ++ more) (before ++ explained.told) explained.explained).0.1.0
+    (stops (events ++ more) (before ++ explained.reports) explained.explained).0.1.0
 
 -- none goes on with a character
 pub none_stops : {T : Type 0} (result : Result T ExplainFault) (source : Source) (bytes : List ℕ)
     (place n line : ℕ) (from : End) (astray hides : Bool) (events : List Event)
-    (before : List Told) (old mid new : Explainer) → place < length bytes → n ≡ line
+    (before : List Report) (old mid new : Explainer) → place < length bytes → n ≡ line
     → source_at source mid.reading (opening_of mid.preface) mid.listener (get_or bytes place 0)
     ≡ Ok from
-    → ((es : List Event) (ts : List Told) → HasExplained es ts mid
+    → ((es : List Event) (ts : List Report) → HasExplained es ts mid
     → TakesOrStops true from (get_or bytes place 0) es ts mid new)
     → Stopped result (record {
       line = n;
       place = place;
-      due = due_at new.listener.tap;
+      expected = due_at new.listener.tap;
       from = from;
-      came = record { byte = get_or bytes place 0; hides = hides };
+      received = record { byte = get_or bytes place 0; hides = hides };
       is_astray = astray;
     })
     → ExplainsCharacters source (take place bytes) events before old mid
-    → IfErr result (λ f. StopsAmong f source line (standing_of old) bytes events before)
+    → IfErr result (λ f. StopsAmong f source line (position_of old) bytes events before)
 none_stops (Ok x) source bytes place n line from astray hides events before old mid new within n_is
     sent explains stopped explained = tt
 none_stops (Err fault.OutOfMemory) source bytes place n line from astray hides events before old mid
@@ -142,35 +142,35 @@ none_stops (Err fault.OutOfMemory) source bytes place n line from astray hides e
 none_stops (Err (fault.NoDialogue c)) source bytes place n line from astray hides events before old
     mid new within n_is sent explains stopped (more, at, takes, explained) =
     let b : ℕ = get_or bytes place 0 in
-    let told : List Told = before ++ explained.told in
+    let reports : List Report = before ++ explained.reports in
     let (still, (same, none, boxes), own, not_again) =
-    explains (events ++ more) told explained.explained in
-    let here = explained.standing_is in
+    explains (events ++ more) reports explained.explained in
+    let here = explained.position_is in
     let P : Complaint → Type 0 = λ x. (x.line ≡ line)
-    × IsRight x source (standing_of old) bytes events before in
+    × IsRight x source (position_of old) bytes events before in
     let L : Listener → Type 0 = λ l. source_at source mid.reading (opening_of mid.preface) l b
     ≡ Ok from in
-    let S : Standing → Type 0 = λ s. source_at source s.reading s.opening new.listener b
+    let S : Position → Type 0 = λ s. source_at source s.reading s.opening new.listener b
     ≡ Ok from in
-    let R : Standing → Type 0 = λ s. is_dialogue (role_of s.opening from b) ≡ true in
-    let N : Standing → Type 0 = λ s. answers_again s.opening new.listener from b ≡ false in
+    let R : Position → Type 0 = λ s. is_dialogue (role_of s.opening from b) ≡ true in
+    let N : Position → Type 0 = λ s. answers_again s.opening new.listener from b ≡ false in
     subst P (sym stopped) (
       n_is,
       record {
         here = record {
           within = within;
           more = more;
-          standing = at;
+          position = at;
           takes = takes;
-          told = explained.told;
+          reports = explained.reports;
           listener = new.listener;
           noted = still.0;
         };
         sent = subst S here (subst L (sym same) sent);
-        is_heard = subst R here own;
+        is_of_dialogue = subst R here own;
         none = none;
         not_again = subst N here not_again;
-        due_is = refl;
+        expected_is = refl;
         byte_is = refl;
       },
     )
@@ -180,21 +180,22 @@ none_stops (Err other) source bytes place n line from astray hides events before
 
 -- it can't be known whose a character is
 pub unsent_stops : {T : Type 0} (result : Result T ExplainFault) (source : Source)
-    (bytes : List ℕ) (place n line : ℕ) (why : NoTurn) (events : List Event) (before : List Told)
+    (bytes : List ℕ) (place n line : ℕ) (why : TurnFault) (events : List Event)
+    (before : List Report)
     (old mid : Explainer) → place < length bytes → n ≡ line
     → source_at source mid.reading (opening_of mid.preface) mid.listener (get_or bytes place 0)
     ≡ Err why
     → IsErrAnd result (λ f. f ≡ fault.NoTurn n place why)
     → ExplainsCharacters source (take place bytes) events before old mid
-    → IfErr result (λ f. StopsAmong f source line (standing_of old) bytes events before)
+    → IfErr result (λ f. StopsAmong f source line (position_of old) bytes events before)
 unsent_stops (Ok x) source bytes place n line why events before old mid within n_is unsent stopped
     explained =
     absurd stopped
 unsent_stops (Err f) source bytes place n line why events before old mid within n_is unsent stopped
     (more, at, takes, explained) =
-    let P : ExplainFault → Type 0 = λ g. StopsAmong g source line (standing_of old) bytes events
+    let P : ExplainFault → Type 0 = λ g. StopsAmong g source line (position_of old) bytes events
     before in
-    let S : Standing → Type 0 = λ s. source_at source s.reading s.opening mid.listener
+    let S : Position → Type 0 = λ s. source_at source s.reading s.opening mid.listener
     (get_or bytes place 0) ≡ Err why in
     subst P (sym stopped) (
       n_is,
@@ -202,13 +203,13 @@ unsent_stops (Err f) source bytes place n line why events before old mid within 
         here = record {
           within = within;
           more = more;
-          standing = at;
+          position = at;
           takes = takes;
-          told = explained.told;
+          reports = explained.reports;
           listener = mid.listener;
           noted = explained.explained.0;
         };
-        unsent = subst S explained.standing_is unsent;
+        unsent = subst S explained.position_is unsent;
       },
     )
 

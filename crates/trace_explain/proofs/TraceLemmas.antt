@@ -15,39 +15,39 @@ use Rattle.trace_explain.specs.declared.follow.listener.Listener.{Listener}
 use Rattle.trace_explain.specs.declared.read.reading.Reading.{Reading}
 use Rattle.trace_explain.specs.declared.write.sheet.Sheet.{Sheet}
 use Rattle.trace_explain.specs.Account.{HasWritten, Out, WritesOut, out_with}
-use Rattle.trace_explain.specs.Told.{Told}
-use Rattle.trace_explain.specs.Lines.{IsHeard, Standing, first_of_all}
-use Rattle.trace_explain.specs.Explained.{HasExplained, ExplainsLine, StopsAtLine, StopsIfAt, line_of, next_line, standing_of}
+use Rattle.trace_explain.specs.Reports.{Report}
+use Rattle.trace_explain.specs.Lines.{LineLeads, Position, first_of_all}
+use Rattle.trace_explain.specs.Explained.{HasExplained, ExplainsLine, StopsAtLine, StopsIfAt, line_of, next_line, position_of}
 use Rattle.trace_explain.specs.Trace.{lines_from, IsReached, IsOfEnd, SayInTurn, SayAll, IsExplained, IsOver, KeepsLimit, StopsIn, StopsInLine}
-use Rattle.trace_explain.specs.UnderWay.{HasCome, IsOfLines}
+use Rattle.trace_explain.specs.UnderWay.{HasReceived, IsOfLines}
 use Rattle.trace_explain.proofs.AccountLemmas.{written_more, written_out}
 
 -- one line more says its events behind the others
-say_more : (so_far : List Event) (at mid after : Standing) (before : List (List ℕ))
+say_more : (so_far : List Event) (at mid after : Position) (before : List (List ℕ))
     (line : List ℕ) (events more : List Event) → SayInTurn so_far at before events mid
-    → IsHeard (so_far ++ events) mid line more after
+    → LineLeads (so_far ++ events) mid line more after
     → SayInTurn so_far at (before ++ line ∷ []) (events ++ more) after
-say_more so_far at mid after [] line events more (none, same) heard =
-    let P : List Event → Type 0 = λ es. IsHeard (so_far ++ es) mid line more after in
-    let Q : List Event → Type 0 = λ es. IsHeard es mid line more after in
-    let R : Standing → Type 0 = λ s. IsHeard so_far s line more after in (
+say_more so_far at mid after [] line events more (none, same) leads =
+    let P : List Event → Type 0 = λ es. LineLeads (so_far ++ es) mid line more after in
+    let Q : List Event → Type 0 = λ es. LineLeads es mid line more after in
+    let R : Position → Type 0 = λ s. LineLeads so_far s line more after in (
       more,
       [],
       after,
-      subst R same (subst Q (append-nil so_far) (subst P none heard)),
+      subst R same (subst Q (append-nil so_far) (subst P none leads)),
       ap (λ es. es ++ more) none ∙ sym (append-nil more),
       (refl, refl),
     )
 say_more so_far at mid after (one ∷ before) line events more
-    (first, rest, next, first_heard, cut, others) heard =
-    let P : List Event → Type 0 = λ es. IsHeard es mid line more after in (
+    (first, rest, next, first_leads, cut, others) leads =
+    let P : List Event → Type 0 = λ es. LineLeads es mid line more after in (
       first,
       rest ++ more,
       next,
-      first_heard,
+      first_leads,
       ap (λ es. es ++ more) cut ∙ append_assoc first rest more,
       say_more (so_far ++ first) next mid after before line rest more others
-          (subst P (ap (λ es. so_far ++ es) cut ∙ sym (append_assoc so_far first rest)) heard),
+          (subst P (ap (λ es. so_far ++ es) cut ∙ sym (append_assoc so_far first rest)) leads),
     )
 
 fed : (line given left bytes : List ℕ) (b : ℕ) → bytes ≡ b ∷ left → b ≡ 10
@@ -57,9 +57,9 @@ fed line given left bytes b left_is is same =
     ap (lines_from line) (left_is ∙ ap (λ x. x ∷ left) is)
     ∙ ap (λ l. l ∷ lines_from [] left) (sym same)
 
-goes_on : (line left : List ℕ) (b : ℕ) → (b == 10) ≡ false
+line_continues : (line left : List ℕ) (b : ℕ) → (b == 10) ≡ false
     → lines_from line (b ∷ left) ≡ lines_from (line ++ b ∷ []) left
-goes_on line left b other = rw other refl
+line_continues line left b other = rw other refl
 
 -- a fault that is passed on
 pub fault_passed : {T E : Type 0} (r : Result T E) (e : E) (Q : E → Type 0)
@@ -80,18 +80,18 @@ counted_on n before all n_is all_is = omega (arith, n_is, all_is)
 
 -- what an explainer explains of a line, wherever it stands
 abbrev pub Explains : List ℕ → Explainer → Explainer → Type 0
-Explains line old new = (events : List Event) (before : List Told)
+Explains line old new = (events : List Event) (before : List Report)
     → HasExplained events before old → ExplainsLine line events before old new
 
 -- a line is over, which was this
 pub line_more : {front : Out} {reading : Reading} {all : List (List ℕ)} {line bytes : List ℕ}
     (given next left : List ℕ) {old : Explainer} (new : Explainer)
-    → HasCome front reading all line bytes old → new.line ≡ next_line old
+    → HasReceived front reading all line bytes old → new.line ≡ next_line old
     → lines_from line bytes ≡ given ∷ lines_from next left → Explains given old new
-    → HasCome front reading all next left new
+    → HasReceived front reading all next left new
 line_more {front} {reading} given next left {old} new come counts ends explains =
-    let (more, at, heard, told) = explains come.events come.told come.explained in
-    let P : Standing → Type 0 = λ s. IsHeard come.events (standing_of old) given more s in
+    let (more, at, leads, reports) = explains come.events come.reports come.explained in
+    let P : Position → Type 0 = λ s. LineLeads come.events (position_of old) given more s in
     record {
       before = come.before ++ given ∷ [];
       is_cut = come.is_cut ∙ ap (λ ls. come.before ++ ls) ends
@@ -100,37 +100,38 @@ line_more {front} {reading} given next left {old} new come counts ends explains 
           (length (come.before ++ given ∷ [])) (counts ∙ come.number_is)
           (length-append come.before (given ∷ []));
       events = come.events ++ more;
-      says = say_more [] (first_of_all reading) (standing_of old) (standing_of new) come.before
-          given come.events more come.says (subst P (sym told.standing_is) heard);
-      told = come.told ++ told.told;
-      explained = told.explained;
-      written = written_more front come.told told.told old new told.explained.1.2 come.written
-          told.boxes;
+      says = say_more [] (first_of_all reading) (position_of old) (position_of new) come.before
+          given come.events more come.says (subst P (sym reports.position_is) leads);
+      reports = come.reports ++ reports.reports;
+      explained = reports.explained;
+      written = written_more front come.reports reports.reports old new reports.explained.1.2
+          come.written
+          reports.boxes;
     }
 
 -- and it ended with LF
 pub line_fed : {front : Out} {reading : Reading} {all : List (List ℕ)} {line bytes : List ℕ}
     (given left : List ℕ) (b : ℕ) {old : Explainer} (new : Explainer)
-    → HasCome front reading all line bytes old → new.line ≡ next_line old → bytes ≡ b ∷ left
+    → HasReceived front reading all line bytes old → new.line ≡ next_line old → bytes ≡ b ∷ left
     → b ≡ 10 → given ≡ strip_carriage_return line → Explains given old new
-    → HasCome front reading all [] left new
+    → HasReceived front reading all [] left new
 line_fed {line = line} {bytes = bytes} given left b new come counts left_is is same explains =
     line_more given [] left new come counts (fed line given left bytes b left_is is same) explains
 
 -- a byte more has come of a line
 pub byte_more : {front : Out} {reading : Reading} {all : List (List ℕ)} {line bytes : List ℕ}
-    (next left : List ℕ) (b : ℕ) {e : Explainer} → HasCome front reading all line bytes e
+    (next left : List ℕ) (b : ℕ) {e : Explainer} → HasReceived front reading all line bytes e
     → bytes ≡ b ∷ left → (b == 10) ≡ false → next ≡ line ++ b ∷ []
-    → HasCome front reading all next left e
+    → HasReceived front reading all next left e
 byte_more {line = line} next left b come left_is other same = record {
   before = come.before;
   is_cut = come.is_cut ∙ ap (λ ls. come.before ++ ls)
-      (ap (lines_from line) left_is ∙ goes_on line left b other
+      (ap (lines_from line) left_is ∙ line_continues line left b other
       ∙ ap (λ l. lines_from l left) (sym same));
   number_is = come.number_is;
   events = come.events;
   says = come.says;
-  told = come.told;
+  reports = come.reports;
   explained = come.explained;
   written = come.written;
 }
@@ -143,27 +144,27 @@ next_byte chunk left i within =
     ∙ ap (λ n. get_or chunk i 0 ∷ (drop n chunk ++ left)) (sym (add-one i))
 
 -- at the end all lines are explained
-abbrev pub Ends : Out → Explainer → List Told → Listener → Type 0
-Ends front e told l = (l ≡ e.listener) × HasWritten front told e
+abbrev pub Ends : Out → Explainer → List Report → Listener → Type 0
+Ends front e reports l = (l ≡ e.listener) × HasWritten front reports e
 
 all_explained : {front : Out} {reading : Reading} {all : List (List ℕ)} {line : List ℕ}
-    {e : Explainer} → HasCome front reading all line [] e → lines_from line [] ≡ []
-    → IsExplained (Ends front e) reading all (standing_of e)
+    {e : Explainer} → HasReceived front reading all line [] e → lines_from line [] ≡ []
+    → IsExplained (Ends front e) reading all (position_of e)
 all_explained {reading = reading} {e = e} come none =
-    let P : List (List ℕ) → Type 0 = λ ls. SayAll reading ls come.events (standing_of e) in
+    let P : List (List ℕ) → Type 0 = λ ls. SayAll reading ls come.events (position_of e) in
     record {
       events = come.events;
       says = subst P (sym (come.is_cut ∙ ap (λ ls. come.before ++ ls) none
           ∙ append-nil come.before)) come.says;
-      told = come.told;
+      reports = come.reports;
       listener = e.listener;
       noted = come.explained.0;
       is_shown = (refl, come.written);
     }
 
 pub none_is_left : {front : Out} {reading : Reading} {all : List (List ℕ)} {line : List ℕ}
-    {e : Explainer} → (length line == 0) ≡ true → HasCome front reading all line [] e
-    → IsExplained (Ends front e) reading all (standing_of e)
+    {e : Explainer} → (length line == 0) ≡ true → HasReceived front reading all line [] e
+    → IsExplained (Ends front e) reading all (position_of e)
 none_is_left none come = all_explained come (rw none refl)
 
 last_line : (line : List ℕ) → (length line == 0) ≡ false → lines_from line [] ≡ line ∷ []
@@ -171,11 +172,11 @@ last_line line some = rw some refl
 
 pub last_explained : {T : Type 0} {front : Out} {reading : Reading} {all : List (List ℕ)}
     (result : Result T ExplainFault) (line : List ℕ) {old : Explainer} (new : Explainer)
-    → (length line == 0) ≡ false → HasCome front reading all line [] old
+    → (length line == 0) ≡ false → HasReceived front reading all line [] old
     → OnOk result (new.line ≡ next_line old)
-    → ((events : List Event) (before : List Told) → HasExplained events before old
+    → ((events : List Event) (before : List Report) → HasExplained events before old
     → OnOk result (ExplainsLine line events before old new))
-    → OnOk result (IsExplained (Ends front new) reading all (standing_of new))
+    → OnOk result (IsExplained (Ends front new) reading all (position_of new))
 last_explained (Err f) line new some come counts explains = tt
 last_explained (Ok x) line new some come counts explains =
     all_explained (line_more line [] [] new come counts (last_line line some) explains) refl
@@ -183,7 +184,7 @@ last_explained (Ok x) line new some come counts explains =
 -- the line at which an explainer stands
 unfoldable pub reached : {front : Out} {reading : Reading} (n : ℕ) {all : List (List ℕ)}
     {line left : List ℕ} (given : List ℕ) (others : List (List ℕ)) {old : Explainer}
-    → HasCome front reading all line left old → lines_from line left ≡ given ∷ others
+    → HasReceived front reading all line left old → lines_from line left ≡ given ∷ others
     → n ≡ next_line old → IsReached reading all n
 reached n given others {old} come ends number = record {
   before = come.before;
@@ -192,9 +193,9 @@ reached n given others {old} come ends number = record {
   is_cut = come.is_cut ∙ ap (λ ls. come.before ++ ls) ends;
   number_is = number ∙ come.number_is;
   events = come.events;
-  at = standing_of old;
+  at = position_of old;
   says = come.says;
-  told = come.told;
+  reports = come.reports;
   listener = old.listener;
   noted = come.explained.0;
 }
@@ -225,41 +226,42 @@ first_longer line (b ∷ left) n more =
     split true e later =
         (strip_carriage_return line, lines_from [] left, rw e refl, cut_at line n more)
     split false e (first, others, is, long) =
-        (first, others, goes_on line left b e ∙ is, long)
+        (first, others, line_continues line left b e ∙ is, long)
 
 pub too_long : {front : Out} {reading : Reading} {all : List (List ℕ)} {line bytes : List ℕ}
-    (left : List ℕ) (b n : ℕ) {e : Explainer} → HasCome front reading all line bytes e
+    (left : List ℕ) (b n : ℕ) {e : Explainer} → HasReceived front reading all line bytes e
     → bytes ≡ b ∷ left → (b == 10) ≡ false → 4194304 ≤ length line → n ≡ next_line e
     → StopsIn reading all (fault.LineTooLong n)
 unfolding reached
 too_long {line = line} left b n come bytes_is other long number =
     let (first, others, is, first_long) = first_longer (line ++ b ∷ []) left 4194304
     (omega (arith, length-append line (b ∷ []), long)) in (
-      reached n first others come (ap (lines_from line) bytes_is ∙ goes_on line left b other ∙ is)
+      reached n first others come
+          (ap (lines_from line) bytes_is ∙ line_continues line left b other ∙ is)
           number,
       first_long,
     )
 
 -- a line at which an explainer stops
 abbrev pub Stops : ExplainFault → List ℕ → Explainer → Type 0
-Stops f line old = (events : List Event) (before : List Told) → HasExplained events before old
+Stops f line old = (events : List Event) (before : List Report) → HasExplained events before old
     → StopsAtLine f line old events before
 
 stops_at : {front : Out} {reading : Reading} {all : List (List ℕ)} {line left : List ℕ}
     (f : ExplainFault) (n : Option ℕ) (given : List ℕ) (others : List (List ℕ)) {old : Explainer}
-    → HasCome front reading all line left old → lines_from line left ≡ given ∷ others
-    → ((events : List Event) (before : List Told) → HasExplained events before old
+    → HasReceived front reading all line left old → lines_from line left ≡ given ∷ others
+    → ((events : List Event) (before : List Report) → HasExplained events before old
     → StopsIfAt n f given old events before)
     → StopsInLine reading all f n
 unfolding reached
 stops_at f None given others come ends stops = tt
 stops_at f (Some n) given others come ends stops =
-    let (number, is) = stops come.events come.told come.explained in
+    let (number, is) = stops come.events come.reports come.explained in
     (reached n given others come ends number, is)
 
 line_stops_in : {front : Out} {reading : Reading} {all : List (List ℕ)} {line left : List ℕ}
     (f : ExplainFault) (given : List ℕ) (others : List (List ℕ)) {old : Explainer} → IsOfLines f
-    → HasCome front reading all line left old → lines_from line left ≡ given ∷ others
+    → HasReceived front reading all line left old → lines_from line left ≡ given ∷ others
     → Stops f given old → StopsIn reading all f
 line_stops_in fault.NoCharacters given others of come ends stops = absurd of
 line_stops_in f given others of come ends stops =
@@ -268,7 +270,7 @@ line_stops_in f given others of come ends stops =
 pub fed_stops : {T : Type 0} {front : Out} {reading : Reading} {all : List (List ℕ)}
     {line bytes : List ℕ} (r : Result T ExplainFault) (f : ExplainFault) (given left : List ℕ)
     (b : ℕ) {old : Explainer} → IsErrAnd r (λ x. x ≡ f) → IsOfLines f
-    → HasCome front reading all line bytes old → bytes ≡ b ∷ left → b ≡ 10
+    → HasReceived front reading all line bytes old → bytes ≡ b ∷ left → b ≡ 10
     → given ≡ strip_carriage_return line → Stops f given old → IfErr r (StopsIn reading all)
 fed_stops {reading = reading} {all = all} {line = line} {bytes = bytes} r f given left b passed of
     come left_is is same stops =
@@ -277,8 +279,8 @@ fed_stops {reading = reading} {all = all} {line = line} {bytes = bytes} r f give
 
 pub last_stops : {T : Type 0} {front : Out} {reading : Reading} {all : List (List ℕ)}
     (result : Result T ExplainFault) (line : List ℕ) {old : Explainer}
-    → (length line == 0) ≡ false → HasCome front reading all line [] old
-    → ((events : List Event) (before : List Told) → HasExplained events before old
+    → (length line == 0) ≡ false → HasReceived front reading all line [] old
+    → ((events : List Event) (before : List Report) → HasExplained events before old
     → IfErr result (λ f. StopsAtLine f line old events before))
     → IfErr result IsOfLines → IfErr result (StopsIn reading all)
 last_stops (Ok x) line some come stops of = tt
@@ -288,42 +290,43 @@ last_stops (Err f) line some come stops of =
 -- a chunk is over
 pub none_of_chunk : {front : Out} {reading : Reading} {all : List (List ℕ)} {line : List ℕ}
     (chunk left : List ℕ) (i : ℕ) {e : Explainer} → length chunk ≤ i
-    → HasCome front reading all line (drop i chunk ++ left) e
-    → HasCome front reading all line left e
+    → HasReceived front reading all line (drop i chunk ++ left) e
+    → HasReceived front reading all line left e
 none_of_chunk {front} {reading} {all} {line} chunk left i {e} past come =
-    let P : List ℕ → Type 0 = λ bytes. HasCome front reading all line (bytes ++ left) e in
+    let P : List ℕ → Type 0 = λ bytes. HasReceived front reading all line (bytes ++ left) e in
     subst P (drop_all i chunk past) come
 
 -- before the first byte
-pub all_comes : {front : Out} {reading : Reading} (line left : List ℕ) {e : Explainer} → line ≡ []
-    → HasExplained [] [] e → standing_of e ≡ first_of_all reading → e.line ≡ 0
-    → HasWritten front [] e → HasCome front reading (lines_from [] left) line left e
-all_comes line left none h at first blank = record {
+pub all_received : {front : Out} {reading : Reading} (line left : List ℕ) {e : Explainer}
+    → line ≡ []
+    → HasExplained [] [] e → position_of e ≡ first_of_all reading → e.line ≡ 0
+    → HasWritten front [] e → HasReceived front reading (lines_from [] left) line left e
+all_received line left none h at first blank = record {
   before = [];
   is_cut = ap (λ l. lines_from l left) (sym none);
   number_is = ap (λ n. min (n + 1) (2 ^ 64 - 1)) first;
   events = [];
   says = (refl, at);
-  told = [];
+  reports = [];
   explained = h;
   written = blank;
 }
 
 -- an explainer that has written out stands where it stood
-pub still_comes : {front : Out} {reading : Reading} {all : List (List ℕ)} {line left : List ℕ}
+pub still_received : {front : Out} {reading : Reading} {all : List (List ℕ)} {line left : List ℕ}
     (e : Explainer) (s : Sheet) → WritesOut e.teller.output.sheet s
-    → HasCome front reading all line left e
-    → HasCome (out_with front (string_bytes e.teller.output.sheet.text)) reading all line left
+    → HasReceived front reading all line left e
+    → HasReceived (out_with front (string_bytes e.teller.output.sheet.text)) reading all line left
     (record e { teller = record e.teller { output = record e.teller.output { sheet = s } } })
-still_comes {front} e s out come = record {
+still_received {front} e s out come = record {
   before = come.before;
   is_cut = come.is_cut;
   number_is = come.number_is;
   events = come.events;
   says = come.says;
-  told = come.told;
+  reports = come.reports;
   explained = come.explained;
-  written = written_out front come.told e s out come.written;
+  written = written_out front come.reports e s out come.written;
 }
 
 -- What holds of the bytes that were read, whatever follows, holds of those that are known; and of
@@ -378,24 +381,25 @@ limit_passed (Err g) f (Some bytes) same h =
     of_kind other k = tt
 
 -- what is answered at the end of a trace is no complaint
-pub ended_stops : {IsShown : List Told → Listener → Type 0} {reading : Reading}
-    {all : List (List ℕ)} {at : Standing} (f : ExplainFault) → IsOfEnd f at.came
+pub ended_stops : {IsShown : List Report → Listener → Type 0} {reading : Reading}
+    {all : List (List ℕ)} {at : Position} (f : ExplainFault) → IsOfEnd f at.has_characters
     → IsExplained IsShown reading all at → StopsIn reading all f
 ended_stops {at = at} fault.NoCharacters ended explained =
     (explained.events, at, explained.says, ended)
 ended_stops (fault.Resumed m c) ended explained = tt
-ended_stops (fault.BadExchanges n m why) ended explained = tt
+ended_stops (fault.BadPairs n m why) ended explained = tt
 ended_stops other ended explained = absurd ended
 
 -- what is shown of those that are told
-pub shown_as : (P Q : List Told → Listener → Type 0) {reading : Reading} {all : List (List ℕ)}
-    {at : Standing} → IsExplained P reading all at
-    → ((told : List Told) (l : Listener) → P told l → Q told l) → IsExplained Q reading all at
+pub shown_as : (P Q : List Report → Listener → Type 0) {reading : Reading} {all : List (List ℕ)}
+    {at : Position} → IsExplained P reading all at
+    → ((reports : List Report) (l : Listener) → P reports l → Q reports l)
+    → IsExplained Q reading all at
 shown_as P Q h so = record {
   events = h.events;
   says = h.says;
-  told = h.told;
+  reports = h.reports;
   listener = h.listener;
   noted = h.noted;
-  is_shown = so h.told h.listener h.is_shown;
+  is_shown = so h.reports h.listener h.is_shown;
 }

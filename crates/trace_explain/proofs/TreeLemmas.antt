@@ -91,9 +91,9 @@ past_object tags all now next old new put after some tag words below g level_is 
 -- the line of an object begins with its tag
 begun_as : (told tag : List ℕ) (level l : ℕ) (a b : Sheet) → told ≡ tag → level ≡ l
     → Adds a (10 ∷ object level told) b → Adds a (10 ∷ object l tag) b
-begun_as told tag level l a b told_is level_is h =
+begun_as told tag level l a b tag_is level_is h =
     adds_as (10 ∷ object level told) (10 ∷ object l tag) a b
-    (ap (λ t. 10 ∷ object level t) told_is ∙ ap (λ k. 10 ∷ object k tag) level_is) h
+    (ap (λ t. 10 ∷ object level t) tag_is ∙ ap (λ k. 10 ∷ object k tag) level_is) h
 
 pub past_masked : (tags : List (List ℕ)) (all now next : ObjectList) (old new put after : Sheet)
     (some : Bool) (padding tag size value told : List ℕ) (level : ℕ)
@@ -102,11 +102,11 @@ pub past_masked : (tags : List (List ℕ)) (all now next : ObjectList) (old new 
     → told ≡ tag → level ≡ now.level → Contains tags told → Adds new (10 ∷ object level told) put
     → Adds put (codes " **") after → Going tags all next old after true
 past_masked tags all now next old new put after some padding tag size value told level g b next_is
-    told_is level_is has begun more =
+    tag_is level_is has begun more =
     let H : List ℕ → Type 0 = λ t. Contains tags t in
     past_object tags all now next old new put after some tag (codes " **") [] g next_is
-    (λ others are. masked padding tag size value next.bytes others b (subst H told_is has) refl are)
-    (begun_as told tag level now.level new put told_is level_is begun) more
+    (λ others are. masked padding tag size value next.bytes others b (subst H tag_is has) refl are)
+    (begun_as told tag level now.level new put tag_is level_is begun) more
 
 pub past_primitive : (tags : List (List ℕ)) (all now next : ObjectList)
     (old new put after : Sheet) (some : Bool) (padding tag size value told given : List ℕ)
@@ -116,14 +116,14 @@ pub past_primitive : (tags : List (List ℕ)) (all now next : ObjectList)
     → is_constructed tag ≡ false → Adds new (10 ∷ object level told) put
     → PutsValue level given put after → Going tags all next old after true
 past_primitive tags all now next old new put after some padding tag size value told given level g b
-    next_is told_is given_is level_is not plain begun (words, below, is, more) =
+    next_is tag_is given_is level_is not plain begun (words, below, is, more) =
     let H : List ℕ → Type 0 = λ t. Contains tags t → ⊥ in
     let V : List ℕ → Type 0 = λ v. IsValue level v words below in
     let L : ℕ → Type 0 = λ l. IsValue l value words below in
     past_object tags all now next old new put after some tag words below g next_is
     (λ others are. primitive padding tag size value next.bytes words below others b
-    (subst H told_is not) plain (subst L level_is (subst V given_is is)) refl are)
-    (begun_as told tag level now.level new put told_is level_is begun) more
+    (subst H tag_is not) plain (subst L level_is (subst V given_is is)) refl are)
+    (begun_as told tag level now.level new put tag_is level_is begun) more
 
 pub past_template : (tags : List (List ℕ)) (all now next inner : ObjectList)
     (old new put after : Sheet) (some any : Bool) (padding tag size value told : List ℕ)
@@ -135,12 +135,12 @@ pub past_template : (tags : List (List ℕ)) (all now next inner : ObjectList)
     → PutsAny (AreTree tags inner.bytes inner.level) any put after
     → Going tags all next old after true
 past_template tags all now next inner old new put after some any padding tag size value told level
-    deep g b next_is told_is level_is deep_is not templ begun inner_is (inside, (are, is), more) =
+    deep g b next_is tag_is level_is deep_is not templ begun inner_is (inside, (are, is), more) =
     let H : List ℕ → Type 0 = λ t. Contains tags t → ⊥ in
     let Q : ObjectList → Type 0 = λ o. AreTree tags o.bytes o.level inside in
     let S : ℕ → Type 0 = λ l. AreTree tags value l inside in
     let down : deep + 1 ≡ suc now.level = omega (arith, deep_is) in
     past_object tags all now next old new put after some tag [] inside g next_is
     (λ others rest. template padding tag size value next.bytes inside others b
-    (subst H told_is not) templ (subst S down (subst Q inner_is are)) refl rest)
-    (begun_as told tag level now.level new put told_is level_is begun) more
+    (subst H tag_is not) templ (subst S down (subst Q inner_is are)) refl rest)
+    (begun_as told tag level now.level new put tag_is level_is begun) more

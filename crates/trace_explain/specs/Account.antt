@@ -11,12 +11,12 @@ use Rattle.trace_explain.specs.declared.write.sheet.Sheet.{Sheet}
 use Rattle.trace_explain.specs.declared.write.teller.Teller.{Teller}
 use Rattle.trace_explain.specs.Boxes.{IsBox, PutsBox}
 use Rattle.trace_explain.specs.Noted.{ended_by}
-use Rattle.trace_explain.specs.Told.{Told, one_more, told_by}
+use Rattle.trace_explain.specs.Reports.{Report, one_more, report_of}
 use Rattle.trace_explain.specs.Written.{InTurn}
 
 -- a box, of a TPDU or of what came of one
 pub record Boxed : Type 0 where
-  pub told : Told
+  pub report : Report
   pub line : ℕ
   pub parts : List (List ℕ)
 
@@ -24,15 +24,15 @@ pub record Boxed : Type 0 where
 abbrev pub AreBoxes : Medium → Mask → ℕ → List Boxed → Type 0
 AreBoxes m mask n [] = Unit {0}
 AreBoxes m mask n (b ∷ boxes) =
-    IsBox m mask (one_more n) b.line b.told b.parts × AreBoxes m mask (one_more n) boxes
+    IsBox m mask (one_more n) b.line b.report b.parts × AreBoxes m mask (one_more n) boxes
 
 abbrev pub number_after : ℕ → List Boxed → ℕ
 number_after n [] = n
 number_after n (b ∷ boxes) = number_after (one_more n) boxes
 
 -- what boxes tell
-abbrev pub told_in : List Boxed → List Told
-told_in boxes = map (λ (b : Boxed). b.told) boxes
+abbrev pub reports_in : List Boxed → List Report
+reports_in boxes = map (λ (b : Boxed). b.report) boxes
 
 abbrev pub parts_in : List Boxed → List (List ℕ)
 parts_in [] = []
@@ -40,21 +40,21 @@ parts_in (b ∷ boxes) = b.parts ++ parts_in boxes
 
 -- Behind so many boxes a text has others, one after another, with any words between: they show
 -- these, in turn, and no others.
-pub record ShowsTold (m : Medium) (mask : Mask) (number : ℕ) (told : List Told) (text : List ℕ)
-    (after : ℕ) : Type 0 where
+pub record ShowsReports (m : Medium) (mask : Mask) (number : ℕ) (reports : List Report)
+    (text : List ℕ) (after : ℕ) : Type 0 where
   pub boxes : List Boxed
   pub are : AreBoxes m mask number boxes
-  pub told_is : told ≡ told_in boxes
+  pub reports_are : reports ≡ reports_in boxes
   pub after_is : after ≡ number_after number boxes
   pub has : InTurn (parts_in boxes) text
 
 -- such a text was added
-pub record AddsText (m : Medium) (mask : Mask) (number : ℕ) (told : List Told) (after : ℕ)
+pub record AddsText (m : Medium) (mask : Mask) (number : ℕ) (reports : List Report) (after : ℕ)
     (old new : Sheet) : Type 0 where
   pub whole : old.is_cut ≡ false
   pub more : List ℕ
   pub text_is : string_bytes new.text ≡ string_bytes old.text ++ more
-  pub shows : ShowsTold m mask number told more after
+  pub shows : ShowsReports m mask number reports more after
 
 -- how a teller writes, how many boxes it has counted, and what is written
 pub record Account : Type 0 where
@@ -73,18 +73,18 @@ account_of t = record {
 
 -- One that writes what it tells, and no summary alone, has added the boxes of these in turn, and no
 -- others, where memory was not wanting.
-pub record Shows (told : List Told) (old new : Account) : Type 0 where
+pub record Shows (reports : List Report) (old new : Account) : Type 0 where
   pub keeps : new.keeps ≡ old.keeps
   pub mask : new.mask ≡ old.mask
   pub layout : new.sheet.layout ≡ old.sheet.layout
   pub adds : old.keeps ≡ false → old.sheet.layout.is_summary ≡ false → new.sheet.is_cut ≡ false
-      → AddsText old.sheet.layout.medium old.mask old.number told new.number old.sheet new.sheet
+      → AddsText old.sheet.layout.medium old.mask old.number reports new.number old.sheet new.sheet
 
-abbrev pub AddsBoxes : List Told → Teller → Teller → Type 0
-AddsBoxes told old new = Shows told (account_of old) (account_of new)
+abbrev pub AddsBoxes : List Report → Teller → Teller → Type 0
+AddsBoxes reports old new = Shows reports (account_of old) (account_of new)
 
 -- the same of one box with this number, which is counted already
-pub record AddsBox (number line : ℕ) (t : Told) (old new : Account) : Type 0 where
+pub record AddsBox (number line : ℕ) (t : Report) (old new : Account) : Type 0 where
   pub keeps : new.keeps ≡ old.keeps
   pub mask : new.mask ≡ old.mask
   pub layout : new.sheet.layout ≡ old.sheet.layout
@@ -104,13 +104,13 @@ pub record Out : Type 0 where
   pub text : List ℕ
 
 -- What was written has shown these, since the explainer was made; it reads characters.
-pub record HasWritten (out : Out) (told : List Told) (e : Explainer) : Type 0 where
+pub record HasWritten (out : Out) (reports : List Report) (e : Explainer) : Type 0 where
   pub hears : e.reading.of_tpdus ≡ false
   pub keeps : e.teller.keeping.is_on ≡ out.keeps
   pub layout : e.teller.output.sheet.layout ≡ out.layout
   pub mask : e.teller.mask ≡ out.mask
   pub shows : out.keeps ≡ false → out.layout.is_summary ≡ false
-      → e.teller.output.sheet.is_cut ≡ false → ShowsTold out.layout.medium out.mask 0 told
+      → e.teller.output.sheet.is_cut ≡ false → ShowsReports out.layout.medium out.mask 0 reports
       (out.text ++ string_bytes e.teller.output.sheet.text) e.teller.story.number
 
 -- the same with more written out
@@ -122,11 +122,11 @@ first_out layout mask = record { keeps = false; layout = layout; mask = mask; te
 
 -- What a writer got, behind what it had, shows these in turn, and then what is under way at the end
 -- of the trace, where it is known and no summary alone is asked for.
-abbrev pub WritesTold
-    : Layout → Mask → Option (List ℕ) → Option (List ℕ) → List Told → Listener → Type 0
-WritesTold layout mask old new told l = layout.is_summary ≡ false → (text : List ℕ)
+abbrev pub WritesReports
+    : Layout → Mask → Option (List ℕ) → Option (List ℕ) → List Report → Listener → Type 0
+WritesReports layout mask old new reports l = layout.is_summary ≡ false → (text : List ℕ)
     × (number : ℕ) × Appends old new text
-    × ShowsTold layout.medium mask 0 (told ++ ended_by (told_by l.under_way)) text number
+    × ShowsReports layout.medium mask 0 (reports ++ ended_by (report_of l.under_way)) text number
 
 -- all of it is written out
 pub record WritesOut (old new : Sheet) : Type 0 where

@@ -18,7 +18,7 @@ use Rattle.trace_explain.specs.declared.write.sheet.Sheet.{Sheet}
 use Rattle.trace_explain.specs.Noted.{are_status}
 use Rattle.trace_explain.specs.Secrets.{Shows}
 use Rattle.trace_explain.specs.Sheets.{Adds}
-use Rattle.trace_explain.specs.Told.{IsOfCommand, Told}
+use Rattle.trace_explain.specs.Reports.{IsOfCommand, Report}
 use Rattle.trace_explain.specs.Trees.{IsTree}
 use Rattle.trace_explain.specs.Written.{AreDigits, InTurn, data_row, header_row, hidden, line_text, lines_text, number_text, row, status_row}
 
@@ -30,7 +30,7 @@ side_of FromCard = side.Card
 -- nobody says the status of a TPDU that was cut off
 abbrev pub status_side : List ℕ → List ℕ → Side
 status_side header status =
-    if are_status status && (length header == 5) then side.Card else side.Told
+    if are_status status && (length header == 5) then side.Card else side.Nobody
 
 -- a tree, or these lines where it has none
 abbrev pub Instead : (List (List ℕ) → Type 0) → List (List ℕ) → List (List ℕ) → Type 0
@@ -67,7 +67,7 @@ DataText m mask (Some way) header moved text = length header ≡ 5 → (shown : 
     × (text ≡ data_row m (side_of way) (lines_text lines))
 
 -- What shows a TPDU: its number, the line in which it begins, its header, its data, and its status.
-pub record IsBox (m : Medium) (mask : Mask) (number line : ℕ) (t : Told) (parts : List (List ℕ))
+pub record IsBox (m : Medium) (mask : Mask) (number line : ℕ) (t : Report) (parts : List (List ℕ))
     : Type 0 where
   pub moved : List ℕ
   pub words : List ℕ
@@ -110,10 +110,10 @@ whole_words (whole.Value n) size = size_words size n (codes " pieces:")
 abbrev pub PutsWhole : Whole → Shown → List (List ℕ) → List ℕ → Sheet → Sheet → Type 0
 PutsWhole whole shown tags bytes old new = (lines : List (List ℕ))
     × ShowsData shown tags true bytes lines
-    × Adds old (row old.layout.medium side.Told (codes "together")
+    × Adds old (row old.layout.medium side.Nobody (codes "together")
     (whole_words whole (length bytes) ++ lines_text lines)) new
 
 -- the box of a TPDU was added
-abbrev pub PutsBox : Mask → ℕ → ℕ → Told → Sheet → Sheet → Type 0
+abbrev pub PutsBox : Mask → ℕ → ℕ → Report → Sheet → Sheet → Type 0
 PutsBox mask number line t old new = (parts : List (List ℕ))
     × IsBox old.layout.medium mask number line t parts × Puts parts old new

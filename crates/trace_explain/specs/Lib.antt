@@ -1,4 +1,4 @@
-pub mod Told
+pub mod Reports
 pub mod Noted
 pub mod Openings
 pub mod Times
@@ -6,7 +6,7 @@ pub mod Lines
 pub mod WaysOf
 pub mod Turns
 pub mod LogLines
-pub mod Exchanges
+pub mod Pairs
 pub mod Logs
 pub mod Explained
 pub mod Trace

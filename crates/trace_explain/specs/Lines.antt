@@ -10,17 +10,17 @@ use Rattle.trace_explain.specs.declared.read.form.Form.{Form}
 use Rattle.trace_explain.specs.declared.read.form.Form.TheVariants as form
 use Rattle.trace_explain.specs.declared.read.reading.Reading.{Reading}
 use Rattle.trace_explain.specs.declared.follow.listener.Listener.{Listener}
-use Rattle.trace_explain.specs.declared.read.trace_line.BadLine.{BadLine}
-use Rattle.trace_explain.specs.declared.read.trace_line.BadLine.TheVariants as bad
+use Rattle.trace_explain.specs.declared.read.trace_line.LineFault.{LineFault}
+use Rattle.trace_explain.specs.declared.read.trace_line.LineFault.TheVariants as bad
 use Rattle.trace_explain.specs.declared.read.trace_line.Source.{Source}
 use Rattle.trace_explain.specs.declared.read.trace_line.Source.TheVariants.{Sign, Turn}
 use Rattle.trace_explain.specs.declared.read.trace_line.TraceLine.{TraceLine}
-use Rattle.trace_explain.specs.declared.read.trace_line.TraceLine.TheVariants as said
+use Rattle.trace_explain.specs.declared.read.trace_line.TraceLine.TheVariants as trace_line
 use Rattle.trace_explain.specs.declared.read.ways.Ways.{Ways}
-use Rattle.trace_explain.specs.Noted.{HasNoted, IsNoted, NoneGoesOn}
+use Rattle.trace_explain.specs.Noted.{HasNoted, IsNoted, NoneContinues}
 use Rattle.trace_explain.specs.Openings.{Opening, begins_answer, has_begun, is_dialogue, opens, role_of, unopened}
 use Rattle.trace_explain.specs.Times.{behind_clock, behind_time, place_of}
-use Rattle.trace_explain.specs.Told.{Told}
+use Rattle.trace_explain.specs.Reports.{Report}
 use Rattle.trace_explain.specs.Turns.{source_at}
 
 -- the sign before the characters of an end, in each form
@@ -76,7 +76,7 @@ abbrev pub bytes_in : List ℕ → Option (List ℕ)
 bytes_in digits = bytes_from [] None digits
 
 -- why digits say no bytes: they are none, or have something else among them
-abbrev pub AreBadDigits : BadLine → List ℕ → Type 0
+abbrev pub AreBadDigits : LineFault → List ℕ → Type 0
 AreBadDigits bad.Hex digits = bytes_in digits ≡ None
 AreBadDigits bad.OutOfMemory digits = Unit {0}
 AreBadDigits other digits = ⊥
@@ -114,9 +114,9 @@ is_signed line = begins_with line (codes ">") || begins_with line (codes "<")
 
 -- what is left of a line, behind digits or none, has digits, and nothing else but spaces behind one
 abbrev pub is_digits_from : Bool → List ℕ → Bool
-is_digits_from came [] = came
-is_digits_from came (b ∷ line) = if is_hex_digit b then is_digits_from true line
-    else if (b == 32) && came then is_digits_from came line else false
+is_digits_from has_digit [] = has_digit
+is_digits_from has_digit (b ∷ line) = if is_hex_digit b then is_digits_from true line
+    else if (b == 32) && has_digit then is_digits_from has_digit line else false
 
 abbrev pub is_digits : List ℕ → Bool
 is_digits line = is_digits_from false line
@@ -133,30 +133,30 @@ Suits (Some known) form = form ≡ known
 -- What a line says where lines have signs, of this form if that is known: characters behind a sign;
 -- a reset; or a note.
 abbrev pub SaysSigned : Option Form → List ℕ → TraceLine → Type 0
-SaysSigned known line (said.Characters (Sign form from) bytes) =
+SaysSigned known line (trace_line.Characters (Sign form from) bytes) =
     SpellsCharacters form line from bytes.items × Suits known form
-SaysSigned known line (said.Characters (Turn ways) bytes) = ⊥
-SaysSigned known line said.Reset = behind_time line ≡ codes "reset"
-SaysSigned known line (said.Note note) = (is_signed (behind_time line) ≡ false)
+SaysSigned known line (trace_line.Characters (Turn ways) bytes) = ⊥
+SaysSigned known line trace_line.Reset = behind_time line ≡ codes "reset"
+SaysSigned known line (trace_line.Note note) = (is_signed (behind_time line) ≡ false)
     × (behind_time line ≢ codes "reset") × (known ≡ None → are_digits line ≡ false)
 
 -- and where they have none, as the words say these ways: characters are digits behind a time or
 -- none
 abbrev pub SaysUnsigned : Ways → List ℕ → TraceLine → Type 0
-SaysUnsigned ways line (said.Characters (Sign form from) bytes) = ⊥
-SaysUnsigned ways line (said.Characters (Turn known) bytes) = (known ≡ ways)
+SaysUnsigned ways line (trace_line.Characters (Sign form from) bytes) = ⊥
+SaysUnsigned ways line (trace_line.Characters (Turn known) bytes) = (known ≡ ways)
     × (is_digits (behind_clock line) ≡ true) × (bytes_in (behind_clock line) ≡ Some bytes.items)
-SaysUnsigned ways line said.Reset = behind_time line ≡ codes "reset"
-SaysUnsigned ways line (said.Note note) = (is_digits (behind_clock line) ≡ false)
+SaysUnsigned ways line trace_line.Reset = behind_time line ≡ codes "reset"
+SaysUnsigned ways line (trace_line.Note note) = (is_digits (behind_clock line) ≡ false)
     × (is_signed (behind_time line) ≡ false) × (behind_time line ≢ codes "reset")
 
 abbrev pub SaysBy : Option Ways → Option Form → List ℕ → TraceLine → Type 0
-SaysBy None known line said = SaysSigned known line said
-SaysBy (Some ways) known line said = SaysUnsigned ways line said
+SaysBy None known line trace_line = SaysSigned known line trace_line
+SaysBy (Some ways) known line trace_line = SaysUnsigned ways line trace_line
 
 -- what a line says, as lines are read
 abbrev pub Says : Reading → List ℕ → TraceLine → Type 0
-Says reading line said = SaysBy reading.unsigned reading.form line said
+Says reading line trace_line = SaysBy reading.unsigned reading.form line trace_line
 
 -- these are no characters of an end, in any form
 abbrev pub SpellsNothing : List ℕ → Type 0
@@ -165,7 +165,7 @@ SpellsNothing line = (form : Form) (from : End) (bytes : List ℕ)
 
 -- A line that is refused begins with a sign and is of no form; is of another form than the lines
 -- before it; or has nothing but digits, and no line before it has a sign.
-abbrev pub IsBadSigned : BadLine → Option Form → List ℕ → Type 0
+abbrev pub IsBadSigned : LineFault → Option Form → List ℕ → Type 0
 IsBadSigned bad.Hex known line = (is_signed (behind_time line) ≡ true) × SpellsNothing line
 IsBadSigned (bad.OtherForm expected) known line = (known ≡ Some expected)
     × (form : Form) × (from : End) × (bytes : List ℕ) × SpellsCharacters form line from bytes
@@ -176,30 +176,30 @@ IsBadSigned bad.Signed known line = ⊥
 IsBadSigned bad.OutOfMemory known line = Unit {0}
 
 -- or has digits that are not two for each byte, or begins with a sign where lines have none
-abbrev pub IsBadUnsigned : BadLine → List ℕ → Type 0
+abbrev pub IsBadUnsigned : LineFault → List ℕ → Type 0
 IsBadUnsigned bad.Hex line = (is_digits (behind_clock line) ≡ true)
     × (bytes_in (behind_clock line) ≡ None)
 IsBadUnsigned bad.Signed line = is_signed (behind_time line) ≡ true
 IsBadUnsigned bad.OutOfMemory line = Unit {0}
 IsBadUnsigned other line = ⊥
 
-abbrev pub IsBadBy : Option Ways → BadLine → Option Form → List ℕ → Type 0
+abbrev pub IsBadBy : Option Ways → LineFault → Option Form → List ℕ → Type 0
 IsBadBy None why known line = IsBadSigned why known line
 IsBadBy (Some ways) why known line = IsBadUnsigned why line
 
-abbrev pub IsBadLine : BadLine → Reading → List ℕ → Type 0
+abbrev pub IsBadLine : LineFault → Reading → List ℕ → Type 0
 IsBadLine why reading line = IsBadBy reading.unsigned why reading.form line
 
 -- Where a trace stands between two lines: at the opening since it began or the card was reset;
 -- whether a character of either end has come; and how its lines are read from here on.
-pub record Standing : Type 0 where
+pub record Position : Type 0 where
   pub opening : Opening
-  pub came : Bool
+  pub has_characters : Bool
   pub reading : Reading
 
 -- before the first line, which is read so
-abbrev pub first_of_all : Reading → Standing
-first_of_all reading = record { opening = unopened; came = false; reading = reading }
+abbrev pub first_of_all : Reading → Position
+first_of_all reading = record { opening = unopened; has_characters = false; reading = reading }
 
 -- a line of characters of this source has come, whose sign says the form
 abbrev pub read_on : Source → Reading → Reading
@@ -207,16 +207,16 @@ read_on (Sign form from) reading = record reading { form = Some form }
 read_on (Turn ways) reading = reading
 
 -- a character of this end has come
-abbrev pub after_character : Standing → End → ℕ → Standing
+abbrev pub after_character : Position → End → ℕ → Position
 after_character at from b = record {
   opening = opens at.opening (role_of at.opening from b) b;
-  came = true;
+  has_characters = true;
   reading = at.reading;
 }
 
 -- what is heard of it: one of the dialogue, and not one of an opening
-abbrev pub heard_of : Opening → End → ℕ → List Event
-heard_of o from b =
+abbrev pub dialogue_events : Opening → End → ℕ → List Event
+dialogue_events o from b =
     if is_dialogue (role_of o from b) then history.Passed (from, b) ∷ [] else []
 
 -- these events are whole dialogues and resets, and no dialogue is under way
@@ -228,52 +228,52 @@ pub record AreOver (events : List Event) : Type 0 where
 -- The card answers again, though no line says that it was reset: with this character an answer
 -- begins where no dialogue is under way, and none goes on with it for who has heard these events.
 -- There the card was reset, and an opening begins.
-pub record AnswersAgain (so_far : List Event) (at : Standing) (from : End) (b : ℕ)
-    (events : List Event) (after : Standing) : Type 0 where
+pub record AnswersAgain (so_far : List Event) (at : Position) (from : End) (b : ℕ)
+    (events : List Event) (after : Position) : Type 0 where
   pub has_begun : has_begun at.opening.stage ≡ true
   pub begins : begins_answer from b ≡ true
   pub are_over : AreOver so_far
-  pub told : List Told
+  pub reports : List Report
   pub listener : Listener
-  pub noted : HasNoted so_far told listener
-  pub none : NoneGoesOn listener (from, b)
+  pub noted : HasNoted so_far reports listener
+  pub none : NoneContinues listener (from, b)
   pub events_are : events ≡ history.Reset ∷ []
   pub after_is : after ≡ after_character (record at { opening = unopened }) from b
 
 -- What is heard of a character behind these events, and where the trace stands then.
-abbrev pub TakesCharacter : List Event → Standing → End → ℕ → List Event → Standing → Type 0
+abbrev pub TakesCharacter : List Event → Position → End → ℕ → List Event → Position → Type 0
 TakesCharacter so_far at from b events after =
-    ((events ≡ heard_of at.opening from b) × (after ≡ after_character at from b))
+    ((events ≡ dialogue_events at.opening from b) × (after ≡ after_character at from b))
     ⊎ AnswersAgain so_far at from b events after
 
 -- Behind these events a character is this end's: who has heard them, and stands at their front,
 -- knows whose it is.
-pub record IsSent (source : Source) (so_far : List Event) (at : Standing) (b : ℕ) (from : End)
+pub record IsSent (source : Source) (so_far : List Event) (at : Position) (b : ℕ) (from : End)
     : Type 0 where
-  pub told : List Told
+  pub reports : List Report
   pub listener : Listener
-  pub noted : HasNoted so_far told listener
+  pub noted : HasNoted so_far reports listener
   pub sent : source_at source at.reading at.opening listener b ≡ Ok from
 
 -- what is heard of the characters of a line
 abbrev pub TakesCharacters
-    : Source → List Event → Standing → List ℕ → List Event → Standing → Type 0
+    : Source → List Event → Position → List ℕ → List Event → Position → Type 0
 TakesCharacters source so_far at [] events after = (events ≡ []) × (after ≡ at)
 TakesCharacters source so_far at (b ∷ bytes) events after = (from : End)
     × IsSent source so_far at b from
-    × (first rest : List Event) × (next : Standing)
+    × (first rest : List Event) × (next : Position)
     × TakesCharacter so_far at from b first next
     × (events ≡ first ++ rest) × TakesCharacters source (so_far ++ first) next bytes rest after
 
 -- and of a line
-abbrev pub TakesLine : List Event → Standing → TraceLine → List Event → Standing → Type 0
-TakesLine so_far at (said.Characters source bytes) events after =
+abbrev pub TakesLine : List Event → Position → TraceLine → List Event → Position → Type 0
+TakesLine so_far at (trace_line.Characters source bytes) events after =
     TakesCharacters source so_far (record at { reading = read_on source at.reading }) bytes.items
     events after
-TakesLine so_far at said.Reset events after =
+TakesLine so_far at trace_line.Reset events after =
     (events ≡ history.Reset ∷ []) × (after ≡ record at { opening = unopened })
-TakesLine so_far at (said.Note note) events after = (events ≡ []) × (after ≡ at)
+TakesLine so_far at (trace_line.Note note) events after = (events ≡ []) × (after ≡ at)
 
-abbrev pub IsHeard : List Event → Standing → List ℕ → List Event → Standing → Type 0
-IsHeard so_far at line events after =
+abbrev pub LineLeads : List Event → Position → List ℕ → List Event → Position → Type 0
+LineLeads so_far at line events after =
     (this : TraceLine) × Says at.reading line this × TakesLine so_far at this events after

@@ -4,11 +4,11 @@ use Rattle.t0_core.specs.declared.end.End.TheVariants as end
 use Rattle.trace_explain.specs.declared.read.log_line.LineKind.{LineKind}
 use Rattle.trace_explain.specs.declared.read.log_line.LineKind.TheVariants as kind
 use Rattle.trace_explain.specs.declared.read.log_line.LogLine.{LogLine}
-use Rattle.trace_explain.specs.declared.read.log_line.LogLine.TheVariants as said
+use Rattle.trace_explain.specs.declared.read.log_line.LogLine.TheVariants as log_line
 use Rattle.trace_explain.specs.declared.read.log_line.Rest.{Rest}
 use Rattle.trace_explain.specs.declared.read.log_line.Rest.TheVariants as rest
-use Rattle.trace_explain.specs.declared.read.trace_line.BadLine.{BadLine}
-use Rattle.trace_explain.specs.declared.read.trace_line.BadLine.TheVariants as bad
+use Rattle.trace_explain.specs.declared.read.trace_line.LineFault.{LineFault}
+use Rattle.trace_explain.specs.declared.read.trace_line.LineFault.TheVariants as bad
 use Rattle.trace_explain.specs.Lines.{begins_with, bytes_in, is_in}
 use Rattle.trace_explain.specs.Times.{behind_time, place_of}
 
@@ -75,30 +75,30 @@ abbrev pub size_in : List ℕ → Option ℕ
 size_in text = if has_unit (drop (place_of 32 text) text)
     then number_in (take (place_of 32 text) text) else None
 
-abbrev pub IsBadSize : BadLine → List ℕ → Type 0
+abbrev pub IsBadSize : LineFault → List ℕ → Type 0
 IsBadSize bad.Hex text = size_in text ≡ None
 IsBadSize other text = ⊥
 
 -- an answer of which no word says that it ends goes on, perhaps, where it fills a line
 abbrev pub SaysOpen : List ℕ → LogLine → Type 0
-SaysOpen bytes (said.Answer same) = (same.items ≡ bytes) × ((length bytes == 16) ≡ false)
-SaysOpen bytes (said.Front same) = (same.items ≡ bytes) × ((length bytes == 16) ≡ true)
+SaysOpen bytes (log_line.Answer same) = (same.items ≡ bytes) × ((length bytes == 16) ≡ false)
+SaysOpen bytes (log_line.Front same) = (same.items ≡ bytes) × ((length bytes == 16) ≡ true)
 SaysOpen bytes other = ⊥
 
 -- what a line says that is of this kind, with this part
 abbrev pub SaysPart : LineKind × List ℕ → LogLine → Type 0
-SaysPart (kind.Command, part) (said.Command bytes) = bytes_in part ≡ Some bytes.items
-SaysPart (kind.Answer, part) (said.Answer bytes) = bytes_in part ≡ Some bytes.items
+SaysPart (kind.Command, part) (log_line.Command bytes) = bytes_in part ≡ Some bytes.items
+SaysPart (kind.Answer, part) (log_line.Answer bytes) = bytes_in part ≡ Some bytes.items
 SaysPart (kind.OpenAnswer, part) line =
     (bytes : List ℕ) × (bytes_in part ≡ Some bytes) × SaysOpen bytes line
-SaysPart (kind.Dump from, part) (said.Dump sender size) =
+SaysPart (kind.Dump from, part) (log_line.Dump sender size) =
     (sender ≡ from) × (size_in part ≡ Some size)
-SaysPart (kind.Reset, part) said.Reset = Unit {0}
-SaysPart (kind.Note, part) said.Note = Unit {0}
+SaysPart (kind.Reset, part) log_line.Reset = Unit {0}
+SaysPart (kind.Note, part) log_line.Note = Unit {0}
 SaysPart (other, part) line = ⊥
 
 abbrev pub SaysLog : List ℕ → LogLine → Type 0
-SaysLog line said = SaysPart (cut_line line) said
+SaysLog line log_line = SaysPart (cut_line line) log_line
 
 -- it says nothing that can be read
 abbrev pub IsBadPart : LineKind × List ℕ → Type 0
@@ -109,7 +109,7 @@ IsBadPart (kind.Dump from, part) = size_in part ≡ None
 IsBadPart (kind.Bad, part) = Unit {0}
 IsBadPart (other, part) = ⊥
 
-abbrev pub IsBadLogLine : BadLine → List ℕ → Type 0
+abbrev pub IsBadLogLine : LineFault → List ℕ → Type 0
 IsBadLogLine bad.Hex line = IsBadPart (cut_line line)
 IsBadLogLine bad.OutOfMemory line = Unit {0}
 IsBadLogLine other line = ⊥
@@ -138,7 +138,7 @@ abbrev pub dumped_in : ℕ → List ℕ → Option (List ℕ)
 dumped_in left line = if nat_lt (length line) (3 * row left) then None
     else of_count (row left) (bytes_in (take (3 * row left) line))
 
-abbrev pub IsBadDump : BadLine → ℕ → List ℕ → Type 0
+abbrev pub IsBadDump : LineFault → ℕ → List ℕ → Type 0
 IsBadDump bad.Hex left line = dumped_in left line ≡ None
 IsBadDump bad.OutOfMemory left line = Unit {0}
 IsBadDump other left line = ⊥

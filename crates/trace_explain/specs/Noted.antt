@@ -14,25 +14,25 @@ use Rattle.t0_core.specs.TapSide.{TapStandsAt, IsRead, IsReadFront, tap_fault_at
 use Rattle.t0_core.specs.History.{Event, Item, Whole, Cut_off, events_of, passed}
 use Rattle.t0_core.specs.TapHistory.{IsOverheard}
 use Rattle.trace_explain.specs.declared.follow.listener.Listener.{Listener}
-use Rattle.trace_explain.specs.declared.follow.listener.Refusal.{Refusal}
-use Rattle.trace_explain.specs.declared.follow.listener.Refusal.TheVariants.{NoDialogue, OutOfMemory}
-use Rattle.trace_explain.specs.Told.{Told, told_by, Tells, TellsFront}
+use Rattle.trace_explain.specs.declared.follow.listener.ListenerFault.{ListenerFault}
+use Rattle.trace_explain.specs.declared.follow.listener.ListenerFault.TheVariants.{NoDialogue, OutOfMemory}
+use Rattle.trace_explain.specs.Reports.{Report, report_of, Reports, ReportsFront}
 
 -- this much is told of a dialogue of which these characters came before a reset
-abbrev pub TellsPart : Told → List Character → Type 0
-TellsPart t part = (front : Front) × (part ≡ front_characters front) × TellsFront t front
+abbrev pub ReportsPart : Report → List Character → Type 0
+ReportsPart t part = (front : Front) × (part ≡ front_characters front) × ReportsFront t front
 
 -- Each whole dialogue is told, in turn, and what a reset cut off of one, if any of it came; and no
 -- more.
-abbrev pub TellsItems : List Item → List Told → Type 0
-TellsItems [] [] = Unit {0}
-TellsItems [] (t ∷ told) = ⊥
-TellsItems (Whole d ∷ items) [] = ⊥
-TellsItems (Whole d ∷ items) (t ∷ told) = Tells t d × TellsItems items told
-TellsItems (Cut_off [] ∷ items) told = TellsItems items told
-TellsItems (Cut_off (c ∷ part) ∷ items) [] = ⊥
-TellsItems (Cut_off (c ∷ part) ∷ items) (t ∷ told) =
-    TellsPart t (c ∷ part) × TellsItems items told
+abbrev pub ReportItems : List Item → List Report → Type 0
+ReportItems [] [] = Unit {0}
+ReportItems [] (t ∷ reports) = ⊥
+ReportItems (Whole d ∷ items) [] = ⊥
+ReportItems (Whole d ∷ items) (t ∷ reports) = Reports t d × ReportItems items reports
+ReportItems (Cut_off [] ∷ items) reports = ReportItems items reports
+ReportItems (Cut_off (c ∷ part) ∷ items) [] = ⊥
+ReportItems (Cut_off (c ∷ part) ∷ items) (t ∷ reports) =
+    ReportsPart t (c ∷ part) × ReportItems items reports
 
 -- A command without data, with P3 00, whose card repeats INS before its status, perhaps behind
 -- NULLs. A tap takes INS for the beginning of 256 data from the card.
@@ -57,44 +57,44 @@ abbrev pub AreStatus : List ℕ → Type 0
 AreStatus (sw1 ∷ sw2 ∷ []) = IsStatusWord (sw1, sw2)
 AreStatus other = ⊥
 
-abbrev pub is_bare : Told → Bool
+abbrev pub is_bare : Report → Bool
 is_bare t = (slice_index t.header 4 == 0) && (t.tally.ones == 0) && (length t.status == 0)
     && are_status t.moved
 
 -- its data were its status
-abbrev pub bared : Told → Told
+abbrev pub bared : Report → Report
 bared t = record { header = t.header; tally = t.tally; way = None; moved = []; status = t.moved }
 
 -- what is told of the dialogue under way where it goes on no more, if any of it came
-abbrev pub as_ended : Told → Told
+abbrev pub as_ended : Report → Report
 as_ended t = if is_bare t then bared t else t
 
-abbrev pub ended_by : Told → List Told
+abbrev pub ended_by : Report → List Report
 ended_by t = if length t.header == 0 then [] else as_ended t ∷ []
 
 -- These events are whole dialogues, each of which was told; resets, each with what it cut off,
 -- which was told too; and a front of one dialogue more, at which the tap stands and of which this
 -- much is noted.
-pub record HasNoted (events : List Event) (told : List Told) (l : Listener) : Type 0 where
+pub record HasNoted (events : List Event) (reports : List Report) (l : Listener) : Type 0 where
   pub items : List Item
   pub front : Front
   pub events_are : events ≡ flat_map events_of items ++ passed (front_characters front)
   pub are_noted : AllByRecursion IsNoted items
   pub is_front : IsFront front
-  pub stands : TapStandsAt l.tap front
-  pub are_told : TellsItems items told
-  pub under_way : TellsFront (told_by l.under_way) front
+  pub is_at : TapStandsAt l.tap front
+  pub are_reported : ReportItems items reports
+  pub under_way : ReportsFront (report_of l.under_way) front
 
 -- no dialogue that a tap reads goes on with this character, or ends with it; and none is a command
 -- that was whole before it
-pub record NoneGoesOn (l : Listener) (c : Character) : Type 0 where
-  pub goes_on : (front next : Front) → TapStandsAt l.tap front → GoesOn front c next
+pub record NoneContinues (l : Listener) (c : Character) : Type 0 where
+  pub continues : (front next : Front) → TapStandsAt l.tap front → GoesOn front c next
       → IsReadFront next → ⊥
   pub ends : (front : Front) (d : Dialogue) → TapStandsAt l.tap front → Ends front c d → ⊥
-  pub not_bare : c.0 ≡ Terminal → is_bare (told_by l.under_way) ≡ false
+  pub not_bare : c.0 ≡ Terminal → is_bare (report_of l.under_way) ≡ false
 
 -- A character was refused for this reason, and nothing has changed; or memory was wanting.
-abbrev pub IsRefused : Refusal → Listener → Character → Listener → Type 0
+abbrev pub IsRefused : ListenerFault → Listener → Character → Listener → Type 0
 IsRefused (NoDialogue fault) old c new =
-    NoneGoesOn old c × (tap_fault_at old.tap c.0 c.1 ≡ Some fault) × (new ≡ old)
+    NoneContinues old c × (tap_fault_at old.tap c.0 c.1 ≡ Some fault) × (new ≡ old)
 IsRefused OutOfMemory old c new = Unit {0}

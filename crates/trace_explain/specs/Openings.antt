@@ -36,15 +36,15 @@ opening_of p = record {
 }
 
 -- nothing has come; and the dialogue has begun
-abbrev pub standing_in : Stage → Opening
-standing_in stage =
+abbrev pub opening_at : Stage → Opening
+opening_at stage =
     record { stage = stage; turned = Direct; answer = []; request = []; response = [] }
 
 abbrev pub unopened : Opening
-unopened = standing_in stage.Ready
+unopened = opening_at stage.Ready
 
 abbrev pub begun : Opening
-begun = standing_in stage.Begun
+begun = opening_at stage.Begun
 
 abbrev pub has_begun : Stage → Bool
 has_begun stage.Begun = true

@@ -38,20 +38,20 @@ abbrev pub whole_or_nothing : Bool → Shown
 whole_or_nothing is_part = if is_part then Nothing else Objects
 
 -- the value of an object with this tag
-pub record ShowsValue (tags : List (List ℕ)) (tag : List ℕ) (goes_on : Bool) (shown : Shown)
+pub record ShowsValue (tags : List (List ℕ)) (tag : List ℕ) (continues : Bool) (shown : Shown)
     : Type 0 where
   pub masked : Contains tags tag → shown ≡ Nothing
   pub primitive : (Contains tags tag → ⊥) → is_constructed tag ≡ false → shown ≡ All
   pub template : (Contains tags tag → ⊥) → is_constructed tag ≡ true
-      → shown ≡ whole_or_nothing goes_on
+      → shown ≡ whole_or_nothing continues
 
 -- data that are no secret, where there are tags
 pub record ShowsTagged (tags : List (List ℕ)) (o : Origin) (shown : Shown) : Type 0 where
   pub name : is_name o.header.ins o.way ≡ true → shown ≡ All
   pub named : is_name o.header.ins o.way ≡ false → (t : List ℕ) → Names o.header t
-      → (tag : List ℕ) × Names o.header tag × ShowsValue tags tag o.goes_on shown
+      → (tag : List ℕ) × Names o.header tag × ShowsValue tags tag o.continues shown
   pub others : is_name o.header.ins o.way ≡ false → ((tag : List ℕ) → Names o.header tag → ⊥)
-      → shown ≡ whole_or_nothing (o.goes_on || may_be_cut o.header)
+      → shown ≡ whole_or_nothing (o.continues || may_be_cut o.header)
 
 -- Without a mask all data are shown. With one none that are secret are; without tags all others.
 pub record Shows (hides : Bool) (tags : List (List ℕ)) (o : Origin) (shown : Shown) : Type 0 where

@@ -7,9 +7,9 @@ use Rattle.trace_explain.specs.declared.explain_fault.ExplainFault.TheVariants a
 use Rattle.trace_explain.specs.declared.follow.listener.Listener.{Listener}
 use Rattle.trace_explain.specs.declared.read.reading.Reading.{Reading}
 use Rattle.trace_explain.specs.Explained.{StopsRightly, line_of}
-use Rattle.trace_explain.specs.Lines.{IsHeard, Standing, first_of_all}
+use Rattle.trace_explain.specs.Lines.{LineLeads, Position, first_of_all}
 use Rattle.trace_explain.specs.Noted.{HasNoted}
-use Rattle.trace_explain.specs.Told.{Told}
+use Rattle.trace_explain.specs.Reports.{Report}
 
 -- The lines of bytes, where this much of the first line came before them: cut at LF, which the last
 -- may lack, and without the one CR right before an LF. Where nothing comes after the last LF, that
@@ -25,37 +25,37 @@ lines_of bytes = lines_from [] bytes
 
 -- Behind these events lines say others, one after another, and lead from where the trace stands
 -- before them to where it stands behind them.
-abbrev pub SayInTurn : List Event → Standing → List (List ℕ) → List Event → Standing → Type 0
+abbrev pub SayInTurn : List Event → Position → List (List ℕ) → List Event → Position → Type 0
 SayInTurn so_far at [] events after = (events ≡ []) × (after ≡ at)
-SayInTurn so_far at (line ∷ others) events after = (first rest : List Event) × (next : Standing)
-    × IsHeard so_far at line first next
+SayInTurn so_far at (line ∷ others) events after = (first rest : List Event) × (next : Position)
+    × LineLeads so_far at line first next
     × (events ≡ first ++ rest) × SayInTurn (so_far ++ first) next others rest after
 
 -- and these are all lines so far, read so
-abbrev pub SayAll : Reading → List (List ℕ) → List Event → Standing → Type 0
+abbrev pub SayAll : Reading → List (List ℕ) → List Event → Position → Type 0
 SayAll reading lines events after = SayInTurn [] (first_of_all reading) lines events after
 
 -- All events of these lines have been heard, and each dialogue in them was told, in turn; behind
 -- them the trace stands here. Of those that were told, and who has heard them, this holds: what is
 -- written shows them.
-pub record IsExplained (IsShown : List Told → Listener → Type 0) (reading : Reading)
-    (all : List (List ℕ)) (at : Standing) : Type 0 where
+pub record IsExplained (IsShown : List Report → Listener → Type 0) (reading : Reading)
+    (all : List (List ℕ)) (at : Position) : Type 0 where
   pub events : List Event
   pub says : SayAll reading all events at
-  pub told : List Told
+  pub reports : List Report
   pub listener : Listener
-  pub noted : HasNoted events told listener
-  pub is_shown : IsShown told listener
+  pub noted : HasNoted events reports listener
+  pub is_shown : IsShown reports listener
 
 -- and at least one of them had a character
-abbrev pub IsWhole : (List Told → Listener → Type 0) → Reading → List (List ℕ) → Type 0
+abbrev pub IsWhole : (List Report → Listener → Type 0) → Reading → List (List ℕ) → Type 0
 IsWhole IsShown reading all =
-    (at : Standing) × IsExplained IsShown reading all at × (at.came ≡ true)
+    (at : Position) × IsExplained IsShown reading all at × (at.has_characters ≡ true)
 
 -- no line of these has a character of either end
 abbrev pub SayNoCharacters : Reading → List (List ℕ) → Type 0
-SayNoCharacters reading all = (events : List Event) × (at : Standing)
-    × SayAll reading all events at × (at.came ≡ false)
+SayNoCharacters reading all = (events : List Event) × (at : Position)
+    × SayAll reading all events at × (at.has_characters ≡ false)
 
 -- the number of the line behind these, from 1 up to the largest that is counted to
 abbrev pub number_behind : List (List ℕ) → ℕ
@@ -70,18 +70,18 @@ pub record IsReached (reading : Reading) (all : List (List ℕ)) (number : ℕ) 
   pub is_cut : all ≡ before ++ line ∷ others
   pub number_is : number ≡ number_behind before
   pub events : List Event
-  pub at : Standing
+  pub at : Position
   pub says : SayAll reading before events at
-  pub told : List Told
+  pub reports : List Report
   pub listener : Listener
-  pub noted : HasNoted events told listener
+  pub noted : HasNoted events reports listener
 
 -- A fault that stops it at a line is right of that line; one that comes at the end says that no
 -- line has a character.
 abbrev pub StopsInLine : Reading → List (List ℕ) → ExplainFault → Option ℕ → Type 0
 StopsInLine reading all f None = Unit {0}
 StopsInLine reading all f (Some number) = (reached : IsReached reading all number)
-    × StopsRightly f reached.at reached.line reached.events reached.told
+    × StopsRightly f reached.at reached.line reached.events reached.reports
 
 abbrev pub StopsIn : Reading → List (List ℕ) → ExplainFault → Type 0
 StopsIn reading all fault.NoCharacters = SayNoCharacters reading all
@@ -100,10 +100,10 @@ KeepsLimit bytes (Err f) = IsOver bytes f
 
 -- the faults at the end of a trace: it was explained on, or no character has come
 abbrev pub IsOfEnd : ExplainFault → Bool → Type 0
-IsOfEnd (fault.Resumed complaints first) came = Unit {0}
-IsOfEnd (fault.BadExchanges complaints line why) came = Unit {0}
-IsOfEnd fault.NoCharacters came = came ≡ false
-IsOfEnd other came = ⊥
+IsOfEnd (fault.Resumed complaints first) has_characters = Unit {0}
+IsOfEnd (fault.BadPairs complaints line why) has_characters = Unit {0}
+IsOfEnd fault.NoCharacters has_characters = has_characters ≡ false
+IsOfEnd other has_characters = ⊥
 
 -- the faults of the writer: it failed, or nobody reads any more
 abbrev pub IsOfWriting : ExplainFault → Type 0

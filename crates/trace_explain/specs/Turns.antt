@@ -11,14 +11,14 @@ use Rattle.t0_core.specs.TapSide.{due_at, other_end}
 use Rattle.trace_explain.specs.declared.follow.listener.Listener.{Listener}
 use Rattle.trace_explain.specs.declared.follow.opening.Stage.{Stage}
 use Rattle.trace_explain.specs.declared.follow.opening.Stage.TheVariants as stage
-use Rattle.trace_explain.specs.declared.follow.turn.NoTurn.{NoTurn}
-use Rattle.trace_explain.specs.declared.follow.turn.NoTurn.TheVariants as unknown
+use Rattle.trace_explain.specs.declared.follow.turn.TurnFault.{TurnFault}
+use Rattle.trace_explain.specs.declared.follow.turn.TurnFault.TheVariants as unknown
 use Rattle.trace_explain.specs.declared.read.reading.Reading.{Reading}
 use Rattle.trace_explain.specs.declared.read.trace_line.Source.{Source}
 use Rattle.trace_explain.specs.declared.read.trace_line.Source.TheVariants.{Sign, Turn}
 use Rattle.trace_explain.specs.declared.read.ways.Ways.{Ways}
 use Rattle.trace_explain.specs.Openings.{Opening, has_answered, has_begun, turned_by}
-use Rattle.trace_explain.specs.Told.{Told, told_by}
+use Rattle.trace_explain.specs.Reports.{Report, report_of}
 use Rattle.trace_explain.specs.WaysOf.{way_of}
 
 -- the end that a character is of: the card, where this holds
@@ -41,7 +41,7 @@ abbrev pub ask_or_answer : ℕ → End
 ask_or_answer b = if b == 0xFF then Card else between b
 
 -- Before the dialogue. Behind an answer at fault it is not known where that ends.
-abbrev pub turn_before : Stage → Bool → ℕ → Result End NoTurn
+abbrev pub turn_before : Stage → Bool → ℕ → Result End TurnFault
 turn_before stage.Ready answered b = Ok (if answered then between b else at_first b)
 turn_before stage.Answer answered b = Ok Card
 turn_before stage.Astray answered b = Err unknown.Answer
@@ -61,24 +61,24 @@ sent ToCard = Terminal
 sent FromCard = Card
 
 -- data go the way that the first of them went, or that of the instruction, if it is known
-abbrev pub data_turn : Option Direction → Option Direction → ℕ → Result End NoTurn
+abbrev pub data_turn : Option Direction → Option Direction → ℕ → Result End TurnFault
 data_turn (Some way) known ins = Ok (sent way)
 data_turn None (Some way) ins = Ok (sent way)
 data_turn None None ins = Err (unknown.Way ins)
 
 -- P3 `00` asks for 256 bytes of the card (10.3.2). Where data go to the card it has none, and SW1
 -- and SW2 come behind INS.
-abbrev pub with_p3_00 : Option Direction → ℕ → ℕ → Result End NoTurn
-with_p3_00 (Some FromCard) ins came = Ok Card
-with_p3_00 (Some ToCard) ins came = Ok (card_if (nat_lt came 2))
-with_p3_00 None ins came = Err (unknown.Way ins)
+abbrev pub with_p3_00 : Option Direction → ℕ → ℕ → Result End TurnFault
+with_p3_00 (Some FromCard) ins count = Ok Card
+with_p3_00 (Some ToCard) ins count = Ok (card_if (nat_lt count 2))
+with_p3_00 None ins count = Err (unknown.Way ins)
 
-abbrev pub data_at : Option Direction → Option Direction → ℕ → ℕ → ℕ → Result End NoTurn
-data_at seen known p3 ins came =
-    if p3 == 0 then with_p3_00 known ins came else data_turn seen known ins
+abbrev pub data_at : Option Direction → Option Direction → ℕ → ℕ → ℕ → Result End TurnFault
+data_at seen known p3 ins count =
+    if p3 == 0 then with_p3_00 known ins count else data_turn seen known ins
 
 -- Within the dialogue: a procedure byte, SW1 and SW2 are the card's (10.3.3).
-abbrev pub turn_within : Ways → Due → Told → ℕ → Result End NoTurn
+abbrev pub turn_within : Ways → Due → Report → ℕ → Result End TurnFault
 turn_within ways due.Header t b = Ok (header_turn (length t.header == 0) b)
 turn_within ways due.Procedure t b = Ok Card
 turn_within ways (due.Data seen) t b =
@@ -87,9 +87,9 @@ turn_within ways (due.Data seen) t b =
 turn_within ways due.SecondStatus t b = Ok Card
 
 -- whose a character is that comes next
-abbrev pub turn_at : Ways → Opening → Listener → ℕ → Result End NoTurn
+abbrev pub turn_at : Ways → Opening → Listener → ℕ → Result End TurnFault
 turn_at ways o l b =
-    if has_begun o.stage then turn_within ways (due_at l.tap) (told_by l.under_way) b
+    if has_begun o.stage then turn_within ways (due_at l.tap) (report_of l.under_way) b
     else turn_before o.stage (has_answered o) b
 
 -- the end whose characters stand behind a sign: the other one, where the signs are swapped
@@ -97,6 +97,6 @@ abbrev pub sender : Reading → End → End
 sender reading from = if reading.swaps then other_end from else from
 
 -- who sends a character that comes next
-abbrev pub source_at : Source → Reading → Opening → Listener → ℕ → Result End NoTurn
+abbrev pub source_at : Source → Reading → Opening → Listener → ℕ → Result End TurnFault
 source_at (Sign form from) reading o l b = Ok (sender reading from)
 source_at (Turn ways) reading o l b = turn_at ways o l b

@@ -6,22 +6,22 @@ use Rattle.trace_explain.specs.declared.explain_fault.ExplainFault.TheVariants a
 use Rattle.trace_explain.specs.declared.explainer.Explainer.{Explainer}
 use Rattle.trace_explain.specs.declared.read.reading.Reading.{Reading}
 use Rattle.trace_explain.specs.Account.{HasWritten, Out}
-use Rattle.trace_explain.specs.Explained.{HasExplained, next_line, standing_of}
-use Rattle.trace_explain.specs.Told.{Told}
+use Rattle.trace_explain.specs.Explained.{HasExplained, next_line, position_of}
+use Rattle.trace_explain.specs.Reports.{Report}
 use Rattle.trace_explain.specs.Trace.{SayAll, lines_from, number_behind}
 
 -- Of all lines those so far are explained; of the next this much has come, and these bytes are
 -- left. This much is written out.
-pub record HasCome (front : Out) (reading : Reading) (all : List (List ℕ))
+pub record HasReceived (front : Out) (reading : Reading) (all : List (List ℕ))
     (line left : List ℕ) (e : Explainer) : Type 0 where
   pub before : List (List ℕ)
   pub is_cut : all ≡ before ++ lines_from line left
   pub number_is : next_line e ≡ number_behind before
   pub events : List Event
-  pub says : SayAll reading before events (standing_of e)
-  pub told : List Told
-  pub explained : HasExplained events told e
-  pub written : HasWritten front told e
+  pub says : SayAll reading before events (position_of e)
+  pub reports : List Report
+  pub explained : HasExplained events reports e
+  pub written : HasWritten front reports e
 
 -- faults that lines and their characters have
 abbrev pub IsOfLines : ExplainFault → Type 0

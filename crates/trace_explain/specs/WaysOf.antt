@@ -63,4 +63,4 @@ by_standard cla ins = or_else (own_way cla ins) (everywhere ins)
 
 -- what the words say of INS, in every class, and else the standards
 abbrev pub way_of : Ways → ℕ → ℕ → Option Direction
-way_of ways cla ins = or_else (get_or ways.said ins None) (by_standard cla ins)
+way_of ways cla ins = or_else (get_or ways.given ins None) (by_standard cla ins)

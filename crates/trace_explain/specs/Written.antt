@@ -7,7 +7,7 @@ use Rattle.hex.specs.Hex.{encode_upper}
 use Rattle.trace_explain.specs.declared.write.layout.Medium.{Medium}
 use Rattle.trace_explain.specs.declared.write.layout.Medium.TheVariants.{Text, Html}
 use Rattle.trace_explain.specs.declared.write.layout.Side.{Side}
-use Rattle.trace_explain.specs.declared.write.layout.Side.TheVariants.{Terminal, Card, Told as Nobody}
+use Rattle.trace_explain.specs.declared.write.layout.Side.TheVariants.{Terminal, Card, Nobody}
 
 -- a text has these parts, one after another, with any words before, between and behind them
 abbrev pub InTurn : List (List ℕ) → List ℕ → Type 0

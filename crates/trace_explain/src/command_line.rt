@@ -1,6 +1,6 @@
 //! The command line.
 
-use crate::describe::mask::{BadTags, Mask};
+use crate::describe::mask::{Mask, TagsFault};
 use crate::help;
 use crate::read::form::{FORM_NAMES, Form};
 use crate::read::reading::Reading;
@@ -65,8 +65,8 @@ fn mask(alloc: Global, matches: &ArgMatches<'_>) -> Result<Mask, Error> {
     };
     match Mask::of(alloc, tags) {
         Ok(mask) => Ok(mask),
-        Err(BadTags::OutOfMemory) => Err(Error::from(AllocError)),
-        Err(BadTags::Form) => {
+        Err(TagsFault::OutOfMemory) => Err(Error::from(AllocError)),
+        Err(TagsFault::Form) => {
             let text = format!(in alloc;
                 "invalid value '{tags}' for '--mask [<TAGS>]': not tags of one to three bytes \
                  with commas between them"
@@ -89,7 +89,7 @@ fn unsigned(alloc: Global, matches: &ArgMatches<'_>) -> Result<Option<Ways>, Err
     ];
     for (name, way) in options {
         if let Some(words) = matches.get_str(name)
-            && let Err(why) = ways.say(way, words)
+            && let Err(why) = ways.give(way, words)
         {
             let text = format!(in alloc; "invalid value '{words}' for '--{name} <INS>': {why}")?;
             return Err(command(alloc)?.error(ErrorKind::ValueValidation, text.as_str())?);

@@ -4,11 +4,11 @@ ghost use Rattle.std.specs.Io.KnownBytes.{Appends};
 ghost use Rattle.std.specs.String.{string_bytes};
 ghost use Rattle.std.specs.Str.Lines.{strip_carriage_return};
 ghost use Rattle.trace_explain.specs.declared.read.reading.Reading.{Reading};
-ghost use Rattle.trace_explain.specs.Account.{HasWritten, Out, WritesOut, WritesTold, out_with};
-ghost use Rattle.trace_explain.specs.Explained.{HasExplained, standing_of};
+ghost use Rattle.trace_explain.specs.Account.{HasWritten, Out, WritesOut, WritesReports, out_with};
+ghost use Rattle.trace_explain.specs.Explained.{HasExplained, position_of};
 ghost use Rattle.trace_explain.specs.Lines.{first_of_all};
 ghost use Rattle.trace_explain.specs.Trace.{IsExplained, IsOfWriting, IsWhole, KeepsLimit, StopsIn, lines_of};
-ghost use Rattle.trace_explain.specs.UnderWay.{HasCome, IsOfLines};
+ghost use Rattle.trace_explain.specs.UnderWay.{HasReceived, IsOfLines};
 
 use crate::describe::mask::Mask;
 use crate::explain_fault::ExplainFault;
@@ -45,7 +45,7 @@ pub fn explain<R: Read, W: Write>(
 ) -> Result<(), ExplainFault>
     ensures explained { resumes ≡ false → reading.of_tpdus ≡ false →
         OnOk result (IfSome (R.remaining reader.old) (λ bytes. IsWhole
-        (WritesTold layout mask (W.contents writer.old) (W.contents writer.new)) reading
+        (WritesReports layout mask (W.contents writer.old) (W.contents writer.new)) reading
         (lines_of bytes))) }
     ensures stops { resumes ≡ false → reading.of_tpdus ≡ false → IfErr result (λ fault.
         IfSome (R.remaining reader.old) (λ bytes. StopsIn reading (lines_of bytes) fault)) }
@@ -69,16 +69,16 @@ fn explain_chunks<R: Read, W: Write>(
 ) -> Result<(), ExplainFault>
     ensures explained { (first : Out) (reading : Reading) →
         HasExplained [] [] explainer.old →
-        standing_of explainer.old ≡ first_of_all reading → explainer.old.line ≡ 0 →
+        position_of explainer.old ≡ first_of_all reading → explainer.old.line ≡ 0 →
         HasWritten first [] explainer.old →
         OnOk result (IfSome (R.remaining reader.old) (λ bytes. IsExplained
-        (λ told listener. (listener ≡ explainer.new.listener) × (more : List ℕ)
+        (λ reports listener. (listener ≡ explainer.new.listener) × (more : List ℕ)
         × Appends (W.contents writer.old) (W.contents writer.new) more
-        × HasWritten (out_with first more) told explainer.new)
-        reading (lines_of bytes) (standing_of explainer.new))) }
+        × HasWritten (out_with first more) reports explainer.new)
+        reading (lines_of bytes) (position_of explainer.new))) }
     ensures stops { (first : Out) (reading : Reading) →
         HasExplained [] [] explainer.old →
-        standing_of explainer.old ≡ first_of_all reading → explainer.old.line ≡ 0 →
+        position_of explainer.old ≡ first_of_all reading → explainer.old.line ≡ 0 →
         HasWritten first [] explainer.old → IfErr result (λ fault.
         IfSome (R.remaining reader.old) (λ bytes. StopsIn reading (lines_of bytes) fault)) }
     ensures limited { IfSome (R.remaining reader.old) (λ bytes. KeepsLimit bytes result) }
@@ -107,10 +107,10 @@ pub fn explain_chunk(
     line: &mut Vec<u8>,
 ) -> Result<(), ExplainFault>
     ensures explained { (front : Out) (reading : Reading) (all : List (List ℕ)) (left : List ℕ) →
-        HasCome front reading all line.old.items (chunk.now ++ left) explainer.old →
-        OnOk result (HasCome front reading all line.new.items left explainer.new) }
+        HasReceived front reading all line.old.items (chunk.now ++ left) explainer.old →
+        OnOk result (HasReceived front reading all line.new.items left explainer.new) }
     ensures stops { (front : Out) (reading : Reading) (all : List (List ℕ)) (left : List ℕ) →
-        HasCome front reading all line.old.items (chunk.now ++ left) explainer.old →
+        HasReceived front reading all line.old.items (chunk.now ++ left) explainer.old →
         IfErr result (StopsIn reading all) }
     ensures of_lines { IfErr result IsOfLines }
 {
@@ -132,11 +132,12 @@ pub fn explain_chunk(
 /// Explains the last line, if it has no LF.
 pub fn explain_last(explainer: &mut Explainer, line: &[u8]) -> Result<(), ExplainFault>
     ensures explained { (front : Out) (reading : Reading) (all : List (List ℕ)) →
-        HasCome front reading all line.now [] explainer.old →
-        OnOk result (IsExplained (λ told listener. (listener ≡ explainer.new.listener)
-        × HasWritten front told explainer.new) reading all (standing_of explainer.new)) }
+        HasReceived front reading all line.now [] explainer.old →
+        OnOk result (IsExplained (λ reports listener. (listener ≡ explainer.new.listener)
+        × HasWritten front reports explainer.new) reading all (position_of explainer.new)) }
     ensures stops { (front : Out) (reading : Reading) (all : List (List ℕ)) →
-        HasCome front reading all line.now [] explainer.old → IfErr result (StopsIn reading all) }
+        HasReceived front reading all line.now [] explainer.old →
+        IfErr result (StopsIn reading all) }
     ensures of_lines { IfErr result IsOfLines }
 {
     if line.is_empty() {

@@ -3,8 +3,8 @@
 ghost use Rattle.trace_explain.specs.Trace.{IsOfWriting};
 
 use crate::describe::complaint::Complaint;
-use crate::follow::exchange::BadExchange;
-use crate::follow::turn::NoTurn;
+use crate::follow::pair::PairFault;
+use crate::follow::turn::TurnFault;
 use crate::read::form::Form;
 use std::alloc::AllocError;
 use std::io;
@@ -41,7 +41,7 @@ pub enum ExplainFault {
     NoTurn {
         line: u64,
         place: usize,
-        why: NoTurn,
+        why: TurnFault,
     },
     /// A line has more than `LINE_LIMIT` bytes.
     #[error("line {line}: line too long")]
@@ -61,10 +61,10 @@ pub enum ExplainFault {
     /// continued after them. The first began in this line.
     #[error("line {line}: unexpected command or answer: {why} \
         (protocol errors: {complaints})")]
-    BadExchanges {
+    BadPairs {
         complaints: u64,
         line: u64,
-        why: BadExchange,
+        why: PairFault,
     },
     /// The trace ended, and no line has a character of either end.
     #[error("no characters heard")]

@@ -6,11 +6,11 @@ ghost use Rattle.std.specs.Result.{IsErrAnd};
 ghost use Rattle.t0_core.specs.History.{Event, Reset};
 ghost use Rattle.t0_core.specs.TapSide.{due_at};
 ghost use Rattle.trace_explain.specs.Account.{AddsBoxes, HasWritten, first_out};
-ghost use Rattle.trace_explain.specs.Explained.{HasExplained, ExplainsCharacters, ExplainsLine, ExplainsMore, StopsAmong, StopsAtLine, Stopped, TakesOrStops, is_astray, next_line, refused, standing_of};
+ghost use Rattle.trace_explain.specs.Explained.{HasExplained, ExplainsCharacters, ExplainsLine, ExplainsMore, StopsAmong, StopsAtLine, Stopped, TakesOrStops, is_astray, next_line, refused, position_of};
 ghost use Rattle.trace_explain.specs.Lines.{first_of_all};
 ghost use Rattle.trace_explain.specs.Noted.{ended_by};
 ghost use Rattle.trace_explain.specs.Openings.{begins_answer, opening_of, unopened};
-ghost use Rattle.trace_explain.specs.Told.{Told, told_by};
+ghost use Rattle.trace_explain.specs.Reports.{Report, report_of};
 ghost use Rattle.trace_explain.specs.Trace.{IsOfEnd};
 ghost use Rattle.trace_explain.specs.Turns.{source_at, turn_at};
 ghost use Rattle.trace_explain.specs.UnderWay.{IsOfLines};
@@ -21,12 +21,12 @@ use crate::explain_fault::ExplainFault;
 use crate::follow::listener::Listener;
 use crate::follow::opening::begins_answer;
 use crate::follow::preface::Preface;
-use crate::follow::turn::{NoTurn, turn_before, turn_within};
+use crate::follow::turn::{TurnFault, turn_before, turn_within};
 use crate::read::log::Log;
 use crate::read::log_line::time_of;
 use crate::read::reading::Reading;
 use crate::read::time::cut_time;
-use crate::read::trace_line::{BadLine, Source, TraceLine, read_line};
+use crate::read::trace_line::{LineFault, Source, TraceLine, read_line};
 use crate::read::ways::Ways;
 use crate::resuming::{Passed, Resuming};
 use crate::write::layout::Layout;
@@ -41,7 +41,7 @@ pub struct Explainer {
     alloc: Global,
     reading: Reading,
     resuming: Resuming,
-    came: bool,
+    has_characters: bool,
     line: u64,
     preface: Preface,
     listener: Listener,
@@ -64,14 +64,14 @@ impl Explainer {
             HasExplained [] [] result }
         ensures blank { reading.of_tpdus ≡ false →
             HasWritten (first_out layout mask) [] result }
-        ensures standing { standing_of result ≡ first_of_all reading }
+        ensures position { position_of result ≡ first_of_all reading }
         ensures line { result.line ≡ 0 }
     {
         Explainer {
             alloc,
             reading,
             resuming: Resuming::new(resumes),
-            came: false,
+            has_characters: false,
             line: 0,
             preface: Preface::new(alloc),
             listener: Listener::new(alloc),
@@ -98,10 +98,10 @@ impl Explainer {
     /// - `NoDialogue`: no dialogue continues with a character, and it does not resume.
     /// - `OutOfMemory`: may come after a part of the line.
     pub fn line(&mut self, line: &[u8]) -> Result<(), ExplainFault>
-        ensures explained { (events : List Event) (before : List Told) →
+        ensures explained { (events : List Event) (before : List Report) →
             HasExplained events before self.old →
             OnOk result (ExplainsLine line.now events before self.old self.new) }
-        ensures stops { (events : List Event) (before : List Told) →
+        ensures stops { (events : List Event) (before : List Report) →
             HasExplained events before self.old →
             IfErr result (λ fault. StopsAtLine fault line.now self.old events before) }
         ensures counts { OnOk result (self.new.line ≡ next_line self.old) }
@@ -116,10 +116,10 @@ impl Explainer {
 
     /// Explains the next line of a trace of characters.
     fn line_of_characters(&mut self, line: &[u8]) -> Result<(), ExplainFault>
-        ensures explained { (events : List Event) (before : List Told) →
+        ensures explained { (events : List Event) (before : List Report) →
             HasExplained events before self.old →
             OnOk result (ExplainsLine line.now events before self.old self.new) }
-        ensures stops { (events : List Event) (before : List Told) →
+        ensures stops { (events : List Event) (before : List Report) →
             HasExplained events before self.old →
             IfErr result (λ fault. StopsAtLine fault line.now self.old events before) }
         ensures counts { OnOk result (self.new.line ≡ next_line self.old) }
@@ -147,13 +147,13 @@ impl Explainer {
 
     /// Explains the characters of a line, if they are not passed over.
     fn characters(&mut self, source: &Source, bytes: &[u8]) -> Result<(), ExplainFault>
-        ensures explained { (events : List Event) (before : List Told) →
+        ensures explained { (events : List Event) (before : List Report) →
             HasExplained events before self.old → OnOk result
             (ExplainsCharacters source.now bytes.now events before self.old self.new) }
-        ensures stops { (events : List Event) (before : List Told) →
+        ensures stops { (events : List Event) (before : List Report) →
             HasExplained events before self.old →
             IfErr result (λ fault. StopsAmong fault source.now self.old.line
-            (standing_of self.old) bytes.now events before) }
+            (position_of self.old) bytes.now events before) }
         ensures counts { OnOk result (self.new.line ≡ self.old.line) }
         ensures of_lines { IfErr result IsOfLines }
     {
@@ -203,7 +203,7 @@ impl Explainer {
     }
 
     /// Who sends this character, which comes next.
-    fn sender(&self, source: &Source, byte: u8) -> Result<End, NoTurn>
+    fn sender(&self, source: &Source, byte: u8) -> Result<End, TurnFault>
         ensures { result ≡ source_at source.now self.now.reading (opening_of self.now.preface)
             self.now.listener byte }
     {
@@ -214,12 +214,17 @@ impl Explainer {
     }
 
     /// Whose turn it is to send this character.
-    fn turn(&self, ways: &Ways, byte: u8) -> Result<End, NoTurn>
+    fn turn(&self, ways: &Ways, byte: u8) -> Result<End, TurnFault>
         ensures { result ≡ turn_at ways.now (opening_of self.now.preface) self.now.listener byte }
     {
         let stage = self.preface.stage();
         if stage.has_begun() {
-            turn_within(ways, self.listener.due(), self.listener.under_way(), byte)
+            turn_within(
+                ways,
+                self.listener.expected(),
+                self.listener.under_way(),
+                byte,
+            )
         } else {
             turn_before(stage, self.preface.has_answered(), byte)
         }
@@ -228,19 +233,19 @@ impl Explainer {
     /// Takes a character, with which `rest` of its line begins: of an opening, or of the dialogue,
     /// or one with which the card answers again. It answers whether it is none of these.
     fn character(&mut self, from: End, byte: u8, rest: &[u8]) -> Result<bool, AllocError>
-        ensures takes { (events : List Event) (before : List Told) →
+        ensures takes { (events : List Event) (before : List Report) →
             HasExplained events before self.old → IfOk result
             (λ stops. TakesOrStops stops from byte events before self.old self.new) }
         ensures counts { OnOk result (self.new.line ≡ self.old.line) }
     {
-        self.came = true;
+        self.has_characters = true;
         let begun = self.preface.stage().has_begun();
         let opens = self.teller.open(&mut self.preface, from, byte, rest)?;
         if opens {
             return Ok(false);
         }
-        let goes_on = self.teller.hear(&mut self.listener, from, byte)?;
-        if goes_on {
+        let continues = self.teller.hear(&mut self.listener, from, byte)?;
+        if continues {
             return Ok(false);
         }
         if self.answers_again(begun, from, byte) {
@@ -263,14 +268,14 @@ impl Explainer {
 
     /// Stops at a character of which it can't be known which end sends it, or passes over what
     /// follows an answer at fault.
-    fn stop_unsent(&mut self, place: usize, why: NoTurn) -> Result<(), ExplainFault>
+    fn stop_unsent(&mut self, place: usize, why: TurnFault) -> Result<(), ExplainFault>
         ensures stopped { self.old.resuming.resumes ≡ false → IsErrAnd result (λ fault. fault
             ≡ ExplainFault.NoTurn self.old.line place why) }
         ensures counts { OnOk result (self.new.line ≡ self.old.line) }
         ensures of_lines { IfErr result IsOfLines }
     {
         let line = self.line;
-        if self.resuming.resumes && why == NoTurn::Answer {
+        if self.resuming.resumes && why == TurnFault::Answer {
             self.resuming.pass(line, place);
             return Ok(());
         }
@@ -289,9 +294,9 @@ impl Explainer {
         ensures stopped { self.old.resuming.resumes ≡ false → Stopped result (record {
           line = self.old.line;
           place = place;
-          due = due_at self.old.listener.tap;
+          expected = due_at self.old.listener.tap;
           from = from;
-          came = record {
+          received = record {
             byte = get_or bytes.now place 0;
             hides = self.old.teller.mask.hides;
           };
@@ -303,9 +308,9 @@ impl Explainer {
         let complaint = Complaint {
             line: self.line,
             place,
-            due: self.listener.due(),
+            expected: self.listener.expected(),
             from,
-            came: Seen {
+            received: Seen {
                 byte: bytes.get(place).copied().unwrap_or(0),
                 hides: self.teller.mask.hides(),
             },
@@ -327,9 +332,9 @@ impl Explainer {
 
     /// Explains a reset.
     fn reset(&mut self) -> Result<(), AllocError>
-        ensures explained { (events : List Event) (before : List Told) →
+        ensures explained { (events : List Event) (before : List Report) →
             HasExplained events before self.old →
-            OnOk result (ExplainsMore (Reset ∷ []) (record (standing_of self.old) {
+            OnOk result (ExplainsMore (Reset ∷ []) (record (position_of self.old) {
               opening = unopened;
             }) events before self.old self.new) }
         ensures counts { OnOk result (self.new.line ≡ self.old.line) }
@@ -347,30 +352,30 @@ impl Explainer {
         self.teller.pass(self.line, time_of(line))?;
         let mut logged = Vec::new(self.alloc);
         let taken = self.log.take(line, &mut logged);
-        self.came = self.came || self.log.has_come();
+        self.has_characters = self.has_characters || self.log.has_begun();
         self.teller.tell_logged(logged.as_slice(), line)?;
         match taken {
             Ok(()) => Ok(()),
-            Err(BadLine::OutOfMemory) => Err(ExplainFault::OutOfMemory),
+            Err(LineFault::OutOfMemory) => Err(ExplainFault::OutOfMemory),
             Err(_) => Err(ExplainFault::BadHex { line: self.line }),
         }
     }
 
     /// Whether all of it was a dialogue, in which some character came.
     pub fn outcome(&self) -> Result<(), ExplainFault>
-        ensures came { OnOk result (self.now.came ≡ true) }
-        ensures ended { IfErr result (λ fault. IsOfEnd fault self.now.came) }
+        ensures has_characters { OnOk result (self.now.has_characters ≡ true) }
+        ensures ended { IfErr result (λ fault. IsOfEnd fault self.now.has_characters) }
     {
         let complaints = self.teller.counts.complaints();
         if let Some((line, why)) = self.teller.first_bad {
-            return Err(ExplainFault::BadExchanges {
+            return Err(ExplainFault::BadPairs {
                 complaints,
                 line,
                 why,
             });
         }
         match self.resuming.first {
-            None if self.came => Ok(()),
+            None if self.has_characters => Ok(()),
             None => Err(ExplainFault::NoCharacters),
             Some(first) => Err(ExplainFault::Resumed { complaints, first }),
         }
@@ -379,9 +384,9 @@ impl Explainer {
     /// Explains what is under way where the trace ends, and adds the last block; nothing if memory
     /// ran out before.
     pub fn end(&mut self) -> Result<(), AllocError>
-        ensures stands { OnOk result (standing_of self.new ≡ standing_of self.old) }
+        ensures position { OnOk result (position_of self.new ≡ position_of self.old) }
         ensures adds { self.old.reading.of_tpdus ≡ false → OnOk result (AddsBoxes
-            (ended_by (told_by self.old.listener.under_way)) self.old.teller self.new.teller) }
+            (ended_by (report_of self.old.listener.under_way)) self.old.teller self.new.teller) }
     {
         if self.teller.output.outcome().is_err() {
             return Ok(());
@@ -395,7 +400,7 @@ impl Explainer {
 
     /// Tells what is open where a log ends, and adds the last block.
     fn end_log(&mut self) -> Result<(), AllocError>
-        ensures { OnOk result (standing_of self.new ≡ standing_of self.old) }
+        ensures { OnOk result (position_of self.new ≡ position_of self.old) }
     {
         let mut logged = Vec::new(self.alloc);
         self.log.end(&mut logged)?;
@@ -405,14 +410,14 @@ impl Explainer {
 }
 
 /// The fault of a line with this number that is refused for this.
-fn refused(line: u64, why: BadLine) -> ExplainFault
+fn refused(line: u64, why: LineFault) -> ExplainFault
     ensures { result ≡ refused line why }
 {
     match why {
-        BadLine::Hex => ExplainFault::BadHex { line },
-        BadLine::OtherForm(form) => ExplainFault::OtherForm { line, form },
-        BadLine::NoSign => ExplainFault::NoSign { line },
-        BadLine::Signed => ExplainFault::Signed { line },
-        BadLine::OutOfMemory => ExplainFault::OutOfMemory,
+        LineFault::Hex => ExplainFault::BadHex { line },
+        LineFault::OtherForm(form) => ExplainFault::OtherForm { line, form },
+        LineFault::NoSign => ExplainFault::NoSign { line },
+        LineFault::Signed => ExplainFault::Signed { line },
+        LineFault::OutOfMemory => ExplainFault::OutOfMemory,
     }
 }

@@ -63,7 +63,7 @@ fn carried_out<D: Files, R: Read, W: Write, F: Write>(
         Some(paths) => {
             match diff_files(alloc, mask, resumes, reading, files, paths, output) {
                 Ok(alike) => u8::from(!alike),
-                Err(fault) => told(&fault, faults),
+                Err(fault) => print_fault(&fault, faults),
             }
         }
         None => status(
@@ -102,7 +102,7 @@ fn answered<W: Write, F: Write>(error: &Error, output: &mut W, faults: &mut F) -
     ensures status { result ≤ 2 }
 {
     match error.kind() {
-        ErrorKind::OutOfMemory => told(&ExplainFault::OutOfMemory, faults),
+        ErrorKind::OutOfMemory => print_fault(&ExplainFault::OutOfMemory, faults),
         ErrorKind::DisplayHelp | ErrorKind::DisplayVersion => status(&shown(error, output), faults),
         _ => {
             let _ = faults.write_fmt(error);
@@ -127,12 +127,12 @@ fn status<F: Write>(outcome: &Result<(), ExplainFault>, faults: &mut F) -> u8
 {
     match outcome {
         Ok(()) | Err(ExplainFault::Closed) => 0,
-        Err(fault) => told(fault, faults),
+        Err(fault) => print_fault(fault, faults),
     }
 }
 
 /// Writes a fault to `faults` in one line, and returns its status.
-fn told<E: fmt::Display, F: Write>(fault: &E, faults: &mut F) -> u8
+fn print_fault<E: fmt::Display, F: Write>(fault: &E, faults: &mut F) -> u8
     ensures { result ≡ 1 }
 {
     let _ = faults.writeln(fault);
@@ -145,7 +145,7 @@ pub fn status_without_words<F: Write>(error: &io::Error, faults: &mut F) -> u8
     ensures status { result ≤ 2 }
 {
     match error.kind() {
-        io::ErrorKind::OutOfMemory => told(&ExplainFault::OutOfMemory, faults),
+        io::ErrorKind::OutOfMemory => print_fault(&ExplainFault::OutOfMemory, faults),
         _ => {
             let _ = faults.write_all(help::NO_UTF_8.as_bytes());
             2

@@ -44,7 +44,7 @@ pub struct Clock {
     /// How much later that is than the time before it.
     since: Option<u64>,
     /// The time of the last line of characters with a time.
-    heard: Option<Moment>,
+    counted: Option<Moment>,
     /// The time from the first such line to the last, if known.
     whole: Option<u64>,
     /// Whether a TPDU began in the last line.
@@ -60,7 +60,7 @@ impl Clock {
             shown: Vec::new(alloc),
             began: None,
             since: None,
-            heard: None,
+            counted: None,
             whole: Some(0),
             has_begun: false,
         }
@@ -78,14 +78,14 @@ impl Clock {
     }
 
     /// Notes that the last line has characters. It has no effect once a TPDU began in that line.
-    pub fn hear(&mut self) {
+    pub fn count(&mut self) {
         if self.text.is_empty() || self.has_begun {
             return;
         }
-        if self.heard.is_some() {
-            self.whole = sum(self.whole, span(self.heard, self.now));
+        if self.counted.is_some() {
+            self.whole = sum(self.whole, span(self.counted, self.now));
         }
-        self.heard = self.now;
+        self.counted = self.now;
     }
 
     /// Notes that a TPDU begins in the last line. For a second one in a line, no time is known.
@@ -122,7 +122,7 @@ impl Clock {
     /// Adds the time from the first line of characters with a time to the last. Adds nothing if no
     /// line has a time.
     pub fn push_whole(&self, text: &mut Sheet) {
-        if self.heard.is_none() {
+        if self.counted.is_none() {
             return;
         }
         match self.whole {

@@ -34,11 +34,11 @@ pub struct Complaint {
     /// Its place in the line, counted from 0.
     pub place: usize,
     /// What was expected.
-    pub due: Due,
+    pub expected: Due,
     /// Which end sent the byte.
     pub from: End,
     /// The byte.
-    pub came: Seen,
+    pub received: Seen,
     /// Whether lines have no signs, and no answer to reset, line `reset` or whole TPDU precedes it.
     pub is_astray: bool,
 }
@@ -47,8 +47,8 @@ impl fmt::Display for Complaint {
     fn fmt<W: fmt::Write>(&self, f: &mut fmt::Formatter<W>) -> fmt::Result {
         let line = self.line;
         let character = self.place.saturating_add(1);
-        let due = due_text(self.due);
-        let came = self.came;
+        let expected = expected_text(self.expected);
+        let received = self.received;
         let from = end_text(self.from);
         let (or, astray) = if self.is_astray {
             ("; ", ASTRAY)
@@ -57,15 +57,15 @@ impl fmt::Display for Complaint {
         };
         write!(
             f,
-            "line {line}, character {character}: unexpected byte: the {from} sent {came} in place \
-             of {due}{or}{astray}"
+            "line {line}, character {character}: unexpected byte: the {from} sent {received} \
+             in place of {expected}{or}{astray}"
         )
     }
 }
 
 /// Words for what is expected.
-pub fn due_text(due: Due) -> &'static str {
-    match due {
+pub fn expected_text(expected: Due) -> &'static str {
+    match expected {
         Due::Header => "a character of a header",
         Due::Procedure => "a procedure byte or SW1 of the card",
         Due::Data(None) => "a data character of either end",

@@ -4,7 +4,7 @@ ghost use Rattle.std.specs.Prelude.{◌≡◌, ◌↔◌, ℕ, List, [], None, f
 ghost use Rattle.std.specs.List.{Contains};
 ghost use Rattle.t0_core.specs.declared.direction.Direction.TheVariants.{ToCard};
 ghost use Rattle.trace_explain.specs.Secrets.{Names, Shows, ShowsTagged, ShowsValue, is_name, may_be_cut, whole_or_nothing};
-ghost use Rattle.trace_explain.specs.Told.{IsOfCommand};
+ghost use Rattle.trace_explain.specs.Reports.{IsOfCommand};
 
 use crate::follow::links::{Links, Whole};
 use crate::follow::story::header_of;
@@ -29,16 +29,16 @@ pub struct Mask {
 
 /// Why a text is not a list of tags.
 #[derive(Clone, Copy)]
-pub enum BadTags {
+pub enum TagsFault {
     /// A part of it is not a tag of one to three bytes.
     Form,
     /// Memory ran out.
     OutOfMemory,
 }
 
-impl From<AllocError> for BadTags {
-    fn from(_error: AllocError) -> BadTags {
-        BadTags::OutOfMemory
+impl From<AllocError> for TagsFault {
+    fn from(_error: AllocError) -> TagsFault {
+        TagsFault::OutOfMemory
     }
 }
 
@@ -50,7 +50,7 @@ pub struct Origin {
     /// Which way the data go.
     pub way: Direction,
     /// Whether an earlier TPDU moved other parts of the data.
-    pub goes_on: bool,
+    pub continues: bool,
 }
 
 impl Origin {
@@ -68,19 +68,22 @@ impl Origin {
             (Direction::FromCard, Some(asker)) => asker,
             _ => header,
         };
-        let goes_on = links.goes_on;
+        let continues = links.continues;
         Some(Origin {
             header,
             way,
-            goes_on,
+            continues,
         })
     }
 
     /// The origin of the data that the card returned in one exchange with data of the terminal.
     pub fn of_answer(tpdu: &Tpdu, links: Links) -> Option<Origin> {
         let origin = Origin::of(tpdu, links, Direction::FromCard)?;
-        let goes_on = links.answer_goes_on;
-        Some(Origin { goes_on, ..origin })
+        let continues = links.answer_continues;
+        Some(Origin {
+            continues,
+            ..origin
+        })
     }
 
     /// The origin of the data that are shown together with a TPDU, if there are any.
@@ -92,7 +95,7 @@ impl Origin {
         };
         let origin = Origin::of(tpdu, links, way)?;
         Some(Origin {
-            goes_on: false,
+            continues: false,
             ..origin
         })
     }
@@ -122,7 +125,7 @@ impl Mask {
 
     /// The mask that hides reference data, and objects with the tags in `words`. Tags are
     /// hexadecimal digits, separated by commas. An empty text has no tag.
-    pub fn of(alloc: Global, words: &str) -> Result<Mask, BadTags>
+    pub fn of(alloc: Global, words: &str) -> Result<Mask, TagsFault>
         ensures hides { IfOk result (λ mask. mask.hides ≡ true) }
         ensures no_tags { words.now ≡ [] → IfOk result (λ mask. mask.tags.items ≡ []) }
     {
@@ -192,19 +195,19 @@ impl Mask {
             return Shown::All;
         }
         match named(origin.header) {
-            Some(tag) => self.shown_of(tag, origin.goes_on),
-            None => whole_or_nothing(origin.goes_on || may_be_cut(origin.header)),
+            Some(tag) => self.shown_of(tag, origin.continues),
+            None => whole_or_nothing(origin.continues || may_be_cut(origin.header)),
         }
     }
 
     /// How much is shown of an object whose tag P1-P2 name.
-    fn shown_of(&self, named: Tag, goes_on: bool) -> Shown
-        ensures { ShowsValue self.now.tags.items named goes_on result }
+    fn shown_of(&self, named: Tag, continues: bool) -> Shown
+        ensures { ShowsValue self.now.tags.items named continues result }
     {
         if self.has(named) {
             Shown::Nothing
         } else if named.is_constructed() {
-            whole_or_nothing(goes_on)
+            whole_or_nothing(continues)
         } else {
             Shown::All
         }
@@ -273,15 +276,15 @@ fn may_be_cut(header: Header) -> bool
 }
 
 /// Reads a tag in hexadecimal digits.
-fn tag_of(alloc: Global, digits: &str) -> Result<Tag, BadTags> {
+fn tag_of(alloc: Global, digits: &str) -> Result<Tag, TagsFault> {
     let bytes = match hex::decode(alloc, digits.as_bytes()) {
         Ok(bytes) => bytes,
-        Err(hex::FromHexError::OutOfMemory) => return Err(BadTags::OutOfMemory),
-        Err(_) => return Err(BadTags::Form),
+        Err(hex::FromHexError::OutOfMemory) => return Err(TagsFault::OutOfMemory),
+        Err(_) => return Err(TagsFault::Form),
     };
     match Tag::read(bytes.as_slice()) {
         Ok((tag, size)) if size == bytes.len() => Ok(tag),
-        _ => Err(BadTags::Form),
+        _ => Err(TagsFault::Form),
     }
 }
 

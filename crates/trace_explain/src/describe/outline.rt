@@ -14,7 +14,7 @@ pub struct Outline {
     /// The header and P3, if complete.
     pub header: Option<(Header, u8)>,
     /// How many characters the header has.
-    pub came: usize,
+    pub received: usize,
     /// The procedure bytes.
     pub tally: Tally,
     /// Which way data went, if there are any.
@@ -32,7 +32,7 @@ impl Outline {
     pub fn of(tpdu: &Tpdu) -> Outline {
         Outline {
             header: header_of(tpdu),
-            came: tpdu.header.len(),
+            received: tpdu.header.len(),
             tally: tpdu.tally,
             way: tpdu.way,
             moved: tpdu.moved.len(),

@@ -65,7 +65,7 @@ pub fn push_cut_off(text: &mut Sheet, outline: &Outline) {
     match (outline.header, outline.way) {
         _ if outline.has_sw1 => {}
         (None, _) => {
-            let came = outline.came;
+            let came = outline.received;
             write!(text, " after {came} of 5 characters");
         }
         (Some(_), None) => {}

@@ -16,7 +16,7 @@ const PROPRIETARY: u8 = 0x80;
 
 /// The chain that is pending, if one is, as the characters show it.
 #[derive(Drop)]
-pub struct ChainHeard {
+pub struct PendingChain {
     pending: Option<Header>,
     pieces: u64,
     /// Whether each piece was heard whole.
@@ -25,10 +25,10 @@ pub struct ChainHeard {
     pub value: Vec<u8>,
 }
 
-impl ChainHeard {
+impl PendingChain {
     /// None is pending.
-    pub fn new(alloc: Global) -> ChainHeard {
-        ChainHeard {
+    pub fn new(alloc: Global) -> PendingChain {
+        PendingChain {
             pending: None,
             pieces: 0,
             is_whole: true,
@@ -55,16 +55,16 @@ impl ChainHeard {
     }
 
     /// Whether a command with this header goes on with the chain that is pending.
-    pub fn goes_on_with(&self, header: Header) -> bool {
+    pub fn continues_with(&self, header: Header) -> bool {
         self.pending == Some(as_last(header))
     }
 
     /// Which piece a command with this header is, if it goes on with the chain or begins one.
     pub fn link_of(&self, header: Header) -> Link {
-        let goes_on = self.goes_on_with(header);
-        let before = if goes_on { self.pieces } else { 0 };
+        let continues = self.continues_with(header);
+        let before = if continues { self.pieces } else { 0 };
         let number = before.saturating_add(1);
-        match (goes_on, has_more(header)) {
+        match (continues, has_more(header)) {
             (false, false) => Link::None,
             (true, true) if !self.is_whole => Link::LaterPiece,
             (true, false) if !self.is_whole => Link::LastOfLater,
@@ -75,16 +75,21 @@ impl ChainHeard {
 
     /// Takes a command that goes on with the chain, or begins one; `has_come` says whether all its
     /// data have come.
-    pub fn take(&mut self, header: Header, piece: &[u8], has_come: bool) -> Result<(), AllocError> {
-        let goes_on = self.goes_on_with(header);
-        if !goes_on {
+    pub fn take(
+        &mut self,
+        header: Header,
+        piece: &[u8],
+        is_complete: bool,
+    ) -> Result<(), AllocError> {
+        let continues = self.continues_with(header);
+        if !continues {
             self.drop_all();
         }
-        if !goes_on && !has_more(header) {
+        if !continues && !has_more(header) {
             return Ok(());
         }
         self.pieces = self.pieces.saturating_add(1);
-        self.is_whole = self.is_whole && has_come;
+        self.is_whole = self.is_whole && is_complete;
         if self.value.len() < VALUE_LIMIT {
             self.value.extend_from_slice(piece)?;
         }

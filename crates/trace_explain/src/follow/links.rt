@@ -50,7 +50,7 @@ pub struct Links {
     /// The command whose response its data are, if they are the card's.
     pub asker: Option<Header>,
     /// Others of its data came before, as those of a chain or of a response in parts.
-    pub goes_on: bool,
+    pub continues: bool,
     /// The same of the data of the card that came beside those of the terminal.
-    pub answer_goes_on: bool,
+    pub answer_continues: bool,
 }

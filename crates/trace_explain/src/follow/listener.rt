@@ -4,7 +4,7 @@ ghost use Rattle.std.specs.Prelude.{◌≡◌, ◌++◌, ◌∷◌, [], List, tr
 ghost use Rattle.t0_core.specs.declared.end.End.TheVariants.{Terminal};
 ghost use Rattle.t0_core.specs.History.{Event, Passed, Reset};
 ghost use Rattle.t0_core.specs.TapSide.{due_at};
-ghost use Rattle.trace_explain.specs.Told.{Told, told_by, told_of, untold, is_last};
+ghost use Rattle.trace_explain.specs.Reports.{Report, report_of, reports_of, no_report, is_last};
 ghost use Rattle.trace_explain.specs.Noted.{AreStatus, HasNoted, IsRefused, as_ended, ended_by, is_bare};
 
 use crate::follow::tpdu::Tpdu;
@@ -14,21 +14,21 @@ use t0_core::{Due, End, Heard, Tap, TapFault};
 
 /// Why a character was not taken.
 #[derive(Clone, Copy)]
-pub enum Refusal {
+pub enum ListenerFault {
     /// No dialogue goes on with it.
     NoDialogue(TapFault),
     /// Memory was wanting.
     OutOfMemory,
 }
 
-impl From<AllocError> for Refusal {
+impl From<AllocError> for ListenerFault {
     ghost use Rattle.std.specs.Prelude.{◌≡◌};
-    ghost use Rattle.trace_explain.specs.declared.follow.listener.Refusal.TheVariants.{OutOfMemory};
+    ghost use Rattle.trace_explain.specs.declared.follow.listener.ListenerFault.TheVariants.{OutOfMemory};
 
-    ghost from_gives = { λ _ refusal. refusal ≡ OutOfMemory };
+    ghost from_gives = { λ _ fault. fault ≡ OutOfMemory };
 
-    fn from(_error: AllocError) -> Refusal {
-        Refusal::OutOfMemory
+    fn from(_error: AllocError) -> ListenerFault {
+        ListenerFault::OutOfMemory
     }
 }
 
@@ -42,7 +42,7 @@ pub struct Listener {
 
 impl Listener {
     /// It has heard nothing yet.
-    #[tactic(auto, using(crate::proofs::NotedLemmas::heard_nothing))]
+    #[tactic(auto, using(crate::proofs::NotedLemmas::hears_nothing))]
     pub fn new(alloc: Global) -> Listener
         ensures { HasNoted [] [] result }
     {
@@ -54,7 +54,7 @@ impl Listener {
     }
 
     /// What the dialogue under way goes on with.
-    pub fn due(&self) -> Due
+    pub fn expected(&self) -> Due
         ensures { result ≡ due_at self.now.tap }
     {
         self.tap.due()
@@ -71,19 +71,19 @@ impl Listener {
     ///
     /// `NoDialogue` comes exactly where no dialogue goes on with the character, and then nothing
     /// changes. After `OutOfMemory` it is not to be used.
-    pub fn hear(&mut self, from: End, byte: u8) -> Result<Option<Tpdu>, Refusal>
-        ensures noted { (events : List Event) (before : List Told) →
-            HasNoted events before self.old → IfOk result (λ told. HasNoted
-            (events ++ Passed (from, byte) ∷ []) (before ++ told_of told) self.new) }
-        ensures refused { IfErr result (λ refusal.
-            IsRefused refusal self.old (from, byte) self.new) }
+    pub fn hear(&mut self, from: End, byte: u8) -> Result<Option<Tpdu>, ListenerFault>
+        ensures noted { (events : List Event) (before : List Report) →
+            HasNoted events before self.old → IfOk result (λ tpdu. HasNoted
+            (events ++ Passed (from, byte) ∷ []) (before ++ reports_of tpdu) self.new) }
+        ensures refused { IfErr result (λ fault.
+            IsRefused fault self.old (from, byte) self.new) }
     {
         if from == End::Terminal && self.under_way.is_bare() {
             return self.hear_behind_bare(byte);
         }
         let heard = match self.tap.hear(from, byte) {
             Ok(heard) => heard,
-            Err(fault) => return Err(Refusal::NoDialogue(fault)),
+            Err(fault) => return Err(ListenerFault::NoDialogue(fault)),
         };
         self.under_way.note(&heard, byte)?;
         if is_last(&heard) {
@@ -94,13 +94,13 @@ impl Listener {
 
     /// Hears a character of the terminal where the card has repeated INS of a command without data,
     /// and sent its status: with it the next header begins.
-    fn hear_behind_bare(&mut self, byte: u8) -> Result<Option<Tpdu>, Refusal>
-        requires bare { is_bare (told_by self.old.under_way) ≡ true }
+    fn hear_behind_bare(&mut self, byte: u8) -> Result<Option<Tpdu>, ListenerFault>
+        requires bare { is_bare (report_of self.old.under_way) ≡ true }
         requires status { AreStatus self.old.under_way.moved.items }
-        ensures noted { (events : List Event) (before : List Told) →
-            HasNoted events before self.old → IfOk result (λ told. HasNoted
-            (events ++ Passed (Terminal, byte) ∷ []) (before ++ told_of told) self.new) }
-        ensures wants { IfErr result (λ refusal. refusal ≡ Refusal.OutOfMemory) }
+        ensures noted { (events : List Event) (before : List Report) →
+            HasNoted events before self.old → IfOk result (λ tpdu. HasNoted
+            (events ++ Passed (Terminal, byte) ∷ []) (before ++ reports_of tpdu) self.new) }
+        ensures wants { IfErr result (λ fault. fault ≡ ListenerFault.OutOfMemory) }
     {
         self.tap.reset();
         let whole = self.cut().bared();
@@ -109,7 +109,7 @@ impl Listener {
                 self.under_way.note(&heard, byte)?;
                 Ok(Some(whole))
             }
-            Err(fault) => Err(Refusal::NoDialogue(fault)),
+            Err(fault) => Err(ListenerFault::NoDialogue(fault)),
         }
     }
 
@@ -126,10 +126,11 @@ impl Listener {
     /// Drops the dialogue under way, and gives what was heard of it: a whole one, where the card
     /// has repeated INS of a command without data, and sent its status.
     pub fn reset(&mut self) -> Tpdu
-        ensures noted { (events : List Event) (told : List Told) → HasNoted events told self.old →
-            HasNoted (events ++ Reset ∷ []) (told ++ ended_by (told_by self.old.under_way))
+        ensures noted { (events : List Event) (reports : List Report) →
+            HasNoted events reports self.old → HasNoted (events ++ Reset ∷ [])
+            (reports ++ ended_by (report_of self.old.under_way))
             self.new }
-        ensures part { told_by result ≡ as_ended (told_by self.old.under_way) }
+        ensures part { report_of result ≡ as_ended (report_of self.old.under_way) }
     {
         self.tap.reset();
         self.cut().as_ended()
@@ -138,7 +139,7 @@ impl Listener {
     /// Takes what was heard of the TPDU, so that nothing is.
     fn cut(&mut self) -> Tpdu
         ensures cut { result ≡ self.old.under_way }
-        ensures left { told_by self.new.under_way ≡ untold }
+        ensures left { report_of self.new.under_way ≡ no_report }
         ensures tap { self.new.tap ≡ self.old.tap }
     {
         mem::replace(&mut self.under_way, Tpdu::new(self.alloc))

@@ -56,7 +56,7 @@ pub enum Role {
 
 impl Role {
     /// Whether a part that is under way goes on with it.
-    pub fn goes_on(self) -> bool {
+    pub fn continues(self) -> bool {
         matches!(
             self,
             Role::Answer | Role::Request | Role::ResponsePpss | Role::Response

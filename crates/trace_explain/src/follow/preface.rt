@@ -1,6 +1,6 @@
 //! What comes before a dialogue: the card's answer to reset, and PPS exchanges.
 ghost use Rattle.std.specs.Prelude.{◌≡◌, if◌then◌else◌, OnOk};
-ghost use Rattle.trace_explain.specs.Openings.{has_answered, is_full, opening_of, opens, role_of, standing_in, unopened};
+ghost use Rattle.trace_explain.specs.Openings.{has_answered, is_full, opening_of, opens, role_of, opening_at, unopened};
 
 use crate::follow::opening::{Role, Stage, after_answer, is_direct, is_full, role_at};
 use crate::read::digits::push;
@@ -140,7 +140,7 @@ impl Preface {
 
     /// Forgets all characters, and is this far.
     fn begin(&mut self, stage: Stage)
-        ensures { opening_of self.new ≡ standing_in stage }
+        ensures { opening_of self.new ≡ opening_at stage }
     {
         self.stage = stage;
         self.turned = Convention::Direct;

@@ -7,7 +7,7 @@ use std::alloc::{AllocError, Global};
 
 /// The least bytes of a response that is not told as a whole (this project's profile): a hostile
 /// trace can't make the program hold more.
-pub const UNTOLD_SIZE: usize = 65_536;
+pub const RESPONSE_LIMIT: usize = 65_536;
 
 /// How many bytes of the response wait after this status of a command: `count(XX)` of `61XX`, and
 /// of `9FXX` in the class of a SIM card (3GPP TS 51.011, 9.4.1).
@@ -31,7 +31,7 @@ enum Asked {
 
 /// The response under way, as the characters show it.
 #[derive(Drop)]
-pub struct ResponseHeard {
+pub struct PendingResponse {
     asked: Asked,
     /// The command that asked for it.
     pub asker: Option<Header>,
@@ -40,10 +40,10 @@ pub struct ResponseHeard {
     pub bytes: Vec<u8>,
 }
 
-impl ResponseHeard {
+impl PendingResponse {
     /// None has come.
-    pub fn new(alloc: Global) -> ResponseHeard {
-        ResponseHeard {
+    pub fn new(alloc: Global) -> PendingResponse {
+        PendingResponse {
             asked: Asked::Nothing,
             asker: None,
             parts: 0,
@@ -58,7 +58,7 @@ impl ResponseHeard {
     }
 
     /// Whether some of its data have come.
-    pub fn has_come(&self) -> bool {
+    pub fn has_data(&self) -> bool {
         self.parts > 0
     }
 
@@ -85,7 +85,7 @@ impl ResponseHeard {
         if part.is_empty() {
             return Ok(());
         }
-        if self.bytes.len() < UNTOLD_SIZE {
+        if self.bytes.len() < RESPONSE_LIMIT {
             self.bytes.extend_from_slice(part)?;
         }
         self.parts = self.parts.saturating_add(1);

@@ -2,11 +2,11 @@
 
 ghost use Rattle.std.specs.Prelude.{◌≡◌, ◌≢◌, length, None, Some, IfOk, IfSome, IsSome};
 ghost use Rattle.trace_explain.specs.Boxes.{HasAsker};
-ghost use Rattle.trace_explain.specs.Told.{IsOfCommand, one_more};
+ghost use Rattle.trace_explain.specs.Reports.{IsOfCommand, one_more};
 
-use crate::follow::chain::{ChainHeard, VALUE_LIMIT};
+use crate::follow::chain::{PendingChain, VALUE_LIMIT};
 use crate::follow::links::{Link, Links, Whole};
-use crate::follow::response::{ResponseHeard, UNTOLD_SIZE};
+use crate::follow::response::{PendingResponse, RESPONSE_LIMIT};
 use crate::follow::tpdu::Tpdu;
 use apdu_core::{Header, Status};
 use std::alloc::{AllocError, Global};
@@ -16,8 +16,8 @@ use t0_core::Direction;
 #[derive(Drop)]
 pub struct Story {
     number: u64,
-    chain: ChainHeard,
-    response: ResponseHeard,
+    chain: PendingChain,
+    response: PendingResponse,
 }
 
 impl Story {
@@ -27,8 +27,8 @@ impl Story {
     {
         Story {
             number: 0,
-            chain: ChainHeard::new(alloc),
-            response: ResponseHeard::new(alloc),
+            chain: PendingChain::new(alloc),
+            response: PendingResponse::new(alloc),
         }
     }
 
@@ -59,7 +59,7 @@ impl Story {
         ensures asker { IfOk result (λ links.
             header.ins ≢ 0xC0 → links.asker ≡ Some header) }
     {
-        let drops_before = self.chain.is_pending() && !self.chain.goes_on_with(header);
+        let drops_before = self.chain.is_pending() && !self.chain.continues_with(header);
         let piece = self.chain.link_of(header);
         let le = le_of(tpdu, p3);
         let links = self.linked(tpdu, header, le);
@@ -77,7 +77,7 @@ impl Story {
         Ok(Links {
             drops_before,
             drops_after,
-            whole: self.come_together(piece, parts),
+            whole: self.completed(piece, parts),
             ..links
         })
     }
@@ -93,15 +93,15 @@ impl Story {
             0xC0 if is_asked => self.response.asker,
             _ => Some(header),
         };
-        let answer_goes_on = is_asked && self.response.has_come();
-        let goes_on = match tpdu.way {
-            Some(Direction::FromCard) => answer_goes_on,
-            _ => self.chain.goes_on_with(header),
+        let answer_continues = is_asked && self.response.has_data();
+        let continues = match tpdu.way {
+            Some(Direction::FromCard) => answer_continues,
+            _ => self.chain.continues_with(header),
         };
         Links {
             asker,
-            goes_on,
-            answer_goes_on,
+            continues,
+            answer_continues,
             ..self.with(self.link_of(header, le))
         }
     }
@@ -115,13 +115,15 @@ impl Story {
     }
 
     /// What has come together, with this piece or in so many parts.
-    fn come_together(&self, piece: Link, parts: u64) -> Whole {
+    fn completed(&self, piece: Link, parts: u64) -> Whole {
         match piece {
             Link::LastPiece(pieces)
                 if self.chain.is_whole && self.chain.value.len() < VALUE_LIMIT => {
                 Whole::Value(pieces)
             }
-            _ if parts > 1 && self.response.bytes.len() < UNTOLD_SIZE => { Whole::Response(parts) }
+            _ if parts > 1 && self.response.bytes.len() < RESPONSE_LIMIT => {
+                Whole::Response(parts)
+            }
             _ => Whole::None,
         }
     }
@@ -166,8 +168,8 @@ impl Story {
             drops_after: false,
             whole: Whole::None,
             asker: None,
-            goes_on: false,
-            answer_goes_on: false,
+            continues: false,
+            answer_continues: false,
         }
     }
 }

@@ -16,7 +16,7 @@ pub struct Tally {
 }
 
 impl Tally {
-    ghost use Rattle.trace_explain.specs.Told.{counted};
+    ghost use Rattle.trace_explain.specs.Reports.{counted};
 
     /// None has come.
     pub const NONE: Tally = Tally {

@@ -1,7 +1,7 @@
 //! What was heard of one TPDU.
 
 ghost use Rattle.std.specs.Prelude.{◌≡◌, ◌==◌, length, true, OnOk};
-ghost use Rattle.trace_explain.specs.Told.{told_by, untold, noted};
+ghost use Rattle.trace_explain.specs.Reports.{report_of, no_report, noted};
 ghost use Rattle.trace_explain.specs.Noted.{AreStatus, are_status, as_ended, bared, is_bare};
 
 use crate::follow::tally::Tally;
@@ -31,7 +31,7 @@ pub struct Tpdu {
 impl Tpdu {
     /// Nothing of it has come.
     pub fn new(alloc: Global) -> Tpdu
-        ensures { told_by result ≡ untold }
+        ensures { report_of result ≡ no_report }
     {
         Tpdu {
             header: Vec::new(alloc),
@@ -57,7 +57,7 @@ impl Tpdu {
 
     /// Notes one more character, which was this. The error is want of memory.
     pub fn note(&mut self, heard: &Heard, byte: u8) -> Result<(), AllocError>
-        ensures { OnOk result (told_by self.new ≡ noted (told_by self.old) heard.now byte) }
+        ensures { OnOk result (report_of self.new ≡ noted (report_of self.old) heard.now byte) }
     {
         match heard {
             Heard::Header => self.header.push(byte)?,
@@ -78,7 +78,7 @@ impl Tpdu {
     /// Whether P3 is `00`, and INS was followed by two characters that may be a status, and by no
     /// third one yet: then they are the status of a command without data, if none follows.
     pub fn is_bare(&self) -> bool
-        ensures value { result ≡ is_bare (told_by self.now) }
+        ensures value { result ≡ is_bare (report_of self.now) }
         ensures status { result ≡ true → AreStatus self.now.moved.items }
     {
         self.header.get(4).copied().unwrap_or(0) == 0
@@ -89,7 +89,7 @@ impl Tpdu {
 
     /// The same, where the two were the status.
     pub fn bared(self) -> Tpdu
-        ensures { told_by result ≡ bared (told_by self) }
+        ensures { report_of result ≡ bared (report_of self) }
     {
         let mut none = self.status;
         none.clear();
@@ -106,8 +106,8 @@ impl Tpdu {
 
     /// The same where it goes on no more: whole, if its data were its status.
     pub fn as_ended(self) -> Tpdu
-        ensures value { told_by result ≡ as_ended (told_by self) }
-        ensures status { is_bare (told_by self) ≡ true → AreStatus self.moved.items }
+        ensures value { report_of result ≡ as_ended (report_of self) }
+        ensures status { is_bare (report_of self) ≡ true → AreStatus self.moved.items }
     {
         if self.is_bare() { self.bared() } else { self }
     }

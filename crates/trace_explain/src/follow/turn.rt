@@ -1,6 +1,6 @@
 //! Whose turn it is, where no sign says who sent a character.
 ghost use Rattle.std.specs.Prelude.{◌≡◌, get_or};
-ghost use Rattle.trace_explain.specs.Told.{told_by};
+ghost use Rattle.trace_explain.specs.Reports.{report_of};
 ghost use Rattle.trace_explain.specs.Turns.{between, card_if, data_at, sent, turn_before, turn_within, with_p3_00};
 
 use crate::follow::opening::{PPSS, Stage, turned_by};
@@ -12,7 +12,7 @@ use t0_core::{Direction, Due, End};
 
 /// Why it can't be known which end sends a character.
 #[derive(Clone, Copy, Debug, PartialEq, Eq)]
-pub enum NoTurn {
+pub enum TurnFault {
     /// It is the first of the data of this instruction, if it has any, and nothing says which way
     /// they go.
     Way(u8),
@@ -20,15 +20,15 @@ pub enum NoTurn {
     Answer,
 }
 
-impl fmt::Display for NoTurn {
+impl fmt::Display for TurnFault {
     fn fmt<W: fmt::Write>(&self, f: &mut fmt::Formatter<W>) -> fmt::Result {
         match self {
-            NoTurn::Way(ins) => write!(
+            TurnFault::Way(ins) => write!(
                 f,
                 "which way the data of INS {ins:02X} go is not known, unless \
                  `--to-card {ins:02X}` or `--from-card {ins:02X}` says it"
             ),
-            NoTurn::Answer => f.write_str(
+            TurnFault::Answer => f.write_str(
                 "which end sends what follows an answer to reset at fault is not known",
             ),
         }
@@ -36,14 +36,14 @@ impl fmt::Display for NoTurn {
 }
 
 /// Whose this character is before the dialogue, behind an answer or none.
-pub fn turn_before(stage: Stage, has_answered: bool, byte: u8) -> Result<End, NoTurn>
+pub fn turn_before(stage: Stage, has_answered: bool, byte: u8) -> Result<End, TurnFault>
     ensures { result ≡ turn_before stage has_answered byte }
 {
     match stage {
         Stage::Ready if has_answered => Ok(between(byte)),
         Stage::Ready => Ok(card_if(turned_by(byte).is_some())),
         Stage::Answer | Stage::Response => Ok(End::Card),
-        Stage::Astray => Err(NoTurn::Answer),
+        Stage::Astray => Err(TurnFault::Answer),
         Stage::Request => Ok(End::Terminal),
         Stage::Asked if byte == PPSS => Ok(End::Card),
         Stage::Asked => Ok(between(byte)),
@@ -52,18 +52,18 @@ pub fn turn_before(stage: Stage, has_answered: bool, byte: u8) -> Result<End, No
 }
 
 /// Whose it is within the dialogue, where this is due and this much of the TPDU has come.
-pub fn turn_within(ways: &Ways, due: Due, under_way: &Tpdu, byte: u8) -> Result<End, NoTurn>
-    ensures { result ≡ turn_within ways.now due (told_by under_way.now) byte }
+pub fn turn_within(ways: &Ways, expected: Due, under_way: &Tpdu, byte: u8) -> Result<End, TurnFault>
+    ensures { result ≡ turn_within ways.now expected (report_of under_way.now) byte }
 {
-    match due {
+    match expected {
         Due::Header if under_way.is_empty() => Ok(between(byte)),
         Due::Header => Ok(End::Terminal),
         Due::Procedure | Due::SecondStatus => Ok(End::Card),
         Due::Data(seen) => {
             let cla = at(under_way, 0);
             let ins = at(under_way, 1);
-            let came = under_way.moved.len();
-            data_at(seen, ways.of(cla, ins), at(under_way, 4), ins, came)
+            let count = under_way.moved.len();
+            data_at(seen, ways.of(cla, ins), at(under_way, 4), ins, count)
         }
     }
 }
@@ -106,28 +106,28 @@ fn data_at(
     known: Option<Direction>,
     p3: u8,
     ins: u8,
-    came: usize,
-) -> Result<End, NoTurn>
-    ensures { result ≡ data_at seen known p3 ins came }
+    count: usize,
+) -> Result<End, TurnFault>
+    ensures { result ≡ data_at seen known p3 ins count }
 {
     if p3 == 0 {
-        return with_p3_00(known, ins, came);
+        return with_p3_00(known, ins, count);
     }
     match (seen, known) {
         (Some(way), _) | (None, Some(way)) => Ok(sent(way)),
-        (None, None) => Err(NoTurn::Way(ins)),
+        (None, None) => Err(TurnFault::Way(ins)),
     }
 }
 
 /// Whose characters are behind INS where P3 is `00` and so many have come: the card's 256 data, or
 /// its status, where none go to it.
-fn with_p3_00(known: Option<Direction>, ins: u8, came: usize) -> Result<End, NoTurn>
-    ensures { result ≡ with_p3_00 known ins came }
+fn with_p3_00(known: Option<Direction>, ins: u8, count: usize) -> Result<End, TurnFault>
+    ensures { result ≡ with_p3_00 known ins count }
 {
     match known {
         Some(Direction::FromCard) => Ok(End::Card),
-        Some(Direction::ToCard) if came < 2 => Ok(End::Card),
+        Some(Direction::ToCard) if count < 2 => Ok(End::Card),
         Some(Direction::ToCard) => Ok(End::Terminal),
-        None => Err(NoTurn::Way(ins)),
+        None => Err(TurnFault::Way(ins)),
     }
 }

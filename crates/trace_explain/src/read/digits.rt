@@ -3,12 +3,12 @@ ghost use Rattle.std.specs.Prelude.{◌≡◌, ◌++◌, ◌∷◌, [], IfOk, If
 ghost use Rattle.hex.specs.Hex.{hex_digit_value};
 ghost use Rattle.trace_explain.specs.Lines.{AreBadDigits, byte_of, bytes_in, is_digits};
 
-use crate::read::trace_line::BadLine;
+use crate::read::trace_line::LineFault;
 use std::alloc::{AllocError, Global};
 
 /// Returns the bytes that digits say: two digits each, in either case, with any number of spaces
 /// before and behind them. `Hex` for anything else.
-pub fn bytes_of(alloc: Global, digits: &[u8]) -> Result<Vec<u8>, BadLine>
+pub fn bytes_of(alloc: Global, digits: &[u8]) -> Result<Vec<u8>, LineFault>
     ensures says { IfOk result (λ bytes. bytes_in digits.now ≡ Some bytes.items) }
     ensures refused { IfErr result (λ why. AreBadDigits why digits.now) }
 {
@@ -20,7 +20,7 @@ pub fn bytes_of(alloc: Global, digits: &[u8]) -> Result<Vec<u8>, BadLine>
             None => first = Some(digit),
             Some(high) => {
                 let Some(byte) = byte_of(high, digit) else {
-                    return Err(BadLine::Hex);
+                    return Err(LineFault::Hex);
                 };
                 push(&mut bytes, byte)?;
                 first = None;
@@ -29,7 +29,7 @@ pub fn bytes_of(alloc: Global, digits: &[u8]) -> Result<Vec<u8>, BadLine>
     }
     match first {
         None => Ok(bytes),
-        Some(_) => Err(BadLine::Hex),
+        Some(_) => Err(LineFault::Hex),
     }
 }
 
@@ -51,15 +51,15 @@ pub fn byte_of(high: u8, low: u8) -> Option<u8>
 pub fn is_digits(line: &[u8]) -> bool
     ensures { result ≡ is_digits line.now }
 {
-    let mut came = false;
+    let mut has_digit = false;
     for &byte in line {
         if value_of(byte).is_some() {
-            came = true;
-        } else if byte != b' ' || !came {
+            has_digit = true;
+        } else if byte != b' ' || !has_digit {
             return false;
         }
     }
-    came
+    has_digit
 }
 
 /// The value of a digit, if it is one.

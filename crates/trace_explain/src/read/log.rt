@@ -2,10 +2,10 @@
 ghost use Rattle.std.specs.Prelude.{◌≡◌, ◌++◌, ◌∷◌, ◌-◌, [], IfErr, List, OnOk, Some, length, map, ℕ};
 ghost use Rattle.trace_explain.specs.LogLines.{IsBadDump, IsBadLogLine, SaysLog, dumped_in};
 ghost use Rattle.trace_explain.specs.declared.read.log.Open.TheVariants.{Nothing};
-ghost use Rattle.trace_explain.specs.Logs.{IsBadIn, Step, TakesLogLine, Took, answered, at_first, begun, behind_answer, came_by, closed, ended, given_up, gone_on, log_at, opened, resumed, taken, with_bytes};
+ghost use Rattle.trace_explain.specs.Logs.{IsBadIn, Step, TakesLogLine, Took, answered, at_first, begun, behind_answer, logged_of, closed, ended, given_up, continued, log_at, opened, resumed, taken, with_bytes};
 
 use crate::read::log_line::{LogLine, Rest, read_dump, read_log_line, read_rest};
-use crate::read::trace_line::BadLine;
+use crate::read::trace_line::LineFault;
 use std::alloc::{AllocError, Global};
 use std::mem;
 use t0_core::End;
@@ -16,7 +16,7 @@ pub enum Logged {
     /// A command begins.
     Begins,
     /// A command with its answer.
-    Exchange(Vec<u8>, Vec<u8>),
+    Pair(Vec<u8>, Vec<u8>),
     /// A command to which no answer comes.
     Unanswered(Vec<u8>),
     /// An answer that comes before a command.
@@ -51,11 +51,11 @@ pub enum Open {
 #[derive(Drop)]
 pub struct Log {
     alloc: Global,
-    goes_on: Open,
+    pending: Open,
     /// The bytes so far of what is open.
     bytes: Vec<u8>,
     command: Option<Vec<u8>>,
-    has_come: bool,
+    has_begun: bool,
 }
 
 impl Log {
@@ -65,28 +65,28 @@ impl Log {
     {
         Log {
             alloc,
-            goes_on: Open::Nothing,
+            pending: Open::Nothing,
             bytes: Vec::new(alloc),
             command: None,
-            has_come: false,
+            has_begun: false,
         }
     }
 
     /// Whether a command or an answer has come, or has begun.
-    pub fn has_come(&self) -> bool {
-        self.has_come
+    pub fn has_begun(&self) -> bool {
+        self.has_begun
     }
 
     /// Takes the next line, and adds what comes of it.
     ///
     /// `Hex` is a line that can't be read; what is open has ended before it, if it is an answer.
     /// After `OutOfMemory` it is not to be used.
-    pub fn take(&mut self, line: &[u8], logged: &mut Vec<Logged>) -> Result<(), BadLine>
+    pub fn take(&mut self, line: &[u8], logged: &mut Vec<Logged>) -> Result<(), LineFault>
         ensures takes { OnOk result ((step : Step) × TakesLogLine (log_at self.old) line.now step
             × Took step logged.old.items logged.new.items self.new) }
-        ensures refused { IfErr result (λ why. IsBadIn self.old.goes_on why line.now) }
+        ensures refused { IfErr result (λ why. IsBadIn self.old.pending why line.now) }
     {
-        match self.goes_on {
+        match self.pending {
             Open::Dump(from, left) => self.take_dump(from, left, line, logged),
             Open::Answer => match read_rest(self.alloc, line)? {
                 Rest::None => self.take_behind_answer(line, logged),
@@ -98,9 +98,9 @@ impl Log {
 
     /// Takes a line before which the answer that was open has ended.
     #[tactic(auto, using(crate::proofs::LogLemmas::both_took))]
-    fn take_behind_answer(&mut self, line: &[u8], logged: &mut Vec<Logged>) -> Result<(), BadLine>
-        ensures takes { OnOk result ((said : LogLine) × SaysLog line.now said
-            × Took (behind_answer (log_at self.old) said) logged.old.items logged.new.items
+    fn take_behind_answer(&mut self, line: &[u8], logged: &mut Vec<Logged>) -> Result<(), LineFault>
+        ensures takes { OnOk result ((log_line : LogLine) × SaysLog line.now log_line
+            × Took (behind_answer (log_at self.old) log_line) logged.old.items logged.new.items
             self.new) }
         ensures refused { IfErr result (λ why. IsBadLogLine why line.now) }
     {
@@ -109,22 +109,26 @@ impl Log {
     }
 
     /// Takes a line where nothing is open.
-    fn take_line(&mut self, line: &[u8], logged: &mut Vec<Logged>) -> Result<(), BadLine>
-        ensures takes { OnOk result ((said : LogLine) × SaysLog line.now said
-            × Took (taken (log_at self.old) said) logged.old.items logged.new.items self.new) }
+    fn take_line(&mut self, line: &[u8], logged: &mut Vec<Logged>) -> Result<(), LineFault>
+        ensures takes { OnOk result ((log_line : LogLine) × SaysLog line.now log_line
+            × Took (taken (log_at self.old) log_line) logged.old.items logged.new.items self.new) }
         ensures refused { IfErr result (λ why. IsBadLogLine why line.now) }
     {
-        let said = read_log_line(self.alloc, line)?;
-        Ok(self.take_said(said, logged)?)
+        let log_line = read_log_line(self.alloc, line)?;
+        Ok(self.take_log_line(log_line, logged)?)
     }
 
     /// Takes what a line says, where nothing is open.
-    fn take_said(&mut self, said: LogLine, logged: &mut Vec<Logged>) -> Result<(), AllocError>
+    fn take_log_line(
+        &mut self,
+        log_line: LogLine,
+        logged: &mut Vec<Logged>,
+    ) -> Result<(), AllocError>
         ensures { OnOk result
-            (Took (taken (log_at self.old) said) logged.old.items logged.new.items self.new) }
+            (Took (taken (log_at self.old) log_line) logged.old.items logged.new.items self.new) }
     {
-        self.has_come = self.has_come || !matches!(&said, LogLine::Reset | LogLine::Note);
-        match said {
+        self.has_begun = self.has_begun || !matches!(&log_line, LogLine::Reset | LogLine::Note);
+        match log_line {
             LogLine::Command(bytes) => {
                 self.begin(logged)?;
                 self.command = Some(bytes);
@@ -132,7 +136,7 @@ impl Log {
             }
             LogLine::Answer(bytes) => self.answer(bytes, logged),
             LogLine::Front(bytes) => {
-                self.goes_on = Open::Answer;
+                self.pending = Open::Answer;
                 self.bytes = bytes;
                 Ok(())
             }
@@ -158,18 +162,23 @@ impl Log {
         if from == End::Terminal {
             self.begin(logged)?;
         }
-        self.go_on(from, size, logged)
+        self.continue_dump(from, size, logged)
     }
 
     /// So many bytes of a dump are left: where none are, what it has is whole.
-    fn go_on(&mut self, from: End, left: usize, logged: &mut Vec<Logged>) -> Result<(), AllocError>
-        ensures { OnOk result (Took (gone_on (log_at self.old) from left) logged.old.items
+    fn continue_dump(
+        &mut self,
+        from: End,
+        left: usize,
+        logged: &mut Vec<Logged>,
+    ) -> Result<(), AllocError>
+        ensures { OnOk result (Took (continued (log_at self.old) from left) logged.old.items
             logged.new.items self.new) }
     {
         if left == 0 {
             return self.close(from, logged);
         }
-        self.goes_on = Open::Dump(from, left);
+        self.pending = Open::Dump(from, left);
         Ok(())
     }
 
@@ -180,15 +189,15 @@ impl Log {
         left: usize,
         line: &[u8],
         logged: &mut Vec<Logged>,
-    ) -> Result<(), BadLine>
+    ) -> Result<(), LineFault>
         ensures takes { OnOk result ((bytes : List ℕ) × (dumped_in left line.now ≡ Some bytes)
-            × Took (gone_on (with_bytes (log_at self.old) bytes) from (left - length bytes))
+            × Took (continued (with_bytes (log_at self.old) bytes) from (left - length bytes))
             logged.old.items logged.new.items self.new) }
         ensures refused { IfErr result (λ why. IsBadDump why left line.now) }
     {
         let bytes = read_dump(self.alloc, left, line)?;
         self.bytes.extend_from_slice(bytes.as_slice())?;
-        Ok(self.go_on(from, left.saturating_sub(bytes.len()), logged)?)
+        Ok(self.continue_dump(from, left.saturating_sub(bytes.len()), logged)?)
     }
 
     /// Takes more of the answer that is open.
@@ -227,10 +236,10 @@ impl Log {
     /// Takes the bytes of what is open, so that nothing is.
     fn cut(&mut self) -> Vec<u8>
         ensures bytes { result.items ≡ self.old.bytes.items }
-        ensures left { (self.new.goes_on ≡ Nothing) × (self.new.bytes.items ≡ [])
+        ensures left { (self.new.pending ≡ Nothing) × (self.new.bytes.items ≡ [])
             × (self.new.command ≡ self.old.command) }
     {
-        self.goes_on = Open::Nothing;
+        self.pending = Open::Nothing;
         mem::replace(&mut self.bytes, Vec::new(self.alloc))
     }
 
@@ -240,7 +249,7 @@ impl Log {
             logged.new.items self.new) }
     {
         match self.command.take() {
-            Some(command) => push(logged, Logged::Exchange(command, bytes)),
+            Some(command) => push(logged, Logged::Pair(command, bytes)),
             None => push(logged, Logged::Stray(bytes)),
         }
     }
@@ -267,10 +276,10 @@ impl Log {
 
     /// The log ends, and adds what comes of that.
     pub fn end(&mut self, logged: &mut Vec<Logged>) -> Result<(), AllocError>
-        ensures { OnOk result (map came_by logged.new.items
-            ≡ map came_by logged.old.items ++ ended (log_at self.old)) }
+        ensures { OnOk result (map logged_of logged.new.items
+            ≡ map logged_of logged.old.items ++ ended (log_at self.old)) }
     {
-        match self.goes_on {
+        match self.pending {
             Open::Nothing => {}
             Open::Answer => self.close(End::Card, logged)?,
             Open::Dump(from, _) => {
@@ -283,10 +292,10 @@ impl Log {
 }
 
 /// Adds what comes of a line.
-#[tactic(auto, using(crate::proofs::LogLemmas::came_more))]
+#[tactic(auto, using(crate::proofs::LogLemmas::logged_more))]
 fn push(logged: &mut Vec<Logged>, one: Logged) -> Result<(), AllocError>
-    ensures { OnOk result (map came_by logged.new.items
-        ≡ map came_by logged.old.items ++ came_by one ∷ []) }
+    ensures { OnOk result (map logged_of logged.new.items
+        ≡ map logged_of logged.old.items ++ logged_of one ∷ []) }
 {
     logged.push(one).map_err(AllocError::from)
 }

@@ -4,7 +4,7 @@ ghost use Rattle.trace_explain.specs.LogLines.{IsBadDump, IsBadLogLine, IsBadSiz
 
 use crate::read::digits::bytes_of;
 use crate::read::time::{cut_time, place_of};
-use crate::read::trace_line::BadLine;
+use crate::read::trace_line::LineFault;
 use std::alloc::Global;
 use t0_core::End;
 
@@ -63,24 +63,24 @@ pub enum Rest {
 
 /// What the line says, where neither an answer nor a dump is open. `Hex` is one that begins as one
 /// of a log and can't be read.
-pub fn read_log_line(alloc: Global, line: &[u8]) -> Result<LogLine, BadLine>
-    ensures says { IfOk result (λ said. SaysLog line.now said) }
+pub fn read_log_line(alloc: Global, line: &[u8]) -> Result<LogLine, LineFault>
+    ensures says { IfOk result (λ log_line. SaysLog line.now log_line) }
     ensures refused { IfErr result (λ why. IsBadLogLine why line.now) }
 {
     let (kind, part) = cut_line(line);
     match kind {
         LineKind::Command => Ok(LogLine::Command(bytes_of(alloc, part)?)),
         LineKind::Answer => Ok(LogLine::Answer(bytes_of(alloc, part)?)),
-        LineKind::OpenAnswer => Ok(said_open(bytes_of(alloc, part)?)),
+        LineKind::OpenAnswer => Ok(open_answer(bytes_of(alloc, part)?)),
         LineKind::Dump(from) => Ok(LogLine::Dump(from, size_of_dump(part)?)),
         LineKind::Reset => Ok(LogLine::Reset),
         LineKind::Note => Ok(LogLine::Note),
-        LineKind::Bad => Err(BadLine::Hex),
+        LineKind::Bad => Err(LineFault::Hex),
     }
 }
 
 /// What a line says that has these bytes of an answer, and no word behind them.
-fn said_open(bytes: Vec<u8>) -> LogLine
+fn open_answer(bytes: Vec<u8>) -> LogLine
     ensures { SaysOpen bytes.items result }
 {
     if bytes.len() == ROW {
@@ -91,14 +91,14 @@ fn said_open(bytes: Vec<u8>) -> LogLine
 }
 
 /// What the line says where an answer is open.
-pub fn read_rest(alloc: Global, line: &[u8]) -> Result<Rest, BadLine>
+pub fn read_rest(alloc: Global, line: &[u8]) -> Result<Rest, LineFault>
     ensures says { IfOk result (λ rest. SaysRest line.now rest) }
-    ensures wants { IfErr result (λ why. why ≡ BadLine.OutOfMemory) }
+    ensures wants { IfErr result (λ why. why ≡ LineFault.OutOfMemory) }
 {
     let end = place_of(b':', line);
     let bytes = match bytes_of(alloc, &line[..end]) {
         Ok(bytes) => bytes,
-        Err(BadLine::OutOfMemory) => return Err(BadLine::OutOfMemory),
+        Err(LineFault::OutOfMemory) => return Err(LineFault::OutOfMemory),
         Err(_) => return Ok(Rest::None),
     };
     if bytes.is_empty() {
@@ -112,18 +112,18 @@ pub fn read_rest(alloc: Global, line: &[u8]) -> Result<Rest, BadLine>
 
 /// The bytes of a line of a dump of which so many are left: as many as a line has, or all that are
 /// left, each with a space behind it. What stands behind those is the same as text.
-pub fn read_dump(alloc: Global, left: usize, line: &[u8]) -> Result<Vec<u8>, BadLine>
+pub fn read_dump(alloc: Global, left: usize, line: &[u8]) -> Result<Vec<u8>, LineFault>
     ensures says { IfOk result (λ bytes. dumped_in left line.now ≡ Some bytes.items) }
     ensures refused { IfErr result (λ why. IsBadDump why left line.now) }
 {
     let count = left.min(ROW);
     let width = 3 * count;
     if line.len() < width {
-        return Err(BadLine::Hex);
+        return Err(LineFault::Hex);
     }
     let bytes = bytes_of(alloc, &line[..width])?;
     if bytes.len() != count {
-        return Err(BadLine::Hex);
+        return Err(LineFault::Hex);
     }
     Ok(bytes)
 }
@@ -220,17 +220,17 @@ fn is_of_prefix(byte: u8) -> bool
 }
 
 /// How many bytes a dump has: a number, and ` byte):` or ` bytes):` behind it.
-fn size_of_dump(text: &[u8]) -> Result<usize, BadLine>
+fn size_of_dump(text: &[u8]) -> Result<usize, LineFault>
     ensures says { IfOk result (λ size. size_in text.now ≡ Some size) }
     ensures refused { IfErr result (λ why. IsBadSize why text.now) }
 {
     let (digits, unit) = text.split_at(place_of(b' ', text));
     if !unit.starts_with(b" byte):") && !unit.starts_with(b" bytes):") {
-        return Err(BadLine::Hex);
+        return Err(LineFault::Hex);
     }
     match number_of(digits) {
         Some(size) => Ok(size),
-        None => Err(BadLine::Hex),
+        None => Err(LineFault::Hex),
     }
 }
 

@@ -33,7 +33,7 @@ pub enum TraceLine<'a> {
 
 /// Why a line is refused.
 #[derive(Clone, Copy)]
-pub enum BadLine {
+pub enum LineFault {
     /// It begins with a sign, and behind that there is no space with digits of bytes.
     Hex,
     /// Its sign is of another form than this one, of which the lines are.
@@ -46,14 +46,14 @@ pub enum BadLine {
     OutOfMemory,
 }
 
-impl From<AllocError> for BadLine {
+impl From<AllocError> for LineFault {
     ghost use Rattle.std.specs.Prelude.{◌≡◌};
-    ghost use Rattle.trace_explain.specs.declared.read.trace_line.BadLine.TheVariants.{OutOfMemory};
+    ghost use Rattle.trace_explain.specs.declared.read.trace_line.LineFault.TheVariants.{OutOfMemory};
 
     ghost from_gives = { λ _ why. why ≡ OutOfMemory };
 
-    fn from(_error: AllocError) -> BadLine {
-        BadLine::OutOfMemory
+    fn from(_error: AllocError) -> LineFault {
+        LineFault::OutOfMemory
     }
 }
 
@@ -64,10 +64,10 @@ pub fn read_line<'a>(
     line: &'a [u8],
     time: &[u8],
     rest: &[u8],
-) -> Result<TraceLine<'a>, BadLine>
+) -> Result<TraceLine<'a>, LineFault>
     requires time { time.now ≡ time_in line.now }
     requires rest { rest.now ≡ behind_time line.now }
-    ensures says { IfOk result (λ said. Says reading.now line.now said) }
+    ensures says { IfOk result (λ trace_line. Says reading.now line.now trace_line) }
     ensures refused { IfErr result (λ why. IsBadLine why reading.now line.now) }
 {
     match reading.unsigned {
@@ -82,9 +82,9 @@ fn read_signed<'a>(
     known: Option<Form>,
     line: &'a [u8],
     rest: &[u8],
-) -> Result<TraceLine<'a>, BadLine>
+) -> Result<TraceLine<'a>, LineFault>
     requires { rest.now ≡ behind_time line.now }
-    ensures says { IfOk result (λ said. SaysSigned known line.now said) }
+    ensures says { IfOk result (λ trace_line. SaysSigned known line.now trace_line) }
     ensures refused { IfErr result (λ why. IsBadSigned why known line.now) }
 {
     let (word, digits) = rest.split_at(place_of(b' ', rest));
@@ -93,7 +93,7 @@ fn read_signed<'a>(
     };
     let bytes = bytes_of(alloc, digits)?;
     match known {
-        Some(expected) if expected != sign.form => Err(BadLine::OtherForm(expected)),
+        Some(expected) if expected != sign.form => Err(LineFault::OtherForm(expected)),
         _ => Ok(TraceLine::Characters(Source::Sign(sign.form, sign.from), bytes)),
     }
 }
@@ -106,10 +106,10 @@ fn read_unsigned<'a>(
     line: &'a [u8],
     time: &[u8],
     rest: &[u8],
-) -> Result<TraceLine<'a>, BadLine>
+) -> Result<TraceLine<'a>, LineFault>
     requires time { time.now ≡ time_in line.now }
     requires rest { rest.now ≡ behind_time line.now }
-    ensures says { IfOk result (λ said. SaysUnsigned ways line.now said) }
+    ensures says { IfOk result (λ trace_line. SaysUnsigned ways line.now trace_line) }
     ensures refused { IfErr result (λ why. IsBadUnsigned why line.now) }
 {
     let digits = behind_clock(line, time, rest);
@@ -117,7 +117,7 @@ fn read_unsigned<'a>(
         return Ok(TraceLine::Characters(Source::Turn(ways), bytes_of(alloc, digits)?));
     }
     if is_signed(rest) {
-        return Err(BadLine::Signed);
+        return Err(LineFault::Signed);
     }
     Ok(match rest {
         b"reset" => TraceLine::Reset,
@@ -130,18 +130,18 @@ fn without_sign<'a>(
     known: Option<Form>,
     line: &'a [u8],
     behind: &[u8],
-) -> Result<TraceLine<'a>, BadLine>
+) -> Result<TraceLine<'a>, LineFault>
     requires { behind.now ≡ behind_time line.now }
-    ensures says { IfOk result (λ said. SaysSigned known line.now said) }
+    ensures says { IfOk result (λ trace_line. SaysSigned known line.now trace_line) }
     ensures refused { IfErr result (λ why.
         SpellsNothing line.now → IsBadSigned why known line.now) }
 {
     if is_signed(behind) {
-        return Err(BadLine::Hex);
+        return Err(LineFault::Hex);
     }
     match behind {
         b"reset" => Ok(TraceLine::Reset),
-        _ if known.is_none() && (is_digits(line) || is_digits(behind)) => Err(BadLine::NoSign),
+        _ if known.is_none() && (is_digits(line) || is_digits(behind)) => Err(LineFault::NoSign),
         _ => Ok(TraceLine::Note(line)),
     }
 }

@@ -11,12 +11,12 @@ use t0_core::Direction;
 #[derive(Clone, Copy)]
 pub struct Ways {
     /// The way of each INS.
-    pub said: [Option<Direction>; 256],
+    pub given: [Option<Direction>; 256],
 }
 
 /// Why the ways of instructions can't be said so.
 #[derive(Clone, Copy)]
-pub enum BadWays {
+pub enum WaysFault {
     /// The words are not two digits for each instruction, with commas between them.
     Form,
     /// Of this instruction the words say both ways.
@@ -26,20 +26,20 @@ pub enum BadWays {
 impl Ways {
     /// The words say nothing.
     pub fn none() -> Ways {
-        Ways { said: [None; 256] }
+        Ways { given: [None; 256] }
     }
 
     /// The words say this way of instructions, of which each stands between commas as two digits.
     /// After an error some of them are said.
-    pub fn say(&mut self, way: Direction, words: &str) -> Result<(), BadWays> {
+    pub fn give(&mut self, way: Direction, words: &str) -> Result<(), WaysFault> {
         for word in words.split(',') {
-            let ins = ins_of(word.as_bytes()).ok_or(BadWays::Form)?;
+            let ins = ins_of(word.as_bytes()).ok_or(WaysFault::Form)?;
             let place = usize::from(ins);
-            let before = self.said[place];
+            let before = self.given[place];
             if before.is_some() && before != Some(way) {
-                return Err(BadWays::Both(ins));
+                return Err(WaysFault::Both(ins));
             }
-            self.said[place] = Some(way);
+            self.given[place] = Some(way);
         }
         Ok(())
     }
@@ -49,21 +49,21 @@ impl Ways {
     pub fn of(&self, cla: u8, ins: u8) -> Option<Direction>
         ensures { result ≡ way_of self.now cla ins }
     {
-        let said = self.said[usize::from(ins)];
-        match said {
+        let given = self.given[usize::from(ins)];
+        match given {
             Some(way) => Some(way),
             None => instruction(cla, ins).map(|(_, way, _)| way),
         }
     }
 }
 
-impl fmt::Display for BadWays {
+impl fmt::Display for WaysFault {
     fn fmt<W: fmt::Write>(&self, f: &mut fmt::Formatter<W>) -> fmt::Result {
         match self {
-            BadWays::Form => {
+            WaysFault::Form => {
                 f.write_str("not instructions of two digits with commas between them")
             }
-            BadWays::Both(ins) => write!(f, "both ways are said of {ins:02X}"),
+            WaysFault::Both(ins) => write!(f, "both ways are said of {ins:02X}"),
         }
     }
 }

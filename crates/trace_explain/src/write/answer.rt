@@ -27,13 +27,13 @@ pub fn tell_answer(mask: &Mask, preface: &Preface, page: &mut Page) {
     if !is_direct(preface.turned()) {
         let turned =
             "by the direct convention, so that TS was 03; all characters are shown turned\n";
-        page.told("read", turned);
+        page.line_row("read", turned);
     }
     match read {
         Ok(answer) => tell_values(&answer, page),
         Err(fault) => {
             writeln!(page.lines, "{fault} (TS is at 0)");
-            page.row(Side::Told, "fault");
+            page.row(Side::Nobody, "fault");
         }
     }
     page.close();
@@ -51,19 +51,19 @@ fn kind_of(read: &Result<Atr, AtrFault>) -> Kind {
 /// Adds the values of a whole answer.
 fn tell_values(answer: &Atr, page: &mut Page) {
     writeln!(page.lines, "{}", answer.convention());
-    page.row(Side::Told, "convention");
+    page.row(Side::Nobody, "convention");
     push_protocols(&mut page.lines, answer);
-    page.row(Side::Told, "protocols");
+    page.row(Side::Nobody, "protocols");
     tell_unread(answer, page);
     push_rate(&mut page.lines, answer.rate_code());
-    page.told("rate", "\n");
+    page.line_row("rate", "\n");
     push_guard_times(&mut page.lines, answer);
-    page.row(Side::Told, "guard time");
+    page.row(Side::Nobody, "guard time");
     push_waiting_time(&mut page.lines, answer);
-    page.row(Side::Told, "waiting");
+    page.row(Side::Nobody, "waiting");
     push_digits(&mut page.lines, answer.historical());
     page.lines.push('\n');
-    page.told("historical", form_of(answer));
+    page.line_row("historical", form_of(answer));
 }
 
 /// Adds a hint, if the program does not read the protocol that the card offers first.
@@ -73,7 +73,7 @@ fn tell_unread(answer: &Atr, page: &mut Page) {
             page.lines,
             "the card offers T={t} first, and this program reads T=0 only"
         );
-        page.row(Side::Told, "hint");
+        page.row(Side::Nobody, "hint");
     }
 }
 

@@ -1,8 +1,8 @@
 //! The boxes of protocol errors: unexpected bytes, and unexpected commands or answers.
 
-use crate::describe::complaint::{ASTRAY, Complaint, due_text, end_text};
+use crate::describe::complaint::{ASTRAY, Complaint, end_text, expected_text};
 use crate::describe::mask::Mask;
-use crate::follow::exchange::BadExchange;
+use crate::follow::pair::PairFault;
 use crate::write::layout::{Anchor, Head, Kind, Side};
 use crate::write::page::Page;
 
@@ -12,24 +12,28 @@ pub fn tell_complaint(number: u64, complaint: Complaint, page: &mut Page) {
     page.open(head(number, complaint.line));
     let character = complaint.place.saturating_add(1);
     writeln!(page.lines, "line {}, character {character}", complaint.line);
-    page.row(Side::Told, "place");
-    writeln!(page.lines, "{}", due_text(complaint.due));
-    page.row(Side::Told, "expected");
-    let came = complaint.came;
-    writeln!(page.lines, "{came} from the {}", end_text(complaint.from));
-    page.row(Side::Told, "received");
+    page.row(Side::Nobody, "place");
+    writeln!(page.lines, "{}", expected_text(complaint.expected));
+    page.row(Side::Nobody, "expected");
+    let received = complaint.received;
+    writeln!(
+        page.lines,
+        "{received} from the {}",
+        end_text(complaint.from)
+    );
+    page.row(Side::Nobody, "received");
     if complaint.is_astray {
         page.lines.push_str(ASTRAY);
-        page.told("hint", "\n");
+        page.line_row("hint", "\n");
     }
     page.close();
 }
 
 /// Adds the box of the protocol error with this number, a command from this line with its answer.
-pub fn tell_bad_exchange(
+pub fn tell_bad_pair(
     number: u64,
     line: u64,
-    why: BadExchange,
+    why: PairFault,
     command: &[u8],
     answer: Option<&[u8]>,
     mask: &Mask,
@@ -38,7 +42,7 @@ pub fn tell_bad_exchange(
     page.lines.push_str("unexpected command or answer");
     page.open(head(number, line));
     writeln!(page.lines, "{why}");
-    page.row(Side::Told, "fault");
+    page.row(Side::Nobody, "fault");
     mask.push_unknown(&mut page.lines, command);
     page.row(Side::Terminal, "command");
     match answer {

@@ -101,15 +101,15 @@ impl Counts {
         if self.cut_off > 0 {
             write!(page.lines, " (cut off: {})", self.cut_off);
         }
-        page.told("TPDUs", "\n");
+        page.line_row("TPDUs", "\n");
         self.push_commands(&mut page.lines);
-        page.row(Side::Told, "commands");
+        page.row(Side::Nobody, "commands");
         self.push_statuses(&mut page.lines);
-        page.row(Side::Told, "statuses");
+        page.row(Side::Nobody, "statuses");
         writeln!(page.lines, "errors: {}", self.complaints);
-        page.row(Side::Told, "protocol");
+        page.row(Side::Nobody, "protocol");
         clock.push_whole(&mut page.lines);
-        page.row(Side::Told, "time");
+        page.row(Side::Nobody, "time");
         page.complaint_links(self.complaint_lines.as_slice(), self.complaints);
         page.status_links(self.first_unwell.as_slice(), self.unwell);
         page.close_block();

@@ -26,7 +26,7 @@ pub enum Side {
     /// The card.
     Card,
     /// Neither: the program adds the row.
-    Told,
+    Nobody,
 }
 
 /// What a box of rows is about.

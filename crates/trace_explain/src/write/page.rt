@@ -46,13 +46,13 @@ impl Page {
     }
 
     /// Whether the next part is added.
-    fn tells(&self) -> bool {
+    fn prints(&self) -> bool {
         !self.layout.is_summary && !self.lines.is_cut()
     }
 
     /// Whether it is HTML, and the next part is added.
     fn marks(&self) -> bool {
-        matches!(self.layout.medium, Medium::Html) && self.tells()
+        matches!(self.layout.medium, Medium::Html) && self.prints()
     }
 
     /// Adds the start of the page.
@@ -78,7 +78,7 @@ impl Page {
     pub fn open(&mut self, head: Head<'_>) {
         self.begin_box(head);
         self.push_title(0, head);
-        if self.tells() {
+        if self.prints() {
             push_line(&mut self.out, head.line);
         }
     }
@@ -110,7 +110,7 @@ impl Page {
     fn push_title(&mut self, begins: usize, head: Head<'_>) {
         if self.marks() {
             html::push_title(&mut self.out, self.lines.as_str(), head);
-        } else if self.tells() {
+        } else if self.prints() {
             let column = push_wrapped(&mut self.out, self.lines.as_str(), begins, "\n    ");
             let width = "  (line )".len().saturating_add(digits(head.line));
             let is_long = column.saturating_add(width) > COLUMNS;
@@ -121,7 +121,7 @@ impl Page {
 
     /// Adds the lines as the text of a row, after the digits of this number of bytes.
     pub fn push_rest(&mut self, bytes: usize) {
-        if self.tells() {
+        if self.prints() {
             let space = usize::from(bytes > 0);
             let begins = ROW_INDENT.saturating_add(bytes.saturating_mul(2).saturating_add(space));
             let between = between(self.layout.medium);
@@ -132,7 +132,7 @@ impl Page {
 
     /// Adds the lines as a row with this label. Adds nothing if there are no lines.
     pub fn row(&mut self, side: Side, label: &str) {
-        if self.tells() && !self.lines.is_empty() {
+        if self.prints() && !self.lines.is_empty() {
             push_before(&mut self.out, side, label);
             self.push_rest(0);
             self.out.push_str(behind(self.layout.medium, side));
@@ -141,9 +141,9 @@ impl Page {
     }
 
     /// Adds a row of the program with this label, and this text after the lines.
-    pub fn told(&mut self, label: &str, line: &str) {
+    pub fn line_row(&mut self, label: &str, line: &str) {
         self.lines.push_str(line);
-        self.row(Side::Told, label);
+        self.row(Side::Nobody, label);
     }
 
     /// Closes the box.
@@ -154,7 +154,7 @@ impl Page {
     /// Opens the last block, which is always written. A page shows it first.
     pub fn open_block(&mut self, title: &str) {
         self.layout.is_summary = false;
-        if self.tells() {
+        if self.prints() {
             self.mark("</div><section><h2>");
             self.out.push_str(title);
             self.mark("</h2>");
@@ -183,7 +183,7 @@ impl Page {
 
     /// Adds the lines as a note.
     pub fn note(&mut self) {
-        if self.tells() {
+        if self.prints() {
             self.mark("<pre class=\"note\">");
             push_note(&mut self.out, self.lines.as_str());
             self.mark("</pre>\n");

@@ -10,7 +10,7 @@ use crate::write::sheet::Sheet;
 use atr_core::{Pps, PpsFault, agreed};
 
 /// Adds the box of a PPS exchange: request and response with their values, whole or cut off.
-pub fn tell_exchange(mask: &Mask, preface: &Preface, page: &mut Page) {
+pub fn tell_pps(mask: &Mask, preface: &Preface, page: &mut Page) {
     let request = Pps::read(preface.request());
     let response = Pps::read(preface.response());
     let is_whole = request.is_ok() && response.is_ok();
@@ -20,7 +20,7 @@ pub fn tell_exchange(mask: &Mask, preface: &Preface, page: &mut Page) {
     push_pps(&mut page.lines, &request);
     page.row(Side::Terminal, "request");
     if preface.response().is_empty() {
-        page.told("response", "none\n");
+        page.line_row("response", "none\n");
     } else {
         push_characters(&mut page.lines, mask, preface.response(), response.is_ok());
         push_agreed(&mut page.lines, &request, &response);

@@ -5,11 +5,11 @@ use crate::follow::opening::{Role, Stage};
 use crate::follow::preface::Preface;
 use crate::write::answer::tell_answer;
 use crate::write::page::Page;
-use crate::write::pps::tell_exchange;
+use crate::write::pps::tell_pps;
 
 /// Adds the box of the part that ends before a character of this role.
 pub fn tell_before(role: Role, preface: &Preface, mask: &Mask, page: &mut Page) {
-    if !role.goes_on() {
+    if !role.continues() {
         tell_part(preface.stage(), preface, mask, page);
     }
 }
@@ -18,7 +18,7 @@ pub fn tell_before(role: Role, preface: &Preface, mask: &Mask, page: &mut Page) 
 pub fn tell_after(role: Role, preface: &Preface, mask: &Mask, page: &mut Page) {
     match (role, preface.stage()) {
         (Role::Answer, Stage::Ready | Stage::Astray) => tell_answer(mask, preface, page),
-        (Role::Response, Stage::Ready) => tell_exchange(mask, preface, page),
+        (Role::Response, Stage::Ready) => tell_pps(mask, preface, page),
         _ => {}
     }
 }
@@ -27,7 +27,7 @@ pub fn tell_after(role: Role, preface: &Preface, mask: &Mask, page: &mut Page) {
 pub fn tell_part(stage: Stage, preface: &Preface, mask: &Mask, page: &mut Page) {
     match stage {
         Stage::Answer => tell_answer(mask, preface, page),
-        Stage::Request | Stage::Asked | Stage::Response => tell_exchange(mask, preface, page),
+        Stage::Request | Stage::Asked | Stage::Response => tell_pps(mask, preface, page),
         Stage::Ready | Stage::Astray | Stage::Begun => {}
     }
 }

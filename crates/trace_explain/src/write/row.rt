@@ -35,10 +35,10 @@ fn label_before(medium: Medium, side: Side) -> &'static str
     match (medium, side) {
         (Medium::Text, Side::Terminal) => "  > ",
         (Medium::Text, Side::Card) => "  < ",
-        (Medium::Text, Side::Told) => "    ",
+        (Medium::Text, Side::Nobody) => "    ",
         (Medium::Html, Side::Terminal) => "<div class=\"m t\"><b>",
         (Medium::Html, Side::Card) => "<div class=\"m c\"><b>",
-        (Medium::Html, Side::Told) => "<div class=\"m n\"><b>",
+        (Medium::Html, Side::Nobody) => "<div class=\"m n\"><b>",
     }
 }
 
@@ -69,7 +69,7 @@ pub fn behind(medium: Medium, side: Side) -> &'static str
         (Medium::Text, _) => "\n",
         (Medium::Html, Side::Terminal) => "</pre><i></i></div>\n",
         (Medium::Html, Side::Card) => "</pre><i></i></div>\n",
-        (Medium::Html, Side::Told) => "</pre></div>\n",
+        (Medium::Html, Side::Nobody) => "</pre></div>\n",
     }
 }
 

@@ -8,20 +8,20 @@ ghost use Rattle.trace_explain.specs.Boxes.{HasAsker};
 ghost use Rattle.trace_explain.specs.Explained.{Hears};
 ghost use Rattle.trace_explain.specs.Noted.{HasNoted, ended_by};
 ghost use Rattle.trace_explain.specs.Openings.{is_dialogue, opening_of, opens, role_of, unopened};
-ghost use Rattle.trace_explain.specs.Told.{Told, told_by};
+ghost use Rattle.trace_explain.specs.Reports.{Report, report_of};
 
 use crate::describe::clock::Clock;
 use crate::describe::complaint::Complaint;
 use crate::describe::mask::Mask;
-use crate::follow::exchange::{BadExchange, commanded, exchanged};
 use crate::follow::links::Links;
-use crate::follow::listener::{Listener, Refusal};
+use crate::follow::listener::{Listener, ListenerFault};
 use crate::follow::opening::Role;
+use crate::follow::pair::{PairFault, tpdu_of_command, tpdu_of_pair};
 use crate::follow::preface::Preface;
 use crate::follow::story::Story;
 use crate::follow::tpdu::Tpdu;
 use crate::read::log::Logged;
-use crate::write::complaint_box::{tell_bad_exchange, tell_complaint};
+use crate::write::complaint_box::{tell_bad_pair, tell_complaint};
 use crate::write::counts::Counts;
 use crate::write::kept::{Keeping, Kept};
 use crate::write::layout::Layout;
@@ -50,7 +50,7 @@ pub struct Teller {
     /// The times of the lines.
     clock: Clock,
     /// The first unexpected command or answer of a log: its line, and why.
-    pub first_bad: Option<(u64, BadExchange)>,
+    pub first_bad: Option<(u64, PairFault)>,
     /// The counts.
     pub counts: Counts,
     /// The TPDUs that a comparison keeps.
@@ -128,7 +128,7 @@ impl Teller {
     fn tell_before(&mut self, role: Role, preface: &Preface, rest: &[u8])
         ensures { StaysWritten self.old self.new }
     {
-        self.clock.hear();
+        self.clock.count();
         tell_before(role, preface, &self.mask, &mut self.output.page);
         if role.is_stray() && self.strays != self.line {
             self.strays = self.line;
@@ -170,9 +170,9 @@ impl Teller {
     /// Hears a character of the dialogue, and writes the TPDU that ends with it or before it.
     /// Returns whether a dialogue continues with it.
     pub fn hear(&mut self, listener: &mut Listener, from: End, byte: u8) -> Result<bool, AllocError>
-        ensures { (events : List Event) (before : List Told) →
-            HasNoted events before listener.old → IfOk result (λ goes_on.
-            Hears goes_on from byte events before listener.old listener.new self.old self.new) }
+        ensures { (events : List Event) (before : List Report) →
+            HasNoted events before listener.old → IfOk result (λ continues.
+            Hears continues from byte events before listener.old listener.new self.old self.new) }
     {
         self.begin_if(from == End::Terminal && listener.under_way().is_empty());
         match listener.hear(from, byte) {
@@ -181,8 +181,8 @@ impl Teller {
                 self.tell_whole(&tpdu, !listener.under_way().is_empty())?;
                 Ok(true)
             }
-            Err(Refusal::NoDialogue(_)) => Ok(false),
-            Err(Refusal::OutOfMemory) => Err(AllocError),
+            Err(ListenerFault::NoDialogue(_)) => Ok(false),
+            Err(ListenerFault::OutOfMemory) => Err(AllocError),
         }
     }
 
@@ -198,7 +198,7 @@ impl Teller {
 
     /// Writes a TPDU that ended, and notes whether the next began in this line.
     fn tell_whole(&mut self, tpdu: &Tpdu, begins: bool) -> Result<(), AllocError>
-        ensures { OnOk result (AddsBoxes (told_by tpdu.now ∷ []) self.old self.new) }
+        ensures { OnOk result (AddsBoxes (report_of tpdu.now ∷ []) self.old self.new) }
     {
         self.tell_one(tpdu)?;
         self.is_led = true;
@@ -208,7 +208,7 @@ impl Teller {
 
     /// Counts a TPDU, links it to earlier ones, and writes it.
     fn tell_one(&mut self, tpdu: &Tpdu) -> Result<(), AllocError>
-        ensures { OnOk result (AddsBoxes (told_by tpdu.now ∷ []) self.old self.new) }
+        ensures { OnOk result (AddsBoxes (report_of tpdu.now ∷ []) self.old self.new) }
     {
         self.counts.take(tpdu)?;
         let links = self.story.tell(tpdu)?;
@@ -218,7 +218,7 @@ impl Teller {
     /// Writes the box of a TPDU, or keeps the TPDU with its box.
     fn tell(&mut self, tpdu: &Tpdu, links: Links) -> Result<(), AllocError>
         requires asker { HasAsker tpdu.now.header.items links }
-        ensures { OnOk result (AddsBox links.number self.old.began (told_by tpdu.now)
+        ensures { OnOk result (AddsBox links.number self.old.began (report_of tpdu.now)
             (account_of self.old) (account_of self.new)) }
     {
         if self.keeping.is_on {
@@ -263,11 +263,11 @@ impl Teller {
 
     /// Writes the TPDU that is cut off, if there is one.
     fn cut_off(&mut self, listener: &mut Listener) -> Result<(), AllocError>
-        ensures noted { (events : List Event) (before : List Told) →
+        ensures noted { (events : List Event) (before : List Report) →
             HasNoted events before listener.old → HasNoted (events ++ Reset ∷ [])
-            (before ++ ended_by (told_by listener.old.under_way)) listener.new }
+            (before ++ ended_by (report_of listener.old.under_way)) listener.new }
         ensures shown { OnOk result
-            (AddsBoxes (ended_by (told_by listener.old.under_way)) self.old self.new) }
+            (AddsBoxes (ended_by (report_of listener.old.under_way)) self.old self.new) }
     {
         let part = listener.reset();
         if part.is_empty() {
@@ -283,11 +283,11 @@ impl Teller {
         listener: &mut Listener,
     ) -> Result<(), AllocError>
         ensures opened { opening_of preface.new ≡ unopened }
-        ensures noted { (events : List Event) (before : List Told) →
+        ensures noted { (events : List Event) (before : List Report) →
             HasNoted events before listener.old → HasNoted (events ++ Reset ∷ [])
-            (before ++ ended_by (told_by listener.old.under_way)) listener.new }
+            (before ++ ended_by (report_of listener.old.under_way)) listener.new }
         ensures shown { OnOk result
-            (AddsBoxes (ended_by (told_by listener.old.under_way)) self.old self.new) }
+            (AddsBoxes (ended_by (report_of listener.old.under_way)) self.old self.new) }
     {
         self.is_led = true;
         self.tell_part(preface);
@@ -331,11 +331,11 @@ impl Teller {
     pub fn tell_logged(&mut self, logged: &[Logged], line: &[u8]) -> Result<(), AllocError> {
         for one in logged {
             match one {
-                Logged::Exchange(command, answer) => {
-                    self.clock.hear();
-                    self.exchange(command.as_slice(), Some(answer.as_slice()))?;
+                Logged::Pair(command, answer) => {
+                    self.clock.count();
+                    self.pair(command.as_slice(), Some(answer.as_slice()))?;
                 }
-                Logged::Unanswered(command) => self.exchange(command.as_slice(), None)?,
+                Logged::Unanswered(command) => self.pair(command.as_slice(), None)?,
                 other => self.tell_other(other, line),
             }
         }
@@ -346,7 +346,7 @@ impl Teller {
     fn tell_other(&mut self, one: &Logged, line: &[u8]) {
         match one {
             Logged::Begins => {
-                self.clock.hear();
+                self.clock.count();
                 self.begin_if(true);
             }
             Logged::Stray(bytes) => {
@@ -371,20 +371,20 @@ impl Teller {
     }
 
     /// Writes a command with its answer, if any: as a TPDU, or as a protocol error.
-    fn exchange(&mut self, command: &[u8], answer: Option<&[u8]>) -> Result<(), AllocError> {
+    fn pair(&mut self, command: &[u8], answer: Option<&[u8]>) -> Result<(), AllocError> {
         let outcome = match answer {
-            Some(bytes) => exchanged(self.alloc, command, bytes),
-            None => commanded(self.alloc, command),
+            Some(bytes) => tpdu_of_pair(self.alloc, command, bytes),
+            None => tpdu_of_command(self.alloc, command),
         };
         match outcome {
-            Ok(tpdu) => self.tell_exchange(&tpdu, answer.is_some()),
-            Err(BadExchange::OutOfMemory) => Err(AllocError),
+            Ok(tpdu) => self.tell_pair(&tpdu, answer.is_some()),
+            Err(PairFault::OutOfMemory) => Err(AllocError),
             Err(why) => self.tell_bad(why, command, answer),
         }
     }
 
     /// Writes a TPDU of a log, and notes whether the log has its answer.
-    fn tell_exchange(&mut self, tpdu: &Tpdu, is_answered: bool) -> Result<(), AllocError> {
+    fn tell_pair(&mut self, tpdu: &Tpdu, is_answered: bool) -> Result<(), AllocError> {
         self.tell_one(tpdu)?;
         if !is_answered {
             self.story.lose_some();
@@ -395,7 +395,7 @@ impl Teller {
     /// Writes a command with its answer, if any, that is not a TPDU for this reason.
     fn tell_bad(
         &mut self,
-        why: BadExchange,
+        why: PairFault,
         command: &[u8],
         answer: Option<&[u8]>,
     ) -> Result<(), AllocError> {
@@ -404,14 +404,14 @@ impl Teller {
         self.first_bad = Some(self.first_bad.unwrap_or((self.began, why)));
         let number = self.counts.complaints();
         let (mask, page) = (&self.mask, &mut self.output.page);
-        tell_bad_exchange(number, self.began, why, command, answer, mask, page);
+        tell_bad_pair(number, self.began, why, command, answer, mask, page);
         Ok(())
     }
 
     /// Writes what the end of the trace cuts off, and the last block.
     pub fn end(&mut self, preface: &Preface, listener: &mut Listener) -> Result<(), AllocError>
         ensures { OnOk result
-            (AddsBoxes (ended_by (told_by listener.old.under_way)) self.old self.new) }
+            (AddsBoxes (ended_by (report_of listener.old.under_way)) self.old self.new) }
     {
         self.tell_part(preface);
         self.cut_off(listener)?;

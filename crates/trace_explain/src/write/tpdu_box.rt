@@ -3,7 +3,7 @@
 ghost use Rattle.std.specs.Prelude.{◌≡◌, ◌∷◌, ℕ, List, [], false};
 ghost use Rattle.trace_explain.specs.Boxes.{HasAsker, Puts, PutsBox, PutsDataOf, PutsDataRow, PutsStatus, PutsWhole, ShowsData, side_of, status_side};
 ghost use Rattle.trace_explain.specs.Sheets.{Joins, PutsLines};
-ghost use Rattle.trace_explain.specs.Told.{told_by};
+ghost use Rattle.trace_explain.specs.Reports.{report_of};
 ghost use Rattle.trace_explain.specs.Written.{hidden, line_text, number_text};
 
 use crate::describe::clock::Clock;
@@ -39,7 +39,7 @@ pub fn tell_box(
     requires asker { HasAsker tpdu.now.header.items links }
     ensures layout { output.new.sheet.layout ≡ output.old.sheet.layout }
     ensures puts { output.old.sheet.layout.is_summary ≡ false →
-        PutsBox mask.now links.number began (told_by tpdu.now) output.old.sheet
+        PutsBox mask.now links.number began (report_of tpdu.now) output.old.sheet
         output.new.sheet }
 {
     if output.sheet.layout().is_summary {
@@ -103,9 +103,9 @@ fn tell_time(links: Links, clock: &Clock, output: &mut Output)
     ensures { Joins output.old.sheet output.new.sheet }
 {
     clock.push_begin(&mut output.page.lines);
-    output.page.row(Side::Told, "time");
+    output.page.row(Side::Nobody, "time");
     if links.drops_before {
-        output.page.told("before", "the chain is dropped\n");
+        output.page.line_row("before", "the chain is dropped\n");
     }
     output.join();
 }
@@ -244,7 +244,7 @@ fn status_side(tpdu: &Tpdu) -> Side
     if are_status(tpdu.status.as_slice()) && tpdu.header.len() == 5 {
         Side::Card
     } else {
-        Side::Told
+        Side::Nobody
     }
 }
 
@@ -272,7 +272,7 @@ fn tell_after(links: Links, output: &mut Output)
     ensures { Joins output.old.sheet output.new.sheet }
 {
     if links.drops_after {
-        output.page.told("after", "the chain is dropped\n");
+        output.page.line_row("after", "the chain is dropped\n");
     }
     output.join();
 }
@@ -302,7 +302,7 @@ fn tell_whole(whole: Whole, shown: Shown, bytes: &[u8], mask: &Mask, output: &mu
     output.page.lines.clear();
     phrases::push_whole(&mut output.page.lines, whole, bytes.len() as u64);
     push_shown(&mut output.page.lines, shown, true, bytes, mask);
-    output.lines_row(Side::Told, "together");
+    output.lines_row(Side::Nobody, "together");
 }
 
 /// Whether the data of the terminal may be objects. They may not if they are a piece of a chain, a

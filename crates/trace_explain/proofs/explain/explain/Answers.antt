@@ -1,12 +1,12 @@
 use Rattle.std.proofs.Common.{◌≡◌, ℕ, List, ◌∙◌, IfSome, ap, refl, subst, sym}
 use Rattle.std.specs.Io.KnownBytes.{Appends}
 use Rattle.trace_explain.specs.declared.follow.listener.Listener.{Listener}
-use Rattle.trace_explain.specs.Account.{HasWritten, WritesTold, first_out, out_with}
-use Rattle.trace_explain.specs.Lines.{Standing}
-use Rattle.trace_explain.specs.Told.{Told}
-use Rattle.trace_explain.specs.Explained.{standing_of}
+use Rattle.trace_explain.specs.Account.{HasWritten, WritesReports, first_out, out_with}
+use Rattle.trace_explain.specs.Lines.{Position}
+use Rattle.trace_explain.specs.Reports.{Report}
+use Rattle.trace_explain.specs.Explained.{position_of}
 use Rattle.trace_explain.specs.Trace.{IsOfEnd, StopsIn, lines_of}
-use Rattle.trace_explain.proofs.AccountLemmas.{writes_told}
+use Rattle.trace_explain.proofs.AccountLemmas.{writes_reports}
 use Rattle.trace_explain.proofs.ExplainedLemmas.{on_ok_too}
 use Rattle.trace_explain.proofs.TraceLemmas.{ended_stops, fault_passed, on_err_too, shown_as, some_too}
 use Rattle.trace_explain.proofs.explain.explain.Goals as goal
@@ -16,11 +16,11 @@ returns-clause-stops g c = λ kept chars.
     on_err_too c.outcome.result _ _ c.outcome.ensures.ended (λ f ends.
     some_too (g.R.Read.remaining c.args.reader.now) _ _
     (c.in_ok-outcome.ensures.explained (first_out c.args.layout c.args.mask) c.args.reading
-    (c.new-explainer.ensures.explained kept chars) c.new-explainer.ensures.standing
+    (c.new-explainer.ensures.explained kept chars) c.new-explainer.ensures.position
     c.new-explainer.ensures.line (c.new-explainer.ensures.blank chars))
     (λ bytes h.
-    let P : Standing → Type 0 = λ s. IsOfEnd f s.came in
-    ended_stops f (subst P c.in_ok-end.ensures.stands ends) h))
+    let P : Position → Type 0 = λ s. IsOfEnd f s.has_characters in
+    ended_stops f (subst P c.in_ok-end.ensures.position ends) h))
 
 pub returns-clause-explained : goal.returns-clause-explained
 returns-clause-explained g c = λ kept chars.
@@ -30,22 +30,23 @@ returns-clause-explained g c = λ kept chars.
     let after = g.W.Write.contents c.write_output.new.writer in
     let a = c.explain_chunks-outcome.new.explainer in
     let b = c.end.new.self in
-    let P : List Told → Listener → Type 0 = λ told l. (l ≡ a.listener) × (more : List ℕ)
-    × Appends before mid more × HasWritten (out_with front more) told a in
-    on_ok_too c.outcome.result _ _ c.outcome.ensures.came (λ came.
+    let P : List Report → Listener → Type 0 = λ reports l. (l ≡ a.listener) × (more : List ℕ)
+    × Appends before mid more × HasWritten (out_with front more) reports a in
+    on_ok_too c.outcome.result _ _ c.outcome.ensures.has_characters (λ has_characters.
     some_too (g.R.Read.remaining c.args.reader.now) _ _
     (c.in_ok-outcome.ensures.explained front c.args.reading
-    (c.new-explainer.ensures.explained kept chars) c.new-explainer.ensures.standing
+    (c.new-explainer.ensures.explained kept chars) c.new-explainer.ensures.position
     c.new-explainer.ensures.line (c.new-explainer.ensures.blank chars))
     (λ bytes h. (
-      standing_of a,
-      shown_as P (WritesTold c.args.layout c.args.mask before after) h
-          (λ told l h. writes_told (out_with front h.1) told l c.args.layout c.args.mask before mid
+      position_of a,
+      shown_as P (WritesReports c.args.layout c.args.mask before after) h
+          (λ reports l h. writes_reports (out_with front h.1) reports l c.args.layout c.args.mask
+          before mid
           after a b refl refl refl h.2 c.in_ok-write_output.ensures.written h.3 h.0
           c.in_ok-end.ensures.adds
           (sym c.write_output.ensures.out.is_cut ∙ c.in_ok-is_whole.ensures.whole)
-          (ap (λ (s : Standing). s.reading.of_tpdus) c.in_ok-end.ensures.stands)),
-      ap (λ (s : Standing). s.came) (sym c.in_ok-end.ensures.stands) ∙ came,
+          (ap (λ (s : Position). s.reading.of_tpdus) c.in_ok-end.ensures.position)),
+      ap (λ (s : Position). s.has_characters) (sym c.in_ok-end.ensures.position) ∙ has_characters,
     )))
 
 pub returns-in_err-outcome-clause-stops : goal.returns-in_err-outcome-clause-stops
@@ -55,5 +56,5 @@ returns-in_err-outcome-clause-stops g c = λ kept chars.
     (λ bytes. StopsIn c.args.reading (lines_of bytes) f))
     c.from_residual-in_err-outcome.ensures.1
     (c.in_err-outcome.ensures.stops (first_out c.args.layout c.args.mask) c.args.reading
-    (c.new-explainer.ensures.explained kept chars) c.new-explainer.ensures.standing
+    (c.new-explainer.ensures.explained kept chars) c.new-explainer.ensures.position
     c.new-explainer.ensures.line (c.new-explainer.ensures.blank chars))

@@ -1,7 +1,7 @@
 use Rattle.std.proofs.Common.{◌++◌, ◌∙◌, ◌+◌, ℕ, List, sym, ap, subst, drop, arith}
 use Rattle.std.proofs.lemmas.Bool.{ne_eqb}
 use Rattle.std.specs.Str.Lines.{strip_carriage_return}
-use Rattle.trace_explain.specs.UnderWay.{HasCome}
+use Rattle.trace_explain.specs.UnderWay.{HasReceived}
 use Rattle.trace_explain.proofs.TraceLemmas.{line_fed, byte_more, next_byte, fed_stops, too_long, none_of_chunk}
 use Rattle.trace_explain.proofs.explain.explain_chunk.Goals as goal
 use Rattle.trace_explain.proofs.explain.explain_chunk.Goals.{then-byte-eq10+in_ok-line, else-byte-eq10+then-len-lt-LINE_LIMIT+in_ok-push}
@@ -24,7 +24,8 @@ loop-byte-preserved c = λ front reading all left come.
     let rest = drop (i + 1) c.args.chunk.now ++ left in
     elim c.if-byte-eq10.branch [
       | then-byte-eq10+in_ok-line w ↦
-          let P : List ℕ → Type 0 = λ line. HasCome front reading all line rest w.line.new.self in
+          let P : List ℕ → Type 0 = λ line.
+          HasReceived front reading all line rest w.line.new.self in
           rw (w.explainer-is) (subst P (sym (ap (λ r. r.items) w.line-is ∙ w.clear.ensures.items))
           (line_fed w.without_return.result.now rest _ w.line.new.self before
           w.in_ok-line.ensures.counts next w.if-byte-eq10.true

@@ -4,13 +4,13 @@ use Rattle.std.specs.Io.KnownBytes.{Appends}
 use Rattle.std.specs.String.{string_bytes}
 use Rattle.trace_explain.specs.declared.follow.listener.Listener.{Listener}
 use Rattle.trace_explain.specs.Account.{HasWritten, out_with}
-use Rattle.trace_explain.specs.Told.{Told}
-use Rattle.trace_explain.specs.Explained.{standing_of}
+use Rattle.trace_explain.specs.Reports.{Report}
+use Rattle.trace_explain.specs.Explained.{position_of}
 use Rattle.trace_explain.specs.Trace.{IsExplained, KeepsLimit, StopsIn, lines_from, lines_of}
-use Rattle.trace_explain.specs.UnderWay.{HasCome}
+use Rattle.trace_explain.specs.UnderWay.{HasReceived}
 use Rattle.trace_explain.proofs.AccountLemmas.{none_out}
 use Rattle.trace_explain.proofs.ExplainedLemmas.{on_ok_too}
-use Rattle.trace_explain.proofs.TraceLemmas.{all_comes, all_read, fault_passed, limit_kept, limit_passed, of_all, of_known, on_err_too, shown_as, still_comes}
+use Rattle.trace_explain.proofs.TraceLemmas.{all_received, all_read, fault_passed, limit_kept, limit_passed, of_all, of_known, on_err_too, shown_as, still_received}
 use Rattle.trace_explain.proofs.explain.explain_chunks.Goals as goal
 
 pub reading-init : goal.reading-init
@@ -21,7 +21,7 @@ reading-init g c = (
   [],
   Appends-nil (g.W.Write.contents c.args.writer.now),
   λ first reading fresh begins start blank left.
-      all_comes c.new-line.result.items left c.new-line.ensures.items fresh begins start
+      all_received c.new-line.result.items left c.new-line.ensures.items fresh begins start
       (none_out first [] c.args.explainer.now blank),
 )
 
@@ -48,13 +48,13 @@ reading-preserved g c =
             teller = record mid.teller { output = record mid.teller.output { sheet = s } };
           } in
           let line = c.explain_chunk.new.line.items in
-          let P : List ℕ → Type 0 = λ x. HasCome (record first { text = x }) reading
+          let P : List ℕ → Type 0 = λ x. HasReceived (record first { text = x }) reading
           (lines_from [] ((read ++ chunk) ++ left)) line left e in
-          let Q : List ℕ → Type 0 = λ bs. HasCome (out_with (out_with first more) text) reading
+          let Q : List ℕ → Type 0 = λ bs. HasReceived (out_with (out_with first more) text) reading
           (lines_from [] bs) line left e in
           subst P (append_assoc first.text more text)
           (subst Q (sym (append_assoc read chunk left))
-          (still_comes mid s c.write_output.ensures.out
+          (still_received mid s c.write_output.ensures.out
           (c.in_ok-explain_chunk-in-Ok.ensures.explained (out_with first more) reading
           (lines_from [] (read ++ (chunk ++ left))) left
           (comes first reading fresh begins start blank (chunk ++ left))))),
@@ -65,28 +65,28 @@ returns-in-Ok-eq0-clause-explained g c = λ first reading fresh begins start bla
     let (read, reads, size_is, more, appends, comes) = c.reading.invariant in
     let e = c.explain_last.new.explainer in
     let front = out_with first more in
-    let P : List Told → Listener → Type 0 = λ told l. (l ≡ e.listener)
-    × HasWritten front told e in
-    let Q : List Told → Listener → Type 0 = λ told l. (l ≡ e.listener) × (all : List ℕ)
+    let P : List Report → Listener → Type 0 = λ reports l. (l ≡ e.listener)
+    × HasWritten front reports e in
+    let Q : List Report → Listener → Type 0 = λ reports l. (l ≡ e.listener) × (all : List ℕ)
     × Appends (g.W.Write.contents c.args.writer.now) (g.W.Write.contents c.reading.writer) all
-    × HasWritten (out_with first all) told e in
-    let L : List ℕ → Type 0 = λ line. HasCome front reading (lines_from [] (read ++ [])) line []
+    × HasWritten (out_with first all) reports e in
+    let L : List ℕ → Type 0 = λ line. HasReceived front reading (lines_from [] (read ++ [])) line []
     c.reading.explainer in
     on_ok_too c.explain_last.result _ _ (c.explain_last.ensures.explained front reading
     (lines_from [] (read ++ []))
     (subst L (sym c.as_slice.ensures.value) (comes first reading fresh begins start blank [])))
     (λ h. of_all (g.R.Read.remaining c.args.reader.now) (g.R.Read.remaining c.read.new.self) read
-    (λ bytes. IsExplained Q reading (lines_of bytes) (standing_of e))
+    (λ bytes. IsExplained Q reading (lines_of bytes) (position_of e))
     (all_read _ _ _ c.in-Ok-eq0.field-0 read c.read.new.buf c.in-Ok-eq0.field-0-test reads
     c.in-Ok-eq0.ensures.bytes.0)
     (c.in-Ok-eq0.ensures.bytes.1 c.in-Ok-eq0.field-0-test (omega (arith, c.read.auto.buf)))
-    (shown_as P Q h (λ told l k. (k.0, more, appends, k.1))))
+    (shown_as P Q h (λ reports l k. (k.0, more, appends, k.1))))
 
 pub returns-in-Ok-eq0-clause-stops : goal.returns-in-Ok-eq0-clause-stops
 returns-in-Ok-eq0-clause-stops g c = λ first reading fresh begins start blank.
     let (read, reads, size_is, more, appends, comes) = c.reading.invariant in
     let front = out_with first more in
-    let L : List ℕ → Type 0 = λ line. HasCome front reading (lines_from [] (read ++ [])) line []
+    let L : List ℕ → Type 0 = λ line. HasReceived front reading (lines_from [] (read ++ [])) line []
     c.reading.explainer in
     on_err_too c.explain_last.result _ _ (c.explain_last.ensures.stops front reading
     (lines_from [] (read ++ []))

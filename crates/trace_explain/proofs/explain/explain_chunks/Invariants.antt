@@ -3,9 +3,9 @@ use Rattle.std.specs.Io.KnownBytes.{Appends, Consumes}
 use Rattle.trace_explain.specs.declared.read.reading.Reading.{Reading}
 use Rattle.trace_explain.specs.Account.{HasWritten, Out, out_with}
 use Rattle.trace_explain.specs.Lines.{first_of_all}
-use Rattle.trace_explain.specs.Explained.{HasExplained, standing_of}
+use Rattle.trace_explain.specs.Explained.{HasExplained, position_of}
 use Rattle.trace_explain.specs.Trace.{lines_from}
-use Rattle.trace_explain.specs.UnderWay.{HasCome}
+use Rattle.trace_explain.specs.UnderWay.{HasReceived}
 use Rattle.trace_explain.proofs.explain.explain_chunks.Given as goal
 
 -- so much has come, whatever follows it is explained or still to come, and this much is written out
@@ -15,9 +15,9 @@ invariant-reading g l = (read : List ℕ)
     × (l.size ≡ length read) × (more : List ℕ)
     × Appends (g.W.Write.contents l.initial.writer) (g.W.Write.contents l.writer) more
     × ((first : Out) (reading : Reading) → HasExplained [] [] l.initial.explainer
-    → standing_of l.initial.explainer ≡ first_of_all reading → l.initial.explainer.line ≡ 0
+    → position_of l.initial.explainer ≡ first_of_all reading → l.initial.explainer.line ≡ 0
     → HasWritten first [] l.initial.explainer → (left : List ℕ)
-    → HasCome (out_with first more) reading (lines_from [] (read ++ left)) l.line.items left
+    → HasReceived (out_with first more) reading (lines_from [] (read ++ left)) l.line.items left
     l.explainer)
 
 abbrev pub decreases-reading : goal.decreases-reading

@@ -2,8 +2,8 @@ use Rattle.std.proofs.Common.{◌≡◌, ◌<◌, ◌≤◌, ◌∙◌, Bool, Li
 use Rattle.std.proofs.lemmas.List.{take_all}
 use Rattle.trace_explain.specs.declared.explainer.Explainer.{Explainer}
 use Rattle.t0_core.specs.History.{Event}
-use Rattle.trace_explain.specs.Told.{Told}
-use Rattle.trace_explain.specs.Explained.{ExplainsCharacters, HasExplained, StopsAmong, TakesOrStops, standing_of}
+use Rattle.trace_explain.specs.Reports.{Report}
+use Rattle.trace_explain.specs.Explained.{ExplainsCharacters, HasExplained, StopsAmong, TakesOrStops, position_of}
 use Rattle.trace_explain.proofs.TakenLemmas.{none_resumes, none_stops, not_ok, taken_none, taken_on, unsent_stops}
 use Rattle.trace_explain.proofs.explainer.Explainer.characters.Goals as goal
 
@@ -43,9 +43,9 @@ returns-then-stops-clause-stops c = λ events before h.
     let same = (c.is_passed_over.ensures.none h.1.1).1 in
     let E : Explainer → Type 0 = λ e. HasExplained events before e in
     let P : Explainer → Type 0 = λ e. IfErr c.stop.result (λ f. StopsAmong f source e.line
-    (standing_of e) bytes events before) in
+    (position_of e) bytes events before) in
     let so_far = c.loop-place.invariant.0 events before (subst E (sym same) h) in
-    let stops : (es : List Event) (ts : List Told) → HasExplained es ts mid
+    let stops : (es : List Event) (ts : List Report) → HasExplained es ts mid
     → TakesOrStops true c.in-Ok.from (get_or bytes place 0) es ts mid new = λ es ts k.
     let Q : Bool → Type 0 = λ v. TakesOrStops v c.in-Ok.from (get_or bytes place 0) es ts mid new in
     subst Q c.if-stops.true (c.in_ok-stops-in-Ok.ensures.takes es ts k) in
@@ -80,7 +80,7 @@ returns-in-Err-clause-stops c = λ events before h.
     let same = (c.is_passed_over.ensures.none h.1.1).1 in
     let E : Explainer → Type 0 = λ e. HasExplained events before e in
     let P : Explainer → Type 0 = λ e. IfErr c.stop_unsent.result (λ f. StopsAmong f
-    c.args.source.now e.line (standing_of e) bytes events before) in
+    c.args.source.now e.line (position_of e) bytes events before) in
     let so_far = c.loop-place.invariant.0 events before (subst E (sym same) h) in
     subst P same (unsent_stops c.stop_unsent.result c.args.source.now bytes c.loop-place.place
     c.loop-place.self.line first.line c.in-Err.why events before first c.loop-place.self

@@ -1,12 +1,12 @@
 use Rattle.std.proofs.Common.{◌≡◌, List, take}
 use Rattle.t0_core.specs.History.{Event}
 use Rattle.trace_explain.specs.Explained.{ExplainsCharacters, HasExplained}
-use Rattle.trace_explain.specs.Told.{Told}
+use Rattle.trace_explain.specs.Reports.{Report}
 use Rattle.trace_explain.proofs.explainer.Explainer.characters.Given as goal
 
 -- the characters so far are explained
 abbrev pub invariant-loop-place : goal.invariant-loop-place
-invariant-loop-place l = ((events : List Event) (before : List Told)
+invariant-loop-place l = ((events : List Event) (before : List Report)
     → HasExplained events before l.initial.self
     → ExplainsCharacters l.source (take l.place l.bytes) events before l.initial.self l.self)
     × (l.self.line ≡ l.initial.self.line)

@@ -3,7 +3,7 @@ use Rattle.t0_core.specs.History.{Reset}
 use Rattle.trace_explain.specs.declared.read.reading.Reading.{Reading}
 use Rattle.trace_explain.specs.declared.read.trace_line.TraceLine.{TraceLine}
 use Rattle.trace_explain.specs.declared.read.trace_line.TraceLine.TheVariants as said
-use Rattle.trace_explain.specs.Explained.{standing_of}
+use Rattle.trace_explain.specs.Explained.{position_of}
 use Rattle.trace_explain.specs.Lines.{Says, TakesCharacters}
 use Rattle.trace_explain.specs.Openings.{unopened}
 use Rattle.trace_explain.proofs.AccountLemmas.{boxes_from, boxes_stay}
@@ -21,9 +21,9 @@ returns-in-Ok-Characters-clause-explained c = λ events before h.
     (subst P c.in-Ok-Characters.field-0-is c.in-Ok-Characters.ensures.says)
     (λ more at takes.
     let Q : List ℕ → Type 0 = λ bs. TakesCharacters source events
-    (record (standing_of old) { reading = c.with-self.result }) bs more at in
+    (record (position_of old) { reading = c.with-self.result }) bs more at in
     let R : Reading → Type 0 = λ r. TakesCharacters source events
-    (record (standing_of old) { reading = r }) bytes.items more at in
+    (record (position_of old) { reading = r }) bytes.items more at in
     subst R c.with-self.ensures (subst Q c.as_slice.ensures.value takes))
     (boxes_from c.pass.ensures boxes_stay)
     (c.characters.ensures.explained events before (
@@ -44,12 +44,12 @@ returns-in-Ok-Characters-clause-stops c = λ events before h.
     let P : TraceLine → Type 0 = λ s. Says old.reading c.args.line.now s in
     line_stops c.characters.result c.args.line.now c.saturating_add-self.result source
     c.as_slice.result.now events before old
-    (record (standing_of old) { reading = c.with-self.result }) (said.Characters source bytes)
+    (record (position_of old) { reading = c.with-self.result }) (said.Characters source bytes)
     (subst P c.in-Ok-Characters.field-0-is c.in-Ok-Characters.ensures.says)
     (λ Holds holds.
     let Q : List ℕ → Type 0 = λ bs. Holds source
-    (record (standing_of old) { reading = c.with-self.result }) bs in
-    let R : Reading → Type 0 = λ r. Holds source (record (standing_of old) { reading = r })
+    (record (position_of old) { reading = c.with-self.result }) bs in
+    let R : Reading → Type 0 = λ r. Holds source (record (position_of old) { reading = r })
     bytes.items in
     subst R c.with-self.ensures (subst Q c.as_slice.ensures.value holds))
     c.saturating_add-self.ensures
@@ -69,13 +69,13 @@ returns-in_ok-note-in-Ok-Note-clause-explained c = λ events before h.
     let old = c.args.self.now in
     let P : TraceLine → Type 0 = λ s. Says old.reading c.args.line.now s in (
       [],
-      standing_of old,
+      position_of old,
       (
         said.Note c.in-Ok-Note.note,
         subst P c.in-Ok-Note.field-0-is c.in-Ok-Note.ensures.says,
         (refl, refl),
       ),
-      explains_nothing events before (standing_of old) old _ h refl
+      explains_nothing events before (position_of old) old _ h refl
           (boxes_from c.pass.ensures c.in_ok-note-in-Ok-Note.ensures),
     )
 
@@ -89,7 +89,7 @@ pub returns-in_ok-reset-in-Ok-Reset-clause-explained :
 returns-in_ok-reset-in-Ok-Reset-clause-explained c = λ events before h.
     let old = c.args.self.now in
     let P : TraceLine → Type 0 = λ s. Says old.reading c.args.line.now s in
-    let at = record (standing_of old) { opening = unopened } in (
+    let at = record (position_of old) { opening = unopened } in (
       Reset ∷ [],
       at,
       (said.Reset, subst P c.in-Ok-Reset.field-0-is c.in-Ok-Reset.ensures.says, (refl, refl)),

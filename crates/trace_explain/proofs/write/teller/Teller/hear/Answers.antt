@@ -1,17 +1,17 @@
 use Rattle.std.proofs.Common.{◌++◌, ◌∷◌, [], Option, subst, sym}
 use Rattle.t0_core.specs.History.{Passed}
 use Rattle.trace_explain.specs.declared.follow.listener.Listener.{Listener}
-use Rattle.trace_explain.specs.declared.follow.listener.Refusal.{Refusal}
+use Rattle.trace_explain.specs.declared.follow.listener.ListenerFault.{ListenerFault}
 use Rattle.trace_explain.specs.declared.follow.tpdu.Tpdu.{Tpdu}
-use Rattle.trace_explain.specs.Noted.{HasNoted, IsRefused, NoneGoesOn}
-use Rattle.trace_explain.specs.Told.{told_by, told_of}
+use Rattle.trace_explain.specs.Noted.{HasNoted, IsRefused, NoneContinues}
+use Rattle.trace_explain.specs.Reports.{report_of, reports_of}
 use Rattle.trace_explain.proofs.AccountLemmas.{boxes_from, boxes_stay}
 use Rattle.trace_explain.proofs.write.teller.Teller.hear.Goals as goal
 
 pub returns-in-Ok-None : goal.returns-in-Ok-None
 returns-in-Ok-None c = λ events before h.
     let Q : Option Tpdu → Type 0 = λ t. HasNoted (events ++ Passed (c.args.from, c.args.byte) ∷ [])
-    (before ++ told_of t) c.hear.new.self in (
+    (before ++ reports_of t) c.hear.new.self in (
       [],
       subst Q c.in-Ok-None.field-0-is (c.in-Ok-None.ensures.noted events before h),
       boxes_from c.begin_if.ensures boxes_stay,
@@ -20,16 +20,17 @@ returns-in-Ok-None c = λ events before h.
 pub returns-in_ok-tell_whole-in-Ok-Some : goal.returns-in_ok-tell_whole-in-Ok-Some
 returns-in_ok-tell_whole-in-Ok-Some c = λ events before h.
     let Q : Option Tpdu → Type 0 = λ t. HasNoted (events ++ Passed (c.args.from, c.args.byte) ∷ [])
-    (before ++ told_of t) c.hear.new.self in (
-      told_by c.in-Ok-Some.tpdu ∷ [],
+    (before ++ reports_of t) c.hear.new.self in (
+      report_of c.in-Ok-Some.tpdu ∷ [],
       subst Q c.in-Ok-Some.field-0-is (c.in-Ok-Some.ensures.noted events before h),
       boxes_from c.begin_if.ensures c.in_ok-tell_whole-in-Ok-Some.ensures,
     )
 
 pub returns-in-Err-NoDialogue : goal.returns-in-Err-NoDialogue
 returns-in-Err-NoDialogue c = λ events before h.
-    let P : Refusal → Type 0 = λ why. IsRefused why c.args.listener.now (c.args.from, c.args.byte)
+    let P : ListenerFault → Type 0 = λ why.
+    IsRefused why c.args.listener.now (c.args.from, c.args.byte)
     c.hear.new.self in
-    let N : Listener → Type 0 = λ l. NoneGoesOn l (c.args.from, c.args.byte) in
+    let N : Listener → Type 0 = λ l. NoneContinues l (c.args.from, c.args.byte) in
     let refused = subst P c.in-Err-NoDialogue.field-0-is c.in-Err-NoDialogue.ensures.refused in
     (refused.2, subst N (sym refused.2) refused.0, boxes_from c.begin_if.ensures boxes_stay)

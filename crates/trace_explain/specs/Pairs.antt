@@ -2,11 +2,11 @@
 use Rattle.std.specs.Prelude.{◌≡◌, ◌≤◌, ◌<◌, ℕ, ◌+◌, ◌-◌, List, [], ◌∷◌, ◌++◌, take, drop, length, slice_index, Option, Some, None, Bool, true, false, ◌==◌, ◌&&◌, nat_lt, if◌then◌else◌}
 use Rattle.t0_core.specs.declared.direction.Direction.{Direction}
 use Rattle.t0_core.specs.declared.direction.Direction.TheVariants.{ToCard, FromCard}
-use Rattle.trace_explain.specs.declared.follow.exchange.BadExchange.{BadExchange}
-use Rattle.trace_explain.specs.declared.follow.exchange.BadExchange.TheVariants as bad
+use Rattle.trace_explain.specs.declared.follow.pair.PairFault.{PairFault}
+use Rattle.trace_explain.specs.declared.follow.pair.PairFault.TheVariants as bad
 use Rattle.trace_explain.specs.declared.follow.tpdu.Tpdu.{Tpdu}
 use Rattle.trace_explain.specs.Noted.{are_status}
-use Rattle.trace_explain.specs.Told.{told_by, uncounted}
+use Rattle.trace_explain.specs.Reports.{report_of, uncounted}
 
 -- A short command (ISO/IEC 7816-4, 5.1): CLA INS P1 P2 and P3, data of the terminal, and Le behind
 -- them, where it stands there.
@@ -63,8 +63,8 @@ beside [] brought = []
 beside (b ∷ sent) brought = brought
 
 -- the TPDU tells the command, these data of the card, and this status, and no procedure byte
-pub record TellsExchange (c : Command) (brought status : List ℕ) (t : Tpdu) : Type 0 where
-  pub told_is : told_by t ≡ record {
+pub record ReportsPair (c : Command) (brought status : List ℕ) (t : Tpdu) : Type 0 where
+  pub report_is : report_of t ≡ record {
     header = c.header;
     tally = uncounted;
     way = way_of c.sent brought;
@@ -77,16 +77,16 @@ pub record TellsExchange (c : Command) (brought status : List ℕ) (t : Tpdu) : 
 -- the TPDU of a command without an answer
 abbrev pub IsCommand : List ℕ → Tpdu → Type 0
 IsCommand command t =
-    (c : Command) × (command_in command ≡ Some c) × TellsExchange c [] [] t
+    (c : Command) × (command_in command ≡ Some c) × ReportsPair c [] [] t
 
 -- and with its answer
-abbrev pub IsExchange : List ℕ → List ℕ → Tpdu → Type 0
-IsExchange command answer t = (c : Command) × (command_in command ≡ Some c)
-    × TellsExchange c (data_in answer) (status_in answer) t
+abbrev pub IsPair : List ℕ → List ℕ → Tpdu → Type 0
+IsPair command answer t = (c : Command) × (command_in command ≡ Some c)
+    × ReportsPair c (data_in answer) (status_in answer) t
     × (are_status (status_in answer) ≡ true)
 
 -- why a command is none that is short
-abbrev pub IsBadCommand : BadExchange → List ℕ → Type 0
+abbrev pub IsBadCommand : PairFault → List ℕ → Type 0
 IsBadCommand bad.Short command = length command < 4
 IsBadCommand bad.Extended command = is_extended command ≡ true
 IsBadCommand bad.Length command =
@@ -94,13 +94,13 @@ IsBadCommand bad.Length command =
 IsBadCommand bad.NoStatus command = ⊥
 IsBadCommand bad.OutOfMemory command = Unit {0}
 
-abbrev pub IsBadRest : BadExchange → List ℕ → ℕ → List ℕ → Type 0
+abbrev pub IsBadRest : PairFault → List ℕ → ℕ → List ℕ → Type 0
 IsBadRest bad.Length header p3 rest = with_p3 header p3 rest ≡ None
 IsBadRest bad.OutOfMemory header p3 rest = Unit {0}
 IsBadRest other header p3 rest = ⊥
 
 -- or, of a short one, that its answer does not end with a status
-abbrev pub IsBadExchange : BadExchange → List ℕ → List ℕ → Type 0
-IsBadExchange bad.NoStatus command answer =
+abbrev pub IsBadPair : PairFault → List ℕ → List ℕ → Type 0
+IsBadPair bad.NoStatus command answer =
     ((c : Command) × (command_in command ≡ Some c)) × (are_status (status_in answer) ≡ false)
-IsBadExchange other command answer = IsBadCommand other command
+IsBadPair other command answer = IsBadCommand other command

@@ -1,7 +1,7 @@
 //! A command and its answer as one TPDU (ISO/IEC 7816-4, 5.1; ISO/IEC 7816-3, 12).
 
 ghost use Rattle.std.specs.Prelude.{◌≡◌, [], ◌∷◌, ◌++◌, Some, IfOk, IfErr};
-ghost use Rattle.trace_explain.specs.Exchanges.{Command, IsBadCommand, IsBadExchange, IsBadRest, IsCommand, IsExchange, TellsExchange, beside, command_in, moved_of, way_of, with_p3};
+ghost use Rattle.trace_explain.specs.Pairs.{Command, IsBadCommand, IsBadPair, IsBadRest, IsCommand, IsPair, ReportsPair, beside, command_in, moved_of, way_of, with_p3};
 
 use crate::follow::tally::Tally;
 use crate::follow::tpdu::{Tpdu, are_status};
@@ -11,7 +11,7 @@ use t0_core::Direction;
 
 /// Why a command and its answer are not told as a TPDU.
 #[derive(Clone, Copy, Debug)]
-pub enum BadExchange {
+pub enum PairFault {
     /// The command has fewer bytes than CLA INS P1 P2.
     Short,
     /// The command has extended length fields, which no P3 holds.
@@ -24,41 +24,41 @@ pub enum BadExchange {
     OutOfMemory,
 }
 
-impl From<AllocError> for BadExchange {
+impl From<AllocError> for PairFault {
     ghost use Rattle.std.specs.Prelude.{◌≡◌};
-    ghost use Rattle.trace_explain.specs.declared.follow.exchange.BadExchange.TheVariants.{OutOfMemory};
+    ghost use Rattle.trace_explain.specs.declared.follow.pair.PairFault.TheVariants.{OutOfMemory};
 
     ghost from_gives = { λ _ why. why ≡ OutOfMemory };
 
-    fn from(_error: AllocError) -> BadExchange {
-        BadExchange::OutOfMemory
+    fn from(_error: AllocError) -> PairFault {
+        PairFault::OutOfMemory
     }
 }
 
-impl fmt::Display for BadExchange {
+impl fmt::Display for PairFault {
     fn fmt<W: fmt::Write>(&self, f: &mut fmt::Formatter<W>) -> fmt::Result {
         f.write_str(match self {
-            BadExchange::Short => "a command of fewer than 4 bytes",
-            BadExchange::Extended => "a command with extended length fields",
-            BadExchange::Length => "a command with more or fewer bytes than Lc says",
-            BadExchange::NoStatus => "an answer without SW1-SW2 at its end",
-            BadExchange::OutOfMemory => "out of memory",
+            PairFault::Short => "a command of fewer than 4 bytes",
+            PairFault::Extended => "a command with extended length fields",
+            PairFault::Length => "a command with more or fewer bytes than Lc says",
+            PairFault::NoStatus => "an answer without SW1-SW2 at its end",
+            PairFault::OutOfMemory => "out of memory",
         })
     }
 }
 
 /// The TPDU of a short command with its answer; `NoStatus` comes where that does not end with a
 /// status, and other errors as for the command alone.
-pub fn exchanged(alloc: Global, command: &[u8], answer: &[u8]) -> Result<Tpdu, BadExchange>
-    ensures tells { IfOk result (IsExchange command.now answer.now) }
-    ensures refused { IfErr result (λ why. IsBadExchange why command.now answer.now) }
+pub fn tpdu_of_pair(alloc: Global, command: &[u8], answer: &[u8]) -> Result<Tpdu, PairFault>
+    ensures reports { IfOk result (IsPair command.now answer.now) }
+    ensures refused { IfErr result (λ why. IsBadPair why command.now answer.now) }
 {
     let (brought, status) = answer.split_at(answer.len().saturating_sub(2));
-    let tpdu = told(alloc, command, brought, status)?;
+    let tpdu = tpdu_of(alloc, command, brought, status)?;
     if are_status(status) {
         Ok(tpdu)
     } else {
-        Err(BadExchange::NoStatus)
+        Err(PairFault::NoStatus)
     }
 }
 
@@ -66,27 +66,27 @@ pub fn exchanged(alloc: Global, command: &[u8], answer: &[u8]) -> Result<Tpdu, B
 ///
 /// The command is CLA INS P1 P2, with P3 `00`; or these with Le; or with Lc, which is not `00`, and
 /// data; or with Le behind those. `Short`, `Extended` and `Length` come for any other one.
-pub fn commanded(alloc: Global, command: &[u8]) -> Result<Tpdu, BadExchange>
-    ensures tells { IfOk result (IsCommand command.now) }
+pub fn tpdu_of_command(alloc: Global, command: &[u8]) -> Result<Tpdu, PairFault>
+    ensures reports { IfOk result (IsCommand command.now) }
     ensures refused { IfErr result (λ why. IsBadCommand why command.now) }
 {
-    told(alloc, command, &[], &[])
+    tpdu_of(alloc, command, &[], &[])
 }
 
 /// The TPDU of a short command with these data of the card and this status.
-fn told(alloc: Global, command: &[u8], brought: &[u8], status: &[u8]) -> Result<Tpdu, BadExchange>
-    ensures tells { IfOk result (λ t. (c : Command) × (command_in command.now ≡ Some c)
-        × TellsExchange c brought.now status.now t) }
+fn tpdu_of(alloc: Global, command: &[u8], brought: &[u8], status: &[u8]) -> Result<Tpdu, PairFault>
+    ensures reports { IfOk result (λ t. (c : Command) × (command_in command.now ≡ Some c)
+        × ReportsPair c brought.now status.now t) }
     ensures refused { IfErr result (λ why. IsBadCommand why command.now) }
 {
     if command.len() < 4 {
-        return Err(BadExchange::Short);
+        return Err(PairFault::Short);
     }
     if command.len() == 4 {
         return Ok(whole(alloc, command, 0, &[], None, brought, status)?);
     }
     if command.len() > 6 && command[4] == 0 {
-        return Err(BadExchange::Extended);
+        return Err(PairFault::Extended);
     }
     let (header, _) = command.split_at(4);
     let (_, rest) = command.split_at(5);
@@ -101,9 +101,9 @@ fn with_p3(
     rest: &[u8],
     brought: &[u8],
     status: &[u8],
-) -> Result<Tpdu, BadExchange>
-    ensures tells { IfOk result (λ t. (c : Command) × (with_p3 header.now p3 rest.now ≡ Some c)
-        × TellsExchange c brought.now status.now t) }
+) -> Result<Tpdu, PairFault>
+    ensures reports { IfOk result (λ t. (c : Command) × (with_p3 header.now p3 rest.now ≡ Some c)
+        × ReportsPair c brought.now status.now t) }
     ensures refused { IfErr result (λ why. IsBadRest why header.now p3 rest.now) }
 {
     let count = usize::from(p3);
@@ -113,13 +113,13 @@ fn with_p3(
         let le = Some(rest[count]);
         Ok(whole(alloc, header, p3, &rest[..count], le, brought, status)?)
     } else {
-        Err(BadExchange::Length)
+        Err(PairFault::Length)
     }
 }
 
 /// The TPDU with CLA INS P1 P2 and P3, these data of the terminal, Le of the command behind them,
 /// and these data of the card and this status.
-#[tactic(auto, using(crate::proofs::ExchangeLemmas::tells))]
+#[tactic(auto, using(crate::proofs::PairLemmas::reports))]
 fn whole(
     alloc: Global,
     header: &[u8],
@@ -129,7 +129,7 @@ fn whole(
     brought: &[u8],
     status: &[u8],
 ) -> Result<Tpdu, AllocError>
-    ensures { IfOk result (TellsExchange (record {
+    ensures { IfOk result (ReportsPair (record {
       header = header.now ++ p3 ∷ [];
       sent = sent.now;
       le = le;

@@ -15,15 +15,15 @@ use Rattle.trace_explain.specs.declared.follow.tpdu.Tpdu.{Tpdu}
 
 -- the characters of the header, how many procedure bytes, which way data moved, the data, and the
 -- characters of the status
-pub record Told : Type 0 where
+pub record Report : Type 0 where
   pub header : List ℕ
   pub tally : Tally
   pub way : Option Direction
   pub moved : List ℕ
   pub status : List ℕ
 
-abbrev pub told_by : Tpdu → Told
-told_by t = record {
+abbrev pub report_of : Tpdu → Report
+report_of t = record {
   header = t.header.items;
   tally = t.tally;
   way = t.way;
@@ -31,9 +31,9 @@ told_by t = record {
   status = t.status.items;
 }
 
-abbrev pub told_of : Option Tpdu → List Told
-told_of None = []
-told_of (Some t) = told_by t ∷ []
+abbrev pub reports_of : Option Tpdu → List Report
+reports_of None = []
+reports_of (Some t) = report_of t ∷ []
 
 -- one more, up to the greatest number that is counted
 abbrev pub one_more : ℕ → ℕ
@@ -51,35 +51,35 @@ uncounted = record { nulls = 0; ones = 0; alls = 0 }
 abbrev pub tally_of : List Step → Tally
 tally_of segments = fold counted uncounted segments
 
-abbrev pub untold : Told
-untold = record { header = []; tally = uncounted; way = None; moved = []; status = [] }
+abbrev pub no_report : Report
+no_report = record { header = []; tally = uncounted; way = None; moved = []; status = [] }
 
 -- this much is told of a header, segments and data
-pub record TellsBody (t : Told) (b : Body) : Type 0 where
+pub record ReportsBody (t : Report) (b : Body) : Type 0 where
   pub header_is : t.header ≡ header_bytes b.header ++ b.p3 ∷ []
   pub tally_is : t.tally ≡ tally_of b.segments
   pub moved_is : t.moved ≡ b.moved
 
 -- no more than some characters of a header is told
-pub record TellsHeader (t : Told) (bytes : List ℕ) : Type 0 where
+pub record ReportsHeader (t : Report) (bytes : List ℕ) : Type 0 where
   pub header_is : t.header ≡ bytes
   pub tally_is : t.tally ≡ uncounted
   pub moved_is : t.moved ≡ []
 
 -- this much is told of a dialogue that has come so far
-abbrev pub TellsFront : Told → Front → Type 0
-TellsFront t (In_header bytes) = TellsHeader t bytes × (t.status ≡ [])
-TellsFront t (In_body b) = TellsBody t b × (t.status ≡ [])
-TellsFront t (After_first b sw1) = TellsBody t b × (t.status ≡ sw1 ∷ [])
+abbrev pub ReportsFront : Report → Front → Type 0
+ReportsFront t (In_header bytes) = ReportsHeader t bytes × (t.status ≡ [])
+ReportsFront t (In_body b) = ReportsBody t b × (t.status ≡ [])
+ReportsFront t (After_first b sw1) = ReportsBody t b × (t.status ≡ sw1 ∷ [])
 
 -- and this is told of a whole one
-pub record Tells (t : Told) (d : Dialogue) : Type 0 where
-  pub body : TellsBody t d.body
+pub record Reports (t : Report) (d : Dialogue) : Type 0 where
+  pub body : ReportsBody t d.body
   pub way : Shows t.way d.body.direction d.body.moved
   pub status_is : t.status ≡ d.status.0 ∷ d.status.1 ∷ []
 
 -- what is told with one character more, which was this
-abbrev pub noted : Told → Heard → ℕ → Told
+abbrev pub noted : Report → Heard → ℕ → Report
 noted t heard.Header byte = record t { header = t.header ++ byte ∷ [] }
 noted t (heard.Procedure step) byte = record t { tally = counted t.tally step }
 noted t (heard.Data direction) byte =

@@ -1,17 +1,17 @@
 -- The lines of a list of objects, one below the other.
-use Rattle.std.specs.Prelude.{◌≡◌, ◌<◌, ℕ, suc, ◌+◌, ◌-◌, ◌*◌, List, [], ◌∷◌, ◌++◌, codes, length, take, drop, replicate, All, Bool, true, false}
+use Rattle.std.specs.Prelude.{◌≡◌, ◌<◌, ℕ, suc, ◌+◌, ◌-◌, ◌*◌, List, [], ◌∷◌, ◌++◌, codes, length, take, drop, All, Bool, true, false}
 use Rattle.std.specs.List.{Contains}
 use Rattle.hex.specs.Hex.{encode_upper}
 use Rattle.tlv_core.specs.Spelling.{AreObjects, Begins}
 use Rattle.tlv_core.specs.TagForm.{is_constructed}
-use Rattle.trace_explain.specs.Written.{AreLines, content, is_text}
+use Rattle.trace_explain.specs.Written.{AreLines, content, is_text, spaces}
 
 -- an object's tag, behind two spaces for each level below the first, which is 1
 abbrev pub indent : ℕ → ℕ
 indent level = (level - 1) * 2
 
 abbrev pub object : ℕ → List ℕ → List ℕ
-object level tag = replicate (indent level) 32 ++ encode_upper tag
+object level tag = spaces (indent level) ++ encode_upper tag
 
 -- so many bytes of a value stand in a line, which are text or not
 abbrev pub value_width : Bool → ℕ

@@ -1,8 +1,9 @@
 -- What is written of a TPDU, in either layout. What stands between are words, of which nothing is
 -- said here.
-use Rattle.std.specs.Prelude.{◌≡◌, ◌<◌, ℕ, zero, suc, ◌-◌, List, [], ◌∷◌, ◌++◌, codes, length, take, drop, flat_map, replicate, Bool, true, false, nat_le, ◌==◌, ◌&&◌, if◌then◌else◌}
+use Rattle.std.specs.Prelude.{◌≡◌, ◌<◌, ℕ, ◌-◌, List, [], ◌∷◌, ◌++◌, codes, length, take, drop, get_or, flat_map, Option, Some, None, Bool, true, false, nat_le, nat_lt, ◌==◌, ◌&&◌, if◌then◌else◌}
 use Rattle.std.specs.Char.{encode_utf8}
 use Rattle.std.specs.Fmt.{decimal}
+use Rattle.std.specs.List.{repeat}
 use Rattle.hex.specs.Hex.{encode_upper}
 use Rattle.trace_explain.specs.declared.write.layout.Medium.{Medium}
 use Rattle.trace_explain.specs.declared.write.layout.Medium.TheVariants.{Text, Html}
@@ -18,6 +19,9 @@ InTurn (part ∷ parts) text =
 -- every line ends with LF
 abbrev pub newline : List ℕ
 newline = 10 ∷ []
+
+abbrev pub spaces : ℕ → List ℕ
+spaces n = repeat n (codes " ")
 
 -- a TPDU has a number, with which its title begins, and behind which stands a space
 abbrev pub number_text : ℕ → List ℕ
@@ -45,7 +49,7 @@ label_before Html Card = codes "<div class=\"m c\"><b>"
 label_before Html Nobody = codes "<div class=\"m n\"><b>"
 
 abbrev pub label_behind : Medium → ℕ → List ℕ
-label_behind Text size = replicate (11 - size) 32
+label_behind Text size = spaces (11 - size)
 label_behind Html size = codes "</b><pre>"
 
 abbrev pub before : Medium → Side → List ℕ → List ℕ
@@ -57,35 +61,30 @@ behind Html Terminal = codes "</pre><i></i></div>" ++ newline
 behind Html Card = codes "</pre><i></i></div>" ++ newline
 behind Html Nobody = codes "</pre></div>" ++ newline
 
--- Between them stands its text. Each further line of it is below the first one; on a page nothing
--- in it is markup.
-abbrev pub letter : Medium → ℕ → List ℕ
-letter Text b = if b == 10 then newline ++ codes "               " else encode_utf8 b
-letter Html b = if b == 60 then codes "&lt;" else if b == 62 then codes "&gt;"
+-- Between them is its text. Each further line of it is below the first one; on a page nothing in it
+-- is markup. Plain text has no medium.
+abbrev pub letter : Option Medium → ℕ → List ℕ
+letter None b = encode_utf8 b
+letter (Some Text) b = if b == 10 then newline ++ codes "               " else encode_utf8 b
+letter (Some Html) b = if b == 60 then codes "&lt;" else if b == 62 then codes "&gt;"
     else if b == 38 then codes "&amp;" else encode_utf8 b
 
 abbrev pub row : Medium → Side → List ℕ → List ℕ → List ℕ
-row m side label text = before m side label ++ flat_map (letter m) text ++ behind m side
+row m side label text = before m side label ++ flat_map (letter (Some m)) text ++ behind m side
 
--- the characters of a header, each behind its name on a page
-abbrev pub name_before : ℕ → List ℕ
-name_before zero = codes "CLA "
-name_before (suc zero) = codes "  INS "
-name_before (suc (suc zero)) = codes "  P1 "
-name_before (suc (suc (suc zero))) = codes "  P2 "
-name_before (suc (suc (suc (suc zero)))) = codes "  P3 "
-name_before (suc (suc (suc (suc (suc n))))) = []
+-- the characters of a header, each after its name on a page
+abbrev pub character_text : List ℕ → List ℕ → ℕ → List ℕ
+character_text name bytes place =
+    if nat_lt place (length bytes) then name ++ encode_upper (get_or bytes place 0 ∷ []) else []
 
-abbrev pub character_text : ℕ → ℕ → List ℕ
-character_text place b = name_before place ++ encode_upper (b ∷ [])
-
-abbrev pub named : ℕ → List ℕ → List ℕ
-named place [] = []
-named place (b ∷ bytes) = character_text place b ++ named (suc place) bytes
+abbrev pub named : List ℕ → List ℕ
+named bytes = character_text (codes "CLA ") bytes 0 ++ character_text (codes "  INS ") bytes 1
+    ++ character_text (codes "  P1 ") bytes 2 ++ character_text (codes "  P2 ") bytes 3
+    ++ character_text (codes "  P3 ") bytes 4 ++ encode_upper (drop 5 bytes)
 
 abbrev pub header_text : Medium → List ℕ → List ℕ
 header_text Text bytes = encode_upper bytes
-header_text Html bytes = named 0 bytes
+header_text Html bytes = named bytes
 
 abbrev pub header_row : Medium → List ℕ → List ℕ
 header_row m bytes = before m Terminal (codes "header") ++ header_text m bytes ++ behind m Terminal
@@ -115,7 +114,7 @@ hidden = codes "**"
 -- digits, and for text the text in quotes beside them
 abbrev pub beside : Bool → List ℕ → List ℕ
 beside false line = []
-beside true line = codes " \"" ++ flat_map encode_utf8 line ++ codes "\""
+beside true line = codes " \"" ++ flat_map (letter None) line ++ codes "\""
 
 abbrev pub content : Bool → List ℕ → List ℕ
 content in_text line = encode_upper line ++ beside in_text line
@@ -132,7 +131,7 @@ is_text bytes = nat_le 3 (length bytes) && are_printable bytes
 abbrev pub AreLines : ℕ → ℕ → Bool → List ℕ → List (List ℕ) → Type 0
 AreLines indent width in_text bytes [] = bytes ≡ []
 AreLines indent width in_text bytes (line ∷ lines) = (0 < length bytes)
-    × (line ≡ replicate indent 32 ++ content in_text (take width bytes))
+    × (line ≡ spaces indent ++ content in_text (take width bytes))
     × AreLines indent width in_text (drop width bytes) lines
 
 -- data as digits, with the text beside them where they are text

@@ -51,11 +51,13 @@ pub fn push_procedure(text: &mut Sheet, tally: Tally) {
     }
 }
 
-/// Adds Le of a command with data.
-pub fn push_most(text: &mut Sheet, le: u8) {
-    let most = count(le);
-    let unit = unit_of(u64::from(most));
-    writeln!(text, "{le:02X} up to {most} {unit}");
+/// Adds Le of a command with data, if it has one.
+pub fn push_most(text: &mut Sheet, le: Option<u8>) {
+    if let Some(le) = le {
+        let most = count(le);
+        let unit = unit_of(u64::from(most));
+        writeln!(text, "{le:02X} up to {most} {unit}");
+    }
 }
 
 /// Adds where a TPDU is cut off: after `n` characters of its header, or after `n` bytes of the data

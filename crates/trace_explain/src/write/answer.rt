@@ -44,7 +44,7 @@ fn kind_of(read: &Result<Atr, AtrFault>) -> Kind {
     match read {
         Ok(_) => Kind::Well,
         Err(fault) if is_short(fault.reason) => Kind::CutOff,
-        Err(_) => Kind::Complaint,
+        Err(_) => Kind::Error,
     }
 }
 

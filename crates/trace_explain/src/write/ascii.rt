@@ -1,11 +1,10 @@
 //! Bytes as lines of hexadecimal digits, with their text beside them if they are printable.
 
-ghost use Rattle.std.specs.Prelude.{◌≡◌, ◌<◌, ◌∷◌, ◌++◌, true, drop, length, take, flat_map, replicate};
-ghost use Rattle.std.specs.Char.{encode_utf8};
+ghost use Rattle.std.specs.Prelude.{◌≡◌, ◌<◌, ◌∷◌, ◌++◌, true, drop, length, take};
 ghost use Rattle.trace_explain.specs.Sheets.{Adds, PutsLines};
-ghost use Rattle.trace_explain.specs.Written.{AreDigits, AreLines, are_printable, beside, content, is_text, width};
+ghost use Rattle.trace_explain.specs.Written.{AreDigits, AreLines, are_printable, beside, content, is_text, spaces, width};
 
-use crate::write::row::push_spaces;
+use crate::write::row::push_letters;
 use crate::write::sheet::Sheet;
 
 /// The least number of bytes that count as text. One pair of bytes in seven is text by chance.
@@ -75,10 +74,10 @@ pub fn push_lines(lines: &mut Sheet, indent: usize, width: usize, is_text: bool,
 
 /// Adds a line.
 fn push_line(lines: &mut Sheet, indent: usize, is_text: bool, line: &[u8])
-    ensures { Adds lines.old (10 ∷ (replicate indent 32 ++ content is_text line.now)) lines.new }
+    ensures { Adds lines.old (10 ∷ (spaces indent ++ content is_text line.now)) lines.new }
 {
     lines.push_str("\n");
-    push_spaces(lines, indent);
+    lines.push_spaces(indent);
     push_content(lines, is_text, line);
 }
 
@@ -117,15 +116,6 @@ fn push_quoted(lines: &mut Sheet, bytes: &[u8])
     ensures { Adds lines.old (beside true bytes.now) lines.new }
 {
     lines.push_str(" \"");
-    push_plain(lines, bytes);
+    push_letters(lines, None, bytes);
     lines.push_str("\"");
-}
-
-/// Adds bytes as text.
-fn push_plain(lines: &mut Sheet, bytes: &[u8])
-    ensures { Adds lines.old (flat_map encode_utf8 bytes.now) lines.new }
-{
-    for &byte in bytes {
-        lines.push(char::from(byte));
-    }
 }

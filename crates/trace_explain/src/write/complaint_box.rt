@@ -56,9 +56,9 @@ pub fn tell_bad_pair(
 /// The head of the box of the protocol error with this number.
 fn head(number: u64, line: u64) -> Head<'static> {
     Head {
-        kind: Kind::Complaint,
+        kind: Kind::Error,
         line,
         status: &[],
-        anchor: Anchor::Complaint(number),
+        anchor: Anchor::Error(number),
     }
 }

@@ -27,7 +27,7 @@ pub struct Counts {
     statuses: BTreeMap<u16, u64>,
     complaints: u64,
     /// The lines of the first protocol errors.
-    complaint_lines: Vec<u64>,
+    error_lines: Vec<u64>,
     /// TPDUs with a status other than `9000`, `61XX` and `6CXX`.
     unwell: u64,
     /// The numbers of the first of these, and their statuses.
@@ -45,7 +45,7 @@ impl Counts {
             unnamed: BTreeMap::new(alloc),
             statuses: BTreeMap::new(alloc),
             complaints: 0,
-            complaint_lines: Vec::new(alloc),
+            error_lines: Vec::new(alloc),
             unwell: 0,
             first_unwell: Vec::new(alloc),
         }
@@ -59,7 +59,7 @@ impl Counts {
     /// Counts a protocol error in this line.
     pub fn complain(&mut self, line: u64) -> Result<(), AllocError> {
         self.complaints = self.complaints.saturating_add(1);
-        push_first(&mut self.complaint_lines, line)
+        push_first(&mut self.error_lines, line)
     }
 
     /// Counts a TPDU.
@@ -110,8 +110,8 @@ impl Counts {
         page.row(Side::Nobody, "protocol");
         clock.push_whole(&mut page.lines);
         page.row(Side::Nobody, "time");
-        page.complaint_links(self.complaint_lines.as_slice(), self.complaints);
-        page.status_links(self.first_unwell.as_slice(), self.unwell);
+        let (lines, unwell) = (self.error_lines.as_slice(), self.first_unwell.as_slice());
+        page.links(lines, self.complaints, unwell, self.unwell);
         page.close_block();
     }
 

@@ -19,7 +19,7 @@ pub fn begin(out: &mut Sheet, head: Head<'_>) {
     match head.anchor {
         Anchor::None => {}
         Anchor::Tpdu(number) => write!(out, " id=\"t{number}\""),
-        Anchor::Complaint(number) => write!(out, " id=\"e{number}\""),
+        Anchor::Error(number) => write!(out, " id=\"e{number}\""),
     }
     if head.kind != Kind::Well {
         out.push_str(" open");
@@ -44,12 +44,12 @@ fn class_of(kind: Kind) -> &'static str {
         Kind::Warning => "warning",
         Kind::Failed => "failed",
         Kind::CutOff => "cut",
-        Kind::Complaint => "error",
+        Kind::Error => "error",
     }
 }
 
 /// Adds links to the first of `all` protocol errors, which are in these lines.
-pub fn complaint_links(out: &mut Sheet, lines: &[u64], all: u64) {
+pub fn error_links(out: &mut Sheet, lines: &[u64], all: u64) {
     if lines.is_empty() {
         return;
     }

@@ -41,7 +41,7 @@ pub enum Kind {
     /// Something that was cut off.
     CutOff,
     /// A protocol error, or an invalid answer to reset.
-    Complaint,
+    Error,
 }
 
 /// The name of a box in links.
@@ -52,7 +52,7 @@ pub enum Anchor {
     /// The TPDU of this number.
     Tpdu(u64),
     /// The protocol error of this number, counted from 1.
-    Complaint(u64),
+    Error(u64),
 }
 
 /// The head of a box, without its title.

@@ -1,13 +1,11 @@
 //! The output: proved rows of TPDUs, joined with words.
 
-ghost use Rattle.std.specs.Prelude.{◌≡◌, ℕ, List, [], true, false, IfErr, OnOk};
+ghost use Rattle.std.specs.Prelude.{◌≡◌, [], true, false, IfErr, OnOk};
 ghost use Rattle.std.specs.String.{string_bytes};
-ghost use Rattle.trace_explain.specs.Sheets.{Adds, HasText, Joins};
-ghost use Rattle.trace_explain.specs.Written.{data_row, row};
+ghost use Rattle.trace_explain.specs.Sheets.{Joins};
 
-use crate::write::layout::{Layout, Side};
+use crate::write::layout::Layout;
 use crate::write::page::Page;
-use crate::write::row::{push_data_row, push_lines_row};
 use crate::write::sheet::Sheet;
 use std::alloc::{AllocError, Global};
 
@@ -30,25 +28,6 @@ impl Output {
             page: Page::new(alloc, layout),
             sheet: Sheet::new(alloc, layout),
         }
-    }
-
-    /// Adds the lines of the page as the row of data, and clears them.
-    pub fn data_row(&mut self, side: Side)
-        ensures { (text : List ℕ) → HasText self.old.page.lines text →
-            Adds self.old.sheet (data_row self.old.sheet.layout.medium side text) self.new.sheet }
-    {
-        push_data_row(&mut self.sheet, side, &self.page.lines);
-        self.page.lines.clear();
-    }
-
-    /// Adds the lines of the page as a row with this label, and clears them.
-    pub fn lines_row(&mut self, side: Side, label: &str)
-        ensures { (text : List ℕ) → HasText self.old.page.lines text →
-            Adds self.old.sheet (row self.old.sheet.layout.medium side label.now text)
-            self.new.sheet }
-    {
-        push_lines_row(&mut self.sheet, side, label, &self.page.lines);
-        self.page.lines.clear();
     }
 
     /// Joins the words to the output.

@@ -3,7 +3,7 @@
 use crate::write::head::HEAD;
 use crate::write::html;
 use crate::write::layout::{Anchor, Head, Kind, Layout, Medium, Side};
-use crate::write::row::{ROW_INDENT, behind, between, push_before};
+use crate::write::row::{ROW_INDENT, between, marks, push_before};
 use crate::write::sheet::Sheet;
 use crate::write::shown::push_line;
 use std::alloc::Global;
@@ -135,7 +135,7 @@ impl Page {
         if self.prints() && !self.lines.is_empty() {
             push_before(&mut self.out, side, label);
             self.push_rest(0);
-            self.out.push_str(behind(self.layout.medium, side));
+            self.out.push_str(marks(self.layout.medium, side).1);
         }
         self.lines.clear();
     }
@@ -162,16 +162,11 @@ impl Page {
         }
     }
 
-    /// Adds links to the first of `all` protocol errors, which are in these lines.
-    pub fn complaint_links(&mut self, lines: &[u64], all: u64) {
+    /// Adds links to the lines of the first of `errors` protocol errors, and to the first of `all`
+    /// TPDUs with a status.
+    pub fn links(&mut self, lines: &[u64], errors: u64, tpdus: &[(u64, u16)], all: u64) {
         if self.marks() {
-            html::complaint_links(&mut self.out, lines, all);
-        }
-    }
-
-    /// Adds links to the first of `all` TPDUs, with their numbers and statuses.
-    pub fn status_links(&mut self, tpdus: &[(u64, u16)], all: u64) {
-        if self.marks() {
+            html::error_links(&mut self.out, lines, errors);
             html::status_links(&mut self.out, tpdus, all);
         }
     }

@@ -1,6 +1,6 @@
 //! Rows, by one table of the text before, between and after the lines of each.
 
-ghost use Rattle.std.specs.Prelude.{◌≡◌, ℕ, List, flat_map, replicate};
+ghost use Rattle.std.specs.Prelude.{◌≡◌, ℕ, List, flat_map};
 ghost use Rattle.trace_explain.specs.Sheets.{Adds, HasText};
 ghost use Rattle.trace_explain.specs.Written.{before, behind, data_row, label_before, label_behind, letter, row};
 
@@ -23,22 +23,23 @@ pub fn push_before(sheet: &mut Sheet, side: Side, label: &str)
     ensures { Adds sheet.old (before sheet.old.layout.medium side label.now) sheet.new }
 {
     let medium = sheet.layout().medium;
-    sheet.push_str(label_before(medium, side));
+    sheet.push_str(marks(medium, side).0);
     sheet.push_str(label);
     push_label_behind(sheet, medium, label.len());
 }
 
-/// The text before a label.
-fn label_before(medium: Medium, side: Side) -> &'static str
-    ensures { result.now ≡ label_before medium side }
+/// The text before the label of a row, and the text after its lines.
+pub fn marks(medium: Medium, side: Side) -> (&'static str, &'static str)
+    ensures before { result.0.now ≡ label_before medium side }
+    ensures behind { result.1.now ≡ behind medium side }
 {
     match (medium, side) {
-        (Medium::Text, Side::Terminal) => "  > ",
-        (Medium::Text, Side::Card) => "  < ",
-        (Medium::Text, Side::Nobody) => "    ",
-        (Medium::Html, Side::Terminal) => "<div class=\"m t\"><b>",
-        (Medium::Html, Side::Card) => "<div class=\"m c\"><b>",
-        (Medium::Html, Side::Nobody) => "<div class=\"m n\"><b>",
+        (Medium::Text, Side::Terminal) => ("  > ", "\n"),
+        (Medium::Text, Side::Card) => ("  < ", "\n"),
+        (Medium::Text, Side::Nobody) => ("    ", "\n"),
+        (Medium::Html, Side::Terminal) => ("<div class=\"m t\"><b>", "</pre><i></i></div>\n"),
+        (Medium::Html, Side::Card) => ("<div class=\"m c\"><b>", "</pre><i></i></div>\n"),
+        (Medium::Html, Side::Nobody) => ("<div class=\"m n\"><b>", "</pre></div>\n"),
     }
 }
 
@@ -47,29 +48,8 @@ fn push_label_behind(sheet: &mut Sheet, medium: Medium, size: usize)
     ensures { Adds sheet.old (label_behind medium size) sheet.new }
 {
     match medium {
-        Medium::Text => push_spaces(sheet, 11usize.saturating_sub(size)),
+        Medium::Text => sheet.push_spaces(11usize.saturating_sub(size)),
         Medium::Html => sheet.push_str("</b><pre>"),
-    }
-}
-
-/// Adds spaces.
-pub fn push_spaces(sheet: &mut Sheet, count: usize)
-    ensures { Adds sheet.old (replicate count 32) sheet.new }
-{
-    for space in 0..count {
-        sheet.push_str(" ");
-    }
-}
-
-/// The end of a row.
-pub fn behind(medium: Medium, side: Side) -> &'static str
-    ensures { result.now ≡ behind medium side }
-{
-    match (medium, side) {
-        (Medium::Text, _) => "\n",
-        (Medium::Html, Side::Terminal) => "</pre><i></i></div>\n",
-        (Medium::Html, Side::Card) => "</pre><i></i></div>\n",
-        (Medium::Html, Side::Nobody) => "</pre></div>\n",
     }
 }
 
@@ -79,12 +59,12 @@ fn push_row(sheet: &mut Sheet, side: Side, label: &str, text: &[u8])
 {
     let medium = sheet.layout().medium;
     push_before(sheet, side, label);
-    push_letters(sheet, medium, text);
-    sheet.push_str(behind(medium, side));
+    push_letters(sheet, Some(medium), text);
+    sheet.push_str(marks(medium, side).1);
 }
 
-/// Adds text without markup.
-fn push_letters(sheet: &mut Sheet, medium: Medium, text: &[u8])
+/// Adds text: plain, or without markup.
+pub fn push_letters(sheet: &mut Sheet, medium: Option<Medium>, text: &[u8])
     ensures { Adds sheet.old (flat_map (letter medium) text.now) sheet.new }
 {
     for &byte in text {
@@ -93,14 +73,14 @@ fn push_letters(sheet: &mut Sheet, medium: Medium, text: &[u8])
 }
 
 /// Adds a byte as text.
-fn push_letter(sheet: &mut Sheet, medium: Medium, byte: u8)
+fn push_letter(sheet: &mut Sheet, medium: Option<Medium>, byte: u8)
     ensures { Adds sheet.old (letter medium byte) sheet.new }
 {
     match (medium, byte) {
-        (Medium::Text, b'\n') => sheet.push_str("\n               "),
-        (Medium::Html, b'<') => sheet.push_str("&lt;"),
-        (Medium::Html, b'>') => sheet.push_str("&gt;"),
-        (Medium::Html, b'&') => sheet.push_str("&amp;"),
+        (Some(Medium::Text), b'\n') => sheet.push_str("\n               "),
+        (Some(Medium::Html), b'<') => sheet.push_str("&lt;"),
+        (Some(Medium::Html), b'>') => sheet.push_str("&gt;"),
+        (Some(Medium::Html), b'&') => sheet.push_str("&amp;"),
         _ => sheet.push(char::from(byte)),
     }
 }

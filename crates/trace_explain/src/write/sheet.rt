@@ -6,6 +6,7 @@ ghost use Rattle.std.specs.Char.{encode_utf8};
 ghost use Rattle.std.specs.Fmt.{decimal};
 ghost use Rattle.hex.specs.Hex.{encode_upper};
 ghost use Rattle.trace_explain.specs.Sheets.{Adds, Joins};
+ghost use Rattle.trace_explain.specs.Written.{spaces};
 
 use crate::write::layout::Layout;
 use std::alloc::{AllocError, Global};
@@ -84,6 +85,16 @@ impl Sheet {
     {
         match hex::encode_upper(self.alloc, bytes) {
             Ok(digits) => self.push_str(digits.as_str()),
+            Err(_) => self.is_cut = true,
+        }
+    }
+
+    /// Adds spaces.
+    pub fn push_spaces(&mut self, count: usize)
+        ensures { Adds self.old (spaces count) self.new }
+    {
+        match " ".repeat(self.alloc, count) {
+            Ok(spaces) => self.push_str(spaces.as_str()),
             Err(_) => self.is_cut = true,
         }
     }

@@ -222,23 +222,13 @@ impl Teller {
             (account_of self.old) (account_of self.new)) }
     {
         if self.keeping.is_on {
-            let kept = self.kept_of(
-                tpdu,
-                links,
-                Output::new(self.alloc, self.output.sheet.layout()),
-            )?;
+            let empty = Output::new(self.alloc, self.output.sheet.layout());
+            let kept = self.kept_of(tpdu, links, empty)?;
             return self.keeping.all.push(kept).map_err(AllocError::from);
         }
-        let began = self.began;
-        tell_box(
-            tpdu,
-            links,
-            began,
-            &self.clock,
-            &self.story,
-            &self.mask,
-            &mut self.output,
-        );
+        let (clock, story, mask) = (&self.clock, &self.story, &self.mask);
+        let output = &mut self.output;
+        tell_box(tpdu, links, self.began, clock, story, mask, output);
         Ok(())
     }
 
@@ -247,15 +237,8 @@ impl Teller {
         requires asker { HasAsker tpdu.now.header.items links }
     {
         let mut output = empty;
-        tell_box(
-            tpdu,
-            links,
-            self.began,
-            &self.clock,
-            &self.story,
-            &self.mask,
-            &mut output,
-        );
+        let (clock, story, mask) = (&self.clock, &self.story, &self.mask);
+        tell_box(tpdu, links, self.began, clock, story, mask, &mut output);
         let text = output.into_text()?;
         let tpdu = tpdu.copied()?;
         Ok(Kept { tpdu, text })

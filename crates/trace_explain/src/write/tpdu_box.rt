@@ -19,7 +19,7 @@ use crate::write::ascii::push_digits;
 use crate::write::layout::{Anchor, Head, Kind, Side};
 use crate::write::output::Output;
 use crate::write::page::Page;
-use crate::write::row::behind;
+use crate::write::row::{marks, push_data_row, push_lines_row};
 use crate::write::sheet::Sheet;
 use crate::write::shown::{push_header, push_line, push_number, push_status};
 use crate::write::tree_row::push_tree;
@@ -104,10 +104,13 @@ fn tell_time(links: Links, clock: &Clock, output: &mut Output)
 {
     clock.push_begin(&mut output.page.lines);
     output.page.row(Side::Nobody, "time");
-    if links.drops_before {
-        output.page.line_row("before", "the chain is dropped\n");
-    }
+    output.page.line_row("before", dropped(links.drops_before));
     output.join();
+}
+
+/// The text of the row of a dropped chain, if it is.
+fn dropped(drops: bool) -> &'static str {
+    if drops { "the chain is dropped\n" } else { "" }
 }
 
 /// Adds the row of the procedure bytes.
@@ -132,15 +135,9 @@ fn tell_data(tpdu: &Tpdu, links: Links, mask: &Mask, output: &mut Output)
         return;
     };
     let may_be_objects = way == Direction::FromCard || may_be_objects(tpdu, links);
-    let side = side_of(way);
-    tell_row(
-        mask.shown(origin),
-        side,
-        may_be_objects,
-        tpdu.moved.as_slice(),
-        mask,
-        output,
-    );
+    let (shown, side) = (mask.shown(origin), side_of(way));
+    let bytes = tpdu.moved.as_slice();
+    tell_row(shown, side, may_be_objects, bytes, mask, output);
 }
 
 /// The end that sends data this way.
@@ -167,7 +164,8 @@ fn tell_row(
 {
     output.page.lines.clear();
     push_shown(&mut output.page.lines, shown, may_be_objects, bytes, mask);
-    output.data_row(side);
+    push_data_row(&mut output.sheet, side, &output.page.lines);
+    output.page.lines.clear();
 }
 
 /// Adds the lines of data, as far as they are shown: as a tree if they may be objects and are some,
@@ -202,27 +200,15 @@ fn push_hidden(lines: &mut Sheet)
 fn tell_answer(tpdu: &Tpdu, links: Links, mask: &Mask, output: &mut Output)
     ensures { Joins output.old.sheet output.new.sheet }
 {
-    if tpdu.way.is_none() {
-        return;
-    }
-    tell_le(tpdu.le, output);
+    phrases::push_most(&mut output.page.lines, tpdu.le);
+    output.page.row(Side::Terminal, "Le");
+    output.join();
     let bytes = tpdu.answer.as_slice();
     if let Some(origin) = Origin::of_answer(tpdu, links)
         && !bytes.is_empty()
     {
         tell_row(mask.shown(origin), Side::Card, true, bytes, mask, output);
     }
-}
-
-/// Adds the row of Le after the data of a command APDU, if there is one.
-fn tell_le(le: Option<u8>, output: &mut Output)
-    ensures { Joins output.old.sheet output.new.sheet }
-{
-    if let Some(le) = le {
-        phrases::push_most(&mut output.page.lines, le);
-        output.page.row(Side::Terminal, "Le");
-    }
-    output.join();
 }
 
 /// Adds the row of the status, or of the cut.
@@ -234,7 +220,7 @@ fn tell_status(outline: &Outline, side: Side, status: &[u8], output: &mut Output
     push_status_words(outline, &mut output.page);
     output.page.push_rest(status.len());
     output.join();
-    output.sheet.push_str(behind(medium, side));
+    output.sheet.push_str(marks(medium, side).1);
 }
 
 /// The end that sends the status: neither if it is cut off.
@@ -261,19 +247,10 @@ fn push_status_words(outline: &Outline, page: &mut Page) {
 fn tell_end(links: Links, origin: Option<Origin>, all: &[u8], mask: &Mask, output: &mut Output)
     ensures { Joins output.old.sheet output.new.sheet }
 {
-    tell_after(links, output);
+    output.page.line_row("after", dropped(links.drops_after));
+    output.join();
     tell_together(links.whole, origin, all, mask, output);
     output.page.close();
-    output.join();
-}
-
-/// Adds the row of a chain that the status drops.
-fn tell_after(links: Links, output: &mut Output)
-    ensures { Joins output.old.sheet output.new.sheet }
-{
-    if links.drops_after {
-        output.page.line_row("after", "the chain is dropped\n");
-    }
     output.join();
 }
 
@@ -302,7 +279,13 @@ fn tell_whole(whole: Whole, shown: Shown, bytes: &[u8], mask: &Mask, output: &mu
     output.page.lines.clear();
     phrases::push_whole(&mut output.page.lines, whole, bytes.len() as u64);
     push_shown(&mut output.page.lines, shown, true, bytes, mask);
-    output.lines_row(Side::Nobody, "together");
+    push_lines_row(
+        &mut output.sheet,
+        Side::Nobody,
+        "together",
+        &output.page.lines,
+    );
+    output.page.lines.clear();
 }
 
 /// Whether the data of the terminal may be objects. They may not if they are a piece of a chain, a

@@ -6,7 +6,6 @@ ghost use Rattle.trace_explain.specs.Trees.{AreTree, IsTree, indent, object, val
 
 use crate::describe::mask::Mask;
 use crate::write::ascii::{cut, is_text, push_content, push_lines};
-use crate::write::row::push_spaces;
 use crate::write::sheet::Sheet;
 use tlv_core::{Objects, Tag};
 
@@ -60,7 +59,7 @@ fn push_object(lines: &mut Sheet, level: u8, tag: Tag)
     ensures { Adds lines.old (10 ∷ object level tag) lines.new }
 {
     lines.push_str("\n");
-    push_spaces(lines, indent(level));
+    lines.push_spaces(indent(level));
     lines.push_hex(tag.bytes());
 }
 

@@ -1,4 +1,4 @@
--- What is added to a sheet, piece after piece.
+-- Pieces that are added to a sheet, one after another.
 use Rattle.std.proofs.Common.{◌≡◌, ℕ, List, [], ◌∷◌, ◌++◌, ◌∙◌, ◌+◌, ◌-◌, ◌<◌, ◌≤◌, length, drop, get_or, take, replicate, flat_map, suc, add-one, arith, ap, append-nil, append_assoc, Bool, refl, subst, sym}
 use Rattle.std.proofs.lemmas.List.{drop_more, length-drop, nil_from_length}
 use Rattle.std.proofs.lemmas.List.Concat.{flat_map-append}
@@ -29,7 +29,7 @@ adds_nothing a = record {
 pub adds_as : (x y : List ℕ) (a b : Sheet) → x ≡ y → Adds a x b → Adds a y b
 adds_as x y a b e h = let P : List ℕ → Type 0 = λ t. Adds a t b in subst P e h
 
--- whatever this is followed by makes all of it complete
+-- the rest completes all of the text
 abbrev pub Completes : Sheet → List ℕ → Sheet → List ℕ → Type 0
 Completes first all now rest = (last : Sheet) → Adds now rest last → Adds first all last
 
@@ -63,7 +63,7 @@ letters_done f line i first now le so_far =
     let Q : List ℕ → Type 0 = λ x. Completes first (flat_map f line) now (flat_map f x) in
     completed first now (flat_map f line) (subst Q (none_left line i le) so_far)
 
--- whatever the lines of the rest are, they complete the lines of all
+-- any lines of the rest complete the lines of all
 abbrev pub LinesGoOn : ℕ → ℕ → Bool → List ℕ → List ℕ → Sheet → Sheet → Type 0
 LinesGoOn indent width in_text bytes rest first now = (left : List (List ℕ))
     → AreLines indent width in_text rest left

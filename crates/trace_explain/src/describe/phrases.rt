@@ -1,7 +1,5 @@
 //! Words for a TPDU and its place among others.
 
-ghost use Rattle.std.specs.Prelude.{◌++◌};
-ghost use Rattle.std.specs.Fmt.{decimal};
 ghost use Rattle.trace_explain.specs.Boxes.{size_words, whole_words};
 ghost use Rattle.trace_explain.specs.Sheets.{Adds};
 
@@ -111,13 +109,6 @@ fn push_size(lines: &mut Sheet, size: u64, count: u64, parts: &str)
 {
     lines.push_number(size);
     lines.push_str(" bytes in ");
-    push_count(lines, count, parts);
-}
-
-/// Adds a number of parts.
-fn push_count(lines: &mut Sheet, count: u64, parts: &str)
-    ensures { Adds lines.old (decimal count ++ parts.now) lines.new }
-{
     lines.push_number(count);
     lines.push_str(parts);
 }

@@ -1,6 +1,6 @@
 //! Bytes as lines of hexadecimal digits, with their text beside them if they are printable.
 
-ghost use Rattle.std.specs.Prelude.{◌≡◌, ◌<◌, ◌∷◌, ◌++◌, true, drop, length, take};
+ghost use Rattle.std.specs.Prelude.{◌≡◌, ◌<◌, ◌∷◌, ◌++◌, drop, length, take};
 ghost use Rattle.trace_explain.specs.Sheets.{Adds, PutsLines};
 ghost use Rattle.trace_explain.specs.Written.{AreDigits, AreLines, are_printable, beside, content, is_text, spaces, width};
 
@@ -107,15 +107,8 @@ fn push_beside(lines: &mut Sheet, is_text: bool, bytes: &[u8])
     ensures { Adds lines.old (beside is_text bytes.now) lines.new }
 {
     if is_text {
-        push_quoted(lines, bytes);
+        lines.push_str(" \"");
+        push_letters(lines, None, bytes);
+        lines.push_str("\"");
     }
-}
-
-/// Adds bytes as text in quotes.
-fn push_quoted(lines: &mut Sheet, bytes: &[u8])
-    ensures { Adds lines.old (beside true bytes.now) lines.new }
-{
-    lines.push_str(" \"");
-    push_letters(lines, None, bytes);
-    lines.push_str("\"");
 }

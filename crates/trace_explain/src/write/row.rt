@@ -2,7 +2,7 @@
 
 ghost use Rattle.std.specs.Prelude.{◌≡◌, ℕ, List, flat_map};
 ghost use Rattle.trace_explain.specs.Sheets.{Adds, HasText};
-ghost use Rattle.trace_explain.specs.Written.{before, behind, data_row, label_before, label_behind, letter, row};
+ghost use Rattle.trace_explain.specs.Written.{before, behind, data_row, label_before, letter, row};
 
 use crate::write::layout::{Medium, Side};
 use crate::write::sheet::Sheet;
@@ -25,7 +25,10 @@ pub fn push_before(sheet: &mut Sheet, side: Side, label: &str)
     let medium = sheet.layout().medium;
     sheet.push_str(marks(medium, side).0);
     sheet.push_str(label);
-    push_label_behind(sheet, medium, label.len());
+    match medium {
+        Medium::Text => sheet.push_spaces(11usize.saturating_sub(label.len())),
+        Medium::Html => sheet.push_str("</b><pre>"),
+    }
 }
 
 /// The text before the label of a row, and the text after its lines.
@@ -40,16 +43,6 @@ pub fn marks(medium: Medium, side: Side) -> (&'static str, &'static str)
         (Medium::Html, Side::Terminal) => ("<div class=\"m t\"><b>", "</pre><i></i></div>\n"),
         (Medium::Html, Side::Card) => ("<div class=\"m c\"><b>", "</pre><i></i></div>\n"),
         (Medium::Html, Side::Nobody) => ("<div class=\"m n\"><b>", "</pre></div>\n"),
-    }
-}
-
-/// Adds the text after a label of this size.
-fn push_label_behind(sheet: &mut Sheet, medium: Medium, size: usize)
-    ensures { Adds sheet.old (label_behind medium size) sheet.new }
-{
-    match medium {
-        Medium::Text => sheet.push_spaces(11usize.saturating_sub(size)),
-        Medium::Html => sheet.push_str("</b><pre>"),
     }
 }
 

@@ -88,16 +88,8 @@ pub fn push_status(sheet: &mut Sheet, side: Side, status: &[u8])
         ++ status_digits status.now) sheet.new }
 {
     push_before(sheet, side, "status");
-    push_digits(sheet, status);
-}
-
-/// Adds the characters of a status, and a space.
-fn push_digits(sheet: &mut Sheet, status: &[u8])
-    ensures { Adds sheet.old (status_digits status.now) sheet.new }
-{
-    if status.is_empty() {
-        return;
+    if !status.is_empty() {
+        sheet.push_hex(status);
+        sheet.push_str(" ");
     }
-    sheet.push_hex(status);
-    sheet.push_str(" ");
 }

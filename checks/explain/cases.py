@@ -37,7 +37,7 @@ STATUS = re.compile(r"  < status     ([0-9A-F]{4} .*)$")
 # A name consists of words in capitals. What SELECT selects may also be in capitals.
 COMMAND = re.compile(r"#\d+ (INS [0-9A-F]{2}|SELECT|part of a header|[A-Z]+(?:[ /][A-Z]+)*)\b")
 TIME = re.compile(r"^    time       (.*)$", re.MULTILINE)
-COMPLAINTS = ("no dialogue that it reads  (", "no exchange that it reads  (")
+PROTOCOL_ERRORS = ("unexpected byte  (", "unexpected command or answer  (")
 BLOCK = "summary"
 HEX = re.compile(r"\b(?:[0-9A-F]{2})+\b")
 ENDS = '<div class="ends"><span>Terminal</span><span>Card</span></div><div>'
@@ -56,7 +56,7 @@ WAYS = ["--to-card", "50,82,A8,AE,E2"]
 TOLD_BY_SIGNS = {
     # the trace begins inside a TPDU
     "a trace that begins within a dialogue with a character that may be TS: none is lost",
-    "what is told before a header is no answer, whatever comes next",
+    "characters before a header are no answer, whatever comes next",
     # after an invalid answer to reset, or after the first characters of PPS
     "a page of answers and an exchange",
     "answers_at_fault",
@@ -66,10 +66,10 @@ TOLD_BY_SIGNS = {
     # the same bytes in the other direction
     "two traces whose data go another way, and of which one is cut off",
     # characters of the card at the place of a header, and a sign without characters
-    "characters of the card behind a reset that begin no answer, in two lines",
+    "characters of the card after a reset that begin no answer, in two lines",
     "no TPDU begins with a sign alone, whose line has a time",
     # notes that consist of digits
-    "digits without a sign are notes behind a line that has one",
+    "digits without a sign are notes after a line that has one",
     "a sign without characters is one, too",
     "a time before a reset, and before a note",
 }
@@ -146,7 +146,7 @@ def block_of(lines, time):
         *row("TPDUs", [f"{commands.total()}{of_them}"]),
         *row("commands", counted(commands, rank) or ["none"]),
         *row("statuses", counted(statuses, str) or ["none other than 9000"]),
-        *row("complaints", [str(sum(line.startswith(COMPLAINTS) for line in lines))]),
+        *row("protocol", [f"errors: {sum(line.startswith(PROTOCOL_ERRORS) for line in lines)}"]),
         *(row("time", [time]) if time else []),
     ]
 
@@ -297,24 +297,24 @@ def link_cases():
         words = ["--html", "--summary"]
         yield Case(f"{count} statuses", lines_of(given), block, words, part="page")
         given = ["> 00CA5F2000", "< 55"] * count
-        links = [f'<a href="#c{it}">line {2 * it}</a>' for it in range(1, 1001)]
-        wanted = f"<p>complaints in {' '.join(links)}{more}</p>"
+        links = [f'<a href="#e{it}">line {2 * it}</a>' for it in range(1, 1001)]
+        wanted = f"<p>protocol errors in {' '.join(links)}{more}</p>"
         block = page_block(count, f" (cut off: {count})", "none other than 9000", count, wanted)
         error = (
-            "line 2, character 1: no dialogue that it reads: a procedure byte or SW1 of the card "
-            f"was due, and 55 of the card came (complaints: {count})\n"
+            "line 2, character 1: unexpected byte: the card sent 55 in place of a procedure byte "
+            f"or SW1 of the card (protocol errors: {count})\n"
         )
         words = ["--html", "--summary", "--resume"]
-        yield Case(f"{count} complaints", lines_of(given), block, words, error, part="page")
+        yield Case(f"{count} protocol errors", lines_of(given), block, words, error, part="page")
 
 
-def page_block(count, cut_off, statuses, complaints, links):
+def page_block(count, cut_off, statuses, errors, links):
     """The last block of a page with `count` GET DATA."""
     rows = {
         "TPDUs": f"{count}{cut_off}",
         "commands": f"GET DATA: {count}",
         "statuses": statuses,
-        "complaints": complaints,
+        "protocol": f"errors: {errors}",
     }
     told = [f'<div class="m n"><b>{it}</b><pre>{rows[it]}</pre></div>' for it in rows]
     return ["</div><section><h2>summary</h2>", *told, links, "</section>"]

@@ -34,7 +34,7 @@ def behind_tpdus():
     response, response_told = response_of(2, "41", 303, 609)
     given = ["> 00CA5F2000", "< 6A88"] * 300 + chain + response + ["< 55"]
     titles = [f"#{it} GET DATA of 5F20  (line {2 * it - 1})" for it in range(1, 301)]
-    wanted = titles + chain_told + response_told + complaint(613, 1, HEADER_DUE)
+    wanted = titles + chain_told + response_told + protocol_error(613, 1, HEADER_DUE)
     return "behind 300 TPDUs", [], given, wanted, error(613, 1, HEADER_DUE)
 
 
@@ -43,7 +43,7 @@ def behind_nulls(count):
     given = ["> 00CA5F2000", "< " + "60" * count + "55"]
     wanted = ["#1 GET DATA of 5F20  (line 1)", "  > header     00CA5F2000"]
     wanted += [f"  < procedure  {count} NULLs", "    status     cut off"]
-    wanted += complaint(2, count + 1, PROCEDURE_DUE)
+    wanted += protocol_error(2, count + 1, PROCEDURE_DUE)
     return "behind NULLs", [], given, wanted, error(2, count + 1, PROCEDURE_DUE)
 
 
@@ -58,10 +58,10 @@ def behind_notes():
 def passed_over(count):
     """An unexpected byte, and `count` lines that are skipped after it."""
     given = ["> 00CA5F2000", "< 55", *["< 90"] * count, "> 00CA5F2000", "< 6A88"]
-    wanted = ["#1 GET DATA of 5F20  (line 1)", *complaint(2, 1, PROCEDURE_DUE)]
-    wanted += [f"| passed over: line 2 from character 1, to line {count + 2}"]
+    wanted = ["#1 GET DATA of 5F20  (line 1)", *protocol_error(2, 1, PROCEDURE_DUE)]
+    wanted += [f"| skipped: line 2 from character 1, to line {count + 2}"]
     wanted += [f"#2 GET DATA of 5F20  (line {count + 3})"]
-    told = error(2, 1, PROCEDURE_DUE).replace("\n", " (complaints: 1)\n")
+    told = error(2, 1, PROCEDURE_DUE).replace("\n", " (protocol errors: 1)\n")
     return "many lines passed over", ["--resume"], given, wanted, told
 
 
@@ -109,17 +109,17 @@ def together(digits, shares):
     return [head, *(" " * 15 + line for line in lines)]
 
 
-def complaint(line, character, due):
+def protocol_error(line, character, due):
     """The box of a protocol error at byte 55 of the card."""
     return [
-        f"no dialogue that it reads  (line {line})",
+        f"unexpected byte  (line {line})",
         f"    place      line {line}, character {character}",
-        f"    due        {due}",
-        "    came       55 of the card",
+        f"    expected   {due}",
+        "    received   55 from the card",
     ]
 
 
 def error(line, character, due):
     """The line on standard error for it."""
     place = f"line {line}, character {character}"
-    return f"{place}: no dialogue that it reads: {due} was due, and 55 of the card came\n"
+    return f"{place}: unexpected byte: the card sent 55 in place of {due}\n"

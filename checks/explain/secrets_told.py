@@ -45,7 +45,7 @@ def of_reference_data():
         yield "cut off", ["> 0020008008", "< 20", f"> {front}", "reset"]
         wrong = len(front) // 2
         yield "more than P3", [f"> 00200080{wrong:02X}", "< 20", f"> {front}", f"> {rest}"]
-        yield "behind a complaint", ["> 0020008008", "< 55", f"> {front}", f"> {rest}", "< 9000"]
+        yield "unexpected byte", ["> 0020008008", "< 55", f"> {front}", f"> {rest}", "< 9000"]
         yield "no procedure byte", [f"> 00200080{wrong:02X}", f"> {front}", f"> {rest}", "< 9000"]
     yield "a note", [*brought("00CA5F20", "41"), f"the pin is {DIGITS}"]
     yield "a note in words", [f"the pin is {SECRET[:5].decode()}", *brought("00CA5F20", "41")]

@@ -92,8 +92,9 @@ extern "C" {
 enum {
     GT_OK = 0,              /* success; of a turn (.._next, .._turn): the end listens */
     GT_SENDS = 1,           /* of a turn: a character to send; of .._send_bytes: the buffer is
-                             * full */
-    GT_DONE = 2,            /* of an exchange's turn: it has ended, and has an answer */
+                             * full; at T=1: the received block is whole, or dropped */
+    GT_DONE = 2,            /* of an exchange's turn: it has ended, and has an answer; at T=1:
+                             * there is no block to send */
 
     GT_NULL = -1,           /* a pointer is NULL */
     GT_EMPTY = -2,          /* the handle holds nothing */
@@ -104,7 +105,8 @@ enum {
                              * gt_objects, which fills it as far as it goes */
     GT_BUSY = -7,           /* a chain is pending at the card */
     GT_NOT_FOUND = -8,      /* what was asked for is not there */
-    GT_FAILED = -9,         /* of an exchange's turn: it has failed for good */
+    GT_FAILED = -9,         /* of an exchange's turn: it has failed for good; at T=1: the end
+                             * gave up */
     GT_PLANS = -10,         /* GT_PLANS_LIMIT plans wait already */
 
     /* of a card under construction */
@@ -121,7 +123,7 @@ enum {
     GT_BAD_PROCEDURE = -31, /* unexpected byte: neither a procedure byte nor a first status byte */
     GT_TOO_LONG = -32,      /* the response exceeds its limit: 16,384 bytes, or fewer */
     GT_STALLED = -33,       /* a GET RESPONSE brought nothing, and the card announces more */
-    GT_AFTER_END = -34,     /* the exchange has ended, or has failed */
+    GT_AFTER_END = -34,     /* the exchange has ended or failed, or no operation has started */
 
     /* of objects */
     GT_TAG_CUT = -40,       /* the list ends inside a tag */
@@ -900,8 +902,8 @@ GT_MUST_CHECK int32_t gt_terminal_new_within(gt_terminal *t, size_t limit) {
     return galliumtoad_terminal_new_within(t, limit);
 }
 
-/* Drops the operation that has started, if any, at any point of it, and frees the memory kept for
- * the next. The card does not notice: reset it too. Returns GT_OK. */
+/* Drops the last operation, at any point of it, and its answer. Frees the memory kept for the next.
+ * The limit stays. The card does not notice: reset it too. Returns GT_OK. */
 GT_FUNCTION int32_t gt_terminal_reset(gt_terminal *t) {
     if (!t) return GT_NULL;
     return galliumtoad_terminal_reset(t);
@@ -1652,8 +1654,8 @@ GT_MUST_CHECK int32_t gt_session_heard(gt_session *s, gt_character *line, size_t
     return galliumtoad_session_heard(s, line ? line : &none, room, count);
 }
 
-/* Resets the card: nothing is selected, and a pending chain is dropped. Data objects, plans and the
- * last answer stay. Returns GT_OK. */
+/* Resets the card: nothing is selected or pending. Data objects, plans, the last answer and the
+ * noted characters stay, and noting continues. Returns GT_OK. */
 GT_FUNCTION int32_t gt_session_reset(gt_session *s) {
     if (!s) return GT_NULL;
     return galliumtoad_session_reset(s);

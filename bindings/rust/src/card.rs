@@ -185,7 +185,8 @@ impl Card {
         turn(&self.0 .0, raw::galliumtoad_card_turn)
     }
 
-    /// Resets the card: nothing is selected or pending, and its objects stay.
+    /// Resets the card, at any time: a TPDU in progress is dropped, and nothing is selected or
+    /// pending. Data objects and plans stay.
     ///
     /// # Errors
     ///
@@ -195,10 +196,14 @@ impl Card {
         done(unsafe { raw::galliumtoad_card_reset(self.0 .0.at()) })
     }
 
-    /// Plans how the card answers one more of the TPDUs to come, in turn. `steps` are letters, in
-    /// any order and number, carried out from left to right: `n` a NULL, `o` one data byte, `a` all
-    /// that are left. After the last letter all that are left move. `61XX` announces at most `cut`
-    /// bytes, 1 to 256 (as `6100`); it shows only if a response waits.
+    /// Plans how the card answers one more of the TPDUs to come, in turn.
+    ///
+    /// `steps` are letters, in any order and number, carried out from left to right: `n` a NULL,
+    /// `o` one data byte, `a` all that are left. If none are left, `o` and `a` are skipped; `n` is
+    /// not. After the last letter all that are left move.
+    ///
+    /// `cut`, 1 to 256, is the most bytes that `61XX` announces (256 as `6100`). It shows only if a
+    /// response waits. Without a plan the card answers as with `""` and 256.
     ///
     /// # Errors
     ///

@@ -89,7 +89,8 @@ impl CardT1 {
         Ok((code != raw::DONE).then_some(count))
     }
 
-    /// Resets the card and its end: nothing is selected or pending, and its objects stay.
+    /// Resets the card, at any time, and begins T=1 again. A block or command in progress is
+    /// dropped, and nothing is selected or pending. Data objects and plans stay; T=1 uses no plans.
     ///
     /// # Errors
     ///

@@ -78,9 +78,12 @@ impl Pps {
         (code == raw::OK).then(|| bytes[..n].to_vec())
     }
 
-    /// Whether a card's response accepts this request (9.3): it names the same protocol, and each
-    /// of PPS1 to PPS3 is as requested or absent. The card accepts all except an absent one. If it
-    /// refuses, reset the card or give it up.
+    /// Returns whether a card's response accepts this request (9.3). It does if it names the same
+    /// protocol, and each of PPS1 to PPS3 is as requested or absent. If it does not, reset the card
+    /// or give it up.
+    ///
+    /// The card does not accept an absent one: without PPS1, Fi is 372 and Di 1. It has accepted
+    /// all that was requested if the response equals [`request`](Pps::request).
     ///
     /// # Errors
     ///

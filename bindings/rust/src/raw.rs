@@ -48,6 +48,7 @@ impl Handle {
     }
 }
 
+/// `gt_object` of the header.
 #[repr(C)]
 #[derive(Clone, Copy, Debug, Default)]
 pub struct Object {
@@ -60,6 +61,7 @@ pub struct Object {
     pub length: usize,
 }
 
+/// `gt_atr` of the header.
 #[repr(C)]
 #[derive(Clone, Copy, Debug, Default)]
 pub struct Atr {
@@ -90,6 +92,7 @@ pub struct Atr {
     pub t1: AtrT1,
 }
 
+/// `gt_atr_t1` of the header.
 #[repr(C)]
 #[derive(Clone, Copy, Debug, Default)]
 pub struct AtrT1 {
@@ -103,6 +106,7 @@ pub struct AtrT1 {
     pub bwt_cycles: u64,
 }
 
+/// `gt_character` of the header.
 #[repr(C)]
 #[derive(Clone, Copy, Debug, Default)]
 pub struct Character {
@@ -110,19 +114,31 @@ pub struct Character {
     pub byte: u8,
 }
 
+/// `GT_OK`: success; of a turn: the end listens.
 pub const OK: i32 = 0;
+/// `GT_SENDS`: a character to send, or the buffer is full. At T=1: the received block is whole.
 pub const SENDS: i32 = 1;
+/// `GT_DONE`: the exchange has ended, and has an answer. At T=1: there is no block to send.
 pub const DONE: i32 = 2;
+/// `GT_ARGUMENT`: an argument is out of its range.
 pub const ARGUMENT: i32 = -5;
+/// `GT_BUFFER`: too little room for the output.
 pub const BUFFER: i32 = -6;
+/// `GT_NOT_FOUND`: what was asked for is not there.
 pub const NOT_FOUND: i32 = -8;
 
+/// `GT_TERMINAL`: the terminal sent the character. Any other number means the card.
 pub const TERMINAL: u8 = 0;
 
+/// `GT_LRC`: the check of a block has one byte.
 pub const LRC: u8 = 1;
+/// `GT_CRC`: the check of a block has two bytes.
 pub const CRC: u8 = 2;
 
+/// `GT_NOT_CARRIED_OUT`: the card has not carried out the command.
 pub const NOT_CARRIED_OUT: i32 = 0;
+/// `GT_IN_PART`: the card has carried out the command, and sent a part of its response. Any third
+/// number means that it is unknown whether it has.
 pub const IN_PART: i32 = 2;
 
 /// Declares functions of the archive.

@@ -210,7 +210,8 @@ impl Session {
         }
     }
 
-    /// Resets the card: nothing is selected or pending, and its objects stay.
+    /// Resets the card: nothing is selected or pending. Data objects, plans, the last answer and
+    /// the noted characters stay, and noting continues.
     ///
     /// # Errors
     ///

@@ -255,7 +255,8 @@ impl T1 {
         Some(T1Fault { cause, outcome })
     }
 
-    /// Makes the end as it was after [`new`](T1::new), when the card was reset.
+    /// Makes the end as it was after [`new`](T1::new), at any time, when the card was reset. It
+    /// drops the command in progress, the last response and the fault.
     ///
     /// # Errors
     ///

@@ -143,7 +143,8 @@ impl Terminal {
         done(unsafe { raw::galliumtoad_terminal_take(self.0.at(), byte) })
     }
 
-    /// The next whole TPDU, if none of its characters was sent.
+    /// The next whole TPDU, if none of its characters was sent. It is `None` too if no operation
+    /// has begun, or if the operation has ended or has failed.
     #[must_use]
     pub fn tpdu(&self) -> Option<Tpdu> {
         whole::tpdu(&self.0, raw::galliumtoad_terminal_tpdu)
@@ -208,8 +209,8 @@ impl Terminal {
         exchange::answer_into(&self.0, raw::galliumtoad_terminal_answer, room)
     }
 
-    /// Drops the operation that is in progress, and wipes and frees the memory that was kept for
-    /// the next, which may begin. Reset the card too.
+    /// Drops the last operation, at any point of it, and its answer. Wipes and frees the memory
+    /// that was kept for the next operation, which may begin. The limit stays. Reset the card too.
     ///
     /// # Errors
     ///

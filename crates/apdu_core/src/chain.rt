@@ -85,7 +85,7 @@ impl<A: Allocator> Chain<A> {
         self.pending.is_some()
     }
 
-    /// The number of bytes in the chain.
+    /// The number of bytes in the chain, 0 if none is pending.
     pub fn len(&self) -> usize
         ensures value { result ≡ length self.now.bytes }
         ensures chain { IsChain self.now }
@@ -117,8 +117,9 @@ impl<A: Allocator> Chain<A> {
         self.pending.is_none_or(|first| header.as_last() == first)
     }
 
-    /// Appends the data of a command. The chain is pending afterwards, also if the command was the
-    /// last of its chain: the caller ends it by `drop_all`.
+    /// Appends the data of a command, whose header `accepts` must take. An idle chain begins with
+    /// it. The chain is pending afterwards, also if the command was the last of its chain: the
+    /// caller ends it by `drop_all`.
     ///
     /// # Errors
     ///
@@ -139,8 +140,8 @@ impl<A: Allocator> Chain<A> {
         Ok(())
     }
 
-    /// Keeps the first `len` bytes, at most `len()`, and overwrites the others with zeros. A
-    /// pending chain stays pending.
+    /// Keeps the first `len` bytes, and overwrites the others with zeros. `len` must be at most
+    /// `len()`. A pending chain stays pending.
     pub fn keep_first(&mut self, len: usize)
         requires { len ≤ length self.old.bytes }
         ensures { self.new ≡ record self.old { bytes = take len self.old.bytes } }

@@ -40,8 +40,8 @@ impl fmt::Display for ApduFault {
 
 impl Error for ApduFault {}
 
-/// A command APDU of one of the four cases (ISO/IEC 7816-4, 5.1). Extended lengths are not
-/// supported.
+/// A command APDU of one of the four cases (ISO/IEC 7816-4, 5.1): neither data nor Le; Le; data;
+/// both. INS is not `6X` or `9X`. Extended lengths are not supported.
 #[derive(Debug, Drop)]
 pub struct Command<'a> {
     header: Header,
@@ -158,7 +158,7 @@ impl<'a> Command<'a> {
         self.le
     }
 
-    /// Appends the bytes of the command to `out`.
+    /// Appends the bytes of the command to `out`, 4 to 261. Le 256 is written as `00`.
     ///
     /// # Errors
     ///

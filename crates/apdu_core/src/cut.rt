@@ -11,9 +11,9 @@ pub use iter::Pieces;
 /// Returns the commands that carry `value` in a chain (ISO/IEC 7816-4, 5.1.1.1). Bit 5 of CLA is
 /// set in each command except the last.
 ///
-/// `header` is the header of the last command: its INS is valid, and bit 5 of its CLA is clear.
-/// Each command except the last carries 255 bytes, the last 1 to 255 (profile). An empty value
-/// makes one command without data.
+/// `header` is the header of the last command: its INS must be valid (`Header::ins_is_valid`), and
+/// bit 5 of its CLA clear. Each command except the last carries 255 bytes, the last 1 to 255
+/// (profile). An empty value makes one command without data. No command has an Le.
 pub fn pieces(header: Header, value: &[u8]) -> Pieces<'_>
     requires valid_ins { ins_is_valid header.ins ≡ true }
     requires last { IsLast header }

@@ -8,7 +8,8 @@ ghost use Rattle.apdu_core.specs.CommandBytes.{Command, HasSizes, command_bytes}
 ghost use Rattle.apdu_core.specs.Chaining.{IsPieces, IsLast, chain_commands, ChainState, idle};
 ghost use Rattle.apdu_core.specs.Laws.{MoreInAllButLast, IsLink, AreAdded};
 
-/// The same bytes are never those of two commands, whatever their INS.
+/// The same bytes are never those of two commands, whatever their INS. The data must be at most 255
+/// bytes, and Le 1 to 256.
 pub fn bytes_are_of_one_command()
     ensures { (c d : Command) → HasSizes c.content c.le → HasSizes d.content d.le →
         command_bytes c ≡ command_bytes d → c ≡ d }
@@ -23,8 +24,9 @@ pub fn a_value_has_its_pieces()
         IsPieces value p → concat p ≡ value }
 {}
 
-/// The commands of a chain carry the value. Bit 5 of CLA is set in all except the last. Each is a
-/// command without Le, whose header is the chain's apart from that bit.
+/// The commands of a chain carry the value. If bit 5 of CLA is clear in the chain's header, it is
+/// set in all commands except the last. If INS is valid too, each is a command without Le, whose
+/// header is the chain's apart from that bit.
 pub fn the_commands_of_a_chain()
     ensures concatenate { (header : Header) (value : List ℕ) (p : List (List ℕ)) →
         IsPieces value p → concat (map (λ c. c.content) (chain_commands header p)) ≡ value }
@@ -36,7 +38,7 @@ pub fn the_commands_of_a_chain()
 {}
 
 /// An idle chain accepts all commands of a value, in turn, exactly if the value keeps to the limit.
-/// It then holds that value, and is pending.
+/// It then holds that value, and is pending. Bit 5 of CLA must be clear in the chain's header.
 pub fn a_chain_gathers_the_value()
     ensures { (header : Header) (value : List ℕ) (p : List (List ℕ)) (limit : ℕ)
         (after : ChainState) → IsPieces value p → IsLast header → header.cla < 256 →

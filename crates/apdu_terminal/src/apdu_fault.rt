@@ -9,10 +9,11 @@ pub enum ApduFault {
     OutOfMemory,
     /// A TPDU is in progress at the card's end. Nothing changes.
     UnderWay,
-    /// The card did not finish a TPDU, because the command is not agreed with it. It is reset.
+    /// The card did not finish a TPDU, because the command is not agreed with it. The TPDUs before
+    /// it are carried out, and then the card is reset.
     Tpdu(TpduFault),
-    /// A GET RESPONSE brought no data, and the card announces more. The TPDUs so far are carried
-    /// out.
+    /// `Stalled`: a GET RESPONSE brought no data, and the card announces more. The TPDUs so far are
+    /// carried out.
     Response(AnswerFault),
 }
 

@@ -20,19 +20,19 @@ use card_terminal::Wanted;
 use std::alloc::Allocator;
 use t0_core::{CardEnd, Gather, Plan, Plans, TpduCard, TpduFault};
 
-/// Carries out a whole command at a card's end, by TPDUs (profile). The first is the command
-/// itself, in case 4 without its Le. After `6CXX` a TPDU of case 2 is sent once more with that
-/// count. After `61XX` GET RESPONSE fetches as much as Le asks for, 256 bytes for `00`. The
-/// rest stays pending, and the status announces it. The returned exchange has ended: it holds the
-/// data and the status.
+/// Carries out a whole command at a card's end, by TPDUs under cuts of 256 (profile). The first is
+/// the command itself, in case 4 without its Le. After `6CXX` a TPDU of case 2 is sent once more
+/// with that count. After `61XX` GET RESPONSE fetches as much as Le asks for, 256 bytes for `00`,
+/// and nothing without Le. The rest stays pending, and the status announces it. The returned
+/// exchange has ended: it holds the data and the status.
 ///
 /// # Errors
 /// - `UnderWay`: a TPDU is in progress at the card's end. Nothing changes.
 /// - `OutOfMemory`: memory for the response ran out. Nothing changes.
-/// - `Tpdu`: the card did not finish a TPDU, because the command is not agreed with it. The card is
-///   reset.
-/// - `Response`: a GET RESPONSE brought no data, and the card announces more. The TPDUs so far are
-///   carried out.
+/// - `Tpdu`: the card did not finish a TPDU, because the command is not agreed with it. The TPDUs
+///   before it are carried out, and then the card is reset.
+/// - `Response` of `Stalled`: a GET RESPONSE brought no data, and the card announces more. The
+///   TPDUs so far are carried out.
 pub fn apdu<'c, C: TpduCard, A: Allocator + Copy>(
     alloc: A,
     end: &mut CardEnd<C>,

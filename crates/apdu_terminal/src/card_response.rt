@@ -19,7 +19,8 @@ use t0_core::{CardEnd, Gather};
 
 /// Answers a whole command, as a card of data objects does (profile). A command that is not agreed
 /// with the card (`object_card::is_agreed`) gets `6700` before any other refusal. Then nothing
-/// changes: a chain or a response stays pending. `apdu` carries out every other command.
+/// changes: a chain or a response stays pending. `apdu` carries out every other command. The
+/// returned exchange has ended: it holds the data and the status.
 ///
 /// # Errors
 /// - `UnderWay`: a TPDU is in progress at the card's end. Nothing changes.

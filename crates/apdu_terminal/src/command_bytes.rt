@@ -8,7 +8,8 @@ use apdu_core::{Command, Header};
 pub const COMMAND_LIMIT: usize = 261;
 
 /// Writes the command's bytes to the front of `out`, and returns their number, 4 to
-/// `COMMAND_LIMIT`. If `out` is too short, returns `None` and changes nothing.
+/// `COMMAND_LIMIT`. The rest of `out` stays. If `out` is too short, returns `None` and changes
+/// nothing.
 pub fn write_command(command: &Command<'_>, out: &mut [u8]) -> Option<usize>
     ensures { let bytes = command_bytes command.now in MatchOption result
         ((length out.old < length bytes) × (out.new ≡ out.old))

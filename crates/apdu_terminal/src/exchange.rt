@@ -22,10 +22,11 @@ use std::marker::Model;
 use t0_core::{AnswerFault, Gather};
 
 /// The terminal's side of one command. The command is sent first. After `6CXX` a command of case 2
-/// is sent once more with that count. After `61XX` GET RESPONSE follows, while more is wanted.
+/// is sent once more with that count, if it is not above what is still wanted (profile). After
+/// `61XX` GET RESPONSE follows, while more is wanted.
 ///
 /// Send what `apdu` returns, and give `responded` the response, until `apdu` is `None`. Then
-/// `answer` returns the status and the data.
+/// `answer` returns the status and the data, or `None` if the exchange has failed.
 #[derive(Drop)]
 pub struct ApduExchange<'a, A: Allocator = Global> {
     content: &'a [u8],
@@ -63,7 +64,9 @@ impl<'a, A: Allocator> Model for ApduExchange<'a, A> {
 
 impl<'a, A: Allocator> ApduExchange<'a, A> {
     /// Starts the exchange of a command, with room for `RESPONSE_LIMIT` bytes of the response.
-    /// Returns `AllocError` if memory ran out.
+    ///
+    /// # Errors
+    /// - `AllocError`: memory ran out. Nothing has begun.
     pub fn start(alloc: A, command: Command<'a>) -> Result<ApduExchange<'a, A>, AllocError>
         ensures led { IfOk result
             (λ ex. ComesTo command.entry (wanted_by command.entry.le) [] ex) }
@@ -73,7 +76,8 @@ impl<'a, A: Allocator> ApduExchange<'a, A> {
         ApduExchange::wanting(alloc, command, wanted, RESPONSE_LIMIT)
     }
 
-    /// Starts the exchange of a command, with room for `limit` bytes of the response (profile).
+    /// Starts the exchange of a command, with room for `limit` bytes of the response, 0 to
+    /// `RESPONSE_LIMIT` (profile). More data are a fault, `TooLong`.
     ///
     /// # Errors
     /// - `OverLimit`: the limit is above `RESPONSE_LIMIT`. Nothing has begun.
@@ -242,7 +246,7 @@ impl<'a, A: Allocator> ApduExchange<'a, A> {
         }
     }
 
-    /// Returns the last status, or `None` if the exchange has not ended.
+    /// Returns the last status, or `None` if the exchange is in progress or has failed.
     pub fn status(&self) -> Option<Status>
         ensures { (status : StatusWord) → (result ≡ Some status)
             ↔ (self.now.stage ≡ stage.Done status) }
@@ -260,7 +264,8 @@ impl<'a, A: Allocator> ApduExchange<'a, A> {
         self.gather.bytes()
     }
 
-    /// Returns the status and all data, or `None` if the exchange has not ended.
+    /// Returns the last status and all data, or `None` if the exchange is in progress or has
+    /// failed.
     pub fn answer(&self) -> Option<(Status, &[u8])>
         ensures done { answer_of self.now ≡ option_map (λ a. (a.0, a.1.now)) result }
         ensures led { (c : spec.Command) (wanted : Wanted) (pairs : List Pair)

@@ -13,8 +13,8 @@ ghost use Rattle.object_card.specs.State.{CardState, is_idle};
 ghost use Rattle.object_card.specs.OneStep.{Operation, Reply, Answers, AnswersAll, SameTables};
 ghost use Rattle.object_card.specs.CardMeaning.{Does};
 
-/// The pairs settle the next command. If the pairs so far begin a whole exchange, and there is room
-/// for its data, the exchange's next command is that one's.
+/// The pairs settle the next command. Take a whole exchange that begins with the pairs so far and
+/// is longer, and whose data fit the room. The exchange's next command is that one's.
 pub fn the_next_command_is_settled()
     ensures { (c : Command) (wanted : Wanted) (came rest : List Pair) (p : Pair)
         (ex : ApduExchangeOf) (gathered : List ℕ) (status : StatusWord) →
@@ -41,7 +41,7 @@ pub fn an_exchange_holds_what_came()
         × (StallsAt c wanted pairs ⊎ IsTooLong c wanted pairs ex.gather.limit)) }
 {}
 
-/// An exchange that brings r bytes takes at most 2(r + 2) commands.
+/// A whole exchange that brings r bytes takes at most 2(r + 2) commands.
 pub fn an_exchange_has_few_commands()
     ensures { (c : Command) (wanted : Wanted) (pairs : List Pair) (gathered : List ℕ)
         (status : StatusWord) → Brings c wanted pairs gathered status →
@@ -61,7 +61,7 @@ pub fn an_operation_by_whole_commands_is_one_step()
 {}
 
 /// Operations by whole commands, one after another, have the answers of the card that carries out
-/// each in one step, and leave its tables.
+/// each in one step, and leave its tables. No chain is pending before, and none afterwards.
 pub fn operations_by_whole_commands_are_single_steps()
     ensures { (old new : CardState) (operations : List Operation)
         (talks : List (List (List Pair))) (replies : List Reply) → is_idle old.pending ≡ true
@@ -70,7 +70,7 @@ pub fn operations_by_whole_commands_are_single_steps()
         AnswersAll old operations replies new × (is_idle new.pending ≡ true) }
 {}
 
-/// No exchange with a card of data objects stalls: each GET RESPONSE brings data.
+/// No exchange with a card of data objects stalls: each GET RESPONSE that fetches brings data.
 pub fn no_exchange_of_commands_stalls()
     ensures { (c : Command) (wanted : Wanted) (pairs : List Pair) (old new : CardState) →
         StallsAt c wanted pairs → RespondsToAll Does old pairs new → ⊥ }

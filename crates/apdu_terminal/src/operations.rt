@@ -23,11 +23,13 @@ use std::alloc::{AllocError, Allocator};
 use t0_core::{CardEnd, Gather};
 
 /// Carries out the operations, one after another, by whole commands, and appends the answer of each
-/// to `out`.
+/// to `out`, whatever its status. Before it, no chain may be pending at the card
+/// (`DataCard::is_idle`) and no TPDU in progress (`CardEnd::is_at_rest`). The same holds
+/// afterwards.
 ///
 /// # Errors
 /// - `AllocError`: memory ran out before an operation, which has not begun. The operations before
-///   it are carried out, `out` holds their answers, and no chain is pending.
+///   it are carried out, and `out` holds their answers.
 pub fn run<C: DataCard, A: Allocator + Copy, V: Allocator>(
     alloc: A,
     end: &mut CardEnd<C>,
@@ -95,7 +97,7 @@ fn carry_out<C: DataCard, A: Allocator + Copy, V: Allocator>(
     Ok(())
 }
 
-/// Begins an operation at a terminal that has begun no operation.
+/// Begins an operation at a terminal. It must have begun none since `new` or `reset`.
 ///
 /// # Errors
 /// - `AllocError`: memory ran out. No operation has begun.

@@ -20,9 +20,13 @@ ghost use Rattle.apdu_terminal.specs.declared.stage.Stage.TheVariants.{Failed};
 
 use object_card::DataCard;
 
-/// How far an operation is carried out if it stops before one of its commands, or after it. Only
-/// the last piece of a put stores the value. Only GET RESPONSE follows a command that carries out
-/// the operation.
+/// How far an operation with a card of data objects is carried out if it stops. No chain is pending
+/// before its first command.
+///
+/// - Before a GET RESPONSE the operation is carried out. Before every other of its commands no
+///   table has changed.
+/// - After a command with CLA `10`, a piece of a put that is not the last, no table has changed.
+///   After every other of its commands the operation is carried out.
 pub fn an_operation_that_stops()
     ensures before { (old new : CardState) (operation : Operation) (pairs : List Pair)
         (due : Command) → is_idle old.pending ≡ true → IsUnderWay operation pairs due →
@@ -39,7 +43,8 @@ pub fn a_due_command_is_agreed()
         IsUnderWay operation pairs due → IsAgreed MayReceive MaySend due }
 {}
 
-/// No operation with a card of data objects fails: the terminal takes each response of the card.
+/// No operation with a sound card of data objects fails: the terminal takes each response of the
+/// card. Its limit is the largest, `RESPONSE_LIMIT`. The card stays sound.
 pub fn a_card_of_data_objects_is_taken()
     ensures taken { (old mid new : CardState) (commands : List Command) (pairs : List Pair)
         (o : ApduOperationOf) (due : Command) (content : List ℕ) (status : StatusWord)

@@ -23,8 +23,8 @@ use tlv_core::ObjectTag;
 ///
 /// `select`, `get`, `put` and `send` begin an operation, and take all its memory. Send what `apdu`
 /// returns, and give `responded` the response, until `apdu` is `None`. Then `answer` returns the
-/// status and the data. The next operation may begin after this one has ended or failed, or after
-/// `reset` has dropped it.
+/// status and the data, or `None` if the operation has failed. The next operation may begin after
+/// this one has ended or failed, or after `reset` has dropped it.
 ///
 /// The next operation uses the same memory. Sent and received bytes, secrets included, stay there
 /// until they are overwritten, or until `reset` or a drop frees the memory.
@@ -58,7 +58,7 @@ impl<A: Allocator + Copy> ApduTerminal<A> {
     }
 
     /// Returns a terminal for responses of up to `limit` bytes, 0 to `RESPONSE_LIMIT` (profile).
-    /// This takes no memory.
+    /// More data are a fault, `TooLong`. This takes no memory.
     ///
     /// # Errors
     /// - `OverLimit`: the limit is above `RESPONSE_LIMIT`. There is no terminal.
@@ -76,11 +76,12 @@ impl<A: Allocator + Copy> ApduTerminal<A> {
         })
     }
 
-    /// Begins the selection of the application with this identifier.
+    /// Begins the selection of the application with this identifier. The last answer is dropped.
     ///
     /// # Errors
     /// - `UnderWay`: an operation is in progress. Nothing changes.
-    /// - `OutOfMemory`: memory for the response or the copy of the data ran out. Nothing changes.
+    /// - `OutOfMemory`: memory for the response or the copy of the data ran out. Nothing changes,
+    ///   and the last answer stays.
     pub fn select(&mut self, aid: &Aid) -> Result<(), BeginFault>
         ensures begins { IsBeginning (AreCommandsOf (Select aid.now)) self.old.operation result
             self.new.operation }
@@ -89,7 +90,8 @@ impl<A: Allocator + Copy> ApduTerminal<A> {
         self.send(select_command(aid))
     }
 
-    /// Begins the reading of the data object with this tag. The errors are those of `select`.
+    /// Begins the reading of the data object with this tag. The errors, and the state after each,
+    /// are those of `select`.
     pub fn get(&mut self, tag: ObjectTag) -> Result<(), BeginFault>
         ensures begins { IsBeginning (AreCommandsOf (Get tag)) self.old.operation result
             self.new.operation }
@@ -98,8 +100,9 @@ impl<A: Allocator + Copy> ApduTerminal<A> {
         self.send(get_command(tag))
     }
 
-    /// Begins to store a copy of the value under this tag. It is sent in pieces, up to the first
-    /// whose status is not `9000`. The errors are those of `select`.
+    /// Begins to store a copy of the value, of any length, under this tag. It is sent in pieces of
+    /// at most 255 bytes, up to the first whose status is not `9000`. The errors, and the state
+    /// after each, are those of `select`.
     pub fn put(&mut self, tag: ObjectTag, value: &[u8]) -> Result<(), BeginFault>
         ensures begins { IsBeginning (AreCommandsOf (Put tag value.now)) self.old.operation result
             self.new.operation }
@@ -122,7 +125,8 @@ impl<A: Allocator + Copy> ApduTerminal<A> {
         Ok(())
     }
 
-    /// Begins the exchange of a command, with a copy of its data. The errors are those of `select`.
+    /// Begins the exchange of a command, with a copy of its data. The errors, and the state after
+    /// each, are those of `select`.
     pub fn send(&mut self, command: Command<'_>) -> Result<(), BeginFault>
         ensures begins { IsBeginning (λ commands. commands ≡ command.entry ∷ [])
             self.old.operation result self.new.operation }
@@ -140,8 +144,8 @@ impl<A: Allocator + Copy> ApduTerminal<A> {
         Ok(())
     }
 
-    /// Begins an operation that another terminal has begun, and sent nothing of. Drops the last
-    /// operation, even one in progress.
+    /// Begins an operation that a `card_terminal::Terminal` has begun, and sent nothing of. Drops
+    /// the last operation, even one in progress.
     ///
     /// # Errors
     /// - `AllocError`: memory ran out. Nothing changes.
@@ -158,7 +162,8 @@ impl<A: Allocator + Copy> ApduTerminal<A> {
         Ok(())
     }
 
-    /// Returns whether an operation is in progress: then no other may begin.
+    /// Returns whether an operation is in progress: a command is to be sent. Then no other
+    /// operation may begin, except by `begin`.
     pub fn is_going(&self) -> bool
         ensures going { result ≡ is_under_way self.now.operation }
         ensures limit { KeepsLimit self.now self.now }
@@ -204,8 +209,9 @@ impl<A: Allocator + Copy> ApduTerminal<A> {
         }
     }
 
-    /// Returns the status and the data of the last command, or `None` if the operation has not
-    /// ended. They stay until the next operation begins, or until `reset`.
+    /// Returns the status and the data of the last command. `None` if no operation has begun, or if
+    /// it is in progress or has failed. They stay until the next operation begins, or until
+    /// `reset`.
     pub fn answer(&self) -> Option<(Status, &[u8])>
         ensures { IsOperationAnswer self.now.operation (option_map (λ a. (a.0, a.1.now)) result) }
     {
@@ -215,7 +221,7 @@ impl<A: Allocator + Copy> ApduTerminal<A> {
         }
     }
 
-    /// Returns the same as an `Answer`, in memory of its size.
+    /// Returns what `answer` does as an `Answer`, in memory of its size, and drops the terminal.
     pub fn into_answer(self) -> Option<Answer<A>>
         ensures { IsOperationAnswer self.operation
             (option_map (λ a. (a.status, a.content)) result) }
@@ -226,7 +232,8 @@ impl<A: Allocator + Copy> ApduTerminal<A> {
         }
     }
 
-    /// Drops the operation, even one in progress, and frees its memory. Sends nothing to the card.
+    /// Drops the last operation, in any state, with its answer, and frees its memory. The limit
+    /// stays. It sends nothing to the card.
     pub fn reset(&mut self)
         ensures { self.new ≡ at_rest self.old.limit }
     {

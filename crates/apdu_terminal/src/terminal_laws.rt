@@ -15,8 +15,9 @@ ghost use Rattle.apdu_terminal.specs.ApduTalk.{AreApdusOf, talk_pairs};
 ghost use Rattle.apdu_terminal.specs.ApduSide.{due_of};
 ghost use Rattle.apdu_terminal.specs.ApduOperations.{ApduOperationOf, Begins, HaveRoom, LeadsTo};
 
-/// The pairs settle the next command. If the pairs so far begin whole exchanges of the operation's
-/// commands, and there is room for their data, the terminal's next command is theirs.
+/// The pairs settle the next command. Take whole exchanges of the operation's commands that begin
+/// with the pairs so far and are longer, and the data of each fit the room. The terminal's next
+/// command is theirs.
 pub fn the_next_command_of_an_operation_is_settled()
     ensures { (commands : List Command) (came rest : List Pair) (p : Pair) (o : ApduOperationOf)
         (exchanges : List (List Pair)) (answer : Reply) → LeadsTo commands came (Some o) →
@@ -25,7 +26,7 @@ pub fn the_next_command_of_an_operation_is_settled()
 {}
 
 /// An operation whose pairs are whole exchanges of its commands has ended, with their answer, if
-/// there is room for their data.
+/// there is room for the data of each.
 pub fn a_whole_operation_by_commands_is_done()
     ensures { (commands : List Command) (came : List Pair) (o : ApduOperationOf)
         (exchanges : List (List Pair)) (answer : Reply) → LeadsTo commands came (Some o) →

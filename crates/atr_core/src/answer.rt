@@ -71,8 +71,9 @@ impl Atr {
         whole(bytes)
     }
 
-    /// Makes an answer of its parts, for a card that sends it. T0, the TDs and TCK follow from the
-    /// parts.
+    /// Makes an answer of its parts, for a card that sends it. `first` is TA1, TB1 and TC1;
+    /// `others` is each T that a TD names, with the TA, TB and TC after that TD. T0, the TDs and
+    /// TCK follow from the parts.
     ///
     /// # Errors
     ///

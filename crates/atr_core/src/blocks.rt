@@ -20,7 +20,7 @@ const DEFAULT_EDC: u8 = 0;
 
 impl Atr {
     /// Returns IFSC, the longest information field in bytes that a block to the card may have, 1 to
-    /// 254. It is the first TA for T=1, or 32 (ISO/IEC 7816-3, clause 11).
+    /// 254. It is the first TA for T=1 from TA3 on, or 32 (ISO/IEC 7816-3, clause 11).
     ///
     /// # Errors
     ///
@@ -34,7 +34,7 @@ impl Atr {
         }
     }
 
-    /// Returns the error detection code of blocks: the first TC for T=1, or LRC.
+    /// Returns the error detection code of blocks: the first TC for T=1 from TC3 on, or LRC.
     ///
     /// # Errors
     ///
@@ -49,7 +49,7 @@ impl Atr {
         }
     }
 
-    /// Returns BWI, 0 to 9: bits 8 to 5 of the first TB for T=1, or 4.
+    /// Returns BWI, 0 to 9: bits 8 to 5 of the first TB for T=1 from TB3 on, or 4.
     ///
     /// # Errors
     ///
@@ -62,7 +62,7 @@ impl Atr {
         if bwi > 9 { Err(Rfu) } else { Ok(bwi) }
     }
 
-    /// Returns CWI, 0 to 15: bits 4 to 1 of the first TB for T=1, or 13.
+    /// Returns CWI, 0 to 15: bits 4 to 1 of the first TB for T=1 from TB3 on, or 13.
     pub fn character_waiting_integer(&self) -> u8
         ensures is { result ≡ character_waiting_integer self.now }
         ensures bound { result < 16 }

@@ -15,7 +15,8 @@ pub enum Reason {
     TooLong,
     /// The T of this TD is below the T before it, or is 15 in TD1.
     OutOfOrder,
-    /// There are characters after the end of the answer.
+    /// Bytes follow the end of the answer: at least one after the check byte, or at least two if no
+    /// check byte is expected.
     Surplus,
     /// The check byte is missing at the end, and some T other than 0 is named. One more byte may
     /// mend this.

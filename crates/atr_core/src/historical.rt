@@ -23,7 +23,7 @@ pub enum Category {
 }
 
 /// The card status in the historical bytes (ISO/IEC 7816-4, 12.1.1): the life cycle, or SW1 and
-/// SW2, or both.
+/// SW2, or both. What is absent is `None`.
 #[derive(Clone, Copy, Debug, PartialEq, Eq)]
 pub struct CardStatus {
     pub life_cycle: Option<u8>,
@@ -45,8 +45,9 @@ impl Atr {
         }
     }
 
-    /// Returns the card status in the historical bytes. `None` if their category is neither `00`
-    /// nor `80`, or they contain no status.
+    /// Returns the card status in the historical bytes. In category `00` it is the last three
+    /// bytes, if at least three follow the first. In category `80` it is the value of the last
+    /// object, if that has tag 8 and 1 to 3 bytes. Otherwise `None`.
     pub fn card_status(&self) -> Option<CardStatus>
         ensures { result ≡ status_of self.now.historical }
     {

@@ -69,7 +69,8 @@ impl Atr {
         di(self.rate_code())
     }
 
-    /// Returns N, the extra guard time: TC1, or 0 if it is absent (ISO/IEC 7816-3, 8.3).
+    /// Returns N, the extra guard time: TC1, or 0 if it is absent (ISO/IEC 7816-3, 8.3). 255 has a
+    /// meaning of its own: see `guard_time`.
     pub fn extra_guard_time(&self) -> u8
         ensures { result ≡ extra_guard_time self.now }
     {
@@ -126,25 +127,27 @@ impl Atr {
         Ok(u32::from(wi) * 960 * u32::from(fi.value))
     }
 
-    /// Returns the mode, by TA2.
+    /// Returns the mode: specific, as TA2 states, or negotiable if TA2 is absent.
     pub fn mode(&self) -> Mode
         ensures { result ≡ mode_of (second self.now.others).ta }
     {
         Mode::of(second(self.others()).ta)
     }
 
-    /// Returns whether the clock may stop. It may not if no TA is for T=15.
+    /// Returns whether the clock may stop, by bits 8 and 7 of the first TA for T=15. It may not if
+    /// there is no such TA.
     pub fn clock_stop(&self) -> ClockStop
         ensures { result ≡ clock_stop_of (supply_code self.now) }
     {
         ClockStop::of(self.supply_code())
     }
 
-    /// Returns the voltage classes of the card. Class A alone if no TA is for T=15.
+    /// Returns the voltage classes of the card, by bits 6 to 1 of the first TA for T=15. If there
+    /// is no such TA, it is class A alone.
     ///
     /// # Errors
     ///
-    /// - `Rfu`: bits 6 to 1 of the first TA for T=15 are a reserved code.
+    /// - `Rfu`: these bits are a reserved code.
     pub fn classes(&self) -> Result<Classes, Rfu>
         ensures { result ≡ classes_of (supply_code self.now) }
     {

@@ -32,7 +32,7 @@ pub struct Pps {
 pub enum PpsFault {
     /// The first byte is not `FF`.
     NoPpss,
-    /// The bytes end before an announced character.
+    /// The bytes are empty, or end before an announced character.
     Cut,
     /// Bit 8 of PPS0, which is reserved, is set.
     Reserved,
@@ -94,7 +94,7 @@ impl Pps {
         pps_end(pps0) + 1
     }
 
-    /// Returns the characters of the request or response, 3 to 6 bytes. `t` is at most 15.
+    /// Returns the characters of the request or response, 3 to 6 bytes. `t` must be at most 15.
     pub fn write(&self) -> ArrayVec<u8, LONGEST>
         requires { self.now.t < 16 }
         ensures { result.items ≡ pps_characters self.now }
@@ -118,8 +118,9 @@ impl Pps {
     }
 }
 
-/// Whether the response accepts the request (ISO/IEC 7816-3, 9.3): it names the same T, and repeats
-/// or omits each of PPS1 to PPS3. An omitted one is not agreed.
+/// Returns whether the response accepts the request (ISO/IEC 7816-3, 9.3): it names the same T, and
+/// repeats or omits each of PPS1 to PPS3. An omitted one is not agreed: without PPS1, Fi is 372 and
+/// Di 1, as `rate_code` of the response returns.
 pub fn agreed(request: &Pps, response: &Pps) -> bool
     ensures { result ≡ agreed request.now response.now }
 {

@@ -68,8 +68,8 @@ impl fmt::Display for Fi {
     }
 }
 
-/// Decodes Di, the baud rate adjustment integer, from bits 4 to 1 of TA1 or PPS1 (ISO/IEC 7816-3,
-/// 8.3).
+/// Decodes Di, the baud rate adjustment integer, 1 to 64, from bits 4 to 1 of TA1 or PPS1 (ISO/IEC
+/// 7816-3, 8.3).
 ///
 /// # Errors
 ///

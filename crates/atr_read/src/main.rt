@@ -14,12 +14,12 @@ use std::{env, io};
 
 const VERSION: &str = "1.0";
 
-const ABOUT: &str = "Says what answers to reset say (ISO/IEC 7816-3), or what is wrong with them.";
+const ABOUT: &str = "Prints what answers to reset mean (ISO/IEC 7816-3), or what is wrong.";
 
 const INPUT: &str = "\
 Each line of standard input is an answer in hexadecimal digits, with or without
-spaces between its bytes. The exit status is 0 where all of them are answers, 1
-where one is not or the input can't be read, and 2 where the words are refused.";
+spaces between its bytes. The exit status is 0 if all lines are answers, 1 if
+one is not or the input can't be read, and 2 if the command line is refused.";
 
 fn main(rt: HostRuntime) -> ExitCode {
     let status = match parsed(&rt) {

@@ -16,10 +16,11 @@ use tlv_core::Reason;
 /// Success. Of a turn: the end listens.
 pub const OK: i32 = 0;
 
-/// The end sends a character.
+/// The end sends a character, or the buffer is full. At T=1: the received block is whole, or
+/// dropped.
 pub const SENDS: i32 = 1;
 
-/// The exchange has ended with an answer.
+/// The exchange has ended with an answer. At T=1: there is no block to send.
 pub const DONE: i32 = 2;
 
 // -1 is `GT_NULL`, which only the header's functions return.
@@ -45,7 +46,7 @@ pub const BUSY: i32 = -7;
 /// There is no such thing, such as an object, an answer or a fault.
 pub const NOT_FOUND: i32 = -8;
 
-/// The exchange has failed for good.
+/// The exchange has failed for good. At T=1: the end gave up.
 pub const FAILED: i32 = -9;
 
 /// The most plans wait already.

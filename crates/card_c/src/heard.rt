@@ -17,7 +17,7 @@ use t0_core::End;
 /// Records the characters of each later operation, and drops those recorded before.
 ///
 /// # Errors
-/// - `STATE`: the handle holds no session. Nothing changes.
+/// - `STATE`: the handle holds a card, not a session. Nothing changes.
 #[unsafe(no_mangle)]
 pub extern "C" fn galliumtoad_session_listen(alloc: Global, session: &mut GtCard) -> i32
     ensures { OnHandle Listens (held_by session.old) result (held_by session.new) }
@@ -45,7 +45,7 @@ fn hear(alloc: Global, joined: &mut SessionSide)
 /// Writes the characters of the last operation, each with its sender, and their number.
 ///
 /// # Errors
-/// - `STATE`: the handle holds no session, or it does not record. Nothing is written.
+/// - `STATE`: the handle holds a card, not a session, or it does not record. Nothing is written.
 /// - `MEMORY`: memory ran out, so that some characters are lost. Nothing is written.
 /// - `BUFFER`: they do not all fit. Only their number is written.
 #[unsafe(no_mangle)]

@@ -10,7 +10,9 @@
 //! - [`held_t1::T1Handle`]: the terminal's end of a line at T=1.
 //!
 //! A call on a handle returns a code (`code`); the header lists those of each call, with the state
-//! after it. Proved: each export does what the call below it does. README.md has the clauses.
+//! after it. On an empty handle it returns `EMPTY`, and the handle stays empty, unless the call
+//! fills it. Comments of exports with one handle leave this out. Proved: each export does what the
+//! call below it does. README.md has the clauses.
 #![tactic(auto)]
 
 mod apdu_side;

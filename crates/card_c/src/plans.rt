@@ -49,7 +49,7 @@ fn queue_at_card(alloc: Global, side: &mut CardSide, steps: &[u8], cut: u16) -> 
 ///
 /// # Errors
 /// The plans stay as they were.
-/// - `STATE`: the handle holds no session.
+/// - `STATE`: the handle holds a card, not a session.
 /// - `ARGUMENT`, `PLANS`, `MEMORY`: those of [`plan_of`], or memory for the list ran out.
 #[unsafe(no_mangle)]
 pub extern "C" fn galliumtoad_session_plan(

@@ -19,7 +19,7 @@ use t0_core::Plans;
 ///
 /// # Errors
 /// The card and the last answer stay as they were.
-/// - `STATE`: the handle holds no session.
+/// - `STATE`: the handle holds a card, not a session.
 /// - a code of [`code::of_command`]: the bytes are not a command.
 /// - `ARGUMENT`: the command is not agreed with the card.
 /// - `MEMORY`: memory ran out before the command began.

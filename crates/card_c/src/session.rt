@@ -74,7 +74,7 @@ fn join(alloc: Global, side: &mut CardSide) -> bool
 ///
 /// # Errors
 /// Both handles stay as they were.
-/// - `STATE`: `card` is live, or `session` holds no session.
+/// - `STATE`: `card` is live, or `session` holds a card, not a session.
 /// - `EMPTY`: `session` is empty.
 #[unsafe(no_mangle)]
 pub extern "C" fn galliumtoad_session_end(
@@ -120,10 +120,11 @@ pub extern "C" fn galliumtoad_session_free(alloc: Global, session: &mut GtCard)
     drop(session.take_out(alloc));
 }
 
-/// Resets the card. The last answer stays.
+/// Resets the card. The plans, the last answer and the recorded characters stay, and recording
+/// continues.
 ///
 /// # Errors
-/// - `STATE`: the handle holds no session. Nothing changes.
+/// - `STATE`: the handle holds a card, not a session. Nothing changes.
 #[unsafe(no_mangle)]
 pub extern "C" fn galliumtoad_session_reset(alloc: Global, session: &mut GtCard) -> i32
     ensures { OnHandle ResetsSession (held_by session.old) result (held_by session.new) }
@@ -151,7 +152,7 @@ fn reset_session(joined: &mut SessionSide)
 ///
 /// # Errors
 /// The card and the last answer stay as they were.
-/// - `STATE`: the handle holds no session.
+/// - `STATE`: the handle holds a card, not a session.
 /// - `ARGUMENT`: `aid` is no identifier.
 /// - `BUSY`: a chain is pending.
 /// - `MEMORY`: memory ran out before the operation began.
@@ -236,7 +237,7 @@ fn store(alloc: Global, joined: &mut SessionSide, tag: ObjectTag, value: &[u8]) 
 /// Writes the status and the data of the last operation. The session keeps them.
 ///
 /// # Errors
-/// - `STATE`: the handle holds no session. Nothing is written.
+/// - `STATE`: the handle holds a card, not a session. Nothing is written.
 /// - `NOT_FOUND`: there was no operation. Nothing is written.
 /// - `BUFFER`: the data do not fit. `status` and `len` are written.
 #[unsafe(no_mangle)]
@@ -280,7 +281,7 @@ fn tell(side: &CardSide, status: &mut u16, content: &mut [u8], len: &mut usize) 
 /// Returns 1 if no chain is pending at the card, and otherwise 0.
 ///
 /// # Errors
-/// - `STATE`: the handle holds no session.
+/// - `STATE`: the handle holds a card, not a session.
 #[unsafe(no_mangle)]
 pub extern "C" fn galliumtoad_session_idle(alloc: Global, session: &mut GtCard) -> i32
     ensures stays { held_by session.new ≡ held_by session.old }

@@ -98,17 +98,21 @@ followed_bring opening w (u ∷ units) next left s t sound (n, is, followed) goe
       length-append (unit_data u) (flat_map unit_data units),
     )
 
+-- the last unit of an exchange, and those before it
+last_apart : (c : Command) (units : List UnitOf) (o : IsOpenExchange c units) (s t : CardState)
+    → Goes s (flat_map dialogues_of units) t
+    → (mid : CardState) × Goes s (flat_map dialogues_of o.before) mid
+    × Goes mid (dialogues_of o.last) t
+last_apart c units o s t goes =
+    goes_apart s t (flat_map dialogues_of o.before) (dialogues_of o.last)
+    (rw (o.units_are, flat_map_last dialogues_of o.before o.last) at goes)
+
 -- The same holds for the units of an exchange, whole or not.
 pub open_exchange_brings : (c : Command) (units : List UnitOf) (s t : CardState) → IsCardState s
     → IsOpenExchange c units → Goes s (flat_map dialogues_of units) t
     → length (flat_map unit_data units) + length (waiting t.pending) ≤ VALUE_LIMIT + HEAD_LIMIT
 open_exchange_brings c units s t sound is_open goes =
-    let whole : Goes s (flat_map dialogues_of (is_open.before ++ is_open.last ∷ [])) t =
-    subst (λ us. Goes s (flat_map dialogues_of us) t) is_open.units_are goes in
-    let parted : Goes s (flat_map dialogues_of is_open.before ++ dialogues_of is_open.last) t =
-    subst (λ ds. Goes s ds t) (flat_map_last dialogues_of is_open.before is_open.last) whole in
-    let (mid, first, last) =
-    goes_apart s t (flat_map dialogues_of is_open.before) (dialogues_of is_open.last) parted in
+    let (mid, first, last) = last_apart c units is_open s t goes in
     let before = followed_bring (By_command c) (wanted_by c.le) is_open.before is_open.opening
     is_open.left s mid sound is_open.followed first in
     let after = unit_brings is_open.opening is_open.left is_open.last mid t
@@ -205,7 +209,7 @@ pub waits_on : (opening : Opening) (w : Wanted) (units : List UnitOf) (next : Op
     (left : Wanted) (s t : CardState) → Waits opening s
     → AreFollowed opening w units next left → Goes s (flat_map dialogues_of units) t → Waits next t
 waits_on opening w [] next left s t waits followed goes =
-    subst (λ x. Waits next x) (sym goes) (subst (λ o. Waits o s) (sym followed.0) waits)
+    rw (goes, followed.0) waits
 waits_on opening w (u ∷ units) next left s t waits (n, is, followed) goes =
     let (mid, first, others) = goes_apart s t (dialogues_of u) (flat_map dialogues_of units) goes in
     let (m, told, few) = fetch_is_announced (after_unit w u) (last_of u).status n is.fetched in
@@ -242,14 +246,8 @@ pub never_stalls : (c : Command) (units : List UnitOf) (s t : CardState) → Sta
     → Goes s (flat_map dialogues_of units) t → ⊥
 never_stalls c units s t stall goes =
     let o = stall.is_open in
-    let whole : Goes s (flat_map dialogues_of (o.before ++ o.last ∷ [])) t =
-    subst (λ us. Goes s (flat_map dialogues_of us) t) o.units_are goes in
-    let parted : Goes s (flat_map dialogues_of o.before ++ dialogues_of o.last) t =
-    subst (λ ds. Goes s ds t) (flat_map_last dialogues_of o.before o.last) whole in
-    let (mid, first, last) =
-    goes_apart s t (flat_map dialogues_of o.before) (dialogues_of o.last) parted in
-    let waits : Waits (By_fetch stall.asked) mid =
-    subst (λ x. Waits x mid) stall.is_fetch
+    let (mid, first, last) = last_apart c units o s t goes in
+    let waits : Waits (By_fetch stall.asked) mid = subst (λ x. Waits x mid) stall.is_fetch
     (waits_on (By_command c) (wanted_by c.le) o.before o.opening o.left s mid tt o.followed
     first) in
     let some = fetch_brings stall.asked o.left o.last mid t waits

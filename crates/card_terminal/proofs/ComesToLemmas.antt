@@ -1,5 +1,5 @@
 -- The characters that led to an exchange lead to the next state with one more character.
-use Rattle.std.proofs.Common.{◌≡◌, ℕ, List, [], ◌∷◌, ◌++◌, refl, sym, subst, ◌∙◌, ap, inl, inr, ◌⊎◌, true, false, Bool, Option, Some, None, append-nil, append_assoc, if◌then◌else◌}
+use Rattle.std.proofs.Common.{◌≡◌, ℕ, List, [], ◌∷◌, ◌++◌, refl, sym, ◌∙◌, ap, inl, inr, ◌⊎◌, true, false, Bool, Option, Some, None, append-nil, append_assoc, if◌then◌else◌}
 use Rattle.std.specs.List.{AllByRecursion, flat_map}
 use Rattle.apdu_core.specs.StatusWord.{StatusWord}
 use Rattle.apdu_core.specs.CommandBytes.{Command}
@@ -48,12 +48,10 @@ fresh_more came ds es is same = is ∙ ap (flat_map characters) (sym same)
 
 pub done_sends_nothing : (status : StatusWord) (byte : ℕ) (turn : HostTurn) → turn ≡ Done status
     → turn ≡ Sends byte → ⊥
-done_sends_nothing status byte turn done sends = let e : Done status ≡ Sends byte = sym done
-    ∙ sends in absurd (cc)
+done_sends_nothing status byte turn done sends = absurd (cc)
 
 pub failed_sends_nothing : (byte : ℕ) (turn : HostTurn) → turn ≡ Failed → turn ≡ Sends byte → ⊥
-failed_sends_nothing byte turn failed sends = let e : Failed ≡ Sends byte = sym failed
-    ∙ sends in absurd (cc)
+failed_sends_nothing byte turn failed sends = absurd (cc)
 
 -- the turn of an exchange that has ended is `Done`
 pub over_turn : (c : Command) (ex : ExchangeOf) (units : List UnitOf) (status : StatusWord)
@@ -101,7 +99,7 @@ at_end_fault ex byte kept end = by ex.stalled refl end
 none_at_end : (ex : ExchangeOf) (byte : ℕ) → IsKept ex → None ≡ fault_of ex.host ex.gather byte
     → IsAtEnd ex → ⊥
 none_at_end ex byte kept taken end =
-    let no : None ≡ Some AfterEnd = taken ∙ at_end_fault ex byte kept end in absurd (cc)
+    let over = at_end_fault ex byte kept end in absurd (cc)
 
 -- a final fault is not `AfterEnd`
 pub final_is_no_end : (fault : LineFault) → is_final fault ≡ true → fault ≡ AfterEnd → ⊥
@@ -182,10 +180,9 @@ stall_leads c came ex new byte kept taken failed goes_on ends takes leads =
             | inl goes ↦ absurd (goes_on units first front goes.0 under goes.1)
             | inr end ↦
                 let d = end.0 in
-                let Are : List Dialogue → Type 0 = λ ds. AllByRecursion IsDialogue ds in
                 let ended = ended_at ex.host front byte d under.stands under.is_front end.1 in
                 to_stall (units ++ ended_with first d ∷ []) (ends units first front d under end.1)
-                (subst Are (sym (unit_dialogues units first d))
+                (rw (unit_dialogues units first d)
                 (all_more IsDialogue (so_far units first) d under.are_dialogues ended.1)) failed
                 (end_more came (so_far units first) front byte d is end.1
                 ∙ ap (flat_map characters) (sym (unit_dialogues units first d)))
@@ -231,12 +228,9 @@ end_leads c came ex status done (to_front units first front under is) =
     absurd (going ex.host front status under.stands
     (ap (λ b. if b then Failed else turn_of ex.host) (sym under.going) ∙ done))
 end_leads c came ex status done (to_end units other over is) =
-    let same : other ≡ status = let e : Done other ≡ Done status =
-    sym (over_turn c ex units other over) ∙ done in cc in
-    let P : StatusWord → Type 0 = λ s. Gathers c units ex.gather.bytes s in
-    (units, subst P same over.gathers, is, over.are_dialogues)
-end_leads c came ex status done (to_stall units stall are failed is) =
-    let e : Failed ≡ Done status = sym failed ∙ done in absurd (cc)
+    let turn = over_turn c ex units other over in
+    let same : other ≡ status = cc in
+    (units, rw same at over.gathers, is, over.are_dialogues)
+end_leads c came ex status done (to_stall units stall are failed is) = absurd (cc)
 end_leads c came ex status done
-    (to_fault units first front before b fault under why final failed same is) =
-    let e : Failed ≡ Done status = sym failed ∙ done in absurd (cc)
+    (to_fault units first front before b fault under why final failed same is) = absurd (cc)

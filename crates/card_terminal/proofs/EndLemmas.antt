@@ -1,6 +1,6 @@
 -- What follows a dialogue of an exchange: it is repeated, or more is fetched, or the exchange has
 -- ended or stalled.
-use Rattle.std.proofs.Common.{◌≡◌, ℕ, ◌+◌, ◌<◌, List, [], ◌∷◌, ◌++◌, length, take, drop, refl, sym, subst, ◌∙◌, ap, arith, inl, inr, ◌⊎◌, true, false, not, ◌&&◌, ◌==◌, Bool, Option, Some, None, is_some, append-nil, length-append, lit<, if◌then◌else◌, eq-eqb}
+use Rattle.std.proofs.Common.{◌≡◌, ℕ, ◌+◌, List, [], ◌∷◌, ◌++◌, length, take, drop, refl, sym, ◌∙◌, ap, arith, inl, inr, ◌⊎◌, true, false, not, ◌&&◌, ◌==◌, Bool, Option, Some, None, is_some, append-nil, length-append, lit<, if◌then◌else◌, eq-eqb}
 use Rattle.std.specs.List.{AllByRecursion, flat_map}
 use Rattle.std.proofs.lemmas.List.{take-append-drop}
 use Rattle.std.proofs.lemmas.Bool.{eqb-true, and_parts}
@@ -16,16 +16,16 @@ use Rattle.t0_core.specs.Meaning.{received}
 use Rattle.t0_core.specs.Front.{Front, In_header, In_body, After_first, Ends, IsFront, brought, fresh}
 use Rattle.t0_core.specs.DialogueLaws.{flat_map_last, all_more}
 use Rattle.t0_core.specs.Room.{Room}
-use Rattle.t0_core.specs.HostSide.{Hosting, AreOwn, IsOpenedBy, HostStandsAt, turn_of, IsRequest}
+use Rattle.t0_core.specs.HostSide.{Hosting, IsOpenedBy, HostStandsAt, turn_of, IsRequest}
 use Rattle.t0_core.specs.HostLaws.{opened}
 use Rattle.card_terminal.specs.declared.wanted.Wanted.{Wanted}
 use Rattle.card_terminal.specs.declared.attempt.Attempt.{Attempt}
 use Rattle.card_terminal.specs.declared.attempt.Next.{Next}
 use Rattle.card_terminal.specs.declared.attempt.Next.TheVariants as next
 use Rattle.object_card.specs.CarryingOut.{get_response}
-use Rattle.card_terminal.specs.Gathered.{Asks, SendsFrom, wanted_by, less, wants_at_least, correction_of, repeated_with, after_dialogue, after_unit, fetched_after, Opening, By_command, By_fetch, OpensWith, UnitOf, Single, first_of, last_of, unit_data, IsUnit, BringsSome, IsOpenExchange}
+use Rattle.card_terminal.specs.Gathered.{Asks, SendsFrom, Opens, wanted_by, less, wants_at_least, correction_of, repeated_with, after_dialogue, after_unit, fetched_after, Opening, By_command, By_fetch, OpensWith, UnitOf, Single, first_of, last_of, unit_data, IsUnit, BringsSome, IsOpenExchange}
 use Rattle.card_terminal.specs.Attempts.{again_with, next_by, following, repetition, fetch}
-use Rattle.card_terminal.specs.ExchangeSide.{ExchangeOf, HostAsks, HostSends, HostOpens, HostOpensBy, IsOpenedAs, UnderWay, IsOver, Stall, Continues, so_far, begun_with, ended_with, asks_card, is_fetch}
+use Rattle.card_terminal.specs.ExchangeSide.{ExchangeOf, HostAsks, HostSends, HostOpens, HostOpensBy, IsOpenedAs, UnderWay, Stall, Continues, so_far, begun_with, ended_with, asks_card, is_fetch}
 use Rattle.card_terminal.proofs.UnitLemmas.{followed_left, one_more, less_less, unit_ends, unit_goes_on, unit_dialogues, unit_data_received, ended_data, gathered_parts, received_of}
 
 -- ---- the dialogue that has ended
@@ -39,14 +39,12 @@ pub ended_at : (host : Hosting) (front : Front) (byte : ℕ) (d : Dialogue)
 ended_at host (In_header bytes) byte d stands is ends = absurd ends
 ended_at host (In_body b) byte d stands is ends = absurd ends
 ended_at host (After_first b sw1) byte d stands is ends =
-    let Ended : Dialogue → Type 0 = λ e. IsEnded host (After_first b sw1) e in
-    subst Ended (sym ends.2) (
+    rw ends.2 (
       opened host (After_first b sw1) stands,
       record {
         moved_by_segments = is.1;
         is_status = (is.2.0, ends.1);
-        only_nulls =
-            is.0.only_nulls;
+        only_nulls = is.0.only_nulls;
       },
       received_of b (sw1, byte),
     )
@@ -54,23 +52,18 @@ ended_at host (After_first b sw1) byte d stands is ends =
 -- it is a dialogue of the TPDU that the end opened
 asks_as : (h : Header) (n : ℕ) (host : Hosting) (d : Dialogue) → HostAsks h n host
     → IsOpenedBy host d.body → Asks h n d
-asks_as h n host d asks by =
-    let Byte : ℕ → Type 0 = λ p. p < 256 in
-    record {
-      header_is = by.0 ∙ asks.header_is;
-      from_card = by.2
-          ∙ asks.from_card;
-      counts = ap count by.1
-          ∙ asks.counts;
-      is_byte = subst Byte (sym by.1) asks.is_byte;
-    }
+asks_as h n host d asks by = record {
+  header_is = by.0 ∙ asks.header_is;
+  from_card = by.2 ∙ asks.from_card;
+  counts = ap count by.1 ∙ asks.counts;
+  is_byte = rw by.1 asks.is_byte;
+}
 
 sends_as : (h : Header) (content : List ℕ) (host : Hosting) (d : Dialogue)
     → HostSends h content host → IsOpenedBy host d.body → SendsFrom h content d
 sends_as h content host d sends by =
     let moved = d.body.moved in
-    let Own : Direction → Type 0 = λ direction. AreOwn direction host.content moved in
-    let own : moved ≡ take (length moved) host.content = subst Own sends.to_card by.3 in
+    let own : moved ≡ take (length moved) host.content = rw sends.to_card at by.3 in
     record {
       header_is = by.0 ∙ sends.header_is;
       to_card = by.2 ∙ sends.to_card;
@@ -82,16 +75,15 @@ sends_as h content host d sends by =
       );
     }
 
-opens_by : (h : Header) (content : List ℕ) (le : Option ℕ) (host : Hosting) (d : Dialogue)
-    → HostOpensBy h content le host → IsOpenedBy host d.body
-    → OpensWith (By_command (record { header = h; content = content; le = le })) d
-opens_by h [] None host d opens by = sends_as h [] host d opens by
-opens_by h [] (Some n) host d opens by = asks_as h n host d opens by
-opens_by h (b ∷ bs) le host d opens by = sends_as h (b ∷ bs) host d opens by
-
 opens_as : (opening : Opening) (host : Hosting) (d : Dialogue) → HostOpens opening host
     → IsOpenedBy host d.body → OpensWith opening d
-opens_as (By_command c) host d opens by = opens_by c.header c.content c.le host d opens by
+opens_as (By_command c) host d opens by = so c.content c.le opens
+  where
+    so : (content : List ℕ) (le : Option ℕ) → HostOpensBy c.header content le host
+        → Opens (record { header = c.header; content = content; le = le }) d
+    so [] None opens = sends_as c.header [] host d opens by
+    so [] (Some n) opens = asks_as c.header n host d opens by
+    so (b ∷ bs) le opens = sends_as c.header (b ∷ bs) host d opens by
 opens_as (By_fetch n) host d opens by = asks_as get_response n host d opens by
 
 pub unit_opens : (opening : Opening) (left : Wanted) (first : Option Dialogue) (host : Hosting)
@@ -253,11 +245,11 @@ stall_is_when false attempt n e = absurd (cc)
 
 pub stall_is : (a : Attempt) (gathered : ℕ) (again fetched : Option ℕ)
     → next_by a gathered again fetched ≡ next.Stalls
-    → (again ≡ None) × ((a.fetches && gathered == a.before) ≡ true) × ((n : ℕ) × (fetched ≡ Some n))
+    → (again ≡ None) × ((a.fetches && gathered == a.before) ≡ true) × (n : ℕ) × (fetched ≡ Some n)
 stall_is a gathered (Some m) fetched e = absurd (cc)
 stall_is a gathered None None e = absurd (cc)
 stall_is a gathered None (Some m) e =
-    (refl, stall_is_when (a.fetches && gathered == a.before) (fetch a gathered) m e, (m, refl))
+    (refl, stall_is_when (a.fetches && gathered == a.before) (fetch a gathered) m e, m, refl)
 
 end_is_when : (v : Bool) (attempt : Attempt) (n : ℕ)
     → (if v then next.Stalls else next.Asks attempt n) ≡ next.Ends → ⊥
@@ -273,74 +265,61 @@ end_is a gathered None (Some m) e =
 
 -- ---- the exchange after it
 
-abbrev pub next_exchange : ExchangeOf → Hosting → Attempt → ExchangeOf
-next_exchange ex host attempt =
-    record {
-      host = host;
-      gather = ex.gather;
-      attempt = attempt;
-      wanted = ex.wanted;
-      stalled =
-          ex.stalled;
-    }
+-- two equal statuses in `Some`
+pub same_status : (a b : StatusWord) → Some a ≡ Some b → a ≡ b
+same_status a b e = cc
 
-repeats_first : (c : Command) (ex : ExchangeOf) (host : Hosting) (units : List UnitOf)
-    (front : Front) (d : Dialogue) (n : ℕ) (under : UnderWay c ex units None front)
-    → AtEnd c ex units None front d under → repeated_with under.left d ≡ Some n
-    → HostAsks ex.attempt.header n host → HostStandsAt host fresh → IsRequest host
-    → UnderWay c (next_exchange ex host (repetition ex.attempt)) units (Some d) fresh
-repeats_first c ex host units front d n under end corrected asks stands request =
-    let more = unit_goes_on units d in
-    let Are : List Dialogue → Type 0 = λ ds. AllByRecursion IsDialogue ds in
-    let Header : Header → Type 0 = λ h. HostAsks h n host in
-    let header : ex.attempt.header ≡ d.body.header = under.place.header_is ∙ sym end.by.0 in
-    record {
-      opening = under.opening;
-      left = under.left;
-      followed = under.followed;
-      are_dialogues = subst Are (sym more) end.are_dialogues;
-      opened_as = (end.opens, n, corrected, subst Header header asks);
-      place = record {
-        header_is = sym asks.header_is;
-        asks_is = under.place.asks_is
-            ∙ ap asks_card (sym end.by.2 ∙ from_the_card d n under.left corrected
-            ∙ sym asks.from_card);
-        fetches_is = under.place.fetches_is;
-        repeats_is = refl;
-        before_is = under.place.before_is;
-        number_is = ap (λ k. k + 1)
-            (under.place.number_is ∙ sym (length-append (so_far units None) (d ∷ []))
-            ∙ ap length (sym more));
-      };
-      stands = stands;
-      request = request;
-      is_front = lit< tt;
-      gathered = end.gathered ∙ ap (flat_map received) (sym more)
-          ∙ sym (append-nil (flat_map received (so_far units (Some d))));
-      wanted_is = under.wanted_is;
-      going = under.going;
-    }
-  where
-    by_card : (direction : Direction) (left : Wanted) (corrected : Option ℕ) (n : ℕ)
-        → correction_of direction left corrected ≡ Some n → direction ≡ FromCard
-    by_card ToCard left corrected n e = absurd (cc)
-    by_card FromCard left corrected n e = refl
+abbrev pub taken_on : ExchangeOf → Hosting → Room → Attempt → ExchangeOf
+taken_on ex host gather attempt =
+    record ex { host = host; gather = gather; attempt = attempt }
 
-    from_the_card : (d : Dialogue) (n : ℕ) (left : Wanted) → repeated_with left d ≡ Some n
-        → d.body.direction ≡ FromCard
-    from_the_card d n left e = by_card d.body.direction (after_dialogue left d)
-        (corrects d.status) n e
+abbrev next_exchange : ExchangeOf → Hosting → Attempt → ExchangeOf
+next_exchange ex host attempt = taken_on ex host ex.gather attempt
 
-pub repeats : (c : Command) (ex : ExchangeOf) (host : Hosting) (units : List UnitOf)
-    (first : Option Dialogue) (front : Front) (d : Dialogue) (n : ℕ)
-    (under : UnderWay c ex units first front)
-    → AtEnd c ex units first front d under → again_of first (repeated_with under.left d) ≡ Some n
-    → HostAsks ex.attempt.header n host → HostStandsAt host fresh → IsRequest host
+-- a dialogue is repeated only if it asks for data
+pub asked_card : (direction : Direction) (left : Wanted) (corrected : Option ℕ) (n : ℕ)
+    → correction_of direction left corrected ≡ Some n → direction ≡ FromCard
+asked_card ToCard left corrected n e = absurd (cc)
+asked_card FromCard left corrected n e = refl
+
+repeats : {c : Command} {ex : ExchangeOf} {units : List UnitOf} (first : Option Dialogue)
+    {front : Front} {d : Dialogue} {under : UnderWay c ex units first front} (host : Hosting)
+    (n : ℕ) → AtEnd c ex units first front d under
+    → again_of first (repeated_with under.left d) ≡ Some n → HostAsks ex.attempt.header n host
+    → HostStandsAt host fresh → IsRequest host
     → (first ≡ None) × UnderWay c (next_exchange ex host (repetition ex.attempt)) units (Some d)
     fresh
-repeats c ex host units None front d n under end again asks stands request =
-    (refl, repeats_first c ex host units front d n under end again asks stands request)
-repeats c ex host units (Some e) front d n under end again asks stands request = absurd (cc)
+repeats {units = units} None {d = d} {under = under} host n end again asks stands request =
+    let more = unit_goes_on units d in (
+      refl,
+      record {
+        opening = under.opening;
+        left = under.left;
+        followed = under.followed;
+        are_dialogues = rw more end.are_dialogues;
+        opened_as = (end.opens, n, again, rw (under.place.header_is ∙ sym end.by.0) at asks);
+        place = record {
+          header_is = sym asks.header_is;
+          asks_is = under.place.asks_is ∙ ap asks_card (sym end.by.2
+              ∙ asked_card d.body.direction (after_dialogue under.left d) (corrects d.status) n
+              again ∙ sym asks.from_card);
+          fetches_is = under.place.fetches_is;
+          repeats_is = refl;
+          before_is = under.place.before_is;
+          number_is = ap (λ k. k + 1)
+              (under.place.number_is ∙ sym (length-append (so_far units None) (d ∷ []))
+              ∙ ap length (sym more));
+        };
+        stands = stands;
+        request = request;
+        is_front = lit< tt;
+        gathered = end.gathered ∙ ap (flat_map received) (sym more)
+            ∙ sym (append-nil (flat_map received (so_far units (Some d))));
+        wanted_is = under.wanted_is;
+        going = under.going;
+      },
+    )
+repeats (Some e) host n end again asks stands request = absurd (cc)
 
 -- more is fetched
 some_brought : (opening : Opening) (u : UnitOf) (a : Attempt) (gathered before : ℕ)
@@ -353,96 +332,7 @@ some_brought (By_fetch n) u a gathered before fetches begun number not_stalled =
     rw (fetches, eq-eqb gathered a.before same) refl in
     absurd (cc)
 
-pub fetches : (c : Command) (ex : ExchangeOf) (host : Hosting) (units : List UnitOf)
-    (first : Option Dialogue) (front : Front) (d : Dialogue) (n : ℕ)
-    (under : UnderWay c ex units first front)
-    → AtEnd c ex units first front d under → again_of first (repeated_with under.left d) ≡ None
-    → fetched_after (after_unit under.left (ended_with first d))
-    (last_of (ended_with first d)).status ≡ Some n
-    → (ex.attempt.fetches && length ex.gather.bytes == ex.attempt.before) ≡ false
-    → HostAsks get_response n host → HostStandsAt host fresh → IsRequest host
-    → UnderWay c (next_exchange ex host (fetch ex.attempt (length ex.gather.bytes)))
-    (units ++ ended_with first d ∷ []) None fresh
-fetches c ex host units first front d n under end none fetched not_stalled asks stands request =
-    let u = ended_with first d in
-    let more = unit_ends units first d in
-    let Are : List Dialogue → Type 0 = λ ds. AllByRecursion IsDialogue ds in
-    record {
-      opening = By_fetch n;
-      left = after_unit under.left u;
-      followed = one_more (By_command c)
-          (wanted_by c.le) units under.opening under.left u n under.followed (record {
-            opens = end.opens;
-            is_unit = unit_is under.opening under.left first ex.host d under.opened_as end.by none;
-            brings = some_brought under.opening u ex.attempt (length ex.gather.bytes)
-                (length (flat_map unit_data units)) under.place.fetches_is under.place.before_is
-                end.number not_stalled;
-            fetched = fetched;
-          });
-      are_dialogues = subst Are (sym more) end.are_dialogues;
-      opened_as = asks;
-      place = record {
-        header_is = sym asks.header_is;
-        asks_is = ap asks_card (sym asks.from_card);
-        fetches_is = refl;
-        repeats_is = refl;
-        before_is = end.number ∙ sym (length-append (flat_map unit_data units) (unit_data u))
-            ∙ ap length (sym (flat_map_last unit_data units u));
-        number_is = ap (λ k. k + 1)
-            (under.place.number_is ∙ sym (length-append (so_far units first) (d ∷ []))
-            ∙ ap length (sym more));
-      };
-      stands = stands;
-      request = request;
-      is_front = lit< tt;
-      gathered = end.gathered ∙ ap (flat_map received) (sym more)
-          ∙ sym (append-nil (flat_map received (so_far (units ++ u ∷ []) None)));
-      wanted_is = under.wanted_is;
-      going = under.going;
-    }
-
--- the units are those of an open exchange
-pub is_open : (c : Command) (ex : ExchangeOf) (units : List UnitOf) (first : Option Dialogue)
-    (front : Front) (d : Dialogue) (under : UnderWay c ex units first front)
-    → AtEnd c ex units first front d under → again_of first (repeated_with under.left d) ≡ None
-    → IsOpenExchange c (units ++ ended_with first d ∷ [])
-is_open c ex units first front d under end none = record {
-  before = units;
-  last = ended_with first d;
-  opening = under.opening;
-  left = under.left;
-  units_are = refl;
-  followed = under.followed;
-  opens = end.opens;
-  is_unit = unit_is under.opening under.left first ex.host d under.opened_as end.by none;
-}
-
--- the exchange has ended
-pub is_over : (c : Command) (ex : ExchangeOf) (host : Hosting) (units : List UnitOf)
-    (first : Option Dialogue) (front : Front) (d : Dialogue)
-    (under : UnderWay c ex units first front)
-    → AtEnd c ex units first front d under → again_of first (repeated_with under.left d) ≡ None
-    → fetched_after (after_unit under.left (ended_with first d))
-    (last_of (ended_with first d)).status ≡ None → turn_of host ≡ Done d.status
-    → IsOver c (next_exchange ex host ex.attempt) (units ++ ended_with first d ∷ []) d.status
-unfolding is_open
-is_over c ex host units first front d under end none fetched done =
-    let u = ended_with first d in
-    let Are : List Dialogue → Type 0 = λ ds. AllByRecursion IsDialogue ds in
-    record {
-      gathers = record {
-        is_open = is_open c ex units first front d under end none;
-        ends = fetched;
-        status_is = ap (λ (e : Dialogue). e.status) (sym (last_is first d));
-        gathered_is = end.gathered ∙ ap (flat_map received) (sym (unit_dialogues units first d))
-            ∙ sym (unit_data_received (units ++ u ∷ []));
-      };
-      are_dialogues = subst Are (sym (unit_dialogues units first d)) end.are_dialogues;
-      done = done;
-      going = under.going;
-    }
-
--- the exchange has stalled
+-- a fetch alone stalls
 no_command_stalls : (opening : Opening) (a : Attempt) (v : Bool) → a.fetches ≡ is_fetch opening
     → (a.fetches && v) ≡ true → (n : ℕ) × (opening ≡ By_fetch n)
 no_command_stalls (By_command c) a v fetches both = let first = (and_parts a.fetches v both).0 in
@@ -453,134 +343,144 @@ none_when_short : (bytes : List ℕ) → length bytes ≡ 0 → bytes ≡ []
 none_when_short [] e = refl
 none_when_short (b ∷ bytes) e = absurd (omega (arith, e))
 
-pub stalls : (c : Command) (ex : ExchangeOf) (units : List UnitOf) (first : Option Dialogue)
-    (front : Front) (d : Dialogue) (n : ℕ) (under : UnderWay c ex units first front)
-    → AtEnd c ex units first front d under → again_of first (repeated_with under.left d) ≡ None
-    → fetched_after (after_unit under.left (ended_with first d))
-    (last_of (ended_with first d)).status ≡ Some n
-    → (ex.attempt.fetches && length ex.gather.bytes == ex.attempt.before) ≡ true
-    → Stall c (units ++ ended_with first d ∷ [])
-unfolding is_open
-stalls c ex units first front d n under end none fetched stalled =
-    let fetch = no_command_stalls under.opening ex.attempt
-    (length ex.gather.bytes == ex.attempt.before) under.place.fetches_is stalled in
-    let same = eqb-true (length ex.gather.bytes) ex.attempt.before
-    (and_parts ex.attempt.fetches (length ex.gather.bytes == ex.attempt.before) stalled).1 in
-    record {
-      is_open = is_open c ex units first front d under end none;
-      asked = fetch.0;
-      more = n;
-      is_fetch = fetch.1;
-      brought_none = none_when_short (unit_data (ended_with first d))
-          (omega (arith, end.number, same, under.place.before_is));
-      announces = fetched;
-    }
+module _ {c : Command} {ex : ExchangeOf} {units : List UnitOf} {first : Option Dialogue}
+    {front : Front} {d : Dialogue} {under : UnderWay c ex units first front}
+    (end : AtEnd c ex units first front d under) where
+  abbrev u : UnitOf
+  u = ended_with first d
 
--- ---- in the terms of the code
+  -- the count of a repetition, and of a fetch
+  abbrev again_after : Option ℕ
+  again_after = again_of first (repeated_with under.left d)
 
-pub follows_as : (c : Command) (ex : ExchangeOf) (units : List UnitOf) (first : Option Dialogue)
-    (front : Front) (d : Dialogue) (under : UnderWay c ex units first front)
-    → AtEnd c ex units first front d under
-    → (gathered : ℕ) (left : Wanted) (status : StatusWord) (after : Next)
-    → after ≡ following ex.attempt gathered left status
-    → gathered ≡ length ex.gather.bytes → left ≡ less ex.wanted gathered → status ≡ d.status
-    → after ≡ next_by ex.attempt (length ex.gather.bytes)
-    (again_of first (repeated_with under.left d))
-    (fetched_after (after_unit under.left (ended_with first d))
-    (last_of (ended_with first d)).status)
-follows_as c ex units first front d under end gathered left status after is number left_is
-    status_is =
-    let a = ex.attempt in
-    let n = length ex.gather.bytes in
-    let w = less ex.wanted n in
-    is ∙ ap (λ k. following a k left status) number
-    ∙ ap (λ v. following a n v status) (left_is ∙ ap (less ex.wanted) number)
-    ∙ ap (following a n w) status_is
-    ∙ ap (λ r. next_by a n r (fetched_after w d.status)) end.again
-    ∙ ap (next_by a n (again_of first (repeated_with under.left d))) end.fetched
+  abbrev fetched_after_it : Option ℕ
+  fetched_after_it = fetched_after (after_unit under.left u) (last_of u).status
 
-abbrev pub taken_on : ExchangeOf → Hosting → Room → Attempt → ExchangeOf
-taken_on ex host gather attempt =
-    record {
-      host = host;
-      gather = gather;
-      attempt = attempt;
-      wanted = ex.wanted;
-      stalled =
-          ex.stalled;
-    }
+  fetches : (host : Hosting) (n : ℕ) → again_after ≡ None → fetched_after_it ≡ Some n
+      → (ex.attempt.fetches && length ex.gather.bytes == ex.attempt.before) ≡ false
+      → HostAsks get_response n host → HostStandsAt host fresh → IsRequest host
+      → UnderWay c (next_exchange ex host (fetch ex.attempt (length ex.gather.bytes)))
+      (units ++ u ∷ []) None fresh
+  fetches host n none fetched not_stalled asks stands request =
+      let more = unit_ends units first d in
+      record {
+        opening = By_fetch n;
+        left = after_unit under.left u;
+        followed = one_more (By_command c) (wanted_by c.le) units under.opening under.left u n
+            under.followed (record {
+              opens = end.opens;
+              is_unit = unit_is under.opening under.left first ex.host d under.opened_as end.by
+                  none;
+              brings = some_brought under.opening u ex.attempt (length ex.gather.bytes)
+                  (length (flat_map unit_data units)) under.place.fetches_is under.place.before_is
+                  end.number not_stalled;
+              fetched = fetched;
+            });
+        are_dialogues = rw more end.are_dialogues;
+        opened_as = asks;
+        place = record {
+          header_is = sym asks.header_is;
+          asks_is = ap asks_card (sym asks.from_card);
+          fetches_is = refl;
+          repeats_is = refl;
+          before_is = end.number ∙ sym (length-append (flat_map unit_data units) (unit_data u))
+              ∙ ap length (sym (flat_map_last unit_data units u));
+          number_is = ap (λ k. k + 1)
+              (under.place.number_is ∙ sym (length-append (so_far units first) (d ∷ []))
+              ∙ ap length (sym more));
+        };
+        stands = stands;
+        request = request;
+        is_front = lit< tt;
+        gathered = end.gathered ∙ ap (flat_map received) (sym more)
+            ∙ sym (append-nil (flat_map received (so_far (units ++ u ∷ []) None)));
+        wanted_is = under.wanted_is;
+        going = under.going;
+      }
 
-as_taken : (ex : ExchangeOf) (host : Hosting) (gather : Room) (attempt asked : Attempt)
-    (P : ExchangeOf → Type 0) → gather ≡ ex.gather → attempt ≡ asked
-    → P (next_exchange ex host asked) → P (taken_on ex host gather attempt)
-as_taken ex host gather attempt asked P room same holds =
-    let A : Attempt → Type 0 = λ a. P (next_exchange ex host a) in
-    let G : Room → Type 0 = λ r. P (taken_on ex host r attempt) in
-    subst G (sym room) (subst A (sym same) holds)
+  -- the units are those of an open exchange
+  abbrev is_open : again_after ≡ None → IsOpenExchange c (units ++ u ∷ [])
+  is_open none = record {
+    before = units;
+    last = u;
+    opening = under.opening;
+    left = under.left;
+    units_are = refl;
+    followed = under.followed;
+    opens = end.opens;
+    is_unit = unit_is under.opening under.left first ex.host d under.opened_as end.by none;
+  }
 
-as_asked : (attempt asked : Attempt) (n : ℕ) (host : Hosting) → attempt ≡ asked
-    → HostAsks attempt.header n host → HostAsks asked.header n host
-as_asked attempt asked n host same asks = let A : Attempt
-    → Type 0 = λ a. HostAsks a.header n host in subst A same asks
+  -- ---- in the terms of the code
 
-pub asks_next : (c : Command) (ex : ExchangeOf) (units : List UnitOf) (first : Option Dialogue)
-    (front : Front) (d : Dialogue) (under : UnderWay c ex units first front)
-    (end : AtEnd c ex units first front d under) (host : Hosting) (gather : Room)
-    (attempt : Attempt) (n : ℕ) → gather ≡ ex.gather
-    → next.Asks attempt n ≡ next_by ex.attempt (length ex.gather.bytes)
-    (again_of first (repeated_with under.left d))
-    (fetched_after (after_unit under.left (ended_with first d))
-    (last_of (ended_with first d)).status)
-    → HostAsks attempt.header n host → HostStandsAt host fresh → IsRequest host
-    → Continues c (taken_on ex host gather attempt) units first d
-asks_next c ex units first front d under end host gather attempt n room is asks stands request =
-    elim (asked_is ex.attempt (length ex.gather.bytes) _ _ attempt n (sym is)) [
-      | inl again ↦
-          let next = repeats c ex host units first front d n under end again.0
-          (as_asked attempt (repetition ex.attempt) n host again.1 asks) stands request in
-          let P : ExchangeOf → Type 0 = λ e. UnderWay c e units (Some d) fresh in
-          inl (
-            next.0,
-            as_taken ex host gather attempt (repetition ex.attempt) P room again.1
-                next.1,
-          )
-      | inr more ↦
-          let asked = fetch ex.attempt (length ex.gather.bytes) in
-          let P : ExchangeOf → Type 0 =
-          λ e. UnderWay c e (units ++ ended_with first d ∷ []) None fresh in
-          inr (inl (as_taken ex host gather attempt asked P room more.2
-          (fetches c ex host units first front d n under end more.0 more.1 more.3
-          (as_asked attempt asked n host more.2 asks) stands request)))
-    ]
+  pub follows_as : (bytes : List ℕ) (gather : Room) (left : Wanted) (status : StatusWord)
+      (after : Next) → after ≡ following ex.attempt (length bytes) left status
+      → bytes ≡ gather.bytes → gather ≡ ex.gather → left ≡ less ex.wanted (length bytes)
+      → Some status ≡ Some d.status
+      → after ≡ next_by ex.attempt (length ex.gather.bytes) again_after fetched_after_it
+  follows_as bytes gather left status after is bytes_are room left_is status_is =
+      let a = ex.attempt in
+      let n = length ex.gather.bytes in
+      let w = less ex.wanted n in
+      let number : length bytes ≡ n = ap length bytes_are ∙ ap (λ (r : Room). length r.bytes) room
+      in
+      is ∙ ap (λ k. following a k left status) number
+      ∙ ap (λ v. following a n v status) (left_is ∙ ap (less ex.wanted) number)
+      ∙ ap (following a n w) (same_status status d.status status_is)
+      ∙ ap (λ r. next_by a n r (fetched_after w d.status)) end.again
+      ∙ ap (next_by a n again_after) end.fetched
 
-pub ends_over : (c : Command) (ex : ExchangeOf) (units : List UnitOf) (first : Option Dialogue)
-    (front : Front) (d : Dialogue) (under : UnderWay c ex units first front)
-    (end : AtEnd c ex units first front d under) (host : Hosting) (gather : Room)
-    → gather ≡ ex.gather
-    → next.Ends ≡ next_by ex.attempt (length ex.gather.bytes)
-    (again_of first (repeated_with under.left d))
-    (fetched_after (after_unit under.left (ended_with first d))
-    (last_of (ended_with first d)).status)
-    → turn_of host ≡ Done d.status → Continues c (taken_on ex host gather ex.attempt) units first d
-ends_over c ex units first front d under end host gather room is done =
-    let over = end_is ex.attempt (length ex.gather.bytes) _ _ (sym is) in
-    let P : ExchangeOf → Type 0 = λ e. IsOver c e (units ++ ended_with first d ∷ []) d.status in
-    inr (inr (as_taken ex host gather ex.attempt ex.attempt P room refl
-    (is_over c ex host units first front d under end over.0 over.1 done)))
+  pub asks_next : (host : Hosting) (gather : Room) (attempt : Attempt) (n : ℕ)
+      → gather ≡ ex.gather → next.Asks attempt n
+      ≡ next_by ex.attempt (length ex.gather.bytes) again_after fetched_after_it
+      → HostAsks attempt.header n host → HostStandsAt host fresh → IsRequest host
+      → Continues c (taken_on ex host gather attempt) units first d
+  asks_next host gather attempt n room is asks stands request =
+      elim (asked_is ex.attempt (length ex.gather.bytes) _ _ attempt n (sym is)) [
+        | inl (again, same) ↦
+            let next = repeats first host n end again (rw same at asks) stands request in
+            inl (next.0, rw (room, same) next.1)
+        | inr (none, fetched, same, not_stalled) ↦
+            inr (inl (rw (room, same) (fetches host n none fetched not_stalled (rw same at asks)
+            stands request)))
+      ]
 
-pub ends_stalled : (c : Command) (ex : ExchangeOf) (units : List UnitOf)
-    (first : Option Dialogue) (front : Front) (d : Dialogue)
-    (under : UnderWay c ex units first front)
-    (end : AtEnd c ex units first front d under)
-    → next.Stalls ≡ next_by ex.attempt (length ex.gather.bytes)
-    (again_of first (repeated_with under.left d))
-    (fetched_after (after_unit under.left (ended_with first d))
-    (last_of (ended_with first d)).status)
-    → Stall c (units ++ ended_with first d ∷ [])
-ends_stalled c ex units first front d under end is =
-    let stall = stall_is ex.attempt (length ex.gather.bytes) _ _ (sym is) in
-    stalls c ex units first front d stall.2.0 under end stall.0 stall.2.1 stall.1
+  pub ends_over : (host : Hosting) (gather : Room) → gather ≡ ex.gather
+      → next.Ends ≡ next_by ex.attempt (length ex.gather.bytes) again_after fetched_after_it
+      → turn_of host ≡ Done d.status
+      → Continues c (taken_on ex host gather ex.attempt) units first d
+  ends_over host gather room is done =
+      let over = end_is ex.attempt (length ex.gather.bytes) _ _ (sym is) in
+      inr (inr (record {
+        gathers = record {
+          is_open = is_open over.0;
+          ends = over.1;
+          status_is = ap (λ (e : Dialogue). e.status) (sym (last_is first d));
+          gathered_is = ap (λ (r : Room). r.bytes) room ∙ end.gathered
+              ∙ ap (flat_map received) (sym (unit_dialogues units first d))
+              ∙ sym (unit_data_received (units ++ u ∷ []));
+        };
+        are_dialogues = rw (unit_dialogues units first d) end.are_dialogues;
+        done = done;
+        going = under.going;
+      }))
 
--- two equal statuses in `Some`
-pub same_status : (a b : StatusWord) → Some a ≡ Some b → a ≡ b
-same_status a b e = cc
+  pub ends_stalled :
+      next.Stalls ≡ next_by ex.attempt (length ex.gather.bytes) again_after fetched_after_it
+      → Stall c (units ++ u ∷ [])
+  ends_stalled is =
+      let (none, stalled, n, fetched) = stall_is ex.attempt (length ex.gather.bytes) _ _ (sym is)
+      in
+      let (asked, is_fetch) = no_command_stalls under.opening ex.attempt
+      (length ex.gather.bytes == ex.attempt.before) under.place.fetches_is stalled in
+      let same = eqb-true (length ex.gather.bytes) ex.attempt.before
+      (and_parts ex.attempt.fetches (length ex.gather.bytes == ex.attempt.before) stalled).1 in
+      record {
+        is_open = is_open none;
+        asked = asked;
+        more = n;
+        is_fetch = is_fetch;
+        brought_none = none_when_short (unit_data u)
+            (omega (arith, end.number, same, under.place.before_is));
+        announces = fetched;
+      }

@@ -1,5 +1,5 @@
 -- An exchange takes the dialogues of its units one character further.
-use Rattle.std.proofs.Common.{◌≡◌, ℕ, ◌<◌, List, [], ◌∷◌, ◌++◌, refl, sym, subst, ◌∙◌, ap, inl, inr, Option, Some, None, Bool, true, false, if◌then◌else◌}
+use Rattle.std.proofs.Common.{◌≡◌, ℕ, List, [], ◌∷◌, ◌++◌, refl, sym, ◌∙◌, ap, inl, inr, Option, Some, None, Bool, true, false, if◌then◌else◌}
 use Rattle.std.specs.List.{flat_map}
 use Rattle.apdu_core.specs.declared.header.Header.{Header}
 use Rattle.apdu_core.specs.StatusWord.{StatusWord, count}
@@ -31,27 +31,21 @@ pub record IsSameRequest (old new : Hosting) : Type 0 where
 
 same_asks : (h : Header) (n : ℕ) (old new : Hosting) → IsSameRequest old new → HostAsks h n old
     → HostAsks h n new
-same_asks h n old new same asks =
-    let Byte : ℕ → Type 0 = λ p. p < 256 in
-    record {
-      header_is = same.header ∙ asks.header_is;
-      from_card = same.direction
-          ∙ asks.from_card;
-      counts = ap count same.p3
-          ∙ asks.counts;
-      is_byte = subst Byte (sym same.p3) asks.is_byte;
-    }
+same_asks h n old new same asks = record {
+  header_is = same.header ∙ asks.header_is;
+  from_card = same.direction ∙ asks.from_card;
+  counts = ap count same.p3 ∙ asks.counts;
+  is_byte = rw same.p3 asks.is_byte;
+}
 
 same_sends : (h : Header) (content : List ℕ) (old new : Hosting) → IsSameRequest old new
     → HostSends h content old → HostSends h content new
-same_sends h content old new same sends =
-    record {
-      header_is = same.header ∙ sends.header_is;
-      to_card = same.direction
-          ∙ sends.to_card;
-      counts = same.p3 ∙ sends.counts;
-      has = same.content ∙ sends.has;
-    }
+same_sends h content old new same sends = record {
+  header_is = same.header ∙ sends.header_is;
+  to_card = same.direction ∙ sends.to_card;
+  counts = same.p3 ∙ sends.counts;
+  has = same.content ∙ sends.has;
+}
 
 same_opens : (h : Header) (content : List ℕ) (le : Option ℕ) (old new : Hosting)
     → IsSameRequest old new → HostOpensBy h content le old → HostOpensBy h content le new
@@ -112,15 +106,7 @@ terminal_brings_nothing (In_body b) new byte (inr (inr (between, sender, status,
 terminal_brings_nothing (After_first b sw1) new byte goes = absurd goes
 
 abbrev pub with_host : ExchangeOf → Hosting → Room → ExchangeOf
-with_host ex host gather =
-    record {
-      host = host;
-      gather = gather;
-      attempt = ex.attempt;
-      wanted = ex.wanted;
-      stalled =
-          ex.stalled;
-    }
+with_host ex host gather = record ex { host = host; gather = gather }
 
 -- a character continues the current dialogue
 pub goes_further : (c : Command) (ex : ExchangeOf) (host : Hosting) (gather : Room)
@@ -149,21 +135,18 @@ goes_further c ex host gather units first front new ch same request under goes s
 pub seen_under_way : (c : Command) (ex seen : ExchangeOf) (units : List UnitOf)
     (first : Option Dialogue) (front : Front) → ex ≡ seen → UnderWay c seen units first front
     → UnderWay c ex units first front
-seen_under_way c ex seen units first front is under = let P : ExchangeOf
-    → Type 0 = λ e. UnderWay c e units first front in subst P (sym is) under
+seen_under_way c ex seen units first front is under = rw is under
 
 -- an exchange that has not stalled does what its end does
 pub told : (ex seen : ExchangeOf) (turn : HostTurn) → ex ≡ seen → ex.stalled ≡ false
     → exchange_turn seen ≡ turn → turn_of ex.host ≡ turn
 told ex seen turn is going does =
-    let P : ExchangeOf → Type 0 = λ e. exchange_turn e ≡ turn in
-    ap (λ b. if b then Failed else turn_of ex.host) (sym going) ∙ subst P (sym is) does
+    ap (λ b. if b then Failed else turn_of ex.host) (sym going) ∙ (rw (sym is) at does)
 
 pub tells : (ex seen : ExchangeOf) (turn : HostTurn) → ex ≡ seen → ex.stalled ≡ false
     → turn_of ex.host ≡ turn → exchange_turn seen ≡ turn
 tells ex seen turn is going does =
-    let P : ExchangeOf → Type 0 = λ e. exchange_turn e ≡ turn in
-    subst P is (ap (λ b. if b then Failed else turn_of ex.host) going ∙ does)
+    rw (sym is) (ap (λ b. if b then Failed else turn_of ex.host) going ∙ does)
 
 -- a character that its end sends continues the current dialogue
 pub sends_further : (c : Command) (ex : ExchangeOf) (host : Hosting) (units : List UnitOf)

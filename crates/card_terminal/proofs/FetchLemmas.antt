@@ -1,6 +1,6 @@
 -- What a command that wants everything brings: its first unit, and the fetches of all that is then
 -- announced, as TPDUs of the card.
-use Rattle.std.proofs.Common.{◌≡◌, ℕ, List, [], ◌∷◌, ◌++◌, Option, Some, None, true, refl, sym, ap, subst, ◌∙◌, arith, append-nil}
+use Rattle.std.proofs.Common.{◌≡◌, ℕ, List, [], ◌∷◌, ◌++◌, Option, Some, None, refl, sym, ap, ◌∙◌, arith, append-nil}
 use Rattle.std.specs.List.{flat_map}
 use Rattle.apdu_core.specs.declared.header.Header.{Header}
 use Rattle.apdu_core.specs.StatusWord.{StatusWord, count, announces, corrects}
@@ -10,10 +10,9 @@ use Rattle.t0_core.specs.declared.direction.Direction.TheVariants.{ToCard, FromC
 use Rattle.t0_core.specs.Dialogue.{Dialogue}
 use Rattle.t0_core.specs.Meaning.{Tpdu, tpdu_of, received, sent, Runs}
 use Rattle.t0_core.specs.Plan.{Course, IsCut}
-use Rattle.object_card.specs.State.{CardState, IsCardState, is_idle}
-use Rattle.object_card.specs.OneStep.{Operation, Reply, Answers, SameTables}
+use Rattle.object_card.specs.State.{CardState, IsCardState}
 use Rattle.object_card.specs.CardMeaning.{Does}
-use Rattle.object_card.specs.CarryingOut.{get_response, FetchAll, IsCarriedOut}
+use Rattle.object_card.specs.CarryingOut.{get_response, FetchAll}
 use Rattle.object_card.specs.StateLaws.{stays_sound}
 use Rattle.object_card.specs.ResponseLaws.{announced_is_brought}
 use Rattle.card_terminal.specs.declared.wanted.Wanted.TheVariants.{Everything}
@@ -45,7 +44,7 @@ goes_apart old new (x ∷ xs) ys (cut, next, is, does, others) =
 -- a sound state of the card stays sound
 pub goes_sound : (old new : CardState) (ds : List Dialogue) → IsCardState old → Goes old ds new
     → IsCardState new
-goes_sound old new [] sound goes = subst IsCardState (sym goes) sound
+goes_sound old new [] sound goes = rw goes sound
 goes_sound old new (d ∷ ds) sound (cut, mid, is_cut, does, others) =
     goes_sound mid new ds (stays_sound old mid cut (tpdu_of d) does sound) others
 
@@ -80,7 +79,7 @@ one_fetch n cut t (Single d) prior old new before in_range announced opens is_un
       in_range = is_cut;
       header_is = opens.header_is;
       counts = opens.counts;
-      does = subst (λ s. Does old next (tpdu_of d) s) (sym is) does;
+      does = rw is does;
     }
 one_fetch n cut t (Repeated d e) prior old new before in_range announced opens is_unit
     (next, mid, is_cut, does, others) =
@@ -126,15 +125,12 @@ fetched_all : (n cut : ℕ) (t : Tpdu) (before : List UnitOf) (last : UnitOf) (o
     → AreFetched old t.status (flat_map unit_data (before ++ last ∷ [])) (last_of last).status new
 fetched_all n cut t [] last opening left prior old new does in_range announced followed opens
     is_unit ends goes =
-    let opened : OpensWith (By_fetch n) (first_of last) =
-    subst (λ o. OpensWith o (first_of last)) followed.0 opens in
-    let unit_is : IsUnit Everything last = subst (λ w. IsUnit w last) followed.1 is_unit in
-    let here : Goes old (dialogues_of last) new =
-    subst (λ ds. Goes old ds new) (append-nil (dialogues_of last)) goes in
-    let one = one_fetch n cut t last prior old new does in_range announced opened unit_is here in
+    let one = one_fetch n cut t last prior old new does in_range announced
+    (rw followed.0 at opens) (rw followed.1 at is_unit)
+    (rw (append-nil (dialogues_of last)) at goes) in
     let d = one.dialogue in
     let none_more : fetched_after Everything (last_of last).status ≡ None =
-    subst (λ w. fetched_after (after_unit w last) (last_of last).status ≡ None) followed.1 ends in
+    rw followed.1 at ends in
     let status_is : (last_of last).status ≡ d.status = ap (λ u. (last_of u).status) one.is in
     let none : announces d.status ≡ None =
     ap (λ s. announces s) (sym status_is) ∙ none_announced (last_of last).status none_more in
@@ -211,7 +207,7 @@ begun h bytes units content status old new g goes =
     by g.is_open.before g.is_open.last g.is_open.opening g.is_open.left g.is_open.followed
     g.is_open.opens g.is_open.is_unit g.ends g.status_is
     (g.gathered_is ∙ ap (λ us. flat_map unit_data us) g.is_open.units_are)
-    (subst (λ us. Goes old (flat_map dialogues_of us) new) g.is_open.units_are goes)
+    (rw g.is_open.units_are at goes)
   where
     by : (before : List UnitOf) (last : UnitOf) (opening : Opening) (left : Wanted)
         → AreFollowed (By_command (wanting_all h bytes)) Everything before opening left
@@ -225,18 +221,16 @@ begun h bytes units content status old new g goes =
       last,
       new,
       record {
-        opens = subst (λ o. OpensWith o (first_of last)) followed.0 opens;
-        is_unit = subst (λ w. IsUnit w last) followed.1 is_unit;
-        goes = subst (λ ds. Goes old ds new) (append-nil (dialogues_of last)) goes;
+        opens = rw followed.0 at opens;
+        is_unit = rw followed.1 at is_unit;
+        goes = rw (append-nil (dialogues_of last)) at goes;
         rest = λ prior cut in_range does. (
           [],
           content_is ∙ append-nil (unit_data last) ∙ sym (append-nil (unit_data last)),
           record {
             fetches = [];
             all = (
-              none_announced (last_of last).status
-                  (subst (λ w. fetched_after (after_unit w last) (last_of last).status ≡ None)
-                  followed.1 ends),
+              none_announced (last_of last).status (rw followed.1 at ends),
               status_is,
               refl,
             );
@@ -259,42 +253,12 @@ begun h bytes units content status old new g goes =
             rest = λ prior cut in_range does. (
               flat_map unit_data (before ++ last ∷ []),
               content_is,
-              subst (λ s. AreFetched mid (last_of u).status
-                  (flat_map unit_data (before ++ last ∷ [])) s new) (sym status_is)
-                  (fetched_all n cut (tpdu_of (last_of u)) before last opening left prior mid new
-                  does in_range (announced_by (last_of u).status n is.fetched) followed opens
-                  is_unit ends others),
+              rw status_is (fetched_all n cut (tpdu_of (last_of u)) before last opening left prior
+                  mid new does in_range (announced_by (last_of u).status n is.fetched) followed
+                  opens is_unit ends others),
             );
           },
         )
-
--- an operation equals one step, and no chain is pending after it
-pub record IsOneStep (old : CardState) (operation : Operation) (answer : Reply) (new : CardState)
-    : Type 0 where
-  pub after : CardState
-  pub answers : Answers old operation answer after
-  pub same : SameTables after new
-  pub idle : is_idle new.pending ≡ true
-
--- an answer by its parts
-abbrev answer_of : StatusWord → List ℕ → Reply
-answer_of status content = record { status = status; content = content }
-
-pub same_reply : (s t : StatusWord) (a b : List ℕ) → t ≡ s → b ≡ a → answer_of s a ≡ answer_of t b
-same_reply s t a b status content = ap (λ x. answer_of x a) (sym status)
-    ∙ ap (λ x. answer_of t x) (sym content)
-
--- an operation that was carried out equals one step
-pub as_one_step : (old new : CardState) (operation : Operation) (status : StatusWord)
-    (brought content : List ℕ) → content ≡ brought
-    → IsCarriedOut old operation status brought new
-    → IsOneStep old operation (record { status = status; content = content }) new
-as_one_step old new operation status brought content is (after, answers, same, idle) = record {
-  after = after;
-  answers = subst (λ bs. Answers old operation (answer_of status bs) after) (sym is) answers;
-  same = same;
-  idle = idle;
-}
 
 -- a unit that sends data to the card has one dialogue
 pub sent_once : (u : UnitOf) → (first_of u).body.direction ≡ ToCard → IsUnit Everything u

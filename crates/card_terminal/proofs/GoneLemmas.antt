@@ -1,5 +1,5 @@
 -- Dialogues from one point of a talk to another: none, one, and others after them.
-use Rattle.std.proofs.Common.{append-nil, ◌≡◌, ℕ, zero, suc, ◌+◌, List, [], ◌∷◌, ◌++◌, length, take, drop, refl, sym, ap, subst, ◌∙◌, arith, length-append, Option}
+use Rattle.std.proofs.Common.{append-nil, ◌≡◌, ℕ, zero, suc, ◌+◌, List, [], ◌∷◌, ◌++◌, length, take, drop, refl, sym, ap, ◌∙◌, arith, length-append, Option}
 use Rattle.std.specs.List.{flat_map}
 use Rattle.std.proofs.lemmas.Grind.{flat_map-append}
 use Rattle.t0_core.specs.Dialogue.{Dialogue, IsDialogue, characters}
@@ -14,14 +14,11 @@ use Rattle.card_terminal.proofs.TalkListLemmas.{left_after_both, follow_both, ru
 -- the cuts of some plans, and of those after them
 pub cuts_both : (n m : ℕ) (plans : List Course) → HaveCuts (take n plans)
     → HaveCuts (take m (drop n plans)) → HaveCuts (take (n + m) plans)
-cuts_both zero m plans first second = let e : m ≡ 0 + m = omega arith in
-    subst (λ k. HaveCuts (take k plans)) e second
-cuts_both (suc n) m [] first second = let e : suc (n + m) ≡ suc n + m = omega arith in
-    subst (λ k. HaveCuts (take k [])) e tt
+cuts_both zero m plans first second = let e : 0 + m ≡ m = omega arith in rw e second
+cuts_both (suc n) m [] first second = let e : suc n + m ≡ suc (n + m) = omega arith in rw e tt
 cuts_both (suc n) m (p ∷ plans) first second =
-    let e : suc (n + m) ≡ suc n + m = omega arith in
-    subst (λ k. HaveCuts (take k (p ∷ plans))) e
-    (first.0, cuts_both n m plans first.1 second)
+    let e : suc n + m ≡ suc (n + m) = omega arith in
+    rw e (first.0, cuts_both n m plans first.1 second)
 
 -- dialogues, and others after them
 pub gone_both : {State : Type 0} (Does : State → ℕ → Tpdu → State → Type 0)
@@ -32,16 +29,13 @@ gone_both Does from mid to ds es one two =
     let plans = from.plans in
     record {
       are_dialogues = all_both IsDialogue ds es one.are_dialogues two.are_dialogues;
-      follow = follow_both ds es plans one.follow
-          (subst (λ p. FollowInTurn es p) one.used two.follow);
-      cuts = subst (λ k. HaveCuts (take k plans)) (sym (length-append ds es))
-          (cuts_both n (length es) plans one.cuts
-          (subst (λ p. HaveCuts (take (length es) p)) one.used two.cuts));
+      follow = follow_both ds es plans one.follow (rw one.used at two.follow);
+      cuts = rw (length-append ds es)
+          (cuts_both n (length es) plans one.cuts (rw one.used at two.cuts));
       runs = runs_both Does from.standing mid.standing to.standing ds es plans one.runs
-          (subst (λ p. Runs Does mid.standing es p to.standing) one.used two.runs);
+          (rw one.used at two.runs);
       used = two.used ∙ ap (λ p. drop (length es) p) one.used ∙ sym (left_after_both ds es plans);
-      hears = subst (λ cs. Hears from.hearing cs to.hearing)
-          (sym (flat_map-append characters ds es))
+      hears = rw (flat_map-append characters ds es)
           (hears_more from.hearing mid.hearing to.hearing (flat_map characters ds)
           (flat_map characters es) one.hears two.hears);
     }
@@ -83,7 +77,7 @@ one_gone Does old new [] kept since now d is follows cut does hears = record {
   cuts = tt;
   runs = (new, does, refl);
   used = refl;
-  hears = subst (λ cs. Hears since cs now) (sym (append-nil (characters d))) hears;
+  hears = rw (append-nil (characters d)) hears;
 }
 one_gone Does old new (p ∷ ps) kept since now d is follows cut does hears = record {
   are_dialogues = (is, tt);
@@ -91,5 +85,5 @@ one_gone Does old new (p ∷ ps) kept since now d is follows cut does hears = re
   cuts = (cut, cuts_none ps);
   runs = (new, does, runs_none Does new ps);
   used = refl;
-  hears = subst (λ cs. Hears since cs now) (sym (append-nil (characters d))) hears;
+  hears = rw (append-nil (characters d)) hears;
 }

@@ -64,8 +64,7 @@ data_run (b ∷ bytes) end last gather attempt wanted kept steps =
       of_parts next gather attempt wanted false,
       turned ex (Sends b) next kept refl (sym turn.sends) turn.after turn.keeps
           (λ none. absurd (none b refl)) (λ front byte stands is.
-          subst (λ x. (new : Front) × GoesOn front (Terminal, x) new × HostStandsAt next new)
-          (same_sent b byte is) (turn.goes_on front stands)),
+          rw (same_sent b byte is) at (turn.goes_on front stands)),
       data_run bytes next last gather attempt wanted
           (still_kept end next false gather attempt wanted refl kept) steps.2,
     )
@@ -87,18 +86,16 @@ data_over (b ∷ bytes) end last gather attempt wanted status steps done =
 
 data_only : (bytes : List ℕ) (end last : Hosting) (content : List ℕ)
     → Steps IsDataTurn end bytes last → HasOnly content end → HasOnly content last
-data_only [] end last content steps only =
-    subst (λ (h : Hosting). HasOnly content h) (sym steps) only
-data_only (b ∷ bytes) end last content steps only = data_only bytes steps.0 last content steps.2
-    (subst (λ (h : Hosting). HasOnly content h) (sym steps.1.after) only)
+data_only [] end last content steps only = rw steps only
+data_only (b ∷ bytes) end last content steps only =
+    data_only bytes steps.0 last content steps.2 (rw steps.1.after only)
 
 -- the data to send have been written
 pub run_handed : (begun end : Hosting) (stalled : Bool) (before after : List ℕ) (at : ℕ)
     → stalled ≡ false → HandsOut IsDataTurn begun before after at end
     → HasHanded begun stalled before after at end
 run_handed begun end stalled before after at going handed =
-    let P : Bool → Type 0 = λ v. HasHanded begun v before after at end in
-    subst P (sym going) (record {
+    rw going (record {
       out = λ gather attempt wanted kept. record {
         fits = handed.fits;
         steps = data_run (take at after) begun end gather attempt wanted kept handed.steps;
@@ -133,9 +130,7 @@ module _ (begun end next : Hosting) (stalled : Bool) (before after : List ℕ) (
         one_handed SendsOne (of_parts begun gather attempt wanted stalled)
         (of_parts end gather attempt wanted stalled) (of_parts next gather attempt wanted stalled)
         before after at byte below same (handed.out gather attempt wanted kept)
-        (subst (λ t. IsTurn (of_parts end gather attempt wanted stalled) t
-        (of_parts next gather attempt wanted stalled)) sends
-        (one_turn gather attempt wanted kept));
+        (rw sends at (one_turn gather attempt wanted kept));
     kept = λ gather attempt wanted kept. still_kept end next stalled gather attempt wanted going
         (handed.kept gather attempt wanted kept);
     over = λ gather attempt wanted status done.
@@ -145,8 +140,7 @@ module _ (begun end next : Hosting) (stalled : Bool) (before after : List ℕ) (
         back ∙ handed.over gather attempt wanted status
         (ap (λ (h : Hosting). exchange_turn (of_parts h gather attempt wanted stalled)) (sym back)
         ∙ done);
-    only = λ content only. subst (λ (h : Hosting). HasOnly content h) (sym went)
-        (handed.only content only);
+    only = λ content only. rw went (handed.only content only);
   }
 
   -- or none is, and `stop` is the turn
@@ -184,8 +178,7 @@ module _ (begun end next : Hosting) (stalled : Bool) (before after : List ℕ) (
       (handed.kept gather attempt wanted kept)
 
   pub only_still : (content : List ℕ) → HasOnly content begun → HasOnly content next
-  only_still content only = subst (λ (h : Hosting). HasOnly content h) (sym went)
-      (handed.only content only)
+  only_still content only = rw went (handed.only content only)
 
 -- the buffer is full
 pub handed_all : (begun end : Hosting) (stalled : Bool) (before after : List ℕ) (at : ℕ)
@@ -198,8 +191,6 @@ pub handed_all : (begun end : Hosting) (stalled : Bool) (before after : List ℕ
 handed_all begun end stalled before after at beyond within same handed gather attempt wanted kept =
     let e : at ≡ length after = omega (arith, beyond, within) in
     record {
-      sent = subst (λ n. HandsOut SendsOne (of_parts begun gather attempt wanted stalled) before
-          after n (of_parts end gather attempt wanted stalled)) e
-          (handed.out gather attempt wanted kept);
+      sent = rw e at (handed.out gather attempt wanted kept);
       stop = same;
     }

@@ -1,5 +1,5 @@
 -- A SELECT or a GET DATA, repeated or not, and its fetches equal the operation in one step.
-use Rattle.std.proofs.Common.{◌≡◌, ℕ, List, [], ◌∷◌, ◌++◌, Option, Some, None, true, refl, sym, ap, subst, ◌∙◌, append-nil, append_assoc}
+use Rattle.std.proofs.Common.{◌≡◌, ℕ, List, [], ◌∷◌, ◌++◌, Option, Some, None, true, refl, sym, ap, ◌∙◌, append-nil, append_assoc}
 use Rattle.apdu_core.specs.StatusWord.{StatusWord, corrects}
 use Rattle.tlv_core.specs.Address.{NamesTag}
 use Rattle.t0_core.specs.declared.direction.Direction.TheVariants.{FromCard}
@@ -9,24 +9,22 @@ use Rattle.object_card.specs.Tables.{IsAid}
 use Rattle.object_card.specs.State.{CardState, is_idle}
 use Rattle.object_card.specs.OneStep.{Select, Get}
 use Rattle.object_card.specs.CardMeaning.{Does}
-use Rattle.object_card.specs.CarryingOut.{select_header, get_header}
+use Rattle.object_card.specs.CarryingOut.{select_header, get_header, IsCarriedOut}
 use Rattle.object_card.specs.OperationLaws.{select_is_carried_out, get_is_carried_out, get_again_is_carried_out}
 use Rattle.card_terminal.specs.declared.wanted.Wanted.TheVariants.{Everything}
 use Rattle.card_terminal.specs.Gathered.{UnitOf, Single, Repeated, Asks, SendsFrom, first_of, dialogues_of, repeated_with, after_dialogue, correction_of, IsUnit}
-use Rattle.card_terminal.proofs.FetchLemmas.{Goes, Rest, IsOneStep, all_brought, as_one_step, sent_data}
+use Rattle.card_terminal.proofs.FetchLemmas.{Goes, Rest, sent_data}
 use Rattle.card_terminal.proofs.PrefixLemmas.{correction_is}
 
 pub select_answers : (old mid new : CardState) (aid : List ℕ) (d : Dialogue) (content : List ℕ)
     (status : StatusWord) → is_idle old.pending ≡ true → IsAid aid
     → SendsFrom select_header aid d → Goes old (d ∷ []) mid → Rest (Single d) mid new content status
-    → IsOneStep old (Select aid) (record { status = status; content = content }) new
+    → IsCarriedOut old (Select aid) status content new
 select_answers old mid new aid d content status idle is_aid sends (cut, next, in_range, does, is)
     rest =
-    let here : Does old cut (tpdu_of d) mid = subst (λ s. Does old cut (tpdu_of d) s) (sym is) does
-    in
+    let here : Does old cut (tpdu_of d) mid = rw is does in
     let (brought, content_is, f) = rest old cut in_range here in
-    as_one_step old new (Select aid) status (all_brought (tpdu_of d ∷ f.fetches)) content
-    (content_is ∙ ap (λ z. z ++ brought) (append-nil (received d))
+    rw (content_is ∙ ap (λ z. z ++ brought) (append-nil (received d))
     ∙ ap (λ z. received d ++ z) f.content_is)
     (select_is_carried_out old mid new cut aid (tpdu_of d) f.fetches status idle is_aid in_range
     (record {
@@ -53,24 +51,20 @@ pub get_answers : (old mid new : CardState) (tag : List ℕ) (p1 p2 : ℕ) (u : 
     (content : List ℕ) (status : StatusWord) → is_idle old.pending ≡ true → NamesTag tag p1 p2
     → Asks (get_header p1 p2) 256 (first_of u) → IsUnit Everything u
     → Goes old (dialogues_of u) mid → Rest u mid new content status
-    → IsOneStep old (Get tag) (record { status = status; content = content }) new
+    → IsCarriedOut old (Get tag) status content new
 get_answers old mid new tag p1 p2 (Single d) content status idle names opens once
     (cut, next, in_range, does, is) rest =
-    let here : Does old cut (tpdu_of d) mid = subst (λ s. Does old cut (tpdu_of d) s) (sym is) does
-    in
+    let here : Does old cut (tpdu_of d) mid = rw is does in
     let (brought, content_is, f) = rest old cut in_range here in
-    as_one_step old new (Get tag) status (all_brought (tpdu_of d ∷ f.fetches)) content
-    (content_is ∙ ap (λ z. z ++ brought) (append-nil (received d))
+    rw (content_is ∙ ap (λ z. z ++ brought) (append-nil (received d))
     ∙ ap (λ z. received d ++ z) f.content_is)
     (get_is_carried_out old mid new tag p1 p2 cut (tpdu_of d) f.fetches status idle names
     opens.header_is in_range here (told_no_count d opens.from_card once) f.all)
 get_answers old mid new tag p1 p2 (Repeated d e) content status idle names opens (n, told, asks)
     (before, next, in_range, does, (cut, last, also_in_range, again, is)) rest =
-    let here : Does next cut (tpdu_of e) mid =
-    subst (λ s. Does next cut (tpdu_of e) s) (sym is) again in
+    let here : Does next cut (tpdu_of e) mid = rw is again in
     let (brought, content_is, f) = rest next cut also_in_range here in
-    as_one_step old new (Get tag) status (all_brought (tpdu_of d ∷ tpdu_of e ∷ f.fetches)) content
-    (content_is ∙ append_assoc (received d) (received e ++ []) brought
+    rw (content_is ∙ append_assoc (received d) (received e ++ []) brought
     ∙ ap (λ z. received d ++ (z ++ brought)) (append-nil (received e))
     ∙ ap (λ z. received d ++ (received e ++ z)) f.content_is)
     (get_again_is_carried_out old next mid new tag p1 p2 before cut n (tpdu_of d) (tpdu_of e)

@@ -1,5 +1,5 @@
 -- An exchange at the end of a whole one has ended, and has not stalled.
-use Rattle.std.proofs.Common.{◌≡◌, ℕ, List, [], ◌∷◌, ◌++◌, refl, sym, subst, ◌∙◌, ap, inl, inr, Option, Some, None}
+use Rattle.std.proofs.Common.{◌≡◌, ℕ, List, [], ◌∷◌, ◌++◌, refl, sym, ◌∙◌, ap, inl, inr, Option, Some, None}
 use Rattle.std.proofs.lemmas.List.{same_from_push}
 use Rattle.apdu_core.specs.StatusWord.{StatusWord}
 use Rattle.apdu_core.specs.CommandBytes.{Command}
@@ -47,18 +47,13 @@ last_unit c units u gathered status whole =
     let same = same_from_push units whole.is_open.before u whole.is_open.last
     whole.is_open.units_are in
     let left = whole.is_open.left in
-    let Before : List UnitOf → Type 0 = λ us. AreFollowed (By_command c) (wanted_by c.le) us
-    whole.is_open.opening left in
-    let Unit : UnitOf → Type 0 = λ v. IsUnit left v in
-    let Ends : UnitOf → Type 0 = λ v. fetched_after (after_unit left v) (last_of v).status ≡ None in
     record {
       opening = whole.is_open.opening;
       left = left;
-      followed = subst Before (sym same.0) whole.is_open.followed;
-      is_unit = subst Unit (sym same.1) whole.is_open.is_unit;
-      ends = subst Ends (sym same.1) whole.ends;
-      status_is = whole.status_is
-          ∙ ap (λ v. (last_of v).status) (sym same.1);
+      followed = rw same.0 whole.is_open.followed;
+      is_unit = rw same.1 whole.is_open.is_unit;
+      ends = rw same.1 whole.ends;
+      status_is = whole.status_is ∙ ap (λ v. (last_of v).status) (sym same.1);
     }
 
 -- it is not repeated
@@ -68,8 +63,7 @@ not_repeated : (c : Command) (units : List UnitOf) (first : Option Dialogue) (d 
     → AreFollowed (By_command c) (wanted_by c.le) units opening left
     → repeated_with left d ≡ Some n → ⊥
 not_repeated c units first d status opening left n last none followed repeated =
-    let Unit : Option Dialogue → Type 0 = λ f. IsUnit last.left (ended_with f d) in
-    none_or_some (repeated_with last.left d) n (subst Unit none last.is_unit)
+    none_or_some (repeated_with last.left d) n (rw none at last.is_unit)
     (ap (λ w. repeated_with w d) (same_left c units last.opening opening last.left left
     last.followed followed) ∙ repeated)
 
@@ -100,14 +94,12 @@ is_over c ex units first d gathered status (inr (inr over)) whole =
     let u = ended_with first d in
     let same = (last_unit c units u ex.gather.bytes d.status over.gathers).status_is
     ∙ sym (last_unit c units u gathered status whole).status_is in
-    let Over : StatusWord → Type 0 = λ s. IsOver c ex (units ++ u ∷ []) s in
-    (subst Over same over, over.gathers.gathered_is ∙ sym whole.gathered_is)
+    (rw (sym same) over, over.gathers.gathered_is ∙ sym whole.gathered_is)
 
 pub no_stall : (c : Command) (units : List UnitOf) (gathered : List ℕ) (status : StatusWord)
     → Gathers c units gathered status → Stall c units → ⊥
 no_stall c units gathered status whole stall =
     let under = stall.is_open in
-    let Whole : List UnitOf → Type 0 = λ us. Gathers c us gathered status in
     not_fetched c under.before under.last status under.opening under.left stall.more
-    (last_unit c under.before under.last gathered status (subst Whole under.units_are whole))
+    (last_unit c under.before under.last gathered status (rw under.units_are at whole))
     under.followed stall.announces

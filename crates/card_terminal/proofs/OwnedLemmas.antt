@@ -27,7 +27,7 @@ no_answer ex none = record {
   led = λ c came leads. tt;
 }
 
-same_done : (a b : StatusWord) → Done a ≡ Done b → a ≡ b
+pub same_done : (a b : StatusWord) → Done a ≡ Done b → a ≡ b
 same_done a b e = cc
 
 pub answers : (ex : ExchangeOf) (status : StatusWord) (bytes : List ℕ)
@@ -55,7 +55,7 @@ same_parts end gather attempt wanted stalled content host ex is view =
 pub end_has_only : (mark : HostMark) (content : List ℕ) (host : Hosting)
     → host ≡ with_data mark content → HasOnly content host
 end_has_only mark content host is =
-    subst (λ (h : Hosting). HasOnly content h) (sym is) refl
+    rw is refl
 
 begun_within : (fetches repeats : Bool) (before number bytes : ℕ) → before ≤ bytes
     → number ≤ most_begun fetches before + one_more repeats → number ≤ 2 * (bytes + 2)

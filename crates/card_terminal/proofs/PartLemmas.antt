@@ -30,7 +30,7 @@ pub part_of : (items content : List ℕ) (from until : ℕ) (ex : ExchangeMarkOf
 part_of items content from until ex front sound = record {
   begin = front.begin;
   within = front.within;
-  sound = subst (λ (bs : List ℕ). IsSound (over_data ex bs)) (sym front.slice) sound;
+  sound = rw front.slice sound;
 }
 
 -- ---- an operation begins
@@ -57,16 +57,13 @@ begins_with first value items ex until p1 p2 copied some is p1_is p2_is under le
     let turn : exchange_turn (over_data ex (slice_range items 0 until)) ≡ Sends byte =
     ap (λ (bs : List ℕ). exchange_turn (over_data ex bs)) front.slice ∙ sends in
     record {
-      led = subst (λ (bs : List ℕ). ComesTo first [] (over_data ex bs)) (sym front.slice) led;
+      led = rw front.slice led;
       p1_is = p1_is;
       p2_is = p2_is;
       rest_is = ap (λ n. drop n items) is ∙ ap (λ z. drop (length first.content) z) copied;
-      settled = λ done. absurd (never byte (sym turn ∙ done));
+      settled = λ done. absurd (cc);
       is_first = refl;
     }
-  where
-    never : (byte : ℕ) → Sends byte ≡ Done ok → ⊥
-    never byte e = absurd (cc)
 
 pub command_begins : (c : Command) (content : List ℕ) (o : OperationOf)
     (new : Option OperationOf) → content ≡ c.content → new ≡ Some o → BeginsWith c content o
@@ -75,8 +72,7 @@ command_begins c content o new whole is begins =
     let none : drop (length c.content) content ≡ [] =
     ap (λ z. drop (length c.content) z) (whole ∙ sym (append-nil c.content))
     ∙ drop-append_seam c.content [] in
-    subst (λ (n : Option OperationOf). LeadsTo (c ∷ []) [] n) (sym is)
-    (one_begins c o (begins.rest_is ∙ none) begins.led, begins.settled)
+    rw is (one_begins c o (begins.rest_is ∙ none) begins.led, begins.settled)
 
 -- ---- a put
 
@@ -91,14 +87,11 @@ put_begins tag value p1 p2 header pieces list others c o new header_is names are
     let chain = chain_of header p1 p2 pieces list others c header_is same steps in
     let (p1_is, p2_is) = first_names (put_header p1 p2) pieces c others chain in
     let left : AreLeft o.p1 o.p2 o.rest others =
-    subst (λ n. AreLeft n o.p2 o.rest others) (sym (begins.p1_is ∙ p1_is))
-    (subst (λ n. AreLeft p1 n o.rest others) (sym (begins.p2_is ∙ p2_is))
-    (subst (λ bs. AreLeft p1 p2 bs others) (sym begins.rest_is)
-    (left_after p1 p2 value pieces c others are chain))) in (
+    rw (begins.p1_is ∙ p1_is, begins.p2_is ∙ p2_is, begins.rest_is)
+    (left_after p1 p2 value pieces c others are chain) in (
       c ∷ others,
       (p1, p2, pieces, names, are, sym chain),
-      subst (λ (n : Option OperationOf). LeadsTo (c ∷ others) [] n) (sym is)
-          (first_begins c others o left begins.led, begins.settled),
+      rw is (first_begins c others o left begins.led, begins.settled),
     )
 
 -- ---- the next piece
@@ -122,8 +115,7 @@ pub next_begins : (old : OperationOf) (ex : ExchangeOf) (new : ExchangeMarkOf)
 next_begins old ex new items seen until p1 p2 size first header pieces list others c view done more
     same_items header_is are same steps few is under led sound kept =
     let rest_is = rest_seen items seen until same_items in
-    let are_now : IsPieces (drop until items) pieces =
-    subst (λ z. IsPieces z pieces) rest_is are in
+    let are_now : IsPieces (drop until items) pieces = rw rest_is at are in
     let chain = chain_of header p1 p2 pieces list others c header_is same steps in
     let front = next_front items seen until size header pieces list others c same_items are same
     steps few is in
@@ -139,13 +131,11 @@ next_begins old ex new items seen until p1 p2 size first header pieces list othe
             (λ e. more (ap (λ (o : OperationOf). o.rest) (sym view) ∙ e)) are_now
             (subst (λ (o : OperationOf). AreLeft o.p1 o.p2 o.rest left) (sym view) are_left)
             ∙ chain,
-        subst (λ (bs : List ℕ). ComesTo c [] (over_data new bs)) (sym front.slice) led,
-        subst (λ z. AreLeft p1 p2 z others) after_is
-            (left_after p1 p2 (drop until items) pieces c others are_now chain),
+        rw front.slice led,
+        rw after_is at (left_after p1 p2 (drop until items) pieces c others are_now chain),
       );
       later = refl;
-      bounds = subst (λ (bs : List ℕ). IsBounded (over_data new bs)) (sym front.slice)
-          (bounded (over_data new c.content) sound.1);
+      bounds = rw front.slice (bounded (over_data new c.content) sound.1);
       limit = kept ∙ ap (λ (o : OperationOf). o.exchange.gather.limit) view;
       sends = let (byte, turn) = begins_by_sending c (over_data new c.content) under in
           (byte, ap (λ (bs : List ℕ). exchange_turn (over_data new bs)) front.slice ∙ turn);

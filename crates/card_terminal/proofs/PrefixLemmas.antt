@@ -1,5 +1,5 @@
 -- The characters that led to an exchange are the first of an open exchange of its command.
-use Rattle.std.proofs.Common.{◌≡◌, ℕ, List, [], ◌∷◌, ◌++◌, refl, sym, subst, ◌∙◌, ap, inl, inr, ◌⊎◌, lit<, Option, Some, None, append-nil, append_assoc, true, false, Bool, ◌==◌, if◌then◌else◌}
+use Rattle.std.proofs.Common.{◌≡◌, ℕ, List, [], ◌∷◌, ◌++◌, refl, sym, ◌∙◌, ap, inl, inr, ◌⊎◌, lit<, Option, Some, None, append-nil, append_assoc, true, false, Bool, ◌==◌, if◌then◌else◌}
 use Rattle.std.specs.List.{AllByRecursion, flat_map}
 use Rattle.apdu_core.specs.StatusWord.{StatusWord, count, corrects}
 use Rattle.apdu_core.specs.CommandBytes.{Command}
@@ -12,7 +12,7 @@ use Rattle.t0_core.specs.DialogueLaws.{flat_map_last, all_more}
 use Rattle.t0_core.specs.HostSide.{IsOpenedBy}
 use Rattle.t0_core.specs.OwnLaws.{begins_own}
 use Rattle.card_terminal.specs.declared.wanted.Wanted.{Wanted}
-use Rattle.card_terminal.specs.Gathered.{Asks, wants_at_least, correction_of, repeated_with, after_dialogue, UnitOf, Repeated, dialogues_of, IsOpenExchange}
+use Rattle.card_terminal.specs.Gathered.{Asks, wants_at_least, correction_of, repeated_with, after_dialogue, UnitOf, Repeated, dialogues_of, IsOpenExchange, OpensWith, IsUnit, first_of}
 use Rattle.card_terminal.specs.ExchangeSide.{ExchangeOf, UnderWay, so_far, ended_with}
 use Rattle.card_terminal.specs.ExchangeHistory.{unit_characters, characters_to, ComesTo, to_front, to_end, to_stall, to_fault, BeginsExchange, FaultCameLast}
 use Rattle.card_terminal.proofs.UnitLemmas.{unit_dialogues}
@@ -49,8 +49,7 @@ is_at_once : (d : Dialogue) → IsDialogue (at_once d)
 is_at_once d = record {
   moved_by_segments = refl;
   is_status = (refl, lit< tt);
-  only_nulls =
-      λ _. tt;
+  only_nulls = λ _. tt;
 }
 
 -- the characters of one more dialogue, and the front that is a part of it
@@ -62,6 +61,30 @@ with_dialogue ds front d rest is =
     flat_map_last characters ds d ∙ ap (λ cs. flat_map characters ds ++ cs) is
     ∙ sym (append_assoc (flat_map characters ds) (front_characters front) rest)
 
+-- a unit that the characters so far are the first of
+unit_begins : (c : Command) (ex : ExchangeOf) (units : List UnitOf) (first : Option Dialogue)
+    (front : Front) (u : UnitOf) (rest : List Character) (under : UnderWay c ex units first front)
+    → OpensWith under.opening (first_of u) → IsUnit under.left u
+    → AllByRecursion IsDialogue (flat_map dialogues_of (units ++ u ∷ []))
+    → unit_characters (units ++ u ∷ []) ≡ characters_to units first front ++ rest
+    → BeginsExchange c (characters_to units first front)
+unit_begins c ex units first front u rest under opens is_unit are whole = record {
+  units = units ++ u ∷ [];
+  is_open = record {
+    before = units;
+    last = u;
+    opening = under.opening;
+    left = under.left;
+    units_are = refl;
+    followed = under.followed;
+    opens = opens;
+    is_unit = is_unit;
+  };
+  are_dialogues = are;
+  rest = rest;
+  whole = whole;
+}
+
 -- a dialogue that completes the current unit
 whole_with : (c : Command) (ex : ExchangeOf) (units : List UnitOf) (first : Option Dialogue)
     (front : Front) (d : Dialogue) (rest : List Character) (under : UnderWay c ex units first front)
@@ -69,25 +92,13 @@ whole_with : (c : Command) (ex : ExchangeOf) (units : List UnitOf) (first : Opti
     → again_of first (repeated_with under.left d) ≡ None
     → BeginsExchange c (characters_to units first front)
 whole_with c ex units first front d rest under is by begins none =
-    let Are : List Dialogue → Type 0 = λ ds. AllByRecursion IsDialogue ds in
-    record {
-      units = units ++ ended_with first d ∷ [];
-      is_open = record {
-        before = units;
-        last = ended_with first d;
-        opening = under.opening;
-        left = under.left;
-        units_are = refl;
-        followed = under.followed;
-        opens = unit_opens under.opening under.left first ex.host d under.opened_as by;
-        is_unit = unit_is under.opening under.left first ex.host d under.opened_as by none;
-      };
-      are_dialogues = subst Are (sym (unit_dialogues units first d))
-          (all_more IsDialogue (so_far units first) d under.are_dialogues is);
-      rest = rest;
-      whole = ap (flat_map characters) (unit_dialogues units first d)
-          ∙ with_dialogue (so_far units first) front d rest begins;
-    }
+    unit_begins c ex units first front (ended_with first d) rest under
+    (unit_opens under.opening under.left first ex.host d under.opened_as by)
+    (unit_is under.opening under.left first ex.host d under.opened_as by none)
+    (rw (unit_dialogues units first d)
+    (all_more IsDialogue (so_far units first) d under.are_dialogues is))
+    (ap (flat_map characters) (unit_dialogues units first d)
+    ∙ with_dialogue (so_far units first) front d rest begins)
 
 -- one that is repeated, with its repetition
 repeated_dialogues : (units : List UnitOf) (d e : Dialogue)
@@ -104,29 +115,15 @@ repeated_with_it : (c : Command) (ex : ExchangeOf) (units : List UnitOf) (front 
     → BeginsExchange c (characters_to units None front)
 repeated_with_it c ex units front d rest n under is by begins again =
     let e = at_once d in
-    let Are : List Dialogue → Type 0 = λ ds. AllByRecursion IsDialogue ds in
     let both = so_far units None ++ d ∷ [] in
-    record {
-      units = units ++ Repeated d e ∷ [];
-      is_open = record {
-        before = units;
-        last = Repeated d e;
-        opening = under.opening;
-        left = under.left;
-        units_are = refl;
-        followed = under.followed;
-        opens = unit_opens under.opening under.left None ex.host d under.opened_as by;
-        is_unit = (n, again, asks_at_once under.left d n is again);
-      };
-      are_dialogues = subst Are (sym (repeated_dialogues units d e))
-          (all_more IsDialogue both e
-          (all_more IsDialogue (so_far units None) d under.are_dialogues is) (is_at_once d));
-      rest = rest ++ characters e;
-      whole = ap (flat_map characters) (repeated_dialogues units d e)
-          ∙ flat_map_last characters both e
-          ∙ ap (λ cs. cs ++ characters e) (with_dialogue (so_far units None) front d rest begins)
-          ∙ append_assoc (characters_to units None front) rest (characters e);
-    }
+    unit_begins c ex units None front (Repeated d e) (rest ++ characters e) under
+    (unit_opens under.opening under.left None ex.host d under.opened_as by)
+    (n, again, asks_at_once under.left d n is again)
+    (rw (repeated_dialogues units d e) (all_more IsDialogue both e
+    (all_more IsDialogue (so_far units None) d under.are_dialogues is) (is_at_once d)))
+    (ap (flat_map characters) (repeated_dialogues units d e) ∙ flat_map_last characters both e
+    ∙ ap (λ cs. cs ++ characters e) (with_dialogue (so_far units None) front d rest begins)
+    ∙ append_assoc (characters_to units None front) rest (characters e))
 
 front_begins : (c : Command) (ex : ExchangeOf) (units : List UnitOf) (first : Option Dialogue)
     (front : Front) → UnderWay c ex units first front
@@ -143,33 +140,26 @@ front_begins c ex units (Some e) front under =
     let own = begins_own ex.host front under.request under.stands under.is_front in
     whole_with c ex units (Some e) front own.0 (own.1 ∷ own.2) under own.3 own.4 own.5 refl
 
-as_came : (c : Command) (one two : List Character) → two ≡ one → BeginsExchange c one
-    → BeginsExchange c two
-as_came c one two is begins = let P : List Character
-    → Type 0 = λ cs. BeginsExchange c cs in subst P (sym is) begins
-
 whole_begins : (c : Command) (units : List UnitOf) → IsOpenExchange c units
     → AllByRecursion IsDialogue (flat_map dialogues_of units)
     → BeginsExchange c (unit_characters units)
-whole_begins c units is_open are =
-    record {
-      units = units;
-      is_open = is_open;
-      are_dialogues = are;
-      rest = [];
-      whole =
-          sym (append-nil (unit_characters units));
-    }
+whole_begins c units is_open are = record {
+  units = units;
+  is_open = is_open;
+  are_dialogues = are;
+  rest = [];
+  whole = sym (append-nil (unit_characters units));
+}
 
 -- except a last character that ended it by a fault
 pub led_begins : (c : Command) (came : List Character) (ex : ExchangeOf) → ComesTo c came ex
     → BeginsExchange c came ⊎ FaultCameLast c came ex
 led_begins c came ex (to_front units first front under is) =
-    inl (as_came c _ came is (front_begins c ex units first front under))
+    inl (rw is (front_begins c ex units first front under))
 led_begins c came ex (to_end units status over is) =
-    inl (as_came c _ came is (whole_begins c units over.gathers.is_open over.are_dialogues))
+    inl (rw is (whole_begins c units over.gathers.is_open over.are_dialogues))
 led_begins c came ex (to_stall units stall are failed is) =
-    inl (as_came c _ came is (whole_begins c units stall.is_open are))
+    inl (rw is (whole_begins c units stall.is_open are))
 led_begins c came ex (to_fault units first front prior byte fault under why final failed same is) =
     inr (record {
       before = characters_to units first front;

@@ -67,8 +67,8 @@ alone h piece units content status g =
         → status ≡ (last_of last).status
         → (d : Dialogue) × IsAlone h piece units content status d
     by [] last opening left followed opens is_unit units_are status_is =
-        last_unit left last (sends_piece h piece (first_of last)
-        (subst (λ o. OpensWith o (first_of last)) followed.0 opens)) is_unit units_are status_is
+        last_unit left last (sends_piece h piece (first_of last) (rw followed.0 at opens)) is_unit
+        units_are status_is
     by (u ∷ before) last opening left (n, is, followed) opens is_unit units_are status_is =
         let no : Some n ≡ None =
         sym is.fetched ∙ none_wanted (length (unit_data u)) (announces (last_of u).status) in
@@ -80,8 +80,7 @@ answered_by : (h : Header) (piece : List ℕ) (units : List UnitOf) (content : L
     → IsAnswered old (link h piece) status new × (content ≡ [])
 answered_by h piece units content status old new g goes =
     let (d, is) = alone h piece units content status g in
-    let (cut, mid, is_cut, does, last) =
-    subst (λ us. Goes old (flat_map dialogues_of us) new) is.units_are goes in
+    let (cut, mid, is_cut, does, last) = rw is.units_are at goes in
     let carries : Carries h piece (tpdu_of d) = record {
       header_is = is.sends.header_is;
       counts = is.sends.counts;
@@ -96,8 +95,7 @@ answered_by h piece units content status old new g goes =
         tpdu_of d,
         carries,
         sym is.status_is,
-        subst (λ s. Does old cut (tpdu_of d) s) (sym last)
-            does,
+        subst (λ s. Does old cut (tpdu_of d) s) (sym last) does,
       ),
       is.none,
     )

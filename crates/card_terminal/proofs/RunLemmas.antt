@@ -1,5 +1,5 @@
 -- Operations with a card of data objects: no line fault occurs, and talks follow one another.
-use Rattle.std.proofs.Common.{Result, Ok, Err, IsOk, MatchResult, ◌≡◌, ◌≢◌, ℕ, ◌+◌, ◌-◌, ◌<◌, ◌≤◌, List, [], ◌∷◌, ◌++◌, length, take, drop, ◌⊎◌, inl, inr, refl, sym, ap, subst, ◌∙◌, arith, Option, Some, None, IfSome, Bool, true, false, ◌==◌, if◌then◌else◌, length-append, append-nil}
+use Rattle.std.proofs.Common.{Result, Ok, Err, IsOk, MatchResult, ◌≡◌, ◌≢◌, ℕ, ◌+◌, ◌-◌, ◌<◌, ◌≤◌, List, [], ◌∷◌, ◌++◌, length, take, drop, ◌⊎◌, inl, inr, refl, sym, ap, ◌∙◌, arith, Option, Some, None, IfSome, Bool, true, false, ◌==◌, if◌then◌else◌, length-append, append-nil}
 use Rattle.std.specs.List.{flat_map}
 use Rattle.apdu_core.specs.StatusWord.{StatusWord, count, ok}
 use Rattle.apdu_core.specs.CommandBytes.{Command}
@@ -33,6 +33,7 @@ use Rattle.card_terminal.specs.Operations.{operation_of}
 use Rattle.card_terminal.specs.Running.{new_answers, carried_out}
 use Rattle.card_terminal.specs.RunLaws.{HaveReplies, no_replies, one_more_reply, replies_come}
 use Rattle.card_terminal.proofs.FetchLemmas.{Goes, goes_by_runs, goes_sound}
+use Rattle.card_terminal.proofs.OwnedLemmas.{same_done}
 use Rattle.card_terminal.proofs.ComesToLemmas.{over_turn}
 use Rattle.card_terminal.proofs.GoneLemmas.{gone_both}
 use Rattle.card_terminal.proofs.BoundLemmas.{so_far_brings, never_stalls}
@@ -77,16 +78,6 @@ talk_used Does first last plans left operations replies line talk = record {
   dialogues_are = talk.dialogues_are;
   are_talks = talk.are_talks;
 }
-
--- a card whose own states stand for these does the same, under plans with these cuts
-own_goes : {State : Type 0} (Own : State → ℕ → Tpdu → State → Type 0) (own_reset : State → State)
-    (state_of : State → CardState) → StandsFor Own own_reset state_of → (old new : State)
-    (ds : List Dialogue) (plans : List Course) → Runs Own old ds plans new
-    → HaveCuts (take (length ds) plans) → Goes (state_of old) ds (state_of new)
-own_goes Own own_reset state_of stands old new ds plans runs cuts =
-    goes_by_runs (state_of old) (state_of new) ds (take (length ds) plans) cuts
-    (runs_stand Own own_reset state_of stands old new ds (take (length ds) plans)
-    (runs_used Own old new ds plans runs))
 
 -- ---- a card of data objects causes no line fault
 
@@ -138,7 +129,7 @@ few_of : (host : Hosting) (b : Body) → IsOpenedBy host b
     → length (from_card b.direction b.moved) ≤ 256
 few_of host b by is ends = few_in b.direction b.p3 b.segments b.moved ends (elim is [
   | inl to ↦ inl (by.2 ∙ to)
-  | inr few ↦ inr (subst (λ n. n < 256) (sym by.1) few)
+  | inr few ↦ inr (rw by.1 few)
 ])
 
 -- the data of the current dialogue are at most 256 bytes
@@ -176,130 +167,6 @@ repeats_first : (opening : Opening) (left : Wanted) (first : Option Dialogue) (h
 repeats_first opening left None host opened = tt
 repeats_first opening left (Some d) host (opens, n, repeats, asks) = (n, repeats)
 
--- the data do not exceed the room
-never_overflows : {State : Type 0} (Own : State → ℕ → Tpdu → State → Type 0)
-    (own_reset : State → State) (state_of : State → CardState)
-    → StandsFor Own own_reset state_of → (from to : Point State) (c : Command)
-    → IsCardState (state_of from.standing) → HasOverflown Own from c to → ⊥
-never_overflows Own own_reset state_of stands from to c sound over =
-    let way = over.terminal in
-    let ds = so_far over.units over.tried in
-    let goes = own_goes Own own_reset state_of stands from.standing to.standing ds from.plans
-    over.gone.runs over.gone.cuts in
-    let before = so_far_brings c over.units way.opening way.left over.tried
-    (state_of from.standing) (state_of to.standing) sound way.followed
-    (repeats_first way.opening way.left over.tried over.ex.host way.opened_as) goes in
-    let here = brought_few over.ex.host over.before
-    (asks_with_a_byte way.opening way.left over.tried over.ex.host way.opened_as) way.stands
-    way.is_front in
-    let one = brings_one over.before over.front (Card, over.goes.0) over.goes.1 in
-    absurd (omega (
-      arith,
-      over.too_many,
-      before,
-      here,
-      one,
-      length-append (flat_map received ds) (brought over.front),
-    ))
-
--- a card of data objects causes no line fault
-pub never_caused : {State : Type 0} (Own : State → ℕ → Tpdu → State → Type 0)
-    (own_reset : State → State) (state_of : State → CardState)
-    → StandsFor Own own_reset state_of → (from to : Point State) (c : Command)
-    (fault : LineFault) → IsCardState (state_of from.standing) → IsCaused Own from c to fault → ⊥
-never_caused Own own_reset state_of stands from to c fault sound (inl (is, stalled)) =
-    let ds = flat_map dialogues_of stalled.units in
-    never_stalls c stalled.units (state_of from.standing) (state_of to.standing) stalled.stall
-    (own_goes Own own_reset state_of stands from.standing to.standing ds from.plans
-    stalled.gone.runs stalled.gone.cuts)
-never_caused Own own_reset state_of stands from to c fault sound (inr (is, over)) =
-    never_overflows Own own_reset state_of stands from to c sound over
-
--- the card stays sound
-pub stays_sound : {State : Type 0} (Own : State → ℕ → Tpdu → State → Type 0)
-    (own_reset : State → State) (state_of : State → CardState)
-    → StandsFor Own own_reset state_of → (from to : Point State) (ds : List Dialogue)
-    → IsCardState (state_of from.standing) → HaveGone Own from ds to
-    → IsCardState (state_of to.standing)
-stays_sound Own own_reset state_of stands from to ds sound gone =
-    goes_sound (state_of from.standing) (state_of to.standing) ds sound
-    (own_goes Own own_reset state_of stands from.standing to.standing ds from.plans gone.runs
-    gone.cuts)
-
--- ---- the commands of an operation
-
--- The exchange of a command has ended, after those of the commands before it, each with the status
--- 9000.
-pub record HaveBeen {State : Type 0} (Does : State → ℕ → Tpdu → State → Type 0)
-    (from : Point State) (commands left : List Command) (ex : ExchangeOf) (status : StatusWord)
-    (to : Point State) : Type 0 where
-  pub before : List (List UnitOf)
-  pub current : Command
-  pub units : List UnitOf
-  pub taken : AreTakenUpTo commands before (current ∷ left)
-  pub over : IsOver current ex units status
-  pub gone : HaveGone Does from (talk_dialogues (before ++ units ∷ [])) to
-
-gone_as : {State : Type 0} (Does : State → ℕ → Tpdu → State → Type 0) (from to : Point State)
-    (ds es : List Dialogue) → ds ≡ es → HaveGone Does from ds to → HaveGone Does from es to
-gone_as Does from to ds es is gone = subst (λ xs. HaveGone Does from xs to) is gone
-
-pub first_has_been : {State : Type 0} (Does : State → ℕ → Tpdu → State → Type 0)
-    (from to : Point State) (c : Command) (left : List Command) (ex : ExchangeOf)
-    (units : List UnitOf) (status : StatusWord) → IsOver c ex units status
-    → HaveGone Does from (flat_map dialogues_of units) to
-    → HaveBeen Does from (c ∷ left) left ex status to
-first_has_been Does from to c left ex units status over gone =
-    record {
-      before = [];
-      current = c;
-      units = units;
-      taken = refl;
-      over = over;
-      gone = gone_as Does from to (flat_map dialogues_of units)
-          (talk_dialogues ([] ++ units ∷ [])) (sym (one_more_exchange [] units)) gone;
-    }
-
-pub next_has_been : {State : Type 0} (Does : State → ℕ → Tpdu → State → Type 0)
-    (from mid to : Point State) (commands left : List Command) (c : Command)
-    (ex after : ExchangeOf) (units : List UnitOf) (status next : StatusWord)
-    → HaveBeen Does from commands (c ∷ left) ex status mid → status ≡ ok
-    → IsOver c after units next → HaveGone Does mid (flat_map dialogues_of units) to
-    → HaveBeen Does from commands left after next to
-next_has_been Does from mid to commands left c ex after units status next been is over gone =
-    let before = been.before ++ been.units ∷ [] in
-    record {
-      before = before;
-      current = c;
-      units = units;
-      taken = taken_more commands been.before been.current (c ∷ left) been.units ex.gather.bytes
-          been.taken
-          (subst (λ s. Gathers been.current been.units ex.gather.bytes s) is been.over.gathers);
-      over = over;
-      gone = gone_as Does from to (talk_dialogues before ++ flat_map dialogues_of units)
-          (talk_dialogues (before ++ units ∷ [])) (sym (one_more_exchange before units))
-          (gone_both Does from mid to (talk_dialogues before) (flat_map dialogues_of units)
-          been.gone gone);
-    }
-
--- no command follows: these are the exchanges of the commands, with this answer
-pub all_have_been : {State : Type 0} (Does : State → ℕ → Tpdu → State → Type 0)
-    (from to : Point State) (commands left : List Command) (ex : ExchangeOf)
-    (status : StatusWord) (answer : Reply) → HaveBeen Does from commands left ex status to
-    → (left ≡ []) ⊎ (status ≢ ok)
-    → answer ≡ record { status = status; content = ex.gather.bytes }
-    → (exchanges : List (List UnitOf)) × AreExchangesOf commands exchanges answer
-    × HaveGone Does from (talk_dialogues exchanges) to
-all_have_been Does from to commands left ex status answer been ends is =
-    let whole : Reply = record { status = status; content = ex.gather.bytes } in
-    let exchanges = been.before ++ been.units ∷ [] in (
-      exchanges,
-      subst (λ r. AreExchangesOf commands exchanges r) (sym is)
-          (taken_to_end commands been.before been.current left been.units whole been.taken
-          been.over.gathers ends),
-      been.gone,
-    )
-
 -- ---- an exchange from its first to its last character
 
 pub ok_unless : {E : Type 0} (r : Result Unit E) (P : Unit → Type 0) (Q : E → Type 0)
@@ -309,23 +176,17 @@ ok_unless (Err e) P Q is never = absurd (never e is)
 
 pub when_ok : {A E : Type 0} (r : Result A E) (x : A) (P : A → Type 0) (Q : E → Type 0)
     → r ≡ Ok x → MatchResult r P Q → P x
-when_ok r x P Q is holds = let M : Result _ _ → Type 0 = λ s. MatchResult s P Q in
-    subst M is holds
+when_ok r x P Q is holds = rw is at holds
 
 pub done_is_no_character : (status : StatusWord) (byte : ℕ) → Done status ≡ Sends byte → ⊥
 done_is_no_character status byte e = absurd (cc)
-
-same_status : (a b : StatusWord) → Done a ≡ Done b → a ≡ b
-same_status a b e = cc
 
 pub over_then : (c : Command) (ex after : ExchangeOf) (units : List UnitOf)
     (status told : StatusWord) → IsOver c ex units status → after ≡ ex
     → Done told ≡ exchange_turn ex → IsOver c after units told
 over_then c ex after units status told over stays turn =
-    let is : told ≡ status = same_status told status
-    (turn ∙ over_turn c ex units status over) in
-    subst (λ e. IsOver c e units told) (sym stays)
-    (subst (λ s. IsOver c ex units s) (sym is) over)
+    let is : told ≡ status = same_done told status (turn ∙ over_turn c ex units status over) in
+    rw (stays, is) over
 
 -- the own state of a sound card stands for a sound state
 pub sound_at : {C State : Type 0} (state_of : State → CardState) (state : C → CardState)
@@ -333,166 +194,11 @@ pub sound_at : {C State : Type 0} (state_of : State → CardState) (state : C �
     → (card seen : C) → card ≡ seen → IsCardState (state seen)
     → IsCardState (state_of (standing card))
 sound_at state_of state standing means card seen same sound =
-    subst IsCardState (sym (means card ∙ ap state same)) sound
-
-pub gone_from : {State : Type 0} (Does : State → ℕ → Tpdu → State → Type 0)
-    (from was to : Point State) (ds : List Dialogue) → from ≡ was → HaveGone Does from ds to
-    → HaveGone Does was ds to
-gone_from Does from was to ds is gone = subst (λ p. HaveGone Does p ds to) is gone
-
-pub as_left : {State : Type 0} (Does : State → ℕ → Tpdu → State → Type 0)
-    (from to : Point State) (commands left others : List Command) (ex : ExchangeOf)
-    (status : StatusWord) → left ≡ others → HaveBeen Does from commands left ex status to
-    → HaveBeen Does from commands others ex status to
-as_left Does from to commands left others ex status is been =
-    subst (λ cs. HaveBeen Does from commands cs ex status to) is been
+    rw (means card ∙ ap state same) sound
 
 pub never_both : (b : Bool) → b ≡ true → b ≡ false → ⊥
 never_both true one two = absurd (cc)
 never_both false one two = absurd (cc)
-
--- ---- the answer of an operation
-
--- a list of commands with exchanges that have ended
-abbrev pub Answered : {State : Type 0} → (State → ℕ → Tpdu → State → Type 0) → Point State
-    → Point State → List Command → Reply → Type 0
-Answered Does from to commands answer =
-    (exchanges : List (List UnitOf)) × AreExchangesOf commands exchanges answer
-    × HaveGone Does from (talk_dialogues exchanges) to
-
--- the exchange of one command
-abbrev pub Sent : {State : Type 0} → (State → ℕ → Tpdu → State → Type 0) → Point State
-    → Point State → Command → Reply → Type 0
-Sent Does from to c answer =
-    (units : List UnitOf) × Gathers c units answer.content answer.status
-    × HaveGone Does from (flat_map dialogues_of units) to
-
-pub sent_alone : {State : Type 0} (Does : State → ℕ → Tpdu → State → Type 0)
-    (from to : Point State) (c : Command) (r : Reply) → Sent Does from to c r
-    → Answered Does from to (c ∷ []) r
-sent_alone Does from to c r (units, gathers, gone) = (
-  units ∷ [],
-  (gathers, inl refl),
-  gone_as Does from to (flat_map dialogues_of units) (talk_dialogues (units ∷ []))
-      (sym (one_more_exchange [] units)) gone,
-)
-
--- or those of an operation
-abbrev pub Talked : {State : Type 0} → (State → ℕ → Tpdu → State → Type 0) → Point State
-    → Point State → Operation → Reply → Type 0
-Talked Does from to operation answer =
-    (exchanges : List (List UnitOf)) × IsTalkOf operation exchanges answer
-    × HaveGone Does from (talk_dialogues exchanges) to
-
--- the exchanges of its commands are a talk of the operation
-pub talked : {State : Type 0} (Does : State → ℕ → Tpdu → State → Type 0)
-    (from to : Point State) (commands : List Command) (operation : Operation) (r : Reply)
-    → AreCommandsOf operation commands → Answered Does from to commands r
-    → Talked Does from to operation r
-talked Does from to commands operation r are gone = (gone.0, (commands, are, gone.1), gone.2)
-
-pub talked_as : {State : Type 0} (Does : State → ℕ → Tpdu → State → Type 0)
-    (from to : Point State) (a b : Operation) (r : Reply) → a ≡ b → Talked Does from to a r
-    → Talked Does from to b r
-talked_as Does from to a b r is talk = subst (λ o. Talked Does from to o r) is talk
-
--- ---- one operation
-
-unfoldable one_talk : {State : Type 0} (Does : State → ℕ → Tpdu → State → Type 0)
-    (from to : Point State) (o : Operation) (r : Reply) (talked : Talked Does from to o r)
-    → Talk Does from.standing from.plans (o ∷ []) (r ∷ []) to.standing to.plans
-    (flat_map characters (talk_dialogues talked.0))
-one_talk Does from to o r (exchanges, talk, gone) = record {
-  dialogues = talk_dialogues exchanges;
-  talks = exchanges ∷ [];
-  are_dialogues = gone.are_dialogues;
-  line_is = refl;
-  follow = gone.follow;
-  runs = gone.runs;
-  left_is = gone.used;
-  dialogues_are = sym (append-nil (talk_dialogues exchanges));
-  are_talks = (talk, tt);
-}
-
--- the watch hears the talk of operations, from one point to another
-abbrev pub IsHeard : {State : Type 0} → (State → ℕ → Tpdu → State → Type 0) → Point State
-    → List Operation → List Reply → Point State → Type 0
-IsHeard Does from operations replies to = (line : List Character)
-    × Talk Does from.standing from.plans operations replies to.standing to.plans line
-    × Hears from.hearing line to.hearing
-
-pub is_heard : {State : Type 0} (Does : State → ℕ → Tpdu → State → Type 0)
-    (from to : Point State) (o : Operation) (r : Reply) → Talked Does from to o r
-    → IsHeard Does from (o ∷ []) (r ∷ []) to
-is_heard Does from to o r talked = (
-  flat_map characters (talk_dialogues talked.0),
-  one_talk Does from to o r talked,
-  talked.2.hears,
-)
-
--- the answer is that of the one-step card
-pub in_one_step : {State : Type 0} (Own : State → ℕ → Tpdu → State → Type 0)
-    (own_reset : State → State) (state_of : State → CardState)
-    → StandsFor Own own_reset state_of → (from to : Point State) (old new : CardState)
-    → state_of from.standing ≡ old → state_of to.standing ≡ new → (o : Operation) (r : Reply)
-    → IsCardState old → is_idle old.pending ≡ true → Talked Own from to o r
-    → AnswersAll old (o ∷ []) (r ∷ []) new × (is_idle new.pending ≡ true)
-unfolding one_talk
-in_one_step Own own_reset state_of stands from to old new was is o r sound idle talked =
-    let ds = talk_dialogues talked.0 in
-    let line = flat_map characters ds in
-    let all = own_talk_answers Own own_reset state_of stands from.standing to.standing old new was
-    is (take (length ds) from.plans) [] (o ∷ []) (r ∷ []) line sound idle talked.2.cuts
-    (talk_used Own from.standing to.standing from.plans to.plans (o ∷ []) (r ∷ []) line
-    (one_talk Own from to o r talked)) in (all.0, all.1)
-
--- ---- operations in turn
-
--- The watch has heard the talk of operations, and the answers are those of the one-step card.
-abbrev pub HaveCome : {State : Type 0} → (State → ℕ → Tpdu → State → Type 0) → Point State
-    → CardState → Point State → CardState → List Operation → List Reply → Type 0
-HaveCome Does from old to new operations replies =
-    IsHeard Does from operations replies to × AnswersAll old operations replies new
-
--- The first operations were carried out, as many as there are new answers.
-abbrev pub HaveAnswers : {State A : Type 0} → (State → ℕ → Tpdu → State → Type 0) → Point State
-    → CardState → List (Op A) → List Reply → ℕ → List Reply → Point State → CardState → Type 0
-HaveAnswers Does from old ops before n given to new =
-    HaveReplies (HaveCome Does from old to new) ops before n given
-
-pub none_answered : {State A : Type 0} (Does : State → ℕ → Tpdu → State → Type 0)
-    (at : Point State) (old : CardState) (ops : List (Op A)) (before : List Reply)
-    → HaveAnswers Does at old ops before 0 before at old
-none_answered Does at old ops before = no_replies (HaveCome Does at old at old) ops before (
-  (
-    [],
-    record {
-      dialogues = [];
-      talks = [];
-      are_dialogues = tt;
-      line_is = refl;
-      follow = tt;
-      runs = refl;
-      left_is = refl;
-      dialogues_are = refl;
-      are_talks = tt;
-    },
-    hears_nothing at.hearing,
-  ),
-  (refl, refl),
-)
-
--- this holds if nothing has changed
-pub still_answered : {State A : Type 0} (Does : State → ℕ → Tpdu → State → Type 0)
-    (from : Point State) (old : CardState) (ops : List (Op A)) (before : List Reply) (n : ℕ)
-    (given given' : List Reply) (to to' : Point State) (new new' : CardState)
-    → HaveAnswers Does from old ops before n given to new → given' ≡ given → to' ≡ to
-    → new' ≡ new → HaveAnswers Does from old ops before n given' to' new'
-still_answered Does from old ops before n given given' to to' new new' have same_given same_point
-    same =
-    subst (λ x. HaveAnswers Does from old ops before n x to' new') (sym same_given)
-    (subst (λ p. HaveAnswers Does from old ops before n given p new') (sym same_point)
-    (subst (λ s. HaveAnswers Does from old ops before n given to s) (sym same) have))
 
 pub same_point : {State : Type 0} (standing standing' : State) (cursor cursor' : Cursor)
     (now now' : Hearing) → standing' ≡ standing → cursor' ≡ cursor → now' ≡ now
@@ -514,36 +220,285 @@ answers_more old mid new (p ∷ operations) [] o r answers next = absurd answers
 answers_more old mid new (p ∷ operations) (q ∷ replies) o r (state, first, others) next =
     (state, first, answers_more state mid new operations replies o r others next)
 
--- one more operation was carried out
-pub one_more_answered : {State A : Type 0} (Does : State → ℕ → Tpdu → State → Type 0)
-    (from mid to : Point State) (old now new : CardState) (ops : List (Op A))
-    (before : List Reply) (n : ℕ) (given given' : List Reply) (op : Op A) (r : Reply)
-    → HaveAnswers Does from old ops before n given mid now → n < length ops
-    → drop n ops ≡ op ∷ drop (n + 1) ops → given' ≡ given ++ r ∷ []
-    → IsHeard Does mid (operation_of op ∷ []) (r ∷ []) to
-    → AnswersAll now (operation_of op ∷ []) (r ∷ []) new
-    → HaveAnswers Does from old ops before (n + 1) given' to new
-one_more_answered Does from mid to old now new ops before n given given' op r have lt next given_is
-    heard answers =
-    let o = operation_of op in
-    one_more_reply (HaveCome Does from old mid now) (HaveCome Does from old to new) ops before n
-    given given' op r have lt next given_is
-    (λ done replies come. (
-      (
-        come.0.0 ++ heard.0,
-        talk_more Does from.standing mid.standing to.standing from.plans mid.plans to.plans done
-            replies come.0.0 heard.0 o r come.0.1 heard.1,
-        hears_more from.hearing mid.hearing to.hearing come.0.0 heard.0 come.0.2 heard.2,
-      ),
-      answers_more old now new done replies o r come.1 answers,
-    ))
+module _ {State : Type 0} (Does : State → ℕ → Tpdu → State → Type 0) where
+  -- ---- the commands of an operation
 
--- what holds for the operations, by the new answers
-pub have_come : {State A : Type 0} (Does : State → ℕ → Tpdu → State → Type 0)
-    (from : Point State) (old : CardState) (ops : List (Op A)) (before : List Reply) (n : ℕ)
-    (given : List Reply) (to : Point State) (new : CardState)
-    → HaveAnswers Does from old ops before n given to new
-    → HaveCome Does from old to new (carried_out ops (new_answers before given))
-    (new_answers before given)
-have_come Does from old ops before n given to new have =
-    replies_come (HaveCome Does from old to new) ops before n given have
+  -- The exchange of a command has ended, after those of the commands before it, each with the
+  -- status 9000.
+  pub record HaveBeen (from : Point State) (commands left : List Command) (ex : ExchangeOf)
+      (status : StatusWord) (to : Point State) : Type 0 where
+    pub before : List (List UnitOf)
+    pub current : Command
+    pub units : List UnitOf
+    pub taken : AreTakenUpTo commands before (current ∷ left)
+    pub over : IsOver current ex units status
+    pub gone : HaveGone Does from (talk_dialogues (before ++ units ∷ [])) to
+
+  pub first_has_been : (from to : Point State) (c : Command) (left : List Command) (ex : ExchangeOf)
+      (units : List UnitOf) (status : StatusWord) → IsOver c ex units status
+      → HaveGone Does from (flat_map dialogues_of units) to
+      → HaveBeen from (c ∷ left) left ex status to
+  first_has_been from to c left ex units status over gone = record {
+    before = [];
+    current = c;
+    units = units;
+    taken = refl;
+    over = over;
+    gone = rw (one_more_exchange [] units) gone;
+  }
+
+  pub next_has_been : (from mid to : Point State) (commands left : List Command) (c : Command)
+      (ex after : ExchangeOf) (units : List UnitOf) (status next : StatusWord)
+      → HaveBeen from commands (c ∷ left) ex status mid → status ≡ ok
+      → IsOver c after units next → HaveGone Does mid (flat_map dialogues_of units) to
+      → HaveBeen from commands left after next to
+  next_has_been from mid to commands left c ex after units status next been is over gone =
+      let before = been.before ++ been.units ∷ [] in
+      record {
+        before = before;
+        current = c;
+        units = units;
+        taken = taken_more commands been.before been.current (c ∷ left) been.units ex.gather.bytes
+            been.taken (rw is at been.over.gathers);
+        over = over;
+        gone = rw (one_more_exchange before units) (gone_both Does from mid to
+            (talk_dialogues before) (flat_map dialogues_of units) been.gone gone);
+      }
+
+  -- no command follows: these are the exchanges of the commands, with this answer
+  pub all_have_been : (from to : Point State) (commands left : List Command) (ex : ExchangeOf)
+      (status : StatusWord) (answer : Reply) → HaveBeen from commands left ex status to
+      → (left ≡ []) ⊎ (status ≢ ok)
+      → answer ≡ record { status = status; content = ex.gather.bytes }
+      → (exchanges : List (List UnitOf)) × AreExchangesOf commands exchanges answer
+      × HaveGone Does from (talk_dialogues exchanges) to
+  all_have_been from to commands left ex status answer been ends is =
+      let whole : Reply = record { status = status; content = ex.gather.bytes } in
+      let exchanges = been.before ++ been.units ∷ [] in (
+        exchanges,
+        rw is (taken_to_end commands been.before been.current left been.units whole been.taken
+            been.over.gathers ends),
+        been.gone,
+      )
+
+  pub gone_from : (from was to : Point State) (ds : List Dialogue) → from ≡ was
+      → HaveGone Does from ds to → HaveGone Does was ds to
+  gone_from from was to ds is gone = rw is at gone
+
+  pub as_left : (from to : Point State) (commands left others : List Command) (ex : ExchangeOf)
+      (status : StatusWord) → left ≡ others → HaveBeen from commands left ex status to
+      → HaveBeen from commands others ex status to
+  as_left from to commands left others ex status is been = rw is at been
+
+  -- ---- the answer of an operation
+
+  -- a list of commands with exchanges that have ended
+  abbrev pub Answered : Point State → Point State → List Command → Reply → Type 0
+  Answered from to commands answer =
+      (exchanges : List (List UnitOf)) × AreExchangesOf commands exchanges answer
+      × HaveGone Does from (talk_dialogues exchanges) to
+
+  -- the exchange of one command
+  abbrev pub Sent : Point State → Point State → Command → Reply → Type 0
+  Sent from to c answer =
+      (units : List UnitOf) × Gathers c units answer.content answer.status
+      × HaveGone Does from (flat_map dialogues_of units) to
+
+  pub sent_alone : (from to : Point State) (c : Command) (r : Reply) → Sent from to c r
+      → Answered from to (c ∷ []) r
+  sent_alone from to c r (units, gathers, gone) = (
+    units ∷ [],
+    (gathers, inl refl),
+    rw (one_more_exchange [] units) gone,
+  )
+
+  -- or those of an operation
+  abbrev pub Talked : Point State → Point State → Operation → Reply → Type 0
+  Talked from to operation answer =
+      (exchanges : List (List UnitOf)) × IsTalkOf operation exchanges answer
+      × HaveGone Does from (talk_dialogues exchanges) to
+
+  -- the exchanges of its commands are a talk of the operation
+  pub talked : (from to : Point State) (commands : List Command) (operation : Operation) (r : Reply)
+      → AreCommandsOf operation commands → Answered from to commands r
+      → Talked from to operation r
+  talked from to commands operation r are gone = (gone.0, (commands, are, gone.1), gone.2)
+
+  pub talked_as : (from to : Point State) (a b : Operation) (r : Reply) → a ≡ b → Talked from to a r
+      → Talked from to b r
+  talked_as from to a b r is talk = rw is at talk
+
+  -- ---- one operation
+
+  unfoldable one_talk : (from to : Point State) (o : Operation) (r : Reply)
+      (talked : Talked from to o r) → Talk Does from.standing from.plans (o ∷ []) (r ∷ [])
+      to.standing to.plans (flat_map characters (talk_dialogues talked.0))
+  one_talk from to o r (exchanges, talk, gone) = record {
+    dialogues = talk_dialogues exchanges;
+    talks = exchanges ∷ [];
+    are_dialogues = gone.are_dialogues;
+    line_is = refl;
+    follow = gone.follow;
+    runs = gone.runs;
+    left_is = gone.used;
+    dialogues_are = sym (append-nil (talk_dialogues exchanges));
+    are_talks = (talk, tt);
+  }
+
+  -- the watch hears the talk of operations, from one point to another
+  abbrev pub IsHeard : Point State → List Operation → List Reply → Point State → Type 0
+  IsHeard from operations replies to = (line : List Character)
+      × Talk Does from.standing from.plans operations replies to.standing to.plans line
+      × Hears from.hearing line to.hearing
+
+  pub is_heard : (from to : Point State) (o : Operation) (r : Reply) → Talked from to o r
+      → IsHeard from (o ∷ []) (r ∷ []) to
+  is_heard from to o r talked = (
+    flat_map characters (talk_dialogues talked.0),
+    one_talk from to o r talked,
+    talked.2.hears,
+  )
+
+  -- ---- operations in turn
+
+  -- The watch has heard the talk of operations, and the answers are those of the one-step card.
+  abbrev pub HaveCome : Point State → CardState → Point State → CardState → List Operation
+      → List Reply → Type 0
+  HaveCome from old to new operations replies =
+      IsHeard from operations replies to × AnswersAll old operations replies new
+
+  -- The first operations were carried out, as many as there are new answers.
+  abbrev pub HaveAnswers : {A : Type 0} → Point State → CardState → List (Op A) → List Reply → ℕ
+      → List Reply → Point State → CardState → Type 0
+  HaveAnswers from old ops before n given to new =
+      HaveReplies (HaveCome from old to new) ops before n given
+
+  pub none_answered : {A : Type 0} (at : Point State) (old : CardState) (ops : List (Op A))
+      (before : List Reply) → HaveAnswers at old ops before 0 before at old
+  none_answered at old ops before = no_replies (HaveCome at old at old) ops before (
+    (
+      [],
+      record {
+        dialogues = [];
+        talks = [];
+        are_dialogues = tt;
+        line_is = refl;
+        follow = tt;
+        runs = refl;
+        left_is = refl;
+        dialogues_are = refl;
+        are_talks = tt;
+      },
+      hears_nothing at.hearing,
+    ),
+    (refl, refl),
+  )
+
+  -- this holds if nothing has changed
+  pub still_answered : {A : Type 0} (from : Point State) (old : CardState) (ops : List (Op A))
+      (before : List Reply) (n : ℕ) (given given' : List Reply) (to to' : Point State)
+      (new new' : CardState)
+      → HaveAnswers from old ops before n given to new → given' ≡ given → to' ≡ to
+      → new' ≡ new → HaveAnswers from old ops before n given' to' new'
+  still_answered from old ops before n given given' to to' new new' have same_given same_point
+      same = rw (same_given, same_point, same) have
+
+  -- one more operation was carried out
+  pub one_more_answered : {A : Type 0} (from mid to : Point State) (old now new : CardState)
+      (ops : List (Op A)) (before : List Reply) (n : ℕ) (given given' : List Reply) (op : Op A)
+      (r : Reply)
+      → HaveAnswers from old ops before n given mid now → n < length ops
+      → drop n ops ≡ op ∷ drop (n + 1) ops → given' ≡ given ++ r ∷ []
+      → IsHeard mid (operation_of op ∷ []) (r ∷ []) to
+      → AnswersAll now (operation_of op ∷ []) (r ∷ []) new
+      → HaveAnswers from old ops before (n + 1) given' to new
+  one_more_answered from mid to old now new ops before n given given' op r have lt next given_is
+      heard answers =
+      let o = operation_of op in
+      one_more_reply (HaveCome from old mid now) (HaveCome from old to new) ops before n
+      given given' op r have lt next given_is
+      (λ done replies come. (
+        (
+          come.0.0 ++ heard.0,
+          talk_more Does from.standing mid.standing to.standing from.plans mid.plans to.plans done
+              replies come.0.0 heard.0 o r come.0.1 heard.1,
+          hears_more from.hearing mid.hearing to.hearing come.0.0 heard.0 come.0.2 heard.2,
+        ),
+        answers_more old now new done replies o r come.1 answers,
+      ))
+
+  -- what holds for the operations, by the new answers
+  pub have_come : {A : Type 0} (from : Point State) (old : CardState) (ops : List (Op A))
+      (before : List Reply) (n : ℕ) (given : List Reply) (to : Point State) (new : CardState)
+      → HaveAnswers from old ops before n given to new
+      → HaveCome from old to new (carried_out ops (new_answers before given))
+      (new_answers before given)
+  have_come from old ops before n given to new have =
+      replies_come (HaveCome from old to new) ops before n given have
+
+-- ---- a card whose own states stand for those of a card of data objects
+
+module _ {State : Type 0} (Own : State → ℕ → Tpdu → State → Type 0) (own_reset : State → State)
+    (state_of : State → CardState) (stands : StandsFor Own own_reset state_of) where
+  -- a card whose own states stand for these does the same, under plans with these cuts
+  own_goes : (old new : State) (ds : List Dialogue) (plans : List Course)
+      → Runs Own old ds plans new
+      → HaveCuts (take (length ds) plans) → Goes (state_of old) ds (state_of new)
+  own_goes old new ds plans runs cuts =
+      goes_by_runs (state_of old) (state_of new) ds (take (length ds) plans) cuts
+      (runs_stand Own own_reset state_of stands old new ds (take (length ds) plans)
+      (runs_used Own old new ds plans runs))
+
+  -- the data do not exceed the room
+  never_overflows : (from to : Point State) (c : Command) → IsCardState (state_of from.standing)
+      → HasOverflown Own from c to → ⊥
+  never_overflows from to c sound over =
+      let way = over.terminal in
+      let ds = so_far over.units over.tried in
+      let goes = own_goes from.standing to.standing ds from.plans over.gone.runs over.gone.cuts in
+      let before = so_far_brings c over.units way.opening way.left over.tried
+      (state_of from.standing) (state_of to.standing) sound way.followed
+      (repeats_first way.opening way.left over.tried over.ex.host way.opened_as) goes in
+      let here = brought_few over.ex.host over.before
+      (asks_with_a_byte way.opening way.left over.tried over.ex.host way.opened_as) way.stands
+      way.is_front in
+      let one = brings_one over.before over.front (Card, over.goes.0) over.goes.1 in
+      absurd (omega (
+        arith,
+        over.too_many,
+        before,
+        here,
+        one,
+        length-append (flat_map received ds) (brought over.front),
+      ))
+
+  -- a card of data objects causes no line fault
+  pub never_caused : (from to : Point State) (c : Command) (fault : LineFault)
+      → IsCardState (state_of from.standing) → IsCaused Own from c to fault → ⊥
+  never_caused from to c fault sound (inl (is, stalled)) =
+      let ds = flat_map dialogues_of stalled.units in
+      never_stalls c stalled.units (state_of from.standing) (state_of to.standing) stalled.stall
+      (own_goes from.standing to.standing ds from.plans stalled.gone.runs stalled.gone.cuts)
+  never_caused from to c fault sound (inr (is, over)) = never_overflows from to c sound over
+
+  -- the card stays sound
+  pub stays_sound : (from to : Point State) (ds : List Dialogue)
+      → IsCardState (state_of from.standing) → HaveGone Own from ds to
+      → IsCardState (state_of to.standing)
+  stays_sound from to ds sound gone =
+      goes_sound (state_of from.standing) (state_of to.standing) ds sound
+      (own_goes from.standing to.standing ds from.plans gone.runs gone.cuts)
+
+  -- the answer is that of the one-step card
+  pub in_one_step : (from to : Point State) (old new : CardState) → state_of from.standing ≡ old
+      → state_of to.standing ≡ new → (o : Operation) (r : Reply)
+      → IsCardState old → is_idle old.pending ≡ true → Talked Own from to o r
+      → AnswersAll old (o ∷ []) (r ∷ []) new × (is_idle new.pending ≡ true)
+  unfolding one_talk
+  in_one_step from to old new was is o r sound idle talked =
+      let ds = talk_dialogues talked.0 in
+      let line = flat_map characters ds in
+      let all = own_talk_answers Own own_reset state_of stands from.standing to.standing old new was
+      is (take (length ds) from.plans) [] (o ∷ []) (r ∷ []) line sound idle talked.2.cuts
+      (talk_used Own from.standing to.standing from.plans to.plans (o ∷ []) (r ∷ []) line
+      (one_talk Own from to o r talked)) in (all.0, all.1)

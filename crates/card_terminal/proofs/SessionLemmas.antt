@@ -23,7 +23,7 @@ use Rattle.t0_core.specs.Watch.{Hearing, Hears}
 use Rattle.t0_core.specs.Room.{Room}
 use Rattle.t0_core.specs.HostSide.{Hosting, HostStandsAt, turn_of, fault_of}
 use Rattle.t0_core.specs.HostLaws.{opened, going, unbroken, too_long}
-use Rattle.t0_core.specs.CardSide.{Stage, EndOf, Taking_header, Refusing, Serving, Ending, StandsAt, Advances, IsOnPlan, IsPermitted, PermitsData, SuitsFront, begins_with, listens, takes_plan, with_character, still_to_go}
+use Rattle.t0_core.specs.CardSide.{Stage, EndOf, Taking_header, Serving, StandsAt, Advances, IsOnPlan, IsPermitted, PermitsData, SuitsFront, begins_with, listens, takes_plan, with_character, still_to_go}
 use Rattle.t0_core.specs.CardHistory.{under_way}
 use Rattle.t0_core.specs.CardLaws.{begun, answers_on, taken_stays}
 use Rattle.card_terminal.specs.Line as on_line
@@ -33,7 +33,7 @@ use Rattle.t0_core.specs.DialogueLaws.{ends_with}
 use Rattle.card_terminal.specs.declared.wanted.Wanted.{Wanted}
 use Rattle.card_terminal.specs.declared.wanted.Wanted.TheVariants.{Bytes}
 use Rattle.object_card.specs.CarryingOut.{get_response}
-use Rattle.card_terminal.specs.Gathered.{wanted_by, less, correction_of, after_dialogue, after_unit, fetched_of, fetched_after, Opening, By_command, By_fetch, OpensWith, UnitOf, last_of, unit_data, AreFollowed, Gathers, dialogues_of}
+use Rattle.card_terminal.specs.Gathered.{wanted_by, less, after_dialogue, after_unit, fetched_of, fetched_after, Opening, By_command, By_fetch, OpensWith, UnitOf, last_of, unit_data, AreFollowed, Gathers, dialogues_of}
 use Rattle.object_card.specs.OneStep.{Reply}
 use Rattle.object_card.specs.Agreed.{IsAgreed}
 use Rattle.card_terminal.specs.ExchangeSide.{ExchangeOf, HostAsks, HostSends, HostOpensBy, IsOpenedAs, UnderWay, IsOver, IsBounded, Stall, Continues, so_far, ended_with, exchange_turn, response_limit}
@@ -41,6 +41,8 @@ use Rattle.card_terminal.specs.Conversing.{Point, point, next_plan, HaveGone, Ha
 use Rattle.card_terminal.specs.Line.{Line, Start, line, point_of, Begins, left, IsAtPlan, StandsUnder, IsGoing, IsDone, IsOneOf, HasPassed}
 use Rattle.card_terminal.proofs.GoneLemmas.{none_gone, one_gone, gone_both}
 use Rattle.card_terminal.proofs.UnitLemmas.{unit_ends, unit_goes_on, unit_dialogues}
+use Rattle.card_terminal.proofs.EndLemmas.{asked_card}
+use Rattle.card_terminal.proofs.ComesToLemmas.{over_turn}
 
 -- ---- plans in turn
 
@@ -59,9 +61,7 @@ steps_advanced (p ∷ plans) kept = refl
 takes_none_twice : (stage : Stage) (plan : Course) → takes_plan stage ≡ true
     → under_way stage plan ≡ plan ∷ [] → ⊥
 takes_none_twice (Taking_header bytes) plan takes under = absurd (cc)
-takes_none_twice (Refusing h p3 status done) plan takes under = absurd (cc)
-takes_none_twice (Serving s came) plan takes under = absurd (cc)
-takes_none_twice (Ending status) plan takes under = absurd (cc)
+takes_none_twice _ plan takes under = absurd (cc)
 
 -- what holds for the plan once the card's end has sent a character
 pub record HasPlan (stage : Stage) (before old new : Cursor) : Type 0 where
@@ -77,16 +77,12 @@ no_plan_twice plan e = absurd (cc)
 here_begun : (stage : Stage) (plan : Course) (cursor : Cursor) → under_way stage plan ≡ plan ∷ []
     → here stage cursor ≡ still_to_go stage (plan_kept cursor)
 here_begun (Taking_header bytes) plan cursor under = absurd (cc)
-here_begun (Refusing h p3 status done) plan cursor under = refl
-here_begun (Serving s came) plan cursor under = refl
-here_begun (Ending status) plan cursor under = refl
+here_begun _ plan cursor under = refl
 
 header_here : (stage : Stage) (cursor : Cursor) (plan : Course) → takes_plan stage ≡ true
     → still_to_go stage plan ≡ here stage cursor + length plan.steps
 header_here (Taking_header bytes) cursor plan takes = omega arith
-header_here (Refusing h p3 status done) cursor plan takes = absurd (cc)
-header_here (Serving s came) cursor plan takes = absurd (cc)
-header_here (Ending status) cursor plan takes = absurd (cc)
+header_here _ cursor plan takes = absurd (cc)
 
 pub has_plan : {C : Type 0} (card : Ghosts C) (before : Cursor) (front : Front) (l : Line C)
     (new : Cursor) → listens l.end.stage ≡ false → StandsUnder card before front l
@@ -147,16 +143,12 @@ Never R S FromCard ins = R ins → ⊥
 never_asks : (R S : ℕ → Type 0) (h : Header) (n : ℕ) (host : Hosting) → HostAsks h n host
     → (R h.ins → ⊥) → Never R S host.direction host.header.ins
 never_asks R S h n host asks never =
-    let D : Direction → Type 0 = λ d. Never R S d host.header.ins in
-    let H : Header → Type 0 = λ g. R g.ins → ⊥ in
-    subst D (sym asks.from_card) (subst H (sym asks.header_is) never)
+    rw (asks.from_card, asks.header_is) never
 
 never_sends : (R S : ℕ → Type 0) (h : Header) (content : List ℕ) (host : Hosting)
     → HostSends h content host → (S h.ins → ⊥) → Never R S host.direction host.header.ins
 never_sends R S h content host sends never =
-    let D : Direction → Type 0 = λ d. Never R S d host.header.ins in
-    let H : Header → Type 0 = λ g. S g.ins → ⊥ in
-    subst D (sym sends.to_card) (subst H (sym sends.header_is) never)
+    rw (sends.to_card, sends.header_is) never
 
 never_opens : (R S : ℕ → Type 0) (h : Header) (content : List ℕ) (le : Option ℕ) (host : Hosting)
     → HostOpensBy h content le host
@@ -194,11 +186,6 @@ never_followed R S c (u ∷ units) n left agreed followed =
     never_fetches R S c.header c.content c.le (length (unit_data u)) followed.0
     (last_of u).status agreed followed.1.fetched
 
-asked_card : (direction : Direction) (left : Wanted) (corrected : Option ℕ) (n : ℕ)
-    → correction_of direction left corrected ≡ Some n → direction ≡ FromCard
-asked_card ToCard left corrected n e = absurd (cc)
-asked_card FromCard left corrected n e = refl
-
 to_is_not_from : ToCard ≡ FromCard → ⊥
 to_is_not_from e = absurd (cc)
 
@@ -207,8 +194,7 @@ never_repeats : (R S : ℕ → Type 0) (h : Header) (content : List ℕ) (le : O
     → d.body.direction ≡ FromCard
     → IsAgreed R S (record { header = h; content = content; le = le }) → R d.body.header.ins → ⊥
 never_repeats R S h [] None d opens from agreed = absurd (to_is_not_from (sym opens.to_card ∙ from))
-never_repeats R S h [] (Some n) d opens from agreed = let H : Header → Type 0 = λ g. R g.ins
-    → ⊥ in subst H (sym opens.header_is) agreed.0
+never_repeats R S h [] (Some n) d opens from agreed = rw opens.header_is agreed.0
 never_repeats R S h (b ∷ bs) le d opens from agreed =
     absurd (to_is_not_from (sym opens.to_card ∙ from))
 
@@ -235,20 +221,17 @@ pub never : (R S : ℕ → Type 0) (c : Command) (units : List UnitOf) (opening 
 never R S c units (By_fetch n) left None host agreed followed opens =
     never_asks R S get_response n host opens (never_followed R S c units n left agreed followed)
 never R S c units (By_fetch n) left (Some d) host agreed followed (opens, m, corrected, asks) =
-    let H : Header → Type 0 = λ g. R g.ins → ⊥ in
     never_asks R S d.body.header m host asks
-    (subst H (sym opens.header_is) (never_followed R S c units n left agreed followed))
+    (rw opens.header_is (never_followed R S c units n left agreed followed))
 never R S c units (By_command other) left None host agreed followed opens =
-    let A : Command → Type 0 = λ x. IsAgreed R S x in
     never_opens R S other.header other.content other.le host opens
-    (subst A (same_command c other units left followed) agreed)
+    (rw (same_command c other units left followed) at agreed)
 never R S c units (By_command other) left (Some d) host agreed followed
     (opens, m, corrected, asks) =
-    let A : Command → Type 0 = λ x. IsAgreed R S x in
     never_asks R S d.body.header m host asks
     (never_repeats R S other.header other.content other.le d opens
     (asked_card d.body.direction (after_dialogue left d) (corrects d.status) m corrected)
-    (subst A (same_command c other units left followed) agreed))
+    (rw (same_command c other units left followed) at agreed))
 
 -- the direction of the data, if any are to move, is that of the front
 agree : (R S : ℕ → Type 0) (ins : ℕ) (a b : Direction) → Never R S a ins → PermitsData R S ins b
@@ -261,17 +244,13 @@ agree R S ins FromCard FromCard none permitted = refl
 suits_body : (R S : ℕ → Type 0) (ins : ℕ) (direction : Direction) (b : Body) (stage : Stage)
     → b.direction ≡ direction → Never R S direction ins → IsPermitted R S ins stage
     → SuitsFront stage (In_body b)
-suits_body R S ins direction b (Taking_header bytes) is none permitted = tt
-suits_body R S ins direction b (Refusing h p3 status done) is none permitted = tt
 suits_body R S ins direction b (Serving s came) is none permitted = is
     ∙ agree R S ins direction _ none permitted
-suits_body R S ins direction b (Ending status) is none permitted = tt
+suits_body R S ins direction b _ is none permitted = tt
 
 suits_header : (stage : Stage) (bytes : List ℕ) → SuitsFront stage (In_header bytes)
 suits_header (Taking_header others) bytes = tt
-suits_header (Refusing h p3 status done) bytes = tt
-suits_header (Serving s came) bytes = tt
-suits_header (Ending status) bytes = tt
+suits_header _ bytes = tt
 
 pub suits : {State : Type 0} (Does : State → ℕ → Tpdu → State → Type 0) (standing : State)
     (prepared : Prepared State) (R S : ℕ → Type 0) (host : Hosting) (stage next : Stage)
@@ -288,15 +267,9 @@ suits Does s p R S host (Taking_header bytes) next cut (After_first b sw1) none 
 suits Does s p R S host (Taking_header bytes) next cut (In_body b) none host_stands permitted
     takes stands =
     let by = opened host (In_body b) host_stands in
-    let N : Header → Type 0 = λ h. Never R S host.direction h.ins in
-    suits_body R S b.header.ins host.direction b next by.2 (subst N (sym by.0) none)
+    suits_body R S b.header.ins host.direction b next by.2 (rw by.0 none)
     (permitted b.header b.p3 (ap Taking_header stands.0))
-suits Does s p R S host (Refusing h p3 status done) next cut front none host_stands permitted
-    takes stands = absurd (cc)
-suits Does s p R S host (Serving service came) next cut front none host_stands permitted takes
-    stands = absurd (cc)
-suits Does s p R S host (Ending status) next cut front none host_stands permitted takes stands =
-    absurd (cc)
+suits Does s p R S host _ next cut front none host_stands permitted takes stands = absurd (cc)
 
 -- ---- what the watch hears
 
@@ -304,23 +277,13 @@ hears_on : (since now later : Hearing) (came more : List Character) (ch : Charac
     → Hears since came now → Hears now (ch ∷ []) later → more ≡ came ++ ch ∷ []
     → Hears since more later
 hears_on since now later came more ch before this is =
-    subst (λ cs. Hears since cs later) (sym is)
-    (hears_more since now later came (ch ∷ []) before this)
+    rw is (hears_more since now later came (ch ∷ []) before this)
 
 never_under : (R S : ℕ → Type 0) (c : Command) (ex : ExchangeOf) (units : List UnitOf)
     (tried : Option Dialogue) (front : Front) → IsAgreed R S c → UnderWay c ex units tried front
     → Never R S ex.host.direction ex.host.header.ins
 never_under R S c ex units tried front agreed under =
     never R S c units under.opening under.left tried ex.host agreed under.followed under.opened_as
-
--- a step of the card's end under the plan of its TPDU
-on_its_plan : {State : Type 0} (Does : State → ℕ → Tpdu → State → Type 0) (cut : ℕ)
-    (stage next : Stage) (front : Front) (byte : ℕ) (old new : State) (prepared : Prepared State)
-    (kept plan : Course)
-    → kept ≡ plan → Advances Does cut kept stage front byte old new prepared next
-    → Advances Does cut plan stage front byte old new prepared next
-on_its_plan Does cut stage next front byte old new prepared kept plan is steps = let P : Course
-    → Type 0 = λ k. Advances Does cut k stage front byte old new prepared next in subst P is steps
 
 -- ---- a step of the card's end, at the front of the terminal's
 
@@ -345,15 +308,13 @@ turned card s l end new byte under has permitted advances =
     let plan = next_plan under.before.rest in
     let agrees = never_under card.MayReceive card.MaySend s.command l.exchange under.units
     under.tried under.front under.agreed under.terminal in
-    elim (on_its_plan card.Does plan.cut l.end.stage end.stage under.front byte
-    (card.standing l.end.card) (card.standing end.card) (card.prepared end.card) (plan_kept new)
-    plan has.kept (advances plan.cut under.front
-    (λ takes. (
+    let steps = rw has.kept at (advances plan.cut under.front (λ takes. (
       sym (ap (λ (k : Course). k.cut) has.kept),
       suits card.Does (card.standing l.end.card) (card.prepared l.end.card) card.MayReceive
           card.MaySend l.exchange.host l.end.stage end.stage plan.cut under.front agrees
           under.terminal.stands permitted takes under.stands.0,
-    )) under.stands.0)) [
+    )) under.stands.0) in
+    elim steps [
       | inl goes ↦ inl (
         goes.0,
         goes.1,
@@ -392,23 +353,20 @@ pub passed : {C : Type 0} (card : Ghosts C) (s : Start card.State) (l new : Line
     → StandsUnder card under.before front new
     → card.standing new.end.card ≡ card.standing l.end.card
     → Hears l.hearing (ch ∷ []) new.hearing → IsGoing card s new
-passed card s l new ch front under goes terminal kept stands same hears =
-    let Gone : card.State → Type 0 = λ x. HaveGone card.Does s.from
-    (so_far under.units under.tried) (point x under.before.rest under.between) in
-    record {
-      agreed = under.agreed;
-      units = under.units;
-      tried = under.tried;
-      front = front;
-      terminal = terminal;
-      room = kept ∙ under.room;
-      before = under.before;
-      between = under.between;
-      gone = subst Gone (sym same) under.gone;
-      stands = stands;
-      hears = hears_on under.between l.hearing new.hearing _ _ ch under.hears hears
-          (goes_on under.front front ch under.terminal.is_front goes).1;
-    }
+passed card s l new ch front under goes terminal kept stands same hears = record {
+  agreed = under.agreed;
+  units = under.units;
+  tried = under.tried;
+  front = front;
+  terminal = terminal;
+  room = kept ∙ under.room;
+  before = under.before;
+  between = under.between;
+  gone = rw same under.gone;
+  stands = stands;
+  hears = hears_on under.between l.hearing new.hearing _ _ ch under.hears hears
+      (goes_on under.front front ch under.terminal.is_front goes).1;
+}
 
 -- ---- a character has passed, and the dialogue has ended
 
@@ -421,12 +379,9 @@ pub gone_more : {C : Type 0} (card : Ghosts C) (s : Start card.State) (l new : L
     → HaveGone card.Does s.from (so_far under.units under.tried ++ d ∷ []) (point_of card new)
 gone_more card s l new d byte under ends is follows does has hears =
     let mid = point (card.standing l.end.card) under.before.rest under.between in
-    let At : Cursor → Type 0 = λ k. HaveGone card.Does mid (d ∷ [])
-    (point (card.standing new.end.card) k.rest new.hearing) in
     gone_both card.Does s.from mid (point_of card new) (so_far under.units under.tried) (d ∷ [])
     under.gone
-    (subst At (sym has.is)
-    (one_gone card.Does (card.standing l.end.card) (card.standing new.end.card)
+    (rw has.is (one_gone card.Does (card.standing l.end.card) (card.standing new.end.card)
     under.before.rest under.before.kept under.between new.hearing d is follows has.cut does
     (hears_on under.between l.hearing new.hearing _ _ (Card, byte) under.hears hears
     (ends_with under.front byte d ends))))
@@ -442,23 +397,19 @@ begins_next : {C : Type 0} (card : Ghosts C) (s : Start card.State) (l : Line C)
     → IsAgreed card.MayReceive card.MaySend s.command → l.end.stage ≡ Taking_header []
     → UnderWay s.command l.exchange units tried fresh → l.exchange.gather.limit ≡ response_limit
     → ds ≡ so_far units tried → HasGone card s l ds → IsGoing card s l
-begins_next card s l units tried ds agreed rests terminal room is gone =
-    let At : Stage → Type 0 = λ x. StandsAt card.Does (card.standing l.end.card)
-    (card.prepared l.end.card) x (next_plan l.cursor.rest).cut fresh
-    × IsOnPlan x (next_plan l.cursor.rest) fresh × IsAtPlan x l.cursor l.cursor in
-    record {
-      agreed = agreed;
-      units = units;
-      tried = tried;
-      front = fresh;
-      terminal = terminal;
-      room = room;
-      before = l.cursor;
-      between = l.hearing;
-      gone = subst (HasGone card s l) is gone;
-      stands = subst At (sym rests) ((refl, lit< tt), tt, inl (refl, refl));
-      hears = hears_nothing l.hearing;
-    }
+begins_next card s l units tried ds agreed rests terminal room is gone = record {
+  agreed = agreed;
+  units = units;
+  tried = tried;
+  front = fresh;
+  terminal = terminal;
+  room = room;
+  before = l.cursor;
+  between = l.hearing;
+  gone = rw is at gone;
+  stands = rw rests ((refl, lit< tt), tt, inl (refl, refl));
+  hears = hears_nothing l.hearing;
+}
 
 pub begins : {C : Type 0} (card : Ghosts C) (command : Command) (l : Line C)
     → l.end.stage ≡ Taking_header [] → Begins card command l
@@ -484,7 +435,7 @@ continues card s l units tried d agreed rests room gone (inr (inr terminal)) = i
   status = d.status;
   terminal = terminal;
   room = room;
-  gone = subst (HasGone card s l) (sym (unit_dialogues units tried d)) gone;
+  gone = rw (unit_dialogues units tried d) gone;
   at_rest = rests;
 })
 
@@ -494,12 +445,11 @@ pub has_stalled : {C : Type 0} (card : Ghosts C) (s : Start card.State) (l : Lin
     → HasGone card s l (so_far units tried ++ d ∷ [])
     → Stall s.command (units ++ ended_with tried d ∷ [])
     → HasStalled card.Does s.from s.command (point_of card l)
-has_stalled card s l units tried d gone stall =
-    record {
-      units = units ++ ended_with tried d ∷ [];
-      stall = stall;
-      gone = subst (HasGone card s l) (sym (unit_dialogues units tried d)) gone;
-    }
+has_stalled card s l units tried d gone stall = record {
+  units = units ++ ended_with tried d ∷ [];
+  stall = stall;
+  gone = rw (unit_dialogues units tried d) gone;
+}
 
 -- ---- the measure
 
@@ -529,19 +479,13 @@ left_under c l units tried front under =
 
 left_over : {C : Type 0} (c : Command) (l : Line C) (units : List UnitOf) (status : StatusWord)
     → IsOver c l.exchange units status → left l ≡ 0
-left_over c l units status over =
-    let turn : exchange_turn l.exchange ≡ Done status =
-    ap (λ b. if b then Failed else turn_of l.exchange.host) over.going ∙ over.done in
-    let is : is_done (exchange_turn l.exchange) ≡ true = ap is_done turn in
-    rw is refl
+left_over c l units status over = rw (over_turn c l.exchange units status over) refl
 
 here_taken : (stage : Stage) (byte : ℕ) (cursor : Cursor)
     → ((plan : Course) → still_to_go (with_character stage byte) plan < still_to_go stage plan)
     → here (with_character stage byte) cursor < here stage cursor
 here_taken (Taking_header bytes) byte cursor falls = falls plain
-here_taken (Refusing h p3 status done) byte cursor falls = falls (plan_kept cursor)
-here_taken (Serving s came) byte cursor falls = falls (plan_kept cursor)
-here_taken (Ending status) byte cursor falls = falls (plan_kept cursor)
+here_taken _ byte cursor falls = falls (plan_kept cursor)
 
 terminal_falls : {C : Type 0} (c : Command) (l new : Line C) (units : List UnitOf)
     (tried : Option Dialogue) (front later : Front) (byte : ℕ)
@@ -550,8 +494,6 @@ terminal_falls : {C : Type 0} (c : Command) (l new : Line C) (units : List UnitO
     → ((plan : Course) → still_to_go new.end.stage plan < still_to_go l.end.stage plan)
     → left new < left l
 terminal_falls c l new units tried front later byte under on same is falls =
-    let Falls : Stage → Type 0 = λ s. (plan : Course)
-    → still_to_go s plan < still_to_go l.end.stage plan in
     omega (
       arith,
       left_under c l units tried front under,
@@ -561,7 +503,7 @@ terminal_falls c l new units tried front later byte under on same is falls =
       ap (λ (k : Cursor). steps_in k.rest) same,
       ap (λ (k : Cursor). here new.end.stage k) same,
       ap (λ s. here s l.cursor) is,
-      here_taken l.end.stage byte l.cursor (subst Falls is falls),
+      here_taken l.end.stage byte l.cursor (rw is at falls),
     )
 
 pub card_falls : {C : Type 0} (card : Ghosts C) (c : Command) (l new : Line C)
@@ -659,15 +601,13 @@ terminal_passed {C = C} card s l new byte under sends kept same end_is falls on 
     let goes = sends under.units under.tried under.front under.terminal in
     let plan = next_plan under.before.rest in
     let taken = on plan.cut under.front goes.0 under.stands.0 goes.1 in
-    let stage = ap (λ (e : EndOf C). e.stage) end_is in
-    let At : Cursor → Type 0 = λ k. IsAtPlan new.end.stage under.before k in (
+    let stage = ap (λ (e : EndOf C). e.stage) end_is in (
       terminal_falls s.command l new under.units under.tried under.front goes.0 byte
           under.terminal goes.2 same stage falls,
       passed card s l new (Terminal, byte) goes.0 under goes.1 goes.2 kept (
         taken.1,
         taken.2 plan under.stands.1,
-        subst At (sym same)
-            (plan_stays l.end.stage new.end.stage under.before l.cursor byte taken.0 stage
+        rw same (plan_stays l.end.stage new.end.stage under.before l.cursor byte taken.0 stage
             under.stands.2),
       )
           (ap (λ (e : EndOf C). card.standing e.card) end_is) hears,
@@ -680,8 +620,7 @@ is_too_long : (host : Hosting) (room : Room) (byte : ℕ) (fault : LineFault) �
     ⊎ ((fault ≡ Stalled) × (fault_of host room byte ≡ None))
     → fault_of host room byte ≡ Some TooLong
 is_too_long host room byte fault is (inl same) = same ∙ ap Some is
-is_too_long host room byte fault is (inr stalled) = let e : TooLong ≡ Stalled = sym is
-    ∙ stalled.0 in absurd (cc)
+is_too_long host room byte fault is (inr (stalled, none)) = absurd (cc)
 
 too_many : (room : Room) (limit : ℕ) (before one two : List ℕ) (byte : ℕ)
     → room.bytes ≡ before ++ one → room.limit ≡ limit → length room.bytes ≡ room.limit
@@ -727,8 +666,6 @@ has_overflown card s l new front byte fault under goes stands same is faults hea
     let full = too_long ex.host ex.gather byte under.front front under.terminal.stands
     (is_too_long ex.host ex.gather byte fault is faults) goes in
     let plan = next_plan under.before.rest in
-    let Gone : card.State → Type 0 = λ x. HaveGone card.Does s.from
-    (so_far under.units under.tried) (point x under.before.rest under.between) in
     record {
       units = under.units;
       tried = under.tried;
@@ -741,7 +678,7 @@ has_overflown card s l new front byte fault under goes stands same is faults hea
       stage = new.end.stage;
       plans = under.before.rest;
       between = under.between;
-      gone = subst Gone (sym same) under.gone;
+      gone = rw same under.gone;
       card = stands.0;
       on_plan = stands.1;
       taken = taken_at new.end.stage under.before new.cursor
@@ -781,14 +718,12 @@ on_too card s l new is on =
 pub over_sends_nothing : (c : Command) (ex : ExchangeOf) (units : List UnitOf)
     (status : StatusWord) (byte : ℕ) → IsOver c ex units status → Sends byte ≡ exchange_turn ex → ⊥
 over_sends_nothing c ex units status byte over does =
-    let e : Sends byte ≡ Done status = does
-    ∙ ap (λ b. if b then Failed else turn_of ex.host) over.going ∙ over.done in absurd (cc)
+    let done = over_turn c ex units status over in absurd (cc)
 
 pub over_is_silent : (c : Command) (ex : ExchangeOf) (units : List UnitOf) (status : StatusWord)
     → IsOver c ex units status → Listens ≡ exchange_turn ex → ⊥
 over_is_silent c ex units status over does =
-    let e : Listens ≡ Done status = does
-    ∙ ap (λ b. if b then Failed else turn_of ex.host) over.going ∙ over.done in absurd (cc)
+    let done = over_turn c ex units status over in absurd (cc)
 
 -- an exchange that sends or listens is in progress
 pub still_going : {C : Type 0} (card : Ghosts C) (s : Start card.State) (l : Line C)
@@ -820,7 +755,7 @@ still_over card s l new status (inr over) done stays =
 
 -- what holds for a result that is `Ok`
 pub on_ok : {A E : Type 0} (r : Result A E) (P : Type 0) (x : A) → r ≡ Ok x → OnOk r P → P
-on_ok {A = A} {E = E} r P x is on = let Q : Result A E → Type 0 = λ s. OnOk s P in subst Q is on
+on_ok r P x is on = rw is at on
 
 pub none_left : {C : Type 0} (card : Ghosts C) (s : Start card.State) (l : Line C)
     → IsDone card s l → left l ≡ 0
@@ -840,11 +775,11 @@ still_on card s old new false over = inr over
 
 pub over_at_end : {C : Type 0} (card : Ghosts C) (s : Start card.State) (old new : Line C)
     (going : Bool) → HasPassed card s old new going → going ≡ false → IsDone card s new
-over_at_end card s old new true passed ends = let e : true ≡ false = ends in absurd (cc)
+over_at_end card s old new true passed ends = absurd (cc)
 over_at_end card s old new false over ends = over
 
 pub some_is : {A : Type 0} (o : Option A) (x y : A) → o ≡ Some x → o ≡ Some y → x ≡ y
-some_is o x y one two = let e : Some x ≡ Some y = sym one ∙ two in cc
+some_is o x y one two = cc
 
 -- the answer of a whole exchange
 pub answered : {C : Type 0} (card : Ghosts C) (s : Start card.State) (l : Line C)
@@ -853,18 +788,12 @@ pub answered : {C : Type 0} (card : Ghosts C) (s : Start card.State) (l : Line C
     → (units : List UnitOf) × Gathers s.command units answer.content answer.status
     × HaveGone card.Does was (flat_map dialogues_of units) (point_of card l)
 answered card s l was answer over same is =
-    let G : Reply → Type 0 = λ r. Gathers s.command over.units r.content r.status in
-    let H : Point card.State → Type 0 = λ x. HaveGone card.Does x
-    (flat_map dialogues_of over.units) (point_of card l) in
-    (over.units, subst G (sym is) over.terminal.gathers, subst H same over.gone)
+    (over.units, rw is over.terminal.gathers, rw same at over.gone)
 
 pub caused : {State : Type 0} (Does : State → ℕ → Tpdu → State → Type 0)
     (from was to : Point State) (c : Command) (fault other : LineFault)
     → IsCaused Does from c to fault → from ≡ was → fault ≡ other → IsCaused Does was c to other
-caused {State = State} Does from was to c fault other is same faults =
-    let F : LineFault → Type 0 = λ f. IsCaused Does from c to f in
-    let S : Point State → Type 0 = λ p. IsCaused Does p c to other in
-    subst S same (subst F faults is)
+caused Does from was to c fault other is same faults = rw (same, faults) at is
 
 pub same_err : {T E : Type 0} (a b : E) → ◌≡◌ {A = Result T E} (Err a) (Err b) → a ≡ b
 same_err a b e = cc

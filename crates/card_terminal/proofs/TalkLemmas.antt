@@ -4,20 +4,20 @@ use Rattle.std.specs.List.{flat_map}
 use Rattle.apdu_core.specs.CommandBytes.{Command}
 use Rattle.apdu_core.specs.Chaining.{IsPieces, chain_commands}
 use Rattle.t0_core.specs.Character.{Character}
-use Rattle.t0_core.specs.Meaning.{Tpdu, Runs}
+use Rattle.t0_core.specs.Meaning.{Tpdu}
 use Rattle.t0_core.specs.Plan.{Course}
 use Rattle.tlv_core.specs.Address.{NamesTag}
 use Rattle.object_card.specs.Tables.{IsAid}
 use Rattle.object_card.specs.State.{CardState, IsCardState, is_idle}
-use Rattle.object_card.specs.OneStep.{Operation, Select, Get, Put, Reply, Answers, AnswersAll}
+use Rattle.object_card.specs.OneStep.{Operation, Select, Get, Put, Reply, AnswersAll}
 use Rattle.object_card.specs.DataCard.{StandsFor}
 use Rattle.object_card.specs.CardMeaning.{Does}
-use Rattle.object_card.specs.CarryingOut.{put_header}
+use Rattle.object_card.specs.CarryingOut.{put_header, IsCarriedOut}
 use Rattle.object_card.specs.PutRunLaws.{chain_is_put}
-use Rattle.card_terminal.specs.Gathered.{UnitOf, Single, Opens, Gathers, first_of, dialogues_of, IsUnit}
+use Rattle.card_terminal.specs.Gathered.{UnitOf, Opens, Gathers, first_of, dialogues_of, IsUnit}
 use Rattle.card_terminal.specs.declared.wanted.Wanted.TheVariants.{Everything}
 use Rattle.card_terminal.specs.Talk.{AreExchangesOf, IsTalkOf, AreTalksOf, Talk, talk_dialogues, select_command, get_command, HaveCuts}
-use Rattle.card_terminal.proofs.FetchLemmas.{Goes, goes_by_runs, goes_apart, goes_sound, begun, IsOneStep, Rest, sent_once, same_reply}
+use Rattle.card_terminal.proofs.FetchLemmas.{Goes, goes_by_runs, goes_apart, goes_sound, begun, Rest, sent_once}
 use Rattle.card_terminal.proofs.OperationLemmas.{select_answers, get_answers}
 use Rattle.card_terminal.proofs.TalkListLemmas.{talk_stands}
 use Rattle.card_terminal.specs.TalkLaws.{all_alike}
@@ -36,29 +36,26 @@ one_goes : (old new : CardState) (units : List UnitOf) (exchanges : List (List U
     → exchanges ≡ units ∷ [] → Goes old (talk_dialogues exchanges) new
     → Goes old (flat_map dialogues_of units) new
 one_goes old new units exchanges is goes =
-    subst (λ ds. Goes old ds new) (append-nil (flat_map dialogues_of units))
-    (subst (λ es. Goes old (talk_dialogues es) new) is goes)
+    rw (is, append-nil (flat_map dialogues_of units)) at goes
 
 -- a command that wants everything, from its first unit
 select_unit : (old mid new : CardState) (aid : List ℕ) (u : UnitOf) (answer : Reply)
     → is_idle old.pending ≡ true → IsAid aid
     → Opens (select_command aid) (first_of u) → IsUnit Everything u → Goes old (dialogues_of u) mid
     → Rest u mid new answer.content answer.status
-    → IsOneStep old (Select aid) answer new
+    → IsCarriedOut old (Select aid) answer.status answer.content new
 select_unit old mid new [] u answer idle is_aid opens is_unit goes rest =
     absurd (omega (arith, is_aid.0))
 select_unit old mid new (b ∷ bytes) u answer idle is_aid opens is_unit goes rest =
-    let Begins : UnitOf → Type 0 = λ v. Goes old (dialogues_of v) mid
-    × Rest v mid new answer.content answer.status in
-    let once : Begins (Single (first_of u)) =
-    subst Begins (sent_once u opens.to_card is_unit) (goes, rest) in
+    let once = sent_once u opens.to_card is_unit in
     select_answers old mid new (b ∷ bytes) (first_of u) answer.content answer.status idle is_aid
-    opens once.0 once.1
+    opens (rw once at goes) (subst (λ v. Rest v mid new answer.content answer.status) once rest)
 
 select_talk : (old new : CardState) (aid : List ℕ) (exchanges : List (List UnitOf)) (answer : Reply)
     → is_idle old.pending ≡ true → IsAid aid
     → AreExchangesOf (select_command aid ∷ []) exchanges answer
-    → Goes old (talk_dialogues exchanges) new → IsOneStep old (Select aid) answer new
+    → Goes old (talk_dialogues exchanges) new
+    → IsCarriedOut old (Select aid) answer.status answer.content new
 select_talk old new aid exchanges answer idle is_aid are goes =
     let (units, only, gathers) = one_exchange (select_command aid) exchanges answer are in
     let (u, mid, b) = begun (select_command aid).header aid units answer.content answer.status old
@@ -68,7 +65,8 @@ select_talk old new aid exchanges answer idle is_aid are goes =
 get_talk : (old new : CardState) (tag : List ℕ) (p1 p2 : ℕ) (exchanges : List (List UnitOf))
     (answer : Reply) → is_idle old.pending ≡ true → NamesTag tag p1 p2
     → AreExchangesOf (get_command p1 p2 ∷ []) exchanges answer
-    → Goes old (talk_dialogues exchanges) new → IsOneStep old (Get tag) answer new
+    → Goes old (talk_dialogues exchanges) new
+    → IsCarriedOut old (Get tag) answer.status answer.content new
 get_talk old new tag p1 p2 exchanges answer idle names are goes =
     let (units, only, gathers) = one_exchange (get_command p1 p2) exchanges answer are in
     let (u, mid, b) = begun (get_command p1 p2).header [] units answer.content answer.status old new
@@ -80,34 +78,28 @@ put_talk : (old new : CardState) (tag value : List ℕ) (p1 p2 : ℕ) (pieces : 
     (exchanges : List (List UnitOf)) (answer : Reply) → is_idle old.pending ≡ true
     → NamesTag tag p1 p2 → IsPieces value pieces
     → AreExchangesOf (chain_commands (put_header p1 p2) pieces) exchanges answer
-    → Goes old (talk_dialogues exchanges) new → IsOneStep old (Put tag value) answer new
+    → Goes old (talk_dialogues exchanges) new
+    → IsCarriedOut old (Put tag value) answer.status answer.content new
 put_talk old new tag value p1 p2 pieces exchanges answer idle names are_pieces are goes =
     let (ends, none) = chain_ends (put_header p1 p2) pieces exchanges answer old new are goes in
-    let (after, answers, same, is_idle_then) =
-    chain_is_put tag p1 p2 names old new value pieces answer.status idle are_pieces ends in
-    record {
-      after = after;
-      answers = subst (λ r. Answers old (Put tag value) r after)
-          (same_reply answer.status answer.status [] answer.content refl none) answers;
-      same = same;
-      idle = is_idle_then;
-    }
+    rw none (chain_is_put tag p1 p2 names old new value pieces answer.status idle are_pieces ends)
 
 -- A talk of an operation: its answer in one step, and no chain is pending.
 pub talk_answers : (old new : CardState) (operation : Operation) (exchanges : List (List UnitOf))
     (answer : Reply)
     → is_idle old.pending ≡ true → IsTalkOf operation exchanges answer
-    → Goes old (talk_dialogues exchanges) new → IsOneStep old operation answer new
+    → Goes old (talk_dialogues exchanges) new
+    → IsCarriedOut old operation answer.status answer.content new
 talk_answers old new (Select aid) exchanges answer idle (commands, (is_aid, is), are) goes =
     select_talk old new aid exchanges answer idle is_aid
-    (subst (λ cs. AreExchangesOf cs exchanges answer) is are) goes
+    (rw is at are) goes
 talk_answers old new (Get tag) exchanges answer idle (commands, (p1, p2, names, is), are) goes =
     get_talk old new tag p1 p2 exchanges answer idle names
-    (subst (λ cs. AreExchangesOf cs exchanges answer) is are) goes
+    (rw is at are) goes
 talk_answers old new (Put tag value) exchanges answer idle
     (commands, (p1, p2, pieces, names, are_pieces, is), are) goes =
     put_talk old new tag value p1 p2 pieces exchanges answer idle names are_pieces
-    (subst (λ cs. AreExchangesOf cs exchanges answer) is are) goes
+    (rw is at are) goes
 
 -- Talks of operations in turn: their answers, one step each, and no chain is pending.
 pub talks_answer : (operations : List Operation) (talks : List (List (List UnitOf)))
@@ -125,14 +117,10 @@ talks_answer (o ∷ operations) (talk ∷ talks) [] old new idle are goes = absu
 talks_answer (o ∷ operations) (talk ∷ talks) (r ∷ replies) old new idle are goes =
     let (mid, first, rest) =
     goes_apart old new (talk_dialogues talk) (flat_map talk_dialogues talks) goes in
-    let one = talk_answers old mid o talk r idle are.0 first in
+    let (after, answers, same, idle_then) = talk_answers old mid o talk r idle are.0 first in
     let (others, is_idle_then) =
-    talks_answer operations talks replies mid new one.idle are.1 rest in (
-      (
-        one.after,
-        one.answers,
-        all_alike operations replies mid one.after new (sym one.same.0, sym one.same.1) others,
-      ),
+    talks_answer operations talks replies mid new idle_then are.1 rest in (
+      (after, answers, all_alike operations replies mid after new (sym same.0, sym same.1) others),
       is_idle_then,
     )
 
@@ -144,7 +132,7 @@ pub whole_talk_answers : (first last : CardState) (plans left : List Course)
 whole_talk_answers first last plans left operations replies line sound idle cuts talk =
     let goes : Goes first (flat_map talk_dialogues talk.talks) last =
     goes_by_runs first last (flat_map talk_dialogues talk.talks) plans cuts
-    (subst (λ ds. Runs Does first ds plans last) talk.dialogues_are talk.runs) in
+    (rw talk.dialogues_are at talk.runs) in
     let (answers, is_idle_then) =
     talks_answer operations talk.talks replies first last idle talk.are_talks goes in
     (answers, is_idle_then, goes_sound first last (flat_map talk_dialogues talk.talks) sound goes)
@@ -162,8 +150,5 @@ own_talk_answers Own own_reset state_of stands first last old new was is plans l
     replies line sound idle cuts talk =
     let over = talk_stands Own own_reset state_of stands first last plans left operations replies
     line talk in
-    let from : Talk Does old plans operations replies (state_of last) left line =
-    subst (λ s. Talk Does s plans operations replies (state_of last) left line) was over in
-    let to : Talk Does old plans operations replies new left line =
-    subst (λ s. Talk Does old plans operations replies s left line) is from in
-    whole_talk_answers old new plans left operations replies line sound idle cuts to
+    whole_talk_answers old new plans left operations replies line sound idle cuts
+    (rw (was, is) at over)

@@ -39,8 +39,7 @@ pub follow_both : (xs ys : List Dialogue) (plans : List Course) → FollowInTurn
 follow_both [] ys plans first second = second
 follow_both (x ∷ xs) ys [] first second = (
   first.0,
-  follow_both xs ys [] first.1
-      (subst (λ p. FollowInTurn ys p) (no_plans (x ∷ xs) xs) second),
+  follow_both xs ys [] first.1 (rw (no_plans (x ∷ xs) xs) at second),
 )
 follow_both (x ∷ xs) ys (p ∷ plans) first second = (first.0, follow_both xs ys plans first.1 second)
 
@@ -49,13 +48,11 @@ pub runs_both : {State : Type 0} (Does : State → ℕ → Tpdu → State → Ty
     (xs ys : List Dialogue) (plans : List Course)
     → Runs Does old xs plans mid → Runs Does mid ys (drop (length xs) plans) new
     → Runs Does old (xs ++ ys) plans new
-runs_both Does old mid new [] ys plans first second =
-    subst (λ s. Runs Does s ys plans new) first second
+runs_both Does old mid new [] ys plans first second = rw first at second
 runs_both Does old mid new (x ∷ xs) ys [] (next, does, first) second = (
   next,
   does,
-  runs_both Does next mid new xs ys [] first
-      (subst (λ p. Runs Does mid ys p new) (no_plans (x ∷ xs) xs) second),
+  runs_both Does next mid new xs ys [] first (rw (no_plans (x ∷ xs) xs) at second),
 )
 runs_both Does old mid new (x ∷ xs) ys (p ∷ plans) (next, does, first) second =
     (next, does, runs_both Does next mid new xs ys plans first second)
@@ -125,19 +122,15 @@ talk_more Does first mid last plans left rest operations replies line more o r t
       line_is = ap (λ l. l ++ more) talk.line_is
           ∙ ap (λ l. flat_map characters xs ++ l) next.line_is
           ∙ sym (flat_map-append characters xs ys);
-      follow = follow_both xs ys plans talk.follow
-          (subst (λ p. FollowInTurn ys p) talk.left_is next.follow);
-      runs = runs_both Does first mid last xs ys plans talk.runs
-          (subst (λ p. Runs Does mid ys p last) talk.left_is next.runs);
+      follow = follow_both xs ys plans talk.follow (rw talk.left_is at next.follow);
+      runs = runs_both Does first mid last xs ys plans talk.runs (rw talk.left_is at next.runs);
       left_is = next.left_is ∙ ap (λ p. drop (length ys) p) talk.left_is
           ∙ sym (left_after_both xs ys plans);
       dialogues_are = ap (λ ds. ds ++ ys) talk.dialogues_are
           ∙ ap (λ ds. flat_map talk_dialogues talk.talks ++ ds) next.dialogues_are
           ∙ sym (flat_map-append talk_dialogues talk.talks next.talks);
-      are_talks = subst
-          (λ ts. AreTalksOf (operations ++ o ∷ []) (talk.talks ++ ts) (replies ++ r ∷ []))
-          (sym alone)
-          (talks_more Gathers operations talk.talks replies o exchanges r talk.are_talks one);
+      are_talks = rw alone (talks_more Gathers operations talk.talks replies o exchanges r
+          talk.are_talks one);
     }
 
 -- A card whose own states stand for states of a card of data objects: what runs over its own states

@@ -1,6 +1,7 @@
 -- A worked talk, and near misses.
-use Rattle.std.proofs.Common.{◌≡◌, ℕ, List, [], ◌∷◌, ◌++◌, length, subst, Option, Some, None, false, refl, inl, inr, lit<, ap, arith, length-append}
-use Rattle.apdu_core.specs.StatusWord.{StatusWord, ok}
+use Rattle.std.proofs.Common.{◌≡◌, ◌<◌, ℕ, List, [], ◌∷◌, ◌++◌, length, Option, Some, None, true, false, IsTrue, refl, sym, inl, inr, lit<, ap, arith, length-append}
+use Rattle.apdu_core.specs.HeaderBytes.{ins_is_valid}
+use Rattle.apdu_core.specs.StatusWord.{StatusWord, is_first_status, ok}
 use Rattle.apdu_core.specs.CommandBytes.{Command}
 use Rattle.tlv_core.specs.Address.{NamesTag}
 use Rattle.t0_core.specs.declared.end.End.TheVariants.{Terminal, Card}
@@ -9,17 +10,17 @@ use Rattle.t0_core.specs.declared.direction.Direction.TheVariants.{ToCard, FromC
 use Rattle.t0_core.specs.declared.plan.Step.{Step}
 use Rattle.t0_core.specs.declared.plan.Step.TheVariants.{Null, All}
 use Rattle.t0_core.specs.Character.{Character, sent_by}
-use Rattle.t0_core.specs.Dialogue.{Dialogue}
+use Rattle.t0_core.specs.Dialogue.{Dialogue, IsDialogue, foreseen, to_move}
 use Rattle.t0_core.specs.Meaning.{Runs}
-use Rattle.t0_core.specs.Plan.{Course}
+use Rattle.t0_core.specs.Plan.{Course, Follows, segments_of}
 use Rattle.object_card.specs.Tables.{Entry}
 use Rattle.object_card.specs.State.{CardState, NothingPending, ResponsePending}
 use Rattle.object_card.specs.OneStep.{Operation, Select, Get, Put, Reply, reply, stores, stored}
 use Rattle.object_card.specs.CardMeaning.{Does, refuses, selects_application, sends, puts_value}
 use Rattle.card_terminal.specs.declared.wanted.Wanted.{Wanted}
-use Rattle.card_terminal.specs.declared.wanted.Wanted.TheVariants.{Bytes, Everything}
-use Rattle.card_terminal.specs.Gathered.{UnitOf, IsUnit, wanted_by, after_unit, fetched_after, last_of, Single, Repeated, By_command, By_fetch, Gathers, AreFollowed}
+use Rattle.card_terminal.specs.Gathered.{UnitOf, IsUnit, wanted_by, after_unit, fetched_after, last_of, Single, Repeated, By_command, Gathers, AreFollowed}
 use Rattle.card_terminal.specs.Talk.{select_command, get_command, Talk}
+use Rattle.card_terminal.proofs.Vectors as row
 
 abbrev aid : List ℕ
 aid = 0xA0 ∷ 0x00 ∷ 0x00 ∷ 0x00 ∷ 0x03 ∷ 0x10 ∷ 0x10 ∷ []
@@ -54,17 +55,9 @@ filled = card (entry (0x5F ∷ 0x20 ∷ []) (0x4A ∷ 0x4F ∷ 0x45 ∷ []) ∷ 
     (0x01 ∷ []) ∷ []) (Some aid)
 
 abbrev dialogue : ℕ → ℕ → ℕ → ℕ → Direction → List Step → List ℕ → StatusWord → Dialogue
-dialogue ins p1 p2 p3 direction segments moved status = record {
-  body = record {
-    header = record { cla = 0x00; ins = ins; p1 = p1; p2 = p2 };
-    p3 = p3;
-    direction =
-        direction;
-    segments = segments;
-    moved = moved;
-  };
-  status = status;
-}
+dialogue ins p1 p2 p3 direction segments moved status =
+    row.dialogue (record { cla = 0x00; ins = ins; p1 = p1; p2 = p2 }) p3 direction segments moved
+    status
 
 abbrev select : Dialogue
 select = dialogue 0xA4 0x04 0x00 0x07 ToCard (Null ∷ All ∷ []) aid (0x61, 0x0B)
@@ -104,84 +97,23 @@ line = sent_by Terminal (0x00 ∷ 0xA4 ∷ 0x04 ∷ 0x00 ∷ 0x07 ∷ []) ++ sen
     ++ sent_by Terminal (0x01 ∷ []) ++ sent_by Card (0x90 ∷ 0x00 ∷ [])
 
 selects_row : Gathers (select_command aid) (Single select ∷ Single fetch ∷ []) information ok
-selects_row = record {
-  is_open = record {
-    before = Single select ∷ [];
-    last = Single fetch;
-    opening = By_fetch 11;
-    left = Everything;
-    units_are = refl;
-    followed = (
-      11,
-      record {
-        opens =
-            record { header_is = refl; to_card = refl; counts = refl; sends = ([], refl) };
-        is_unit =
-            refl;
-        brings = tt;
-        fetched = refl;
-      },
-      (refl, refl),
-    );
-    opens = record { header_is = refl; from_card = refl; counts = refl; is_byte = lit< tt };
-    is_unit = refl;
-  };
-  ends = refl;
-  status_is = refl;
-  gathered_is = refl;
-}
+selects_row = row.whole (row.of_two (select_command aid) (Single select) (Single fetch) 11
+    (row.sends refl refl refl refl) refl refl (row.asks refl refl refl (lit< tt)) refl) refl
 
 gets_row : Gathers (get_command 0x5F 0x20) (Repeated corrected repeated ∷ []) object ok
-gets_row = record {
-  is_open = record {
-    before = [];
-    last = Repeated corrected repeated;
-    opening = By_command (get_command 0x5F 0x20);
-    left = Everything;
-    units_are = refl;
-    followed = (refl, refl);
-    opens = record { header_is = refl; from_card = refl; counts = refl; is_byte = lit< tt };
-    is_unit = (
-      6,
-      refl,
-      record {
-        header_is = refl;
-        from_card = refl;
-        counts = refl;
-        is_byte =
-            lit< tt;
-      },
-    );
-  };
-  ends = refl;
-  status_is = refl;
-  gathered_is = refl;
-}
+gets_row = row.whole (row.of_one (get_command 0x5F 0x20) (Repeated corrected repeated)
+    (row.asks refl refl refl (lit< tt)) (6, refl, row.asks refl refl refl (lit< tt))) refl
 
 abbrev put_command : Command
 put_command = record {
   header = record { cla = 0x00; ins = 0xDA; p1 = 0x9F; p2 = 0x36 };
-  content =
-      0x01 ∷ [];
+  content = 0x01 ∷ [];
   le = None;
 }
 
 puts_row : Gathers put_command (Single put ∷ []) [] ok
-puts_row = record {
-  is_open = record {
-    before = [];
-    last = Single put;
-    opening = By_command put_command;
-    left = Bytes 0;
-    units_are = refl;
-    followed = (refl, refl);
-    opens = record { header_is = refl; to_card = refl; counts = refl; sends = ([], refl) };
-    is_unit = refl;
-  };
-  ends = refl;
-  status_is = refl;
-  gathered_is = refl;
-}
+puts_row =
+    row.whole (row.of_one put_command (Single put) (row.sends refl refl refl refl) refl) refl
 
 name_address : NamesTag (0x5F ∷ 0x20 ∷ []) 0x5F 0x20
 name_address = (omega arith, omega arith, refl, omega arith, omega arith, refl, refl)
@@ -221,6 +153,26 @@ runs_row = (
   ),
 )
 
+-- a dialogue whose INS is valid
+is_dialogue : {d : Dialogue} → ins_is_valid d.body.header.ins ≡ true
+    → length d.body.moved ≡ to_move d.body → IsTrue (is_first_status d.status.0)
+    → d.status.1 < 256 → IsDialogue d
+is_dialogue valid moved first second = record {
+  moved_by_segments = moved;
+  is_status = (first, second);
+  only_nulls = λ invalid. absurd (cc);
+}
+
+-- it moves all of its data, or none
+moves_all : {d : Dialogue} {p : Course}
+    → length d.body.moved ≡ foreseen d.body.direction d.body.p3
+    → d.body.segments ≡ segments_of p.steps (length d.body.moved) → Follows d p
+moves_all all steps = record { all_or_nothing = inr all; step_by_step = steps }
+
+moves_none : {d : Dialogue} {p : Course} → d.body.moved ≡ []
+    → d.body.segments ≡ segments_of p.steps (length d.body.moved) → Follows d p
+moves_none none steps = record { all_or_nothing = inl none; step_by_step = steps }
+
 -- SELECT, GET DATA and PUT DATA under one plan: the characters on the line, and no plan is left.
 talk_row : Talk Does fresh (plan ∷ []) operations replies filled [] line
 talk_row = record {
@@ -228,40 +180,15 @@ talk_row = record {
   talks = ((Single select ∷ Single fetch ∷ []) ∷ []) ∷ ((Repeated corrected repeated ∷ []) ∷ [])
       ∷ ((Single put ∷ []) ∷ []) ∷ [];
   are_dialogues = (
-    record {
-      moved_by_segments = refl;
-      is_status = (refl, lit< tt);
-      only_nulls =
-          λ invalid. absurd (cc);
-    },
+    is_dialogue refl refl refl (lit< tt),
     (
-      record {
-        moved_by_segments = refl;
-        is_status = (refl, lit< tt);
-        only_nulls =
-            λ invalid. absurd (cc);
-      },
+      is_dialogue refl refl refl (lit< tt),
       (
-        record {
-          moved_by_segments = refl;
-          is_status = (refl, lit< tt);
-          only_nulls =
-              λ invalid. absurd (cc);
-        },
+        is_dialogue refl refl refl (lit< tt),
         (
-          record {
-            moved_by_segments = refl;
-            is_status = (refl, lit< tt);
-            only_nulls =
-                λ invalid. absurd (cc);
-          },
+          is_dialogue refl refl refl (lit< tt),
           (
-            record {
-              moved_by_segments = refl;
-              is_status = (refl, lit< tt);
-              only_nulls =
-                  λ invalid. absurd (cc);
-            },
+            is_dialogue refl refl refl (lit< tt),
             tt,
           ),
         ),
@@ -270,15 +197,12 @@ talk_row = record {
   );
   line_is = refl;
   follow = (
-    record { all_or_nothing = inr refl; step_by_step = refl },
+    moves_all refl refl,
     (
-      record { all_or_nothing = inr refl; step_by_step = refl },
+      moves_all refl refl,
       (
-        record { all_or_nothing = inl refl; step_by_step = refl },
-        (
-          record { all_or_nothing = inr refl; step_by_step = refl },
-          (record { all_or_nothing = inr refl; step_by_step = refl }, tt),
-        ),
+        moves_none refl refl,
+        (moves_all refl refl, (moves_all refl refl, tt)),
       ),
     ),
   );
@@ -323,11 +247,8 @@ only_unit c u brought status g =
         → IsUnit (wanted_by c.le) u
         × (fetched_after (after_unit (wanted_by c.le) u) (last_of u).status ≡ None)
     by [] last left is followed is_unit ends =
-        let same : last ≡ u = cc in
-        let Ends : Wanted → UnitOf → Type 0 =
-        λ w v. IsUnit w v × (fetched_after (after_unit w v) (last_of v).status ≡ None) in
-        subst (λ v. Ends (wanted_by c.le) v) same
-        (subst (λ w. Ends w last) followed.1 (is_unit, ends))
+        let same : u ≡ last = cc in
+        rw (same, sym followed.1) (is_unit, ends)
     by (v ∷ before) last left is followed is_unit ends =
         absurd (omega (arith, ap length is, length-append before (last ∷ [])))
 

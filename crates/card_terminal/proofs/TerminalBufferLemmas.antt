@@ -56,10 +56,8 @@ pub hands_out : (o new : OperationOf) (before after : List ℕ) (handed : Handed
 hands_out o new before after handed settled handing same now_settled = record {
   sent = record {
     fits = handing.sent.fits;
-    steps = subst (λ x. Steps (λ s b t. TurnsOf s (Sends b) t) (Some o) (take handed.count after)
-        (Some x)) (sym same)
-        (all_sent o (take handed.count after) o.exchange new.exchange settled handing.sent.steps
-        (subst (λ x. IsSettled x) same now_settled));
+    steps = rw same (all_sent o (take handed.count after) o.exchange new.exchange settled
+        handing.sent.steps (rw same at now_settled));
     behind = handing.sent.behind;
   };
   stop = stopped handed.stop handing.stop;
@@ -92,15 +90,15 @@ all_taken o new [] ex last settled same over =
     ap (λ x. Some x) (stays (with_exchange o ex) new last settled over same)
 all_taken o new (b ∷ []) ex last settled (next, step, same) over = (
   Some new,
-  takes (with_exchange o ex) new b (Ok tt) next settled step
-      (subst (λ x. GoesOver (with_exchange o x) new) same over),
+  takes (with_exchange o ex) new next settled
+      (subst (λ x. GoesOver (with_exchange o x) new) same over) b (Ok tt) step,
   refl,
 )
 all_taken o new (b ∷ c ∷ cs) ex last settled (next, step, rest) over =
     let then_settled = takes_settled o next rest.0 c rest.1 in (
       Some (with_exchange o next),
-      takes (with_exchange o ex) (with_exchange o next) b (Ok tt) next settled step
-          (inl (then_settled, refl)),
+      takes (with_exchange o ex) (with_exchange o next) next settled (inl (then_settled, refl)) b
+          (Ok tt) step,
       all_taken o new (c ∷ cs) next last then_settled rest over,
     )
 
@@ -130,7 +128,7 @@ refused_next o new bytes count fault ex settled taking next =
     record {
       last = Some new;
       steps = all_taken o new (take count bytes) o.exchange taking.last settled taking.steps
-          (inr (subst (λ x. GoesToNext (with_exchange o x) new) back next));
+          (inr (rw back at next));
       outcome = (
         taking.outcome.0,
         out_of_turn new next.sends.0 (get_or bytes count 0) next.sends.1 next.bounds,
@@ -139,8 +137,7 @@ refused_next o new bytes count fault ex settled taking next =
   where
     not_final : (v : Bool) → is_final fault ≡ v
         → (is_final fault ≡ true → exchange_turn ex ≡ Failed) → is_final fault ≡ false
-    not_final true is failed =
-        let no : Done ok ≡ Failed = sym next.done ∙ failed is in absurd (cc)
+    not_final true is failed = let done = next.done in let no = failed is in absurd (cc)
     not_final false is failed = is
 
 same_fault : (a b : LineFault) → ◌≡◌ {A = Result (Unit {0}) LineFault} (Err a) (Err b) → a ≡ b
@@ -181,8 +178,8 @@ takes_all o new bytes count (Err fault) ex settled taking over none =
           settled taking.steps (inl (before, refl));
       outcome = (
         taking.outcome.0,
-        takes (with_exchange o taking.last) new (get_or bytes count 0) (Err fault) ex before step
-            (inl none),
+        takes (with_exchange o taking.last) new ex before (inl none) (get_or bytes count 0)
+            (Err fault) step,
       );
     }
 
@@ -209,11 +206,9 @@ pub takes_to_next : (o new : OperationOf) (bytes : List ℕ) (count : ℕ)
     (λ _. told ≡ record { count = count; outcome = Err NotListening })
     → IsTakingAll IsTerminalTaking (Some o) bytes told (Some new)
 takes_to_next o new bytes count (Ok u) told ex settled taking next is =
-    subst (λ t. IsTakingAll IsTerminalTaking (Some o) bytes t (Some new)) (sym is)
-    (takes_all o new bytes count (Ok u) ex settled taking (inr next) tt)
+    rw is (takes_all o new bytes count (Ok u) ex settled taking (inr next) tt)
 takes_to_next o new bytes count (Err fault) told ex settled taking next is =
-    subst (λ t. IsTakingAll IsTerminalTaking (Some o) bytes t (Some new)) (sym is)
-    (refused_next o new bytes count fault ex settled taking next)
+    rw is (refused_next o new bytes count fault ex settled taking next)
 
 -- ---- the same for the terminal as contracts see it
 
@@ -221,8 +216,7 @@ pub none_handed_out : (old seen : Option OperationOf) (before after : List ℕ)
     (told : Option HandedOut) (later : Option OperationOf) → old ≡ seen → old ≡ None → told ≡ None
     → after ≡ before → later ≡ None → IsTerminalHandingOut seen before after told later
 none_handed_out old seen before after told later is none same bytes then_none =
-    subst (λ t. IsTerminalHandingOut seen before after t later) (sym same)
-    (sym is ∙ none, bytes, then_none)
+    rw same (sym is ∙ none, bytes, then_none)
 
 pub handed_out : (old seen : Option OperationOf) (o new : OperationOf)
     (before after given : List ℕ) (handed : HandedOut) (told : Option HandedOut)
@@ -231,19 +225,11 @@ pub handed_out : (old seen : Option OperationOf) (o new : OperationOf)
     → IsTerminalHandingOut seen before after told later
 handed_out old seen o new before after given handed told later is some same bytes then_some
     handing =
-    let now : seen ≡ Some o = sym is ∙ some in
-    let P : Option OperationOf → Type 0 = λ x. IsHandingOut TurnsOf x before given handed
-    (Some new) in
-    let Q : List ℕ → Type 0 = λ bs. IsHandingOut TurnsOf seen before bs handed (Some new) in
-    let R : Option OperationOf → Type 0 = λ x. IsHandingOut TurnsOf seen before after handed x in
-    subst (λ t. IsTerminalHandingOut seen before after t later) (sym same)
-    (ap is_some now, subst R (sym then_some) (subst Q (sym bytes) (subst P (sym now) handing)))
+    rw (sym is, some, same, bytes, then_some) (refl, handing)
 
 pub taking_all_as : (old seen : Option OperationOf) (bytes : List ℕ) (taken told : Taken)
     (new later : Option OperationOf) → old ≡ seen → told ≡ taken → later ≡ new
     → IsTakingAll IsTerminalTaking old bytes taken new
     → IsTakingAll IsTerminalTaking seen bytes told later
 taking_all_as old seen bytes taken told new later is same then_is taking =
-    subst (λ x. IsTakingAll IsTerminalTaking x bytes told later) is
-    (subst (λ t. IsTakingAll IsTerminalTaking old bytes t later) (sym same)
-    (subst (λ x. IsTakingAll IsTerminalTaking old bytes taken x) (sym then_is) taking))
+    rw (sym is, same, then_is) taking

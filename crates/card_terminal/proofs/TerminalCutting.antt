@@ -3,8 +3,6 @@
 use Rattle.std.proofs.Common.{◌≡◌, ◌≤◌, ◌<◌, ◌+◌, ◌*◌, arith, Some, length-append, ℕ, suc, List, [], ◌∷◌, ◌++◌, length, refl, sym, subst, ◌∙◌, ap, inl, inr, ◌⊎◌, true, append-nil, append_assoc}
 use Rattle.std.specs.List.{AllByRecursion, flat_map}
 use Rattle.std.proofs.lemmas.Grind.{flat_map-append}
-use Rattle.std.proofs.lemmas.List.{append_cancel_left}
-use Rattle.apdu_core.specs.HeaderBytes.{ins_is_valid}
 use Rattle.apdu_core.specs.StatusWord.{ok}
 use Rattle.apdu_core.specs.CommandBytes.{Command}
 use Rattle.t0_core.specs.declared.host_end.HostTurn.TheVariants.{Done, Failed}
@@ -17,7 +15,7 @@ use Rattle.card_terminal.specs.ExchangeSide.{ExchangeOf, exchange_turn}
 use Rattle.card_terminal.specs.ExchangeHistory.{ComesTo, Expects, BeginsExchange, FaultCameLast, unit_characters}
 use Rattle.card_terminal.specs.TerminalSide.{OperationOf, AreLeft, HasCome, LeadsTo, IsSettled}
 use Rattle.card_terminal.specs.TerminalHistory.{HaveValidIns, HaveRoom, brought_by}
-use Rattle.card_terminal.proofs.CuttingLemmas.{Comes, comes, before_both, none_led_longer, same_whole, done_is_no_failure, expecting_is_no_failure}
+use Rattle.card_terminal.proofs.CuttingLemmas.{AreAll, Comes, ends, continues, if_room, at_end, at_character, not_failed, is_whole, split_all, none_before, comes, led_within, same_whole}
 use Rattle.card_terminal.proofs.PrefixLemmas.{led_begins}
 use Rattle.card_terminal.proofs.UnitLemmas.{few_tpdus}
 use Rattle.card_terminal.proofs.TerminalLemmas.{come_as, none_left}
@@ -28,122 +26,53 @@ pub first_characters : (units : List UnitOf) (exchanges : List (List UnitOf))
 first_characters units exchanges =
     flat_map-append characters (flat_map dialogues_of units) (talk_dialogues exchanges)
 
-all_apart : (xs ys : List Dialogue) → AllByRecursion IsDialogue (xs ++ ys)
-    → AllByRecursion IsDialogue xs × AllByRecursion IsDialogue ys
-all_apart [] ys all = (tt, all)
-all_apart (x ∷ xs) ys all = let both = all_apart xs ys all.1 in ((all.0, both.0), both.1)
-
--- the exchange has ended with the operation's answer, or the next character is expected
-abbrev pub GoesTo : ExchangeOf → List Character → List (List UnitOf) → Reply → Type 0
-GoesTo ex rest exchanges answer =
-    ((rest ≡ []) × (exchange_turn ex ≡ Done answer.status)
-    × (ex.gather.bytes ≡ answer.content))
-    ⊎ ((ch : Character) × (after : List Character) × (rest ≡ ch ∷ after)
-    × (HaveRoom ex.gather.limit exchanges → Expects ex ch))
-
-none_before : (a b : List Character) → a ++ b ≡ [] → a ≡ []
-none_before [] b is = refl
-none_before (x ∷ a) b is = absurd (cc)
-
-no_character : (ch : Character) (after : List Character) → [] ≡ ch ∷ after → ⊥
-no_character ch after e = absurd (cc)
-
-fits : (units : List UnitOf) (gathered : List ℕ) (limit : ℕ) → gathered ≡ flat_map unit_data units
-    → length (flat_map unit_data units) ≤ limit → length gathered ≤ limit
-fits units gathered limit is few =
-    subst (λ (bs : List ℕ). length bs ≤ limit) (sym is) few
-
 -- no command follows one whose exchange has ended with 9000
 abbrev pub Ends : ExchangeOf → List Command → Type 0
 Ends ex left = exchange_turn ex ≡ Done ok → left ≡ []
+
+-- the exchange has ended with the operation's answer; or the next character is expected, if there
+-- is room
+abbrev pub GoesTo : ExchangeOf → List Character → List (List UnitOf) → Reply → Type 0
+GoesTo ex rest exchanges answer =
+    Comes (HaveRoom ex.gather.limit exchanges) ex rest answer.content answer.status
 
 none_of_none : (exchanges : List (List UnitOf)) (answer : Reply) (left : List Command) → left ≡ []
     → AreExchangesOf left exchanges answer → ⊥
 none_of_none exchanges answer [] none are = are
 none_of_none exchanges answer (c ∷ left) none are = absurd (cc)
 
--- the first exchange of several
-first_of_more : (c : Command) (left : List Command) (here : List Character) (ex : ExchangeOf)
-    (units next : List UnitOf) (others : List (List UnitOf)) (answer : Reply) (brought : List ℕ)
-    (rest : List Character) → ins_is_valid c.header.ins ≡ true → c.header.ins < 256
-    → ComesTo c here ex → Ends ex left → Gathers c units brought ok
-    → AreExchangesOf left (next ∷ others) answer
-    → AllByRecursion IsDialogue (flat_map dialogues_of units)
-    → (rest ≡ []) ⊎ HaveRoom ex.gather.limit (units ∷ next ∷ others)
-    → unit_characters units ++ talk_characters (next ∷ others) ≡ here ++ rest
-    → GoesTo ex rest (units ∷ next ∷ others) answer
-first_of_more c left here ex units next others answer brought rest valid small leads ends whole
-    more are room e =
-    let later = talk_characters (next ∷ others) in
-    elim (before_both (unit_characters units) here later rest e) [
-      | inl (t, is) ↦
-          let rest_is : t ++ later ≡ rest = append_cancel_left here (t ++ later) rest
-          (sym (append_assoc here t later) ∙ ap (λ z. z ++ later) (sym is) ∙ e) in
-          on t is rest_is
-      | inr (t, is) ↦
-          let none = none_led_longer c here ex units brought ok t valid small leads whole are is in
-          over (comes c here ex units brought ok [] (valid, small) leads whole are (inl refl)
-          (sym (append-nil (unit_characters units))
-          ∙ ap (λ z. unit_characters units ++ z) (sym none) ∙ sym is ∙ sym (append-nil here)))
-    ]
-  where
-    over : Comes ex [] brought ok → GoesTo ex rest (units ∷ next ∷ others) answer
-    over (inl done) = absurd (none_of_none (next ∷ others) answer left (ends done.1) more)
-    over (inr due) = absurd (no_character due.0 due.1 due.2)
-
-    few : (t : List Character) → t ++ talk_characters (next ∷ others) ≡ rest
-        → (t ≡ []) ⊎ (length brought ≤ ex.gather.limit)
-    few t is = elim room [
-      | inl none ↦ inl (none_before t (talk_characters (next ∷ others)) (is ∙ none))
-      | inr has ↦ inr (fits units brought ex.gather.limit whole.gathered_is has.0)
-    ]
-
-    on : (t : List Character) → unit_characters units ≡ here ++ t
-        → t ++ talk_characters (next ∷ others) ≡ rest
-        → GoesTo ex rest (units ∷ next ∷ others) answer
-    on t is rest_is = elim (comes c here ex units brought ok t (valid, small) leads whole are
-        (few t rest_is) is) [
-          | inl done ↦ absurd (none_of_none (next ∷ others) answer left (ends done.1) more)
-          | inr due ↦ inr (
-            due.0,
-            due.1 ++ talk_characters (next ∷ others),
-            sym rest_is ∙ ap (λ z. z ++ talk_characters (next ∷ others)) due.2,
-            λ has. due.3 (fits units brought ex.gather.limit whole.gathered_is has.0),
-          )
-        ]
-
 -- the current exchange, if it is the first
 here_comes : (c : Command) (left : List Command) (here : List Character) (ex : ExchangeOf)
     (exchanges : List (List UnitOf)) (answer : Reply) (rest : List Character)
-    → ins_is_valid c.header.ins ≡ true → c.header.ins < 256 → ComesTo c here ex → Ends ex left
-    → AreExchangesOf (c ∷ left) exchanges answer
-    → AllByRecursion IsDialogue (talk_dialogues exchanges)
+    → c.header.ins < 256 → ComesTo c here ex → Ends ex left
+    → AreExchangesOf (c ∷ left) exchanges answer → AreAll (talk_dialogues exchanges)
     → (rest ≡ []) ⊎ HaveRoom ex.gather.limit exchanges → talk_characters exchanges ≡ here ++ rest
     → GoesTo ex rest exchanges answer
-here_comes c left here ex [] answer rest valid small leads ends whole are room e = absurd whole
-here_comes c left here ex (units ∷ []) answer rest valid small leads ends whole are room e =
-    let alone = all_apart (flat_map dialogues_of units) [] are in
-    elim (comes c here ex units answer.content answer.status rest (valid, small) leads whole.0
-    alone.0 few (sym (append-nil (unit_characters units)) ∙ sym (first_characters units []) ∙ e)) [
-      | inl done ↦ inl done
-      | inr due ↦ inr (
-        due.0,
-        due.1,
-        due.2,
-        λ has. due.3 (fits units answer.content ex.gather.limit whole.0.gathered_is has.0),
-      )
-    ]
-  where
-    few : (rest ≡ []) ⊎ (length answer.content ≤ ex.gather.limit)
-    few = elim room [
+here_comes c left here ex [] answer rest small leads over whole are room e = absurd whole
+here_comes c left here ex (units ∷ []) answer rest small leads over (gathers, last) are room e =
+    let apart = split_all (flat_map dialogues_of units) [] are in
+    if_room (comes (is_whole small gathers apart.0) here ex rest leads (elim room [
       | inl none ↦ inl none
-      | inr has ↦ inr (fits units answer.content ex.gather.limit whole.0.gathered_is has.0)
+      | inr has ↦ inr (rw gathers.gathered_is has.0)
+    ]) (sym (append-nil (unit_characters units)) ∙ sym (first_characters units []) ∙ e))
+    (λ has. rw gathers.gathered_is has.0)
+here_comes c left here ex (units ∷ next ∷ others) answer rest small leads over
+    (brought, gathers, more) are room e =
+    let later = talk_characters (next ∷ others) in
+    let apart = split_all (flat_map dialogues_of units) (talk_dialogues (next ∷ others)) are in
+    let whole = is_whole small gathers apart.0 in
+    let (t, is, rest_is) = led_within whole here ex later rest leads
+    (sym (first_characters units (next ∷ others)) ∙ e) in
+    elim (comes whole here ex t leads (elim room [
+      | inl none ↦ inl (none_before t later (rest_is ∙ none))
+      | inr has ↦ inr (rw gathers.gathered_is has.0)
+    ]) is) [
+      | ends none done all ↦
+          absurd (none_of_none (next ∷ others) answer left (over done) more)
+      | continues ch after due expects ↦ continues ch (after ++ later)
+          (sym rest_is ∙ ap (λ z. z ++ later) due)
+          (λ has. expects (rw gathers.gathered_is has.0))
     ]
-here_comes c left here ex (units ∷ next ∷ others) answer rest valid small leads ends whole are
-    room e =
-    let apart = all_apart (flat_map dialogues_of units) (talk_dialogues (next ∷ others)) are in
-    first_of_more c left here ex units next others answer whole.0 rest valid small leads ends
-    whole.1 whole.2 apart.0 room (sym (first_characters units (next ∷ others)) ∙ e)
 
 none_taken : (gone : List (List UnitOf)) (current : Command) (commands left : List Command)
     → commands ≡ [] → AreTakenUpTo commands gone (current ∷ left) → ⊥
@@ -164,51 +93,46 @@ pub operation_comes : (commands : List Command) (gone : List (List UnitOf)) (cur
     (left : List Command) (here : List Character) (ex : ExchangeOf)
     (exchanges : List (List UnitOf)) (answer : Reply) (rest : List Character)
     → HaveValidIns commands → AreTakenUpTo commands gone (current ∷ left)
-    → AllByRecursion IsDialogue (talk_dialogues gone) → ComesTo current here ex → Ends ex left
-    → AreExchangesOf commands exchanges answer
-    → AllByRecursion IsDialogue (talk_dialogues exchanges)
+    → AreAll (talk_dialogues gone) → ComesTo current here ex → Ends ex left
+    → AreExchangesOf commands exchanges answer → AreAll (talk_dialogues exchanges)
     → (rest ≡ []) ⊎ HaveRoom ex.gather.limit exchanges
     → talk_characters exchanges ≡ (talk_characters gone ++ here) ++ rest
     → GoesTo ex rest exchanges answer
-operation_comes [] [] current left here ex exchanges answer rest valid taken gone_are leads ends
+operation_comes [] [] current left here ex exchanges answer rest valid taken gone_are leads over
     whole are room e = absurd whole
 operation_comes (c ∷ commands) [] current left here ex exchanges answer rest valid taken gone_are
-    leads ends whole are room e =
+    leads over whole are room e =
     let head : current ≡ c = cc in
     let tail : left ≡ commands = cc in
-    here_comes c commands here ex exchanges answer rest valid.0.0 valid.0.1
-    (subst (λ d. ComesTo d here ex) head leads)
-    (subst (λ cs. Ends ex cs) tail ends) whole are room e
+    here_comes c commands here ex exchanges answer rest valid.0.1 (rw head at leads)
+    (rw tail at over) whole are room e
 operation_comes [] (g ∷ gone) current left here ex exchanges answer rest valid taken gone_are
-    leads ends whole are room e = absurd taken
+    leads over whole are room e = absurd taken
 operation_comes (c ∷ commands) (g ∷ gone) current left here ex [] answer rest valid taken gone_are
-    leads ends whole are room e = absurd whole
+    leads over whole are room e = absurd whole
 operation_comes (c ∷ commands) (g ∷ gone) current left here ex (units ∷ []) answer rest valid
-    taken gone_are leads ends whole are room e =
-    let gone_apart = all_apart (flat_map dialogues_of g) (talk_dialogues gone) gone_are in
-    let apart = all_apart (flat_map dialogues_of units) [] are in
-    let both = same_whole c units g answer.content taken.0 answer.status ok []
-    ((talk_characters gone ++ here) ++ rest) valid.0.0 valid.0.1 taken.1 gone_apart.0 whole.0
-    apart.0 (sym (first_characters units []) ∙ e ∙ after_first g gone here rest) in
-    elim whole.1 [
-      | inl none ↦ absurd (none_taken gone current commands left none taken.2)
+    (brought, first, taken) gone_are leads over (gathers, last) are room e =
+    let gone_apart = split_all (flat_map dialogues_of g) (talk_dialogues gone) gone_are in
+    let apart = split_all (flat_map dialogues_of units) [] are in
+    let both = same_whole (is_whole valid.0.1 gathers apart.0) g brought ok []
+    ((talk_characters gone ++ here) ++ rest) first gone_apart.0
+    (sym (first_characters units []) ∙ e ∙ after_first g gone here rest) in
+    elim last [
+      | inl none ↦ absurd (none_taken gone current commands left none taken)
       | inr other ↦ absurd (other both.1)
     ]
 operation_comes (c ∷ commands) (g ∷ gone) current left here ex (units ∷ next ∷ others) answer rest
-    valid taken gone_are leads ends whole are room e =
-    let gone_apart = all_apart (flat_map dialogues_of g) (talk_dialogues gone) gone_are in
-    let apart = all_apart (flat_map dialogues_of units) (talk_dialogues (next ∷ others)) are in
-    let both = same_whole c units g whole.0 taken.0 ok ok (talk_characters (next ∷ others))
-    ((talk_characters gone ++ here) ++ rest) valid.0.0 valid.0.1 taken.1 gone_apart.0 whole.1
-    apart.0 (sym (first_characters units (next ∷ others)) ∙ e ∙ after_first g gone here rest) in
-    elim (operation_comes commands gone current left here ex (next ∷ others) answer rest valid.1
-    taken.2 gone_apart.1 leads ends whole.2 apart.1 (elim room [
+    valid (brought, first, taken) gone_are leads over (come, gathers, more) are room e =
+    let gone_apart = split_all (flat_map dialogues_of g) (talk_dialogues gone) gone_are in
+    let apart = split_all (flat_map dialogues_of units) (talk_dialogues (next ∷ others)) are in
+    let both = same_whole (is_whole valid.0.1 gathers apart.0) g brought ok
+    (talk_characters (next ∷ others)) ((talk_characters gone ++ here) ++ rest) first gone_apart.0
+    (sym (first_characters units (next ∷ others)) ∙ e ∙ after_first g gone here rest) in
+    if_room (operation_comes commands gone current left here ex (next ∷ others) answer rest valid.1
+    taken gone_apart.1 leads over more apart.1 (elim room [
       | inl none ↦ inl none
       | inr has ↦ inr has.1
-    ]) both.0) [
-      | inl done ↦ inl done
-      | inr due ↦ inr (due.0, due.1, due.2, λ has. due.3 has.1)
-    ]
+    ]) both.0) (λ has. has.1)
 
 -- ---- the laws
 
@@ -236,11 +160,8 @@ pub operation_done : (commands : List Command) (came : List Character) (o : Oper
     → (exchange_turn o.exchange ≡ Done answer.status)
     × (o.exchange.gather.bytes ≡ answer.content)
 operation_done commands came o exchanges answer valid leads whole are is =
-    elim (led_comes commands came o exchanges answer [] valid leads whole are (inl refl)
-    (sym is ∙ sym (append-nil came))) [
-      | inl done ↦ (done.1, done.2)
-      | inr due ↦ absurd (no_character due.0 due.1 due.2)
-    ]
+    at_end (led_comes commands came o exchanges answer [] valid leads whole are (inl refl)
+    (sym is ∙ sym (append-nil came)))
 
 pub operation_next : (commands : List Command) (came : List Character) (o : OperationOf)
     (exchanges : List (List UnitOf)) (answer : Reply) (ch : Character) (rest : List Character)
@@ -250,13 +171,8 @@ pub operation_next : (commands : List Command) (came : List Character) (o : Oper
     → HaveRoom o.exchange.gather.limit exchanges
     → talk_characters exchanges ≡ came ++ ch ∷ rest → Expects o.exchange ch
 operation_next commands came o exchanges answer ch rest valid leads whole are room e =
-    elim (led_comes commands came o exchanges answer (ch ∷ rest) valid leads whole are (inr room)
-    e) [
-      | inl done ↦ absurd (no_character ch rest (sym done.0))
-      | inr due ↦
-          let same : due.0 ≡ ch = cc in
-          let At : Character → Type 0 = λ k. Expects o.exchange k in subst At same (due.3 room)
-    ]
+    at_character (led_comes commands came o exchanges answer (ch ∷ rest) valid leads whole are
+    (inr room) e) room
 
 pub operation_unfailing : (commands : List Command) (came : List Character) (o : OperationOf)
     (exchanges : List (List UnitOf)) (answer : Reply) (rest : List Character)
@@ -265,11 +181,9 @@ pub operation_unfailing : (commands : List Command) (came : List Character) (o :
     → AllByRecursion IsDialogue (talk_dialogues exchanges)
     → HaveRoom o.exchange.gather.limit exchanges → talk_characters exchanges ≡ came ++ rest
     → exchange_turn o.exchange ≡ Failed → ⊥
-operation_unfailing commands came o exchanges answer rest valid leads whole are room e failed =
-    elim (led_comes commands came o exchanges answer rest valid leads whole are (inr room) e) [
-      | inl done ↦ done_is_no_failure (exchange_turn o.exchange) answer.status done.1 failed
-      | inr due ↦ expecting_is_no_failure o.exchange due.0.0 due.0.1 (due.3 room) failed
-    ]
+operation_unfailing commands came o exchanges answer rest valid leads whole are room e =
+    not_failed (led_comes commands came o exchanges answer rest valid leads whole are (inr room) e)
+    room
 
 pub operation_begins : (commands : List Command) (came : List Character) (o : OperationOf)
     → LeadsTo commands came (Some o) → HasCome (λ c here. BeginsExchange c here) commands came o

@@ -17,22 +17,6 @@ use Rattle.card_terminal.proofs.ComesToLemmas.{end_leads}
 use Rattle.card_terminal.proofs.TalkListLemmas.{taken_more, taken_to_end, one_more_exchange, all_both}
 use Rattle.card_terminal.specs.TalkLaws.{is_ok_or_not}
 
--- an operation of one command begins
-pub one_begins : (c : Command) (o : OperationOf) → o.rest ≡ [] → ComesTo c [] o.exchange
-    → LeadsThrough (c ∷ []) [] o
-one_begins c o none led = record {
-  gone = [];
-  current = c;
-  left = [];
-  taken = refl;
-  is_first = λ _. refl;
-  are_dialogues = tt;
-  are_left = subst (λ (bs : List ℕ). AreLeft o.p1 o.p2 bs []) (sym none) refl;
-  here = [];
-  led = led;
-  came_is = refl;
-}
-
 -- an operation of several commands begins
 pub first_begins : (c : Command) (left : List Command) (o : OperationOf)
     → AreLeft o.p1 o.p2 o.rest left → ComesTo c [] o.exchange → LeadsThrough (c ∷ left) [] o
@@ -48,6 +32,11 @@ first_begins c left o are_left led = record {
   led = led;
   came_is = refl;
 }
+
+-- an operation of one command begins
+pub one_begins : (c : Command) (o : OperationOf) → o.rest ≡ [] → ComesTo c [] o.exchange
+    → LeadsThrough (c ∷ []) [] o
+one_begins c o none led = first_begins c [] o (rw none refl) led
 
 -- more characters of the current exchange, and nothing else changes
 pub come_on : (Led New : Command → List Character → Type 0) (commands : List Command)
@@ -97,19 +86,15 @@ to_next : (commands : List Command) (came : List Character) (o new : OperationOf
 to_next commands came o new next l =
     let (units, gathers, is, are) = end_leads l.current l.here o.exchange ok next.done l.led in
     let (c, after, left_is, led, are_left) = next.next l.left l.are_left in
-    let taken : AreTakenUpTo commands l.gone (l.current ∷ c ∷ after) =
-    subst (λ cs. AreTakenUpTo commands l.gone (l.current ∷ cs)) left_is l.taken in
     record {
       gone = l.gone ++ units ∷ [];
       current = c;
       left = after;
-      taken = taken_more commands l.gone l.current (c ∷ after) units o.exchange.gather.bytes taken
-          gathers;
-      is_first = λ is. absurd (never (sym is ∙ next.later));
-      are_dialogues = subst (λ ds. AllByRecursion IsDialogue ds)
-          (sym (one_more_exchange l.gone units))
-          (all_both IsDialogue (talk_dialogues l.gone) (flat_map dialogues_of units)
-          l.are_dialogues are);
+      taken = taken_more commands l.gone l.current (c ∷ after) units o.exchange.gather.bytes
+          (rw left_is at l.taken) gathers;
+      is_first = λ is. let later = next.later in absurd (cc);
+      are_dialogues = rw (one_more_exchange l.gone units) (all_both IsDialogue
+          (talk_dialogues l.gone) (flat_map dialogues_of units) l.are_dialogues are);
       are_left = are_left;
       here = [];
       led = led;
@@ -117,14 +102,10 @@ to_next commands came o new next l =
           ∙ sym (talk_characters_more l.gone units)
           ∙ sym (append-nil (talk_characters (l.gone ++ units ∷ [])));
     }
-  where
-    never : true ≡ false → ⊥
-    never e = cc
 
 pub goes_over : (commands : List Command) (came : List Character) (o new : OperationOf)
     → GoesOver o new → LeadsThrough commands came o → LeadsThrough commands came new
-goes_over commands came o new (inl same) l =
-    subst (λ x. LeadsThrough commands came x) (sym same.1) l
+goes_over commands came o new (inl same) l = rw same.1 l
 goes_over commands came o new (inr next) l = to_next commands came o new next l
 
 -- no commands carry an empty rest

@@ -1,5 +1,5 @@
 -- Each step of an exchange is one of its terminal.
-use Rattle.std.proofs.Common.{◌≡◌, ℕ, List, [], ◌∷◌, ◌++◌, ◌⊎◌, inl, inr, refl, sym, subst, ◌∙◌, ap, true, false, Option, Some, None}
+use Rattle.std.proofs.Common.{◌≡◌, ℕ, List, [], ◌∷◌, ◌++◌, ◌⊎◌, inl, inr, refl, sym, subst, ◌∙◌, ap, true, false, Option, Some, None, Bool}
 use Rattle.std.specs.Prelude.{Result, Ok, Err, MatchResult, IfErr, IfSome, not}
 use Rattle.apdu_core.specs.StatusWord.{StatusWord, ok}
 use Rattle.apdu_core.specs.CommandBytes.{Command}
@@ -64,9 +64,8 @@ stays o new ex settled (inr next) is =
 
 -- in both cases the operation is settled
 pub settles : (o new : OperationOf) → GoesOver o new → IsSettled new
-settles o new (inl same) = subst (λ x. IsSettled x) (sym same.1) same.0
-settles o new (inr next) = λ done. let e : Sends next.sends.0 ≡ Done ok = sym next.sends.1 ∙ done in
-    absurd (cc)
+settles o new (inl same) = rw same.1 same.0
+settles o new (inr next) = λ done. let sends = next.sends.1 in absurd (cc)
 
 -- no exchange follows one that has failed
 fails : (o new : OperationOf) (ex : ExchangeOf) → GoesOver (with_exchange o ex) new
@@ -80,122 +79,98 @@ fails o new ex (inr next) failed =
 bounds_over : (o new : OperationOf) (ex : ExchangeOf) → IsBounded ex
     → GoesOver (with_exchange o ex) new → IsBounded new.exchange
 bounds_over o new ex bounds (inl same) =
-    subst (λ (x : OperationOf). IsBounded x.exchange) (sym same.1) bounds
+    rw same.1 bounds
 bounds_over o new ex bounds (inr next) = next.bounds
 
-pub takes : (o new : OperationOf) (byte : ℕ) (result : Result (Unit {0}) LineFault)
-    (ex : ExchangeOf) → IsSettled o → IsTaking o.exchange byte result ex
-    → GoesOver (with_exchange o ex) new → IsTerminalTaking (Some o) byte result (Some new)
-takes o new byte result ex settled step over = record {
-  fault = step.fault;
-  after_end = λ none. step.after_end (at_end o.exchange none);
-  bounds = bounds_over o new ex step.bounds over;
-  unchanged = same result step.unchanged;
-  failed = broken result step.failed;
-  led = λ commands came l. on commands came l.0 result (step.led l.0.current l.0.here l.0.led);
-}
-  where
-    same : (r : Result (Unit {0}) LineFault)
-        → IfErr r (λ fault. is_final fault ≡ false → ex ≡ o.exchange)
-        → IfErr r (λ fault. is_final fault ≡ false → Some new ≡ Some o)
-    same (Ok u) is = tt
-    same (Err fault) is = λ not_final. ap (λ x. Some x) (stays o new ex settled over (is not_final))
+-- what a call does to an operation, by what it does to the exchange
+module _ (o new : OperationOf) (ex : ExchangeOf) (settled : IsSettled o)
+    (over : GoesOver (with_exchange o ex) new) where
+  same : {F : Type 0} (final : F → Bool) (r : Result (Unit {0}) F)
+      → IfErr r (λ fault. final fault ≡ false → ex ≡ o.exchange)
+      → IfErr r (λ fault. final fault ≡ false → Some new ≡ Some o)
+  same final (Ok u) is = tt
+  same final (Err fault) is = λ no. ap (λ x. Some x) (stays o new ex settled over (is no))
 
-    broken : (r : Result (Unit {0}) LineFault)
-        → IfErr r (λ fault. is_final fault ≡ true → exchange_turn ex ≡ Failed)
-        → IfErr r (λ fault. is_final fault ≡ true
-        → Some (exchange_turn new.exchange) ≡ Some Failed)
-    broken (Ok u) is = tt
-    broken (Err fault) is = λ final. fails o new ex over (is final)
+  broken : {F : Type 0} (final : F → Bool) (r : Result (Unit {0}) F)
+      → IfErr r (λ fault. final fault ≡ true → exchange_turn ex ≡ Failed)
+      → IfErr r (λ fault. final fault ≡ true → Some (exchange_turn new.exchange) ≡ Some Failed)
+  broken final (Ok u) is = tt
+  broken final (Err fault) is = λ ends. fails o new ex over (is ends)
 
-    went : (commands : List Command) (came : List Character) (l : LeadsThrough commands came o)
-        → ComesTo l.current (l.here ++ (Card, byte) ∷ []) ex
-        → LeadsTo commands (came ++ (Card, byte) ∷ []) (Some new)
-    went commands came l led = (
-      goes_over commands (came ++ (Card, byte) ∷ []) (with_exchange o ex) new over
-          (come_on (λ c here. ComesTo c here o.exchange) (λ c here. ComesTo c here ex) commands came
-          ((Card, byte) ∷ []) o ex l led),
-      settles (with_exchange o ex) new over,
-    )
+  went : (commands : List Command) (came cs : List Character) (l : LeadsThrough commands came o)
+      → ComesTo l.current (l.here ++ cs) ex → LeadsTo commands (came ++ cs) (Some new)
+  went commands came cs l led = (
+    goes_over commands (came ++ cs) (with_exchange o ex) new over
+        (come_on (λ c here. ComesTo c here o.exchange) (λ c here. ComesTo c here ex) commands came
+        cs o ex l led),
+    settles (with_exchange o ex) new over,
+  )
 
-    on : (commands : List Command) (came : List Character) (l : LeadsThrough commands came o)
-        (r : Result (Unit {0}) LineFault)
-        → MatchResult r (λ _. ComesTo l.current (l.here ++ (Card, byte) ∷ []) ex)
-        (λ fault. is_final fault ≡ true → ComesTo l.current (l.here ++ (Card, byte) ∷ []) ex)
-        → MatchResult r (λ _. LeadsTo commands (came ++ (Card, byte) ∷ []) (Some new))
-        (λ fault. is_final fault ≡ true
-        → LeadsTo commands (came ++ (Card, byte) ∷ []) (Some new))
-    on commands came l (Ok u) led = went commands came l led
-    on commands came l (Err fault) led = λ final. went commands came l (led final)
+  pub takes : (byte : ℕ) (result : Result (Unit {0}) LineFault) → IsTaking o.exchange byte result ex
+      → IsTerminalTaking (Some o) byte result (Some new)
+  takes byte result step = record {
+    fault = step.fault;
+    after_end = λ none. step.after_end (at_end o.exchange none);
+    bounds = bounds_over o new ex step.bounds over;
+    unchanged = same is_final result step.unchanged;
+    failed = broken is_final result step.failed;
+    led = λ commands came l. on commands came l.0 result (step.led l.0.current l.0.here l.0.led);
+  }
+    where
+      on : (commands : List Command) (came : List Character) (l : LeadsThrough commands came o)
+          (r : Result (Unit {0}) LineFault)
+          → MatchResult r (λ _. ComesTo l.current (l.here ++ (Card, byte) ∷ []) ex)
+          (λ fault. is_final fault ≡ true → ComesTo l.current (l.here ++ (Card, byte) ∷ []) ex)
+          → MatchResult r (λ _. LeadsTo commands (came ++ (Card, byte) ∷ []) (Some new))
+          (λ fault. is_final fault ≡ true
+          → LeadsTo commands (came ++ (Card, byte) ∷ []) (Some new))
+      on commands came l (Ok u) led = went commands came ((Card, byte) ∷ []) l led
+      on commands came l (Err fault) led =
+          λ final. went commands came ((Card, byte) ∷ []) l (led final)
 
-pub answering : (o new : OperationOf) (bytes : List ℕ) (status : StatusWord)
-    (result : Result (Unit {0}) AnswerFault) (ex : ExchangeOf) → IsSettled o
-    → IsAnswering o.exchange bytes status result ex → GoesOver (with_exchange o ex) new
-    → IsTerminalAnswering (Some o) bytes status result (Some new)
-answering o new bytes status result ex settled step over = record {
-  fault = step.fault;
-  bounds = bounds_over o new ex step.bounds over;
-  unchanged = same result step.unchanged;
-  failed = broken result step.failed;
-  led = λ commands came d l gives.
-      on commands came d l.0 result step.failed (step.led l.0.current l.0.here d l.0.led gives);
-  given = step.given;
-}
-  where
-    same : (r : Result (Unit {0}) AnswerFault)
-        → IfErr r (λ fault. fails_with fault ≡ false → ex ≡ o.exchange)
-        → IfErr r (λ fault. fails_with fault ≡ false → Some new ≡ Some o)
-    same (Ok u) is = tt
-    same (Err fault) is = λ not_final. ap (λ x. Some x) (stays o new ex settled over (is not_final))
+  pub answering : (bytes : List ℕ) (status : StatusWord) (result : Result (Unit {0}) AnswerFault)
+      → IsAnswering o.exchange bytes status result ex
+      → IsTerminalAnswering (Some o) bytes status result (Some new)
+  answering bytes status result step = record {
+    fault = step.fault;
+    bounds = bounds_over o new ex step.bounds over;
+    unchanged = same fails_with result step.unchanged;
+    failed = broken fails_with result step.failed;
+    led = λ commands came d l gives.
+        on commands came d l.0 result step.failed (step.led l.0.current l.0.here d l.0.led gives);
+    given = step.given;
+  }
+    where
+      too_far : (commands : List Command) (came : List Character) (d : Dialogue)
+          (l : LeadsThrough commands came o) (after : OperationOf)
+          → GoesOver (with_exchange o ex) after → exchange_turn ex ≡ Failed
+          → ComesTooFar l.current l.here (characters d) ex
+          → LeadsThroughTooFar commands came (characters d) after
+      too_far commands came d l after (inl is) failed led =
+          rw is.1 (come_as (λ c here. ComesTo c here o.exchange)
+          (λ c here. ComesTooFar c here (characters d) ex) commands came o ex l led)
+      too_far commands came d l after (inr next) failed led =
+          let done = next.done in absurd (cc)
 
-    broken : (r : Result (Unit {0}) AnswerFault)
-        → IfErr r (λ fault. fails_with fault ≡ true → exchange_turn ex ≡ Failed)
-        → IfErr r (λ fault. fails_with fault ≡ true
-        → Some (exchange_turn new.exchange) ≡ Some Failed)
-    broken (Ok u) is = tt
-    broken (Err fault) is = λ final. fails o new ex over (is final)
-
-    went : (commands : List Command) (came : List Character) (d : Dialogue)
-        (l : LeadsThrough commands came o) → ComesTo l.current (l.here ++ characters d) ex
-        → LeadsTo commands (came ++ characters d) (Some new)
-    went commands came d l led = (
-      goes_over commands (came ++ characters d) (with_exchange o ex) new over
-          (come_on (λ c here. ComesTo c here o.exchange) (λ c here. ComesTo c here ex) commands came
-          (characters d) o ex l led),
-      settles (with_exchange o ex) new over,
-    )
-
-    too_far : (commands : List Command) (came : List Character) (d : Dialogue)
-        (l : LeadsThrough commands came o) (after : OperationOf)
-        → GoesOver (with_exchange o ex) after → exchange_turn ex ≡ Failed
-        → ComesTooFar l.current l.here (characters d) ex
-        → LeadsThroughTooFar commands came (characters d) after
-    too_far commands came d l after (inl is) failed led =
-        subst (λ x. LeadsThroughTooFar commands came (characters d) x) (sym is.1)
-        (come_as (λ c here. ComesTo c here o.exchange)
-        (λ c here. ComesTooFar c here (characters d) ex) commands came o ex l led)
-    too_far commands came d l after (inr next) failed led =
-        let e : Done ok ≡ Failed = sym next.done ∙ failed in absurd (cc)
-
-    on : (commands : List Command) (came : List Character) (d : Dialogue)
-        (l : LeadsThrough commands came o) (r : Result (Unit {0}) AnswerFault)
-        → IfErr r (λ fault. fails_with fault ≡ true → exchange_turn ex ≡ Failed)
-        → MatchResult r (λ _. ComesTo l.current (l.here ++ characters d) ex)
-        (λ fault. ((fault ≡ answer.Stalled) × ComesTo l.current (l.here ++ characters d) ex)
-        ⊎ ((fault ≡ answer.TooLong) × ComesTooFar l.current l.here (characters d) ex)
-        ⊎ (fault ≡ answer.NotDue))
-        → MatchResult r (λ _. LeadsTo commands (came ++ characters d) (Some new))
-        (λ fault. ((fault ≡ answer.Stalled) × LeadsTo commands (came ++ characters d) (Some new))
-        ⊎ ((fault ≡ answer.TooLong) × LeadsThroughTooFar commands came (characters d) new)
-        ⊎ (fault ≡ answer.NotDue))
-    on commands came d l (Ok u) failed led = went commands came d l led
-    on commands came d l (Err fault) failed (inl led) =
-        inl (led.0, went commands came d l led.1)
-    on commands came d l (Err fault) failed (inr (inl led)) = inr (inl (
-      led.0,
-      too_far commands came d l new over (failed (ap fails_with led.0)) led.1,
-    ))
-    on commands came d l (Err fault) failed (inr (inr none)) = inr (inr none)
+      on : (commands : List Command) (came : List Character) (d : Dialogue)
+          (l : LeadsThrough commands came o) (r : Result (Unit {0}) AnswerFault)
+          → IfErr r (λ fault. fails_with fault ≡ true → exchange_turn ex ≡ Failed)
+          → MatchResult r (λ _. ComesTo l.current (l.here ++ characters d) ex)
+          (λ fault. ((fault ≡ answer.Stalled) × ComesTo l.current (l.here ++ characters d) ex)
+          ⊎ ((fault ≡ answer.TooLong) × ComesTooFar l.current l.here (characters d) ex)
+          ⊎ (fault ≡ answer.NotDue))
+          → MatchResult r (λ _. LeadsTo commands (came ++ characters d) (Some new))
+          (λ fault. ((fault ≡ answer.Stalled) × LeadsTo commands (came ++ characters d) (Some new))
+          ⊎ ((fault ≡ answer.TooLong) × LeadsThroughTooFar commands came (characters d) new)
+          ⊎ (fault ≡ answer.NotDue))
+      on commands came d l (Ok u) failed led = went commands came (characters d) l led
+      on commands came d l (Err fault) failed (inl led) =
+          inl (led.0, went commands came (characters d) l led.1)
+      on commands came d l (Err fault) failed (inr (inl led)) = inr (inl (
+        led.0,
+        too_far commands came d l new over (failed (ap fails_with led.0)) led.1,
+      ))
+      on commands came d l (Err fault) failed (inr (inr none)) = inr (inr none)
 
 -- the answer of an operation, by the characters that led to it
 abbrev HasLed : OperationOf → Option (StatusWord × List ℕ) → Type 0
@@ -210,16 +185,13 @@ led_answer : (o : OperationOf) (answer : Option (StatusWord × List ℕ)) → Is
 led_answer o answer settled is = by (exchange_turn o.exchange) refl
   where
     none : ((status : StatusWord) → exchange_turn o.exchange ≡ Done status → ⊥) → HasLed o answer
-    none going = subst (λ a. HasLed o a) (sym (is.undone going)) (λ commands came l. tt)
+    none going = rw (is.undone going) (λ commands came l. tt)
 
     by : (turn : HostTurn) → exchange_turn o.exchange ≡ turn → HasLed o answer
-    by (Sends byte) e = none (λ status done.
-        let no : Sends byte ≡ Done status = sym e ∙ done in absurd (cc))
-    by Listens e = none (λ status done.
-        let no : Listens ≡ Done status = sym e ∙ done in absurd (cc))
-    by Failed e = none (λ status done.
-        let no : Failed ≡ Done status = sym e ∙ done in absurd (cc))
-    by (Done status) e = subst (λ a. HasLed o a) (sym (is.done status e))
+    by (Sends byte) e = none (λ status done. absurd (cc))
+    by Listens e = none (λ status done. absurd (cc))
+    by Failed e = none (λ status done. absurd (cc))
+    by (Done status) e = rw (is.done status e)
         (λ commands came l. answer_led commands came o status settled e l.0)
 
 pub answers_for : (o : OperationOf) (answer : Option (StatusWord × List ℕ)) → IsSettled o
@@ -275,34 +247,27 @@ held is = ap (λ (t : TerminalOf). t.operation) is
 
 pub settled_at : (t : Option OperationOf) (o : OperationOf) → IfSome t (λ x. IsSettled x)
     → t ≡ Some o → IsSettled o
-settled_at t o all is = subst (λ (x : Option OperationOf). IfSome x (λ y. IsSettled y)) is all
+settled_at t o all is = rw is at all
 
 pub turn_as : (old seen : Option OperationOf) (turn told : Option HostTurn)
     (new after : Option OperationOf) → old ≡ seen → told ≡ turn → after ≡ new
     → IsTerminalTurn old turn new → IsTerminalTurn seen told after
-turn_as old seen turn told new after is same then_is step =
-    subst (λ x. IsTerminalTurn x told after) is
-    (subst (λ t. IsTerminalTurn old t after) (sym same)
-    (subst (λ x. IsTerminalTurn old turn x) (sym then_is) step))
+turn_as old seen turn told new after is same then_is step = rw (sym is, same, then_is) step
 
 pub taking_as : (old seen : Option OperationOf) (byte : ℕ)
     (result told : Result (Unit {0}) LineFault) (new after : Option OperationOf) → old ≡ seen
     → told ≡ result → after ≡ new → IsTerminalTaking old byte result new
     → IsTerminalTaking seen byte told after
 taking_as old seen byte result told new after is same then_is step =
-    subst (λ x. IsTerminalTaking x byte told after) is
-    (subst (λ r. IsTerminalTaking old byte r after) (sym same)
-    (subst (λ x. IsTerminalTaking old byte result x) (sym then_is) step))
+    rw (sym is, same, then_is) step
 
 pub answering_as : (old seen : Option OperationOf) (bytes : List ℕ) (status : StatusWord)
     (result told : Result (Unit {0}) AnswerFault) (new after : Option OperationOf) → old ≡ seen
     → told ≡ result → after ≡ new → IsTerminalAnswering old bytes status result new
     → IsTerminalAnswering seen bytes status told after
 answering_as old seen bytes status result told new after is same then_is step =
-    subst (λ x. IsTerminalAnswering x bytes status told after) is
-    (subst (λ r. IsTerminalAnswering old bytes status r after) (sym same)
-    (subst (λ x. IsTerminalAnswering old bytes status result x) (sym then_is) step))
+    rw (sym is, same, then_is) step
 
 pub answer_as : (old seen : Option OperationOf) (answer : Option (StatusWord × List ℕ))
     → old ≡ seen → IsTerminalAnswer old answer → IsTerminalAnswer seen answer
-answer_as old seen answer is step = subst (λ x. IsTerminalAnswer x answer) is step
+answer_as old seen answer is step = rw is at step

@@ -1,5 +1,5 @@
 -- Units one after another: one more of them, their dialogues and their data.
-use Rattle.std.proofs.Common.{◌≡◌, ◌≢◌, ◌≤◌, ◌*◌, lit≤, ℕ, ◌+◌, List, [], ◌∷◌, ◌++◌, length, refl, sym, subst, ◌∙◌, ap, arith, Option, Some, None, append-nil, append_assoc, length-append}
+use Rattle.std.proofs.Common.{◌≡◌, ◌≢◌, ◌≤◌, ◌*◌, lit≤, ℕ, ◌+◌, List, [], ◌∷◌, ◌++◌, length, refl, sym, ◌∙◌, ap, arith, Option, Some, None, append-nil, append_assoc, length-append}
 use Rattle.std.specs.List.{flat_map}
 use Rattle.std.proofs.lemmas.Grind.{flat_map-append}
 use Rattle.apdu_core.specs.declared.header.Header.{Header}
@@ -41,12 +41,7 @@ pub one_more : (opening : Opening) (w : Wanted) (units : List UnitOf) (next : Op
     → IsFollowed next left u n
     → AreFollowed opening w (units ++ u ∷ []) (By_fetch n) (after_unit left u)
 one_more opening w [] next left u n followed more =
-    let Opened : Opening → Type 0 = λ o. IsFollowed o left u n in
-    let Wants : Wanted → Type 0 = λ v. IsFollowed opening v u n in (
-      n,
-      subst Wants followed.1 (subst Opened followed.0 more),
-      (refl, ap (λ v. after_unit v u) followed.1),
-    )
+    (n, rw (followed.0, followed.1) at more, (refl, ap (λ v. after_unit v u) followed.1))
 one_more opening w (v ∷ units) next left u n followed more = (
   followed.0,
   followed.1,

@@ -1,11 +1,11 @@
 -- The command that an exchange returns before its first character is the one that began it.
-use Rattle.std.proofs.Common.{◌≡◌, ◌≤◌, ℕ, zero, suc, List, [], ◌∷◌, refl, sym, subst, ◌∙◌, ap, arith, true, false, not, ◌&&◌, ◌==◌, Bool, Option, Some, None, length, inl, inr, ◌⊎◌, if◌then◌else◌}
+use Rattle.std.proofs.Common.{◌≡◌, ◌≤◌, ℕ, zero, suc, List, [], ◌∷◌, refl, sym, subst, ◌∙◌, ap, arith, true, false, not, ◌&&◌, ◌==◌, Bool, Option, Some, None, if◌then◌else◌}
 use Rattle.std.specs.Prelude.{SomeIff, IfSome}
 use Rattle.std.specs.List.{AllByRecursion}
 use Rattle.std.proofs.lemmas.Bool.{eqb-true}
 use Rattle.apdu_core.specs.declared.header.Header.{Header}
 use Rattle.apdu_core.specs.StatusWord.{StatusWord}
-use Rattle.apdu_core.specs.CommandBytes.{Command, HasSizes, IsCommand}
+use Rattle.apdu_core.specs.CommandBytes.{Command, IsCommand}
 use Rattle.t0_core.specs.declared.direction.Direction.{Direction}
 use Rattle.t0_core.specs.declared.direction.Direction.TheVariants.{ToCard, FromCard}
 use Rattle.t0_core.specs.declared.host_end.HostTurn.TheVariants.{Sends, Done, Failed}
@@ -18,12 +18,12 @@ use Rattle.t0_core.specs.HostSide.{Hosting, AreForeseen, turn_of}
 use Rattle.t0_core.specs.TpduBytes.{Asked, asked_by, due_by}
 use Rattle.card_terminal.specs.declared.unsent.Unsent.{Unsent}
 use Rattle.card_terminal.specs.declared.wanted.Wanted.TheVariants.{Everything, Bytes}
-use Rattle.card_terminal.specs.Gathered.{UnitOf, Single, Repeated, By_command, dialogues_of, wanted_by, AreFollowed, Opening}
-use Rattle.card_terminal.specs.ExchangeSide.{ExchangeOf, UnderWay, HostAsks, HostOpensBy, HostOpens, IsOpenedAs, so_far, exchange_turn}
+use Rattle.card_terminal.specs.Gathered.{UnitOf, Single, Repeated, wanted_by, Opening}
+use Rattle.card_terminal.specs.ExchangeSide.{ExchangeOf, UnderWay, HostOpensBy, HostOpens, exchange_turn}
 use Rattle.card_terminal.specs.ExchangeHistory.{ComesTo, to_front, to_end, to_stall, to_fault}
 use Rattle.card_terminal.specs.Talk.{AreTakenUpTo}
-use Rattle.card_terminal.specs.TerminalSide.{OperationOf, AreLeft, LeadsTo}
-use Rattle.card_terminal.specs.Unsent.{le_by, is_unsent, is_unsent_at, IsFirst, IsUnsent}
+use Rattle.card_terminal.specs.TerminalSide.{OperationOf, AreLeft}
+use Rattle.card_terminal.specs.Unsent.{le_by, is_unsent, IsFirst, IsUnsent}
 
 -- what is wanted determines Le
 le_back : (le : Option ℕ) → IfSome le (λ n. (1 ≤ n) × (n ≤ 256)) → le_by (wanted_by le) ≡ le
@@ -60,12 +60,12 @@ not_done : (host : Hosting) (status : StatusWord) → is_due host ≡ true
     → turn_of host ≡ Done status → ⊥
 not_done host status due done =
     let (byte, sends) = due_sends host due in
-    let no : Sends byte ≡ Done status = sym sends ∙ done in absurd (cc)
+    absurd (cc)
 
 not_failed : (host : Hosting) → is_due host ≡ true → turn_of host ≡ Failed → ⊥
 not_failed host due failed =
     let (byte, sends) = due_sends host due in
-    let no : Sends byte ≡ Failed = sym sends ∙ failed in absurd (cc)
+    absurd (cc)
 
 -- the command that the first TPDU is of
 pub record IsOf (c : Command) (ex : ExchangeOf) : Type 0 where
@@ -96,9 +96,8 @@ under_way c ex (Repeated d e ∷ units) first front is one under =
 under_way c ex [] (Some d) front is one under =
     absurd (omega (arith, one, under.place.number_is))
 under_way c ex [] None front is one under =
-    let P : Opening → Type 0 = λ o. HostOpens o ex.host in
     let opens = opens_of c.header c.content c.le ex.host under.request.2
-    (subst P under.followed.0 under.opened_as) in record {
+    (rw under.followed.0 at under.opened_as) in record {
       header_is = opens.0;
       content_is = opens.1;
       le_is = ap le_by under.wanted_is ∙ le_back c.le is.sizes.le_in_range;
@@ -165,8 +164,7 @@ first_is ex asked le first going one due le_is some =
 
     there : (f : Option Command) (parts c : Command) → SomeIff f (IsCommand parts) parts
         → parts ≡ c → IsCommand c → f ≡ Some c
-    there None parts c none same is =
-        absurd (none (subst (λ (d : Command). IsCommand d) (sym same) is))
+    there None parts c none same is = absurd (none (rw same is))
     there (Some d) parts c some same is = ap Some (some.1 ∙ same)
 
 -- the first of the operation's commands
@@ -174,7 +172,7 @@ first_of : (commands : List Command) (c : Command) (more : List Command) → c �
     → AllByRecursion IsCommand commands → IsCommand c
 first_of [] c more e are = absurd (cc)
 first_of (d ∷ commands) c more e are =
-    let same : d ≡ c = cc in subst (λ (x : Command). IsCommand x) same are.0
+    let same : d ≡ c = cc in rw same at are.0
 
 second : (a b : Bool) → (a && b) ≡ true → (a ≡ true) × (b ≡ true)
 second true b e = (refl, e)
@@ -211,17 +209,13 @@ unsent_is o u is_first first p1_is p2_is rest_is = record {
 
     left : (cs : List Command) → u.p1 ≡ o.p1 → u.p2 ≡ o.p2 → u.rest.now ≡ o.rest
         → AreLeft o.p1 o.p2 o.rest cs → AreLeft u.p1 u.p2 u.rest.now cs
-    left cs a b d are =
-        subst (λ k. AreLeft k u.p2 u.rest.now cs) (sym a)
-        (subst (λ k. AreLeft o.p1 k u.rest.now cs) (sym b)
-        (subst (λ z. AreLeft o.p1 o.p2 z cs) (sym d) are))
+    left cs a b d are = rw (a, b, d) are
 
 pub unsent_at : (inside seen : OperationOf) (u : Unsent) → inside ≡ seen
     → inside.first ≡ true → IsFirst inside.exchange (Some u.first) → u.p1 ≡ inside.p1
     → u.p2 ≡ inside.p2 → u.rest.now ≡ inside.rest → IsUnsent (Some seen) (Some u)
 unsent_at inside seen u same is_first first p1_is p2_is rest_is =
-    subst (λ (o : OperationOf). IsUnsent (Some o) (Some u)) same
-    (unsent_is inside u is_first first p1_is p2_is rest_is)
+    rw (sym same) (unsent_is inside u is_first first p1_is p2_is rest_is)
 
 pub none_unsent : (o : OperationOf) → IsFirst o.exchange None → IsUnsent (Some o) None
 none_unsent o first = record {

@@ -1,15 +1,74 @@
 -- Rows of exchanges, as instances of the definitions, and near misses.
-use Rattle.std.proofs.Common.{◌≡◌, ℕ, List, [], ◌∷◌, ◌++◌, refl, sym, ◌∙◌, arith, lit<, Option, Some, None}
+use Rattle.std.proofs.Common.{◌≡◌, ◌<◌, ℕ, List, [], ◌∷◌, ◌++◌, length, refl, sym, ◌∙◌, arith, lit<, Option, Some, None}
+use Rattle.std.specs.List.{flat_map}
 use Rattle.apdu_core.specs.declared.header.Header.{Header}
-use Rattle.apdu_core.specs.StatusWord.{StatusWord}
+use Rattle.apdu_core.specs.StatusWord.{StatusWord, count}
 use Rattle.apdu_core.specs.CommandBytes.{Command}
+use Rattle.t0_core.specs.declared.direction.Direction.{Direction}
 use Rattle.t0_core.specs.declared.direction.Direction.TheVariants.{ToCard, FromCard}
+use Rattle.t0_core.specs.declared.plan.Step.{Step}
 use Rattle.t0_core.specs.declared.plan.Step.TheVariants.{All}
 use Rattle.t0_core.specs.Dialogue.{Dialogue}
 use Rattle.card_terminal.specs.declared.wanted.Wanted.TheVariants.{Bytes, Everything}
 use Rattle.object_card.specs.CarryingOut.{get_response}
-use Rattle.card_terminal.specs.Gathered.{wanted_by, less, fetched_after, By_command, By_fetch, UnitOf, Single, Repeated, IsUnit, IsFollowed, AreFollowed, Gathers}
+use Rattle.card_terminal.specs.Gathered.{Asks, SendsFrom, Opens, wanted_by, less, after_unit, fetched_after, By_command, By_fetch, UnitOf, Single, Repeated, first_of, last_of, unit_data, IsUnit, IsFollowed, AreFollowed, IsOpenExchange, Gathers}
 use Rattle.card_terminal.specs.ExchangeSide.{Stall}
+
+-- ---- the parts of a row
+
+pub asks : {h : Header} {n : ℕ} {d : Dialogue} → d.body.header ≡ h → d.body.direction ≡ FromCard
+    → count d.body.p3 ≡ n → d.body.p3 < 256 → Asks h n d
+asks header from counts byte =
+    record { header_is = header; from_card = from; counts = counts; is_byte = byte }
+
+-- it sends all of its data
+pub sends : {h : Header} {content : List ℕ} {d : Dialogue} → d.body.header ≡ h
+    → d.body.direction ≡ ToCard → d.body.p3 ≡ length content → content ≡ d.body.moved ++ []
+    → SendsFrom h content d
+sends header to counts all =
+    record { header_is = header; to_card = to; counts = counts; sends = ([], all) }
+
+-- an exchange of one unit
+abbrev pub of_one : (c : Command) (u : UnitOf) → Opens c (first_of u) → IsUnit (wanted_by c.le) u
+    → IsOpenExchange c (u ∷ [])
+of_one c u opens is_unit = record {
+  before = [];
+  last = u;
+  opening = By_command c;
+  left = wanted_by c.le;
+  units_are = refl;
+  followed = (refl, refl);
+  opens = opens;
+  is_unit = is_unit;
+}
+
+-- an exchange of two, in which the second fetches `n` bytes
+abbrev pub of_two : (c : Command) (u v : UnitOf) (n : ℕ) → Opens c (first_of u)
+    → IsUnit (wanted_by c.le) u
+    → fetched_after (after_unit (wanted_by c.le) u) (last_of u).status ≡ Some n
+    → Asks get_response n (first_of v) → IsUnit (after_unit (wanted_by c.le) u) v
+    → IsOpenExchange c (u ∷ v ∷ [])
+of_two c u v n opens is_unit fetched asks second = record {
+  before = u ∷ [];
+  last = v;
+  opening = By_fetch n;
+  left = after_unit (wanted_by c.le) u;
+  units_are = refl;
+  followed = (
+    n,
+    record { opens = opens; is_unit = is_unit; brings = tt; fetched = fetched },
+    (refl, refl),
+  );
+  opens = asks;
+  is_unit = second;
+}
+
+pub whole : {c : Command} {units : List UnitOf} (o : IsOpenExchange c units)
+    → fetched_after (after_unit o.left o.last) (last_of o.last).status ≡ None
+    → Gathers c units (flat_map unit_data units) (last_of o.last).status
+whole o ends = record { is_open = o; ends = ends; status_is = refl; gathered_is = refl }
+
+-- ---- the rows
 
 abbrev get_data : Header
 get_data = record { cla = 0x00; ins = 0xCA; p1 = 0x5F; p2 = 0x20 }
@@ -24,45 +83,24 @@ get n = record { header = get_data; content = []; le = Some n }
 abbrev put : Command
 put = record { header = put_data; content = 0x41 ∷ []; le = None }
 
--- a dialogue that asks for data: refused, or with these data
-abbrev refused : Header → ℕ → StatusWord → Dialogue
-refused h p3 status = record {
-  body = record { header = h; p3 = p3; direction = FromCard; segments = []; moved = [] };
+abbrev pub dialogue : Header → ℕ → Direction → List Step → List ℕ → StatusWord → Dialogue
+dialogue h p3 direction segments moved status = record {
+  body = record { header = h; p3 = p3; direction = direction; segments = segments; moved = moved };
   status = status;
 }
 
+-- a dialogue that asks for data: refused, or with these data
+abbrev refused : Header → ℕ → StatusWord → Dialogue
+refused h p3 status = dialogue h p3 FromCard [] [] status
+
 abbrev given : Header → ℕ → List ℕ → StatusWord → Dialogue
-given h p3 moved status =
-    record {
-      body = record {
-        header = h;
-        p3 = p3;
-        direction = FromCard;
-        segments =
-            All ∷ [];
-        moved = moved;
-      };
-      status = status;
-    }
+given h p3 moved status = dialogue h p3 FromCard (All ∷ []) moved status
 
 -- a TPDU is repeated unless the count exceeds what is wanted
 above_what_is_wanted : Gathers (get 4)
     (Single (refused get_data 4 (0x6C, 0x06)) ∷ []) [] (0x6C, 0x06)
-above_what_is_wanted = record {
-  is_open = record {
-    before = [];
-    last = Single (refused get_data 4 (0x6C, 0x06));
-    opening = By_command (get 4);
-    left = Bytes 4;
-    units_are = refl;
-    followed = (refl, refl);
-    opens = record { header_is = refl; from_card = refl; counts = refl; is_byte = lit< tt };
-    is_unit = refl;
-  };
-  ends = refl;
-  status_is = refl;
-  gathered_is = refl;
-}
+above_what_is_wanted = whole (of_one (get 4) (Single (refused get_data 4 (0x6C, 0x06)))
+    (asks refl refl refl (lit< tt)) refl) refl
 
 no_repetition_above : IsUnit (Bytes 4)
     (Repeated (refused get_data 4 (0x6C, 0x06)) (refused get_data 6 (0x90, 0x00))) → ⊥
@@ -72,26 +110,9 @@ no_repetition_above (n, told, asks) = let e : None ≡ Some n = told in absurd (
 corrected_twice : Gathers (get 256)
     (Repeated (refused get_data 0 (0x6C, 0x06)) (refused get_data 6 (0x6C, 0x05)) ∷ []) []
     (0x6C, 0x05)
-corrected_twice = record {
-  is_open = record {
-    before = [];
-    last = Repeated (refused get_data 0 (0x6C, 0x06)) (refused get_data 6 (0x6C, 0x05));
-    opening = By_command (get 256);
-    left = Everything;
-    units_are = refl;
-    followed = (refl, refl);
-    opens = record { header_is = refl; from_card = refl; counts = refl; is_byte = lit< tt };
-    is_unit = (
-      6,
-      refl,
-      record
-          { header_is = refl; from_card = refl; counts = refl; is_byte = lit< tt },
-    );
-  };
-  ends = refl;
-  status_is = refl;
-  gathered_is = refl;
-}
+corrected_twice = whole (of_one (get 256)
+    (Repeated (refused get_data 0 (0x6C, 0x06)) (refused get_data 6 (0x6C, 0x05)))
+    (asks refl refl refl (lit< tt)) (6, refl, asks refl refl refl (lit< tt))) refl
 
 -- a repetition that 6CXX asks for is not left out
 no_correction_ignored : IsUnit Everything (Single (refused get_data 0 (0x6C, 0x06))) → ⊥
@@ -102,36 +123,9 @@ no_correction_ignored none =
 two_are_wanted : Gathers (get 2)
     (Single (refused get_data 2 (0x61, 0x05))
     ∷ Single (given get_response 2 (1 ∷ 2 ∷ []) (0x61, 0x03)) ∷ []) (1 ∷ 2 ∷ []) (0x61, 0x03)
-two_are_wanted = record {
-  is_open = record {
-    before = Single (refused get_data 2 (0x61, 0x05)) ∷ [];
-    last = Single (given get_response 2 (1 ∷ 2 ∷ []) (0x61, 0x03));
-    opening = By_fetch 2;
-    left = Bytes 2;
-    units_are = refl;
-    followed = (
-      2,
-      record {
-        opens = record {
-          header_is = refl;
-          from_card = refl;
-          counts = refl;
-          is_byte =
-              lit< tt;
-        };
-        is_unit = refl;
-        brings = tt;
-        fetched = refl;
-      },
-      (refl, refl),
-    );
-    opens = record { header_is = refl; from_card = refl; counts = refl; is_byte = lit< tt };
-    is_unit = refl;
-  };
-  ends = refl;
-  status_is = refl;
-  gathered_is = refl;
-}
+two_are_wanted = whole (of_two (get 2) (Single (refused get_data 2 (0x61, 0x05)))
+    (Single (given get_response 2 (1 ∷ 2 ∷ []) (0x61, 0x03))) 2 (asks refl refl refl (lit< tt))
+    refl refl (asks refl refl refl (lit< tt)) refl) refl
 
 same_count : (a b : ℕ) → Some a ≡ Some b → a ≡ b
 same_count a b e = cc
@@ -142,45 +136,11 @@ no_fetch_of_five followed = let same = same_count 2 5 followed.fetched in
     absurd (omega (arith, same))
 
 -- data to the card: nothing is wanted, so that 61XX ends the exchange
-nothing_is_wanted : Gathers put
-    (Single (record {
-      body =
-          record {
-            header = put_data;
-            p3 = 1;
-            direction = ToCard;
-            segments = All ∷ [];
-            moved =
-                0x41 ∷ [];
-          };
-      status = (0x61, 0x05);
-    }) ∷ []) [] (0x61, 0x05)
-nothing_is_wanted = record {
-  is_open = record {
-    before = [];
-    last = Single (record {
-      body =
-          record {
-            header = put_data;
-            p3 = 1;
-            direction = ToCard;
-            segments = All ∷ [];
-            moved =
-                0x41 ∷ [];
-          };
-      status = (0x61, 0x05);
-    });
-    opening = By_command put;
-    left = Bytes 0;
-    units_are = refl;
-    followed = (refl, refl);
-    opens = record { header_is = refl; to_card = refl; counts = refl; sends = ([], refl) };
-    is_unit = refl;
-  };
-  ends = refl;
-  status_is = refl;
-  gathered_is = refl;
-}
+abbrev taken : Dialogue
+taken = dialogue put_data 1 ToCard (All ∷ []) (0x41 ∷ []) (0x61, 0x05)
+
+nothing_is_wanted : Gathers put (Single taken ∷ []) [] (0x61, 0x05)
+nothing_is_wanted = whole (of_one put (Single taken) (sends refl refl refl refl) refl) refl
 
 -- everything is wanted, even beyond 256 bytes
 more_is_fetched : fetched_after (less (wanted_by (Some 256)) 256) (0x61, 0x00) ≡ Some 256
@@ -193,31 +153,9 @@ no_more_past_255 = refl
 second_stalls : Stall (get 256)
     (Single (refused get_data 0 (0x61, 0x05)) ∷ Single (refused get_response 5 (0x61, 0x05)) ∷ [])
 second_stalls = record {
-  is_open = record {
-    before = Single (refused get_data 0 (0x61, 0x05)) ∷ [];
-    last = Single (refused get_response 5 (0x61, 0x05));
-    opening = By_fetch 5;
-    left = Everything;
-    units_are = refl;
-    followed = (
-      5,
-      record {
-        opens = record {
-          header_is = refl;
-          from_card = refl;
-          counts = refl;
-          is_byte =
-              lit< tt;
-        };
-        is_unit = refl;
-        brings = tt;
-        fetched = refl;
-      },
-      (refl, refl),
-    );
-    opens = record { header_is = refl; from_card = refl; counts = refl; is_byte = lit< tt };
-    is_unit = refl;
-  };
+  is_open = of_two (get 256) (Single (refused get_data 0 (0x61, 0x05)))
+      (Single (refused get_response 5 (0x61, 0x05))) 5 (asks refl refl refl (lit< tt)) refl refl
+      (asks refl refl refl (lit< tt)) refl;
   asked = 5;
   more = 5;
   is_fetch = refl;

@@ -1,5 +1,5 @@
 -- The answer to a whole TPDU has the effect of a dialogue that gives it.
-use Rattle.std.proofs.Common.{◌≡◌, ℕ, ◌+◌, ◌-◌, ◌<◌, List, [], ◌∷◌, ◌++◌, length, length-append, refl, sym, subst, ◌∙◌, ap, arith, inl, inr, ◌⊎◌, true, false, Bool, Option, Some, None, is_some, append-nil, append_assoc, if◌then◌else◌, ◌==◌, eq-eqb}
+use Rattle.std.proofs.Common.{◌≡◌, ℕ, ◌+◌, ◌-◌, ◌<◌, List, [], ◌∷◌, ◌++◌, length, length-append, refl, sym, ◌∙◌, ap, arith, inl, inr, ◌⊎◌, true, false, Bool, Option, Some, None, is_some, append-nil, append_assoc, if◌then◌else◌, ◌==◌, eq-eqb}
 use Rattle.std.specs.Prelude.{IsSome, ◌↔◌}
 use Rattle.std.specs.Option.{option_map}
 use Rattle.std.specs.List.{flat_map}
@@ -19,7 +19,7 @@ use Rattle.t0_core.specs.Meaning.{received}
 use Rattle.t0_core.specs.Front.{Front, In_body, After_first, IsFront, Ends, brought, front_characters, from_card, fresh}
 use Rattle.t0_core.specs.DialogueLaws.{ends_with}
 use Rattle.t0_core.specs.Room.{Room}
-use Rattle.t0_core.specs.HostSide.{Hosting, AreOwn, HostStandsAt, IsOpenedBy, IsRequest, at_stage, gathered, fault_of, data_fault, turn_of}
+use Rattle.t0_core.specs.HostSide.{Hosting, HostStandsAt, IsOpenedBy, IsRequest, at_stage, gathered, fault_of, data_fault, turn_of}
 use Rattle.t0_core.specs.HostAnswer.{is_due, excess, answer_fault, after_answer_fault, before_sw2, moving_in, Gives}
 use Rattle.t0_core.specs.declared.whole_tpdu.WholeTpdu.{WholeTpdu}
 use Rattle.t0_core.specs.TpduBytes.{Asked, asked_of, asked_by, due_by}
@@ -29,7 +29,7 @@ use Rattle.card_terminal.specs.Gathered.{UnitOf}
 use Rattle.card_terminal.specs.ExchangeSide.{ExchangeOf, UnderWay, IsKept, so_far, exchange_turn}
 use Rattle.card_terminal.specs.ExchangeHistory.{ComesTo, ComesTooFar, to_front, to_end, to_stall, to_fault, characters_to}
 use Rattle.card_terminal.proofs.UnitLemmas.{received_of}
-use Rattle.card_terminal.proofs.ExchangeLemmas.{IsSameRequest, opened_too, place_too, with_host, sending_is_going, seen_under_way}
+use Rattle.card_terminal.proofs.ExchangeLemmas.{IsSameRequest, opened_too, place_too, with_host, sending_is_going}
 use Rattle.card_terminal.proofs.ComesToLemmas.{done_sends_nothing, failed_sends_nothing, over_turn, failed_turn}
 
 -- the current TPDU is at another front, with the data that it has brought
@@ -55,18 +55,6 @@ stands_at c ex host units first front bytes under same request front_is stands i
   going = under.going;
 }
 
--- all of the dialogue but SW2
-pub up_to_sw2 : (c : Command) (ex : ExchangeOf) (units : List UnitOf) (first : Option Dialogue)
-    (bytes : List ℕ) (sw : StatusWord) (d : Dialogue) → UnderWay c ex units first fresh
-    → Gives ex.host d bytes sw
-    → HostStandsAt (before_sw2 ex.host sw) (After_first d.body d.status.0)
-    → UnderWay c (with_host ex (before_sw2 ex.host sw) (gathered ex.gather bytes)) units first
-    (After_first d.body d.status.0)
-up_to_sw2 c ex units first bytes sw d under gives stands =
-    stands_at c ex (before_sw2 ex.host sw) units first (After_first d.body d.status.0) bytes under
-    (record { header = refl; p3 = refl; direction = refl; content = refl }) under.request
-    (whole_front d gives.is_dialogue) stands (sym gives.brings ∙ received_of d.body d.status)
-
 -- an exchange that returns a whole TPDU is at the fresh front
 pub due_front : (c : Command) (came : List Character) (ex : ExchangeOf) → IsKept ex
     → is_due ex.host ≡ true → ComesTo c came ex
@@ -87,12 +75,7 @@ due_front c came ex kept due leads = by leads
         × (came ≡ characters_to units first fresh)
     by (to_front units first front under is) =
         let same = due_is_fresh ex.host front under.stands due in
-        let P : Front → Type 0 = λ f. UnderWay c ex units first f in (
-          units,
-          first,
-          subst P same under,
-          is ∙ ap (λ f. characters_to units first f) same,
-        )
+        (units, first, rw same at under, is ∙ ap (λ f. characters_to units first f) same)
     by (to_end units status over is) =
         absurd (done_sends_nothing status sends.0 (exchange_turn ex)
         (over_turn c ex units status over) sends.1)
@@ -112,12 +95,11 @@ leads_too_long c came ex new d kept due leads opened is over failed same =
     let left : ℕ = ex.gather.limit - length ex.gather.bytes in
     let o = dialogue_overflows left d is (omega (arith, over, kept.fits)) in
     let asks : ex.host.direction ≡ FromCard = sym opened.2 ∙ sym o.opened.2 ∙ o.way in
-    let Own : Direction → Type 0 = λ direction. AreOwn direction ex.host.content o.body.moved in
     let by : IsOpenedBy ex.host o.body = (
       o.opened.0 ∙ opened.0,
       o.opened.1 ∙ opened.1,
       o.opened.2 ∙ opened.2,
-      subst Own (sym asks) tt,
+      rw asks tt,
     ) in
     let before = with_host ex (moving_in ex.host o.body) (gathered ex.gather o.body.moved) in
     let moved : o.body.moved ≡ from_card o.body.direction o.body.moved =
@@ -194,50 +176,20 @@ long_where true false false direction e = (refl, refl)
 
 pub gives_inside : (ex seen : ExchangeOf) (bytes : List ℕ) (sw : StatusWord) (d : Dialogue)
     → ex ≡ seen → Gives seen.host d bytes sw → Gives ex.host d bytes sw
-gives_inside ex seen bytes sw d is gives = let P : ExchangeOf → Type 0 =
-    λ e. Gives e.host d bytes sw in subst P (sym is) gives
+gives_inside ex seen bytes sw d is gives = rw is gives
 
-leads_inside : (c : Command) (came : List Character) (ex seen : ExchangeOf) → ex ≡ seen
-    → ComesTo c came seen → ComesTo c came ex
-leads_inside c came ex seen is leads = let P : ExchangeOf → Type 0 = λ e. ComesTo c came e in
-    subst P (sym is) leads
-
-as_took : (ex : ExchangeOf) (host : Hosting) (room : Room) (bytes : List ℕ) (sw : StatusWord)
-    (P : ExchangeOf → Type 0) → TookAnswer ex host room bytes sw
-    → P (with_host ex (before_sw2 ex.host sw) (gathered ex.gather bytes))
-    → P (with_host ex host room)
-as_took ex host room bytes sw P took holds =
-    let R : Room → Type 0 =
-    λ r. P (with_host ex (before_sw2 ex.host sw) r) in
-    let H : Hosting → Type 0 = λ h. P (with_host ex h room) in
-    subst H (sym took.host_is) (subst R (sym took.room_is) holds)
-
-stood : (ex : ExchangeOf) (host : Hosting) (room : Room) (bytes : List ℕ) (sw : StatusWord)
-    (d : Dialogue) → TookAnswer ex host room bytes sw → Gives ex.host d bytes sw
-    → HostStandsAt (before_sw2 ex.host sw) (After_first d.body d.status.0)
-stood ex host room bytes sw d took gives =
-    let H : Hosting → Type 0 = λ h. HostStandsAt h (After_first d.body sw.0) in
-    let S : StatusWord → Type 0 =
-    λ s. HostStandsAt (before_sw2 ex.host sw) (After_first d.body s.0) in
-    subst S (sym gives.status) (subst H took.host_is
-    (took.stands d gives))
-
+-- all of the dialogue but SW2 has passed
 pub under_took : (c : Command) (ex seen : ExchangeOf) (host : Hosting) (room : Room)
     (units : List UnitOf) (first : Option Dialogue) (bytes : List ℕ) (sw : StatusWord)
     (d : Dialogue) → ex ≡ seen → TookAnswer ex host room bytes sw → Gives seen.host d bytes sw
     → UnderWay c seen units first fresh
     → UnderWay c (with_host ex host room) units first (After_first d.body sw.0)
 under_took c ex seen host room units first bytes sw d is took gives under =
-    let P : ExchangeOf → Type 0 =
-    λ e. UnderWay c e units first (After_first d.body sw.0) in
-    let S : StatusWord → Type 0 =
-    λ s. UnderWay c
-    (with_host ex (before_sw2 ex.host sw) (gathered ex.gather bytes)) units first
-    (After_first d.body s.0) in
-    as_took ex host room bytes sw P took (subst S gives.status
-    (up_to_sw2 c ex units first bytes sw d (seen_under_way c ex seen units first fresh is under)
-    (gives_inside ex seen bytes sw d is gives)
-    (stood ex host room bytes sw d took (gives_inside ex seen bytes sw d is gives))))
+    let here = rw (sym is) at under in
+    rw took.room_is (stands_at c ex host units first (After_first d.body sw.0) bytes here
+    (rw took.host_is (record { header = refl; p3 = refl; direction = refl; content = refl }))
+    (rw took.host_is here.request) (rw gives.status at (whole_front d gives.is_dialogue))
+    (took.stands d (rw (sym is) at gives)) (sym gives.brings ∙ received_of d.body d.status))
 
 -- if characters led to the exchange before the answer, its TPDU is at the fresh front
 pub front_took : (c : Command) (came : List Character) (ex seen : ExchangeOf) (host : Hosting)
@@ -246,11 +198,8 @@ pub front_took : (c : Command) (came : List Character) (ex seen : ExchangeOf) (h
     → (units : List UnitOf) × (first : Option Dialogue) × UnderWay c seen units first fresh
     × (came ≡ characters_to units first fresh)
 front_took c came ex seen host room bytes sw is took leads =
-    let P : ExchangeOf → Type 0 =
-    λ e. (units : List UnitOf) × (first : Option Dialogue) × UnderWay c e units first fresh
-    × (came ≡ characters_to units first fresh) in
-    subst P is (due_front c came ex took.kept (due_where _ _ _ _ took.no_fault)
-    (leads_inside c came ex seen is leads))
+    rw is at (due_front c came ex took.kept (due_where _ _ _ _ took.no_fault)
+    (rw (sym is) at leads))
 
 pub leads_took : (c : Command) (came : List Character) (ex seen : ExchangeOf) (host : Hosting)
     (room : Room) (bytes : List ℕ) (sw : StatusWord) (d : Dialogue) → ex ≡ seen
@@ -267,9 +216,7 @@ leads_took c came ex seen host room bytes sw d is took gives leads =
 pub ends_took : (host : Hosting) (d : Dialogue) (bytes : List ℕ) (sw : StatusWord) (byte : ℕ)
     → byte ≡ sw.1 → Gives host d bytes sw → Ends (After_first d.body sw.0) (Card, byte) d
 ends_took host d bytes sw byte is gives =
-    let S : StatusWord → Type 0 = λ s. Ends (After_first d.body s.0) (Card, s.1) d in
-    let B : ℕ → Type 0 = λ b. Ends (After_first d.body sw.0) (Card, b) d in
-    subst B (sym is) (subst S gives.status (refl, gives.is_dialogue.is_status.1, refl))
+    rw (is, sym gives.status) (refl, gives.is_dialogue.is_status.1, refl)
 
 pub leads_all : (c : Command) (came : List Character) (new : ExchangeOf) (host : Hosting)
     (d : Dialogue) (bytes : List ℕ) (sw : StatusWord) (byte : ℕ) → byte ≡ sw.1
@@ -277,10 +224,9 @@ pub leads_all : (c : Command) (came : List Character) (new : ExchangeOf) (host :
     → ComesTo c ((came ++ front_characters (After_first d.body sw.0)) ++ (Card, byte) ∷ []) new
     → ComesTo c (came ++ characters d) new
 leads_all c came new host d bytes sw byte is gives leads =
-    let P : List Character → Type 0 = λ cs. ComesTo c cs new in
-    subst P (append_assoc came (front_characters (After_first d.body sw.0)) ((Card, byte) ∷ [])
+    rw (append_assoc came (front_characters (After_first d.body sw.0)) ((Card, byte) ∷ [])
     ∙ ap (λ cs. came ++ cs) (sym (ends_with (After_first d.body sw.0) byte d
-    (ends_took host d bytes sw byte is gives)))) leads
+    (ends_took host d bytes sw byte is gives)))) at leads
 
 -- ---- if the end refuses it
 
@@ -288,10 +234,9 @@ over_room : (ex seen : ExchangeOf) (bytes : List ℕ) → ex ≡ seen
     → answer_fault ex.host ex.gather bytes ≡ Some AnswerTooLong
     → seen.gather.limit < length seen.gather.bytes + length bytes
 over_room ex seen bytes is e =
-    let P : ExchangeOf → Type 0 = λ x. x.gather.limit < length x.gather.bytes + length bytes in
     let over = leb-false (length ex.gather.bytes + length bytes) ex.gather.limit
     (long_where _ _ _ ex.host.direction e).1 in
-    subst P is (omega (arith, over))
+    rw (sym is) (omega (arith, over))
 
 -- the answer to a whole TPDU is refused because the room is too small
 pub refused_ends : (c : Command) (ex seen : ExchangeOf) (units : List UnitOf)
@@ -301,7 +246,7 @@ pub refused_ends : (c : Command) (ex seen : ExchangeOf) (units : List UnitOf)
     → (fault ≡ AnswerTooLong) × (seen.gather.limit < length seen.gather.bytes + length bytes)
 refused_ends c ex seen units first bytes fault is under (inl none) e =
     absurd (due_is (is_due ex.host) _ _ ex.host.direction (fresh_is_due ex.host
-    (seen_under_way c ex seen units first fresh is under).stands) (sym e ∙ ap Some none))
+    (rw (sym is) at under).stands) (sym e ∙ ap Some none))
   where
     due_is : (due more fits : Bool) (direction : Direction) → due ≡ true
         → (if due then (if more then Some (excess direction)
@@ -335,8 +280,8 @@ refused_leads c came ex seen host bytes sw d fault is kept leads gives host_is (
     inl (
       long,
       leads_too_long c came ex (with_host ex host room) d kept
-          (long_where _ _ _ ex.host.direction long_fault).0 (leads_inside c came ex seen is leads)
-          (gives_inside ex seen bytes sw d is gives).opened gives.is_dialogue
+          (long_where _ _ _ ex.host.direction long_fault).0 (rw (sym is) at leads)
+          (rw is gives.opened) gives.is_dialogue
           (omega (arith, over, ap length gives.brings)) (failed_turn ex.stalled host failed)
           (ap (λ (r : Room). r.limit) (sym room_is)),
     )
@@ -360,8 +305,7 @@ pub due_where_fresh : (o : Option WholeTpdu) (c : Command) (ex : ExchangeOf)
     → option_map asked_of o ≡ due_by ex.host → UnderWay c ex units first front
     → IsSome o ↔ (front ≡ fresh)
 due_where_fresh o c ex units first front due under =
-    let is = some_due o ex.host due in
-    let Stands : Front → Type 0 = λ f. HostStandsAt ex.host f in (
+    let is = some_due o ex.host due in (
       (λ some. due_is_fresh ex.host front under.stands (sym is ∙ some)),
-      (λ same. is ∙ fresh_is_due ex.host (subst Stands same under.stands)),
+      (λ same. is ∙ fresh_is_due ex.host (rw same at under.stands)),
     )

@@ -9,7 +9,7 @@ use std::marker::Model;
 use t0_core::Gather;
 use tlv_core::{Obj, Objects};
 
-/// The answer to a command: the gathered data, and the status.
+/// The answer to a command: the data that all its TPDUs brought, and the status of the last.
 #[derive(Drop)]
 pub struct Answer<A: Allocator = Global> {
     status: Status,
@@ -49,7 +49,9 @@ impl<A: Allocator> Answer<A> {
         self.content.as_slice()
     }
 
-    /// The data as one data object, if they are its tag, length and value and nothing else.
+    /// The data as one data object, if they are its tag, length and value and nothing else, not
+    /// even padding. A constructed one must hold a list of objects, within level 16. Otherwise
+    /// `None`. The status has no effect.
     pub fn object(&self) -> Option<Obj<'_>>
         ensures some { IfSome result (λ object. IsOneObject self.now.content object) }
         ensures none { IfNone result ((object : Object) → IsOneObject self.now.content object → ⊥) }

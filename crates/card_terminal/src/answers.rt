@@ -68,7 +68,7 @@ impl<A: Allocator> Answers<A> {
         self.answers.reserve(1)
     }
 
-    /// Appends an answer. There is room for it.
+    /// Appends an answer. There must be room for it: call `make_room` before each.
     pub fn append(&mut self, answer: Answer<A>)
         requires { 1 ≤ self.old.room }
         ensures { self.new.given ≡ self.old.given ++ answer ∷ [] }

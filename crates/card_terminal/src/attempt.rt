@@ -8,7 +8,7 @@ ghost use Rattle.card_terminal.specs.Attempts.{again_with, following, IsCounted,
 use crate::wanted::Wanted;
 use apdu_core::{Header, Status};
 
-/// The header of a GET RESPONSE (ISO/IEC 7816-4, GET RESPONSE).
+/// The header of a GET RESPONSE, `00C00000` (ISO/IEC 7816-4, GET RESPONSE).
 pub const GET_RESPONSE: Header = Header {
     cla: 0x00,
     ins: object_card::GET_RESPONSE,
@@ -36,17 +36,25 @@ pub struct Attempt {
 /// What follows when a TPDU has ended.
 #[derive(Clone, Copy, Debug, PartialEq, Eq)]
 pub enum Next {
-    /// One more TPDU, which asks for `count` bytes.
+    /// One more TPDU, at the place `attempt`, which asks for `count` bytes, 1 to 256.
     Asks { attempt: Attempt, count: u16 },
-    /// The exchange has stalled.
+    /// The exchange has stalled: this TPDU fetched and brought nothing, and more is announced.
     Stalls,
     /// The exchange has ended.
     Ends,
 }
 
 impl Attempt {
-    /// Returns what follows this TPDU, which ended with `status`. `gathered` is the number of bytes
-    /// that the exchange has gathered, at most `RESPONSE_LIMIT`, and `left` is what it still wants.
+    /// Returns what follows this TPDU, which ended with `status` (ISO/IEC 7816-3, clause 12;
+    /// bounds: profile). `gathered` is the number of bytes that the exchange has gathered, at most
+    /// `RESPONSE_LIMIT`, and `left` is what it wants after them. `self` must be the place of a TPDU
+    /// that an exchange has reached.
+    ///
+    /// - After `6CXX`, if this TPDU asks for data and repeats none, and the count is not above
+    ///   `left`: the same TPDU for the count.
+    /// - After `61XX`, if `left` is not nothing: a GET RESPONSE for the count, or for `left` if
+    ///   that is less. If this TPDU fetches and brought nothing, the exchange stalls.
+    /// - Otherwise the exchange ends.
     pub fn followed(self, gathered: usize, left: Wanted, status: Status) -> Next
         requires counted { IsCounted self gathered }
         requires room { gathered ≤ response_limit }

@@ -37,8 +37,8 @@ pub fn get_command(tag: ObjectTag) -> Command<'static>
     Command::new(header, &[], Some(256)).unwrap()
 }
 
-/// The header of the last PUT DATA of a chain. `p1` and `p2` name the tag (ISO/IEC 7816-4, PUT
-/// DATA).
+/// The header of the last PUT DATA of a chain, with CLA `00`. `p1` and `p2` name the tag (ISO/IEC
+/// 7816-4, PUT DATA).
 pub fn put_header(p1: u8, p2: u8) -> Header
     ensures { result ≡ carrying.put_header p1 p2 }
 {

@@ -35,8 +35,9 @@ use taking::{all_taken_by, taken_by};
 /// The most bytes of a response that any exchange gathers (profile).
 pub const RESPONSE_LIMIT: usize = 16_384;
 
-/// The terminal's side of one command (ISO/IEC 7816-3, clause 12): its TPDU, the same again after
-/// `6CXX`, and a GET RESPONSE after each `61XX` while the command wants more data.
+/// The terminal's side of one command (ISO/IEC 7816-3, clause 12): its TPDU, and a GET RESPONSE
+/// after each `61XX` while the command wants more data. After `6CXX` a TPDU that asks for data is
+/// sent once more with that count, if it is not above what is still wanted (profile).
 ///
 /// `next` returns each character to send, and `take` takes each character of the card, until `next`
 /// returns `Done`. `into_answer` then returns the status and the data. `tpdu` and `answered` pass
@@ -140,8 +141,8 @@ impl<'a, A: Allocator> Exchange<'a, A> {
         Ok(Exchange::begin(gather, command))
     }
 
-    /// Begins the exchange of another command in the room of this one. Zeros overwrite the data in
-    /// it.
+    /// Begins the exchange of another command in the room of this one, whose limit stays. This one
+    /// is dropped in any state, and zeros overwrite its data.
     pub fn again<'b>(self, command: Command<'b>) -> Exchange<'b, A>
         ensures begins { UnderWay command.entry result [] None fresh }
         ensures led { ComesTo command.entry [] result }
@@ -179,7 +180,9 @@ impl<'a, A: Allocator> Exchange<'a, A> {
         }
     }
 
-    /// Returns what the terminal does next. Only a character to send changes the exchange.
+    /// Returns what the terminal does next. A character that it returns counts as sent. Any other
+    /// result changes nothing: `Listens`, `Done` with the last status, or `Failed` after a final
+    /// error.
     #[inline(always)]
     pub fn next(&mut self) -> HostTurn
         ensures turn { IsTurn self.old result self.new }
@@ -289,13 +292,15 @@ impl<'a, A: Allocator> Exchange<'a, A> {
     ///
     /// # Errors
     ///
-    /// The rules are the profile's:
+    /// The first that holds; the rules are the profile's:
     ///
     /// - `NotDue`: `tpdu` returns `None`; the exchange is unchanged.
-    /// - `NotAsked`: the TPDU sends data, and `bytes` is not empty; the exchange is unchanged.
-    /// - `TooMany`: `bytes` exceeds what P3 states; the exchange is unchanged.
+    /// - `NotAsked`: the TPDU asks for no data, and `bytes` is not empty; the exchange is
+    ///   unchanged.
+    /// - `TooMany`: `bytes` is longer than P3 states (`00`: 256); the exchange is unchanged.
     /// - `TooLong`: the room has too little space for `bytes`; the exchange has failed for good.
-    /// - `Stalled`: as for `take`; the exchange has failed for good.
+    /// - `Stalled`: a GET RESPONSE that the exchange added brought nothing, and the card announces
+    ///   more; the exchange has failed for good.
     pub fn answered(&mut self, bytes: &[u8], status: Status) -> Result<(), AnswerFault>
         ensures fault { MatchResult result
             (λ _. answer_fault self.old.host self.old.gather bytes.now ≡ None)
@@ -349,8 +354,9 @@ impl<'a, A: Allocator> Exchange<'a, A> {
         self.gather
     }
 
-    /// Returns the answer, if the exchange has ended. The memory is that of the data; the rest of
-    /// the room is freed.
+    /// Returns the answer, if the exchange has ended: the status of its last TPDU, and all data.
+    /// The memory is that of the data; the rest of the room is freed. `None` if the exchange is in
+    /// progress or has failed; it is dropped.
     pub fn into_answer(self) -> Option<Answer<A>>
         ensures done { (status : StatusWord) → exchange_turn self.entry ≡ HostTurn.Done status →
             result ≡ Some (record { status = status; content = self.entry.gather.bytes }) }

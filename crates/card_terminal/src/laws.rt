@@ -20,7 +20,8 @@ pub fn what_led_begins_an_exchange()
         BeginsExchange c came ⊎ FaultCameLast c came ex }
 {}
 
-/// An exchange that brings r bytes has at most 2(r + 2) TPDUs.
+/// An exchange, ended or not, has at most 2(r + 2) TPDUs if they have brought r bytes. A TPDU and
+/// its repetition after `6CXX` count as two.
 pub fn an_exchange_has_few_tpdus()
     ensures { (c : spec.Command) (units : List UnitOf) → IsOpenExchange c units →
         tpdus units ≤ 2 * (length (flat_map unit_data units) + 2) }
@@ -41,7 +42,8 @@ pub fn a_whole_exchange_is_done()
 /// The next character of an exchange is settled. Take a whole exchange of its command that begins
 /// with the characters that led to it, and whose data fit its room. If the next character is the
 /// terminal's, the exchange sends it. If it is the card's, the exchange listens and takes it
-/// without an error. In neither case has the exchange failed, so it has not stalled.
+/// without an error. In neither case has the exchange failed, so it has not stalled. INS must be
+/// valid.
 pub fn the_next_character_is_settled()
     ensures next { (c : spec.Command) (came : List Character) (ex : ExchangeOf)
         (units : List UnitOf) (gathered : List ℕ) (status : StatusWord) (ch : Character)

@@ -13,8 +13,8 @@ pub const PUT_LIMIT: usize = 16_320;
 pub enum Op<A: Allocator = Global> {
     /// Selects the application with this identifier.
     Select(Aid),
-    /// Reads the data object with this tag.
+    /// Reads the data object with this tag in the selected application.
     Get(ObjectTag),
-    /// Stores this value under the tag.
+    /// Stores this value under the tag in the selected application.
     Put(ObjectTag, Bytes<A>),
 }

@@ -60,7 +60,7 @@ impl<C: TpduCard> Session<C> {
         self.end.card()
     }
 
-    /// Resets the card.
+    /// Resets the card (`TpduCard::reset`). The caller's plans and watch stay as they are.
     pub fn reset(&mut self)
         ensures { C.standing self.new ≡ C.after_reset (C.standing self.old) }
     {
@@ -82,7 +82,8 @@ impl<C: TpduCard> Session<C> {
     }
 
     /// Carries out a command that is agreed with the card, under the plans at the cursor `plans`.
-    /// `watch` hears each character. The response has at most `RESPONSE_LIMIT` bytes.
+    /// For a card of data objects, `object_card::is_agreed` tests that. Returns the status of the
+    /// last TPDU and all data, at most `RESPONSE_LIMIT` bytes. `watch` hears each character.
     ///
     /// # Errors
     ///

@@ -10,7 +10,7 @@ pub enum SessionFault {
     /// Memory ran out; no character of the command was sent.
     OutOfMemory,
     /// The response exceeds the room (`TooLong`), or the card announces data that it does not send
-    /// (`Stalled`).
+    /// (`Stalled`). The card was reset.
     Line(LineFault),
 }
 

@@ -6,6 +6,6 @@ use t0_core::LineFault;
 pub struct Taken {
     /// The number of characters that were taken without an error, from the front of the buffer.
     pub count: usize,
-    /// The error of the next character; `Ok` if all were taken.
+    /// The error of the character after them; `Ok` if all were taken.
     pub outcome: Result<(), LineFault>,
 }

@@ -18,8 +18,9 @@ ghost use Rattle.card_terminal.specs.Talk.{IsTalkOf, Talk, HaveCuts, talk_dialog
 
 use object_card::DataCard;
 
-/// A talk of one operation, under any plans, equals that operation in one step. A card with no
-/// chain pending then has the tables that the step leaves, and again no chain is pending.
+/// A talk of one operation, under plans with cuts of 1 to 256, equals that operation in one step,
+/// if no chain is pending before. The card then has the tables that the step leaves, and again no
+/// chain is pending.
 pub fn a_talk_of_an_operation_is_one_step()
     ensures { (old new : CardState) (plans : List Course) (operation : Operation)
         (exchanges : List (List UnitOf)) (answer : Reply) → is_idle old.pending ≡ true
@@ -29,8 +30,8 @@ pub fn a_talk_of_an_operation_is_one_step()
         × (is_idle new.pending ≡ true) }
 {}
 
-/// A talk of operations, under any plans, has the answers and the tables of the one-step card. A
-/// sound card with no chain pending is again sound, with no chain pending.
+/// A talk of operations, under plans with cuts of 1 to 256, has the answers and the tables of the
+/// one-step card. The card must be sound, with no chain pending; afterwards it is so again.
 pub fn a_talk_is_answered_in_single_steps()
     ensures { (first last : CardState) (plans left : List Course) (operations : List Operation)
         (replies : List Reply) (line : List Character) → IsCardState first
@@ -40,8 +41,9 @@ pub fn a_talk_is_answered_in_single_steps()
         × IsCardState last }
 {}
 
-/// An exchange of any command with a card of data objects brings at most a value with its tag and
-/// length, which is less than a terminal gathers. The same holds at each point of the exchange.
+/// An exchange of any command with a sound card of data objects brings at most a value with its tag
+/// and length. That is less than a terminal gathers. It holds at each point of the exchange. The
+/// plans have cuts of 1 to 256.
 pub fn an_exchange_fits()
     ensures whole { (c : Command) (units : List UnitOf) (plans : List Course)
         (old new : CardState) → IsCardState old → HaveCuts plans → IsOpenExchange c units →
@@ -56,14 +58,16 @@ pub fn an_exchange_fits()
         length (flat_map received (so_far units first)) ≤ VALUE_LIMIT + HEAD_LIMIT }
 {}
 
-/// No exchange of any command with a card of data objects stalls: each GET RESPONSE brings data.
+/// No exchange of any command with a card of data objects stalls: each GET RESPONSE that fetches
+/// brings data. The plans have cuts of 1 to 256.
 pub fn no_exchange_stalls()
     ensures { (c : Command) (units : List UnitOf) (plans : List Course) (old new : CardState) →
         HaveCuts plans → Runs Does old (flat_map dialogues_of units) plans new → Stall c units → ⊥ }
 {}
 
 /// A talk of operations with any `DataCard`, whatever its own states, has the answers and the
-/// tables of the one-step card.
+/// tables of the one-step card. The plans have cuts of 1 to 256. The card must be sound, with no
+/// chain pending; afterwards it is so again.
 pub fn a_talk_with_any_card_is_answered_in_single_steps<C: DataCard>()
     ensures { (before after : C) (plans left : List Course) (operations : List Operation)
         (replies : List Reply) (line : List Character) → IsCardState (C.state before) →

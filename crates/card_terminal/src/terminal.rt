@@ -92,11 +92,11 @@ impl<A: Allocator + Copy> Terminal<A> {
         })
     }
 
-    /// Begins to select the application with this identifier.
+    /// Begins to select the application with this identifier. The last answer is dropped.
     ///
     /// # Errors
     ///
-    /// The terminal is unchanged after either:
+    /// The terminal is unchanged after either, and keeps the last answer:
     ///
     /// - `UnderWay`: another operation is in progress.
     /// - `OutOfMemory`: memory ran out, for the response (as many bytes as the terminal's limit) or
@@ -109,7 +109,8 @@ impl<A: Allocator + Copy> Terminal<A> {
         self.send(select_command(aid))
     }
 
-    /// Begins to read the data object with this tag. The errors are those of `select`.
+    /// Begins to read the data object with this tag. The errors, and the state after each, are
+    /// those of `select`.
     pub fn get(&mut self, tag: ObjectTag) -> Result<(), BeginFault>
         ensures begins { IsBeginning (AreCommandsOf (Get tag)) self.old.operation result
             self.new.operation }
@@ -118,8 +119,9 @@ impl<A: Allocator + Copy> Terminal<A> {
         self.send(get_command(tag))
     }
 
-    /// Begins to store a copy of this value under the tag. The terminal sends it in pieces, up to
-    /// the first status other than `9000`. The errors are those of `select`.
+    /// Begins to store a copy of this value, of any length, under the tag. The terminal sends it in
+    /// pieces of at most 255 bytes, up to the first status other than `9000`. The errors, and the
+    /// state after each, are those of `select`.
     pub fn put(&mut self, tag: ObjectTag, value: &[u8]) -> Result<(), BeginFault>
         ensures begins { IsBeginning (AreCommandsOf (Put tag value.now)) self.old.operation result
             self.new.operation }
@@ -136,7 +138,8 @@ impl<A: Allocator + Copy> Terminal<A> {
         Ok(())
     }
 
-    /// Begins the exchange of a command, with a copy of its data. The errors are those of `select`.
+    /// Begins the exchange of a command, with a copy of its data. The errors, and the state after
+    /// each, are those of `select`.
     pub fn send(&mut self, command: Command<'_>) -> Result<(), BeginFault>
         ensures begins { IsBeginning (λ commands. commands ≡ command.entry ∷ [])
             self.old.operation result self.new.operation }
@@ -183,8 +186,9 @@ impl<A: Allocator + Copy> Terminal<A> {
     }
 
     /// Returns what the terminal does next, as `Exchange::next`, or `None` if no operation has
-    /// begun. Only a character to send changes the terminal. `Done` has the status of the last
-    /// command; `Failed` follows a line fault.
+    /// begun. A character that it returns counts as sent. Any other result changes nothing. `Done`
+    /// has the status of the last command; `Failed` follows an error after which the operation has
+    /// failed.
     #[inline(always)]
     pub fn next(&mut self) -> Option<HostTurn>
         ensures turn { IsTerminalTurn self.old.operation result self.new.operation }
@@ -196,9 +200,9 @@ impl<A: Allocator + Copy> Terminal<A> {
         }
     }
 
-    /// Returns the next character of the operation's data if one is to be sent, as `next` would.
-    /// Otherwise nothing changes. A loop over it after each `take` sends what a procedure byte
-    /// asked for, faster than a loop over `next`.
+    /// Returns the next character of the operation's data, as `next` does, if the terminal sends
+    /// one next. Otherwise returns `None`, and nothing changes. A loop over it after each `take`
+    /// sends what a procedure byte asked for, faster than a loop over `next`.
     #[inline(always)]
     pub fn next_data(&mut self) -> Option<u8>
         ensures due { result ≡ terminal_data self.old.operation }
@@ -259,7 +263,8 @@ impl<A: Allocator + Copy> Terminal<A> {
         }
     }
 
-    /// The next TPDU as a whole, as `Exchange::tpdu`. `None` also if no operation has begun.
+    /// The next TPDU as a whole, for a transport of whole TPDUs. `None` if a character of it was
+    /// sent already, if no operation has begun, or if it has ended or failed.
     pub fn tpdu(&self) -> Option<WholeTpdu<'_>>
         ensures { option_map asked_of result ≡ terminal_due self.now.operation }
     {
@@ -269,8 +274,9 @@ impl<A: Allocator + Copy> Terminal<A> {
         }
     }
 
-    /// The commands of the operation, if no character of it was sent: it can still be sent in
-    /// another way, as by whole commands.
+    /// The commands of the operation, if nothing of it was sent: it can still be sent in another
+    /// way, as by whole commands. `None` after the first character, answer or final error, and if
+    /// no operation has begun.
     pub fn unsent(&self) -> Option<Unsent<'_>>
         ensures { IsUnsent self.now.operation result }
     {
@@ -286,7 +292,8 @@ impl<A: Allocator + Copy> Terminal<A> {
     /// # Errors
     ///
     /// - `NotDue`: `tpdu` returns `None`; nothing has changed.
-    /// - `NotAsked`, `TooMany`: as for `Exchange::answered`; nothing has changed.
+    /// - `NotAsked`: the TPDU asks for no data, and `bytes` is not empty; nothing has changed.
+    /// - `TooMany`: `bytes` is longer than P3 states (`00`: 256); nothing has changed.
     /// - `TooLong`, `Stalled`: as for `Exchange::answered`; the operation has failed for good.
     pub fn answered(&mut self, bytes: &[u8], status: Status) -> Result<(), AnswerFault>
         ensures answering { IsTerminalAnswering self.old.operation bytes.now status result
@@ -300,7 +307,8 @@ impl<A: Allocator + Copy> Terminal<A> {
     }
 
     /// The status and the data of the last command, if the operation has ended. They are there
-    /// until the next operation begins or `reset`.
+    /// until the next operation begins or `reset`. `None` if none has begun, or if it is in
+    /// progress or has failed.
     pub fn answer(&self) -> Option<(Status, &[u8])>
         ensures { IsTerminalAnswer self.now.operation (option_map (λ a. (a.0, a.1.now)) result) }
     {
@@ -310,8 +318,8 @@ impl<A: Allocator + Copy> Terminal<A> {
         }
     }
 
-    /// Drops the operation, in whatever state it is, and frees its memory. It sends nothing to the
-    /// card.
+    /// Drops the last operation, in any state, with its answer, and frees its memory. The limit
+    /// stays. It sends nothing to the card.
     pub fn reset(&mut self)
         ensures { self.new ≡ at_rest self.old.limit }
     {

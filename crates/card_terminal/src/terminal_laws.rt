@@ -24,7 +24,7 @@ pub fn what_led_begins_an_operation()
 {}
 
 /// If the characters that led to an operation are those of whole exchanges of its commands, up to
-/// the first status other than `9000`, it has ended, with their answer.
+/// the first status other than `9000`, it has ended, with their answer. Each INS must be valid.
 pub fn a_whole_operation_is_done()
     ensures { (commands : List Command) (came : List Character) (o : OperationOf)
         (exchanges : List (List UnitOf)) (answer : Reply) → HaveValidIns commands →
@@ -37,7 +37,8 @@ pub fn a_whole_operation_is_done()
 /// The next character of an operation is settled. Take whole exchanges of its commands that begin
 /// with the characters that led to it, and whose data fit its room. If the next character is the
 /// terminal's, the operation sends it. If it is the card's, the operation listens and takes it
-/// without an error. In neither case has the operation failed, so it has not stalled.
+/// without an error. In neither case has the operation failed, so it has not stalled. Each INS must
+/// be valid.
 pub fn the_next_character_of_an_operation_is_settled()
     ensures next { (commands : List Command) (came : List Character) (o : OperationOf)
         (exchanges : List (List UnitOf)) (answer : Reply) (ch : Character)
@@ -56,8 +57,8 @@ pub fn the_next_character_of_an_operation_is_settled()
         exchange_turn o.exchange ≡ HostTurn.Failed → ⊥ }
 {}
 
-/// An operation has at most four TPDUs for each command that was sent, and two for each byte that
-/// its exchanges bring.
+/// A finished operation has at most four TPDUs for each command that was sent, plus two for each
+/// byte that its exchanges brought.
 pub fn an_operation_has_few_tpdus()
     ensures { (commands : List Command) (exchanges : List (List UnitOf)) (answer : Reply) →
         AreExchangesOf commands exchanges answer → length (talk_dialogues exchanges)

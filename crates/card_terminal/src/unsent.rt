@@ -9,6 +9,6 @@ pub struct Unsent<'a> {
     /// P1-P2 of all commands of a put.
     pub p1: u8,
     pub p2: u8,
-    /// The bytes to put after the first command's data.
+    /// The bytes to put after the first command's data; empty if no other command follows.
     pub rest: &'a [u8],
 }

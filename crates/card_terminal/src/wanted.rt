@@ -25,7 +25,7 @@ impl Wanted {
         }
     }
 
-    /// The Le of a command that wants this.
+    /// The Le of a command that wants this, 1 to 256: `None` for nothing, 256 for `Everything`.
     pub fn le(self) -> Option<u16>
         ensures { result ≡ le_by self }
     {
@@ -36,7 +36,8 @@ impl Wanted {
         }
     }
 
-    /// Returns what is still wanted after `gathered` bytes.
+    /// Returns what is still wanted after `gathered` bytes. `Bytes` falls by them, at lowest to 0;
+    /// `Everything` stays.
     #[inline(never)]
     pub fn less(self, gathered: usize) -> Wanted
         ensures { result ≡ less self gathered }

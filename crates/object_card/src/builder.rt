@@ -85,7 +85,8 @@ impl<A: Allocator + Copy> CardBuilder<A> {
     ///
     /// - `NoApp`: there is no application.
     /// - `ValueTooLong`: the value has more than `VALUE_LIMIT` bytes.
-    /// - `NotObjects`: the tag is constructed, and the value is not a list of objects.
+    /// - `NotObjects`: the tag is constructed, and the value is not a list of objects, or one of
+    ///   them is deeper than level 16. The object itself is at level 1.
     /// - `Full`: the tag is new, and the application has `ENTRY_LIMIT` data objects.
     /// - `OutOfMemory`: memory ran out.
     pub fn object(&mut self, tag: ObjectTag, value: &[u8]) -> Result<(), BuilderFault>
@@ -97,7 +98,8 @@ impl<A: Allocator + Copy> CardBuilder<A> {
         add_to_last(&mut self.applications, tag, value, false)
     }
 
-    /// Adds a data object that no command can change, like `object`.
+    /// Adds a data object that no command can change, like `object`. If the tag is there already,
+    /// its value is replaced in place, and the object is now locked.
     ///
     /// # Errors
     ///
@@ -111,8 +113,8 @@ impl<A: Allocator + Copy> CardBuilder<A> {
         add_to_last(&mut self.applications, tag, value, true)
     }
 
-    /// Makes the card, with nothing selected and nothing pending. Only the buffer for a chain is
-    /// allocated.
+    /// Makes the card with these applications, nothing selected and nothing pending. Only the
+    /// buffer for a chain is allocated.
     ///
     /// # Errors
     ///

@@ -3,7 +3,8 @@ use std::alloc::AllocError;
 use std::error::Error;
 use std::fmt;
 
-/// Why a builder refuses an application or a data object (profile).
+/// Why a builder refuses an application or a data object (profile). After each, the builder is
+/// unchanged.
 #[derive(Clone, Copy, Debug, PartialEq, Eq, Hash)]
 pub enum BuilderFault {
     /// An application before it has the same identifier.
@@ -14,7 +15,7 @@ pub enum BuilderFault {
     NoApp,
     /// The value has more than `VALUE_LIMIT` bytes.
     ValueTooLong,
-    /// The tag is constructed, and the value is not a list of objects.
+    /// The tag is constructed, and the value is not a list of objects within level 16.
     NotObjects,
     /// The tag is new, and the application has `ENTRY_LIMIT` data objects.
     Full,

@@ -32,7 +32,8 @@ use tlv_core::ObjectTag;
 /// pending chain or response.
 ///
 /// Make one with `CardBuilder`, and give it to a `t0_core::CardEnd`. Only `data` for the last PUT
-/// DATA of a chain allocates; if memory runs out, the status is `6581`.
+/// DATA of a chain allocates; if memory runs out, the status is `6581`. Until SW2 is sent, the
+/// methods below show the state before the TPDU in progress.
 #[derive(Drop)]
 pub struct ObjectCard<A: Allocator = Global> {
     applications: Vec<Application<A>, A>,
@@ -117,7 +118,8 @@ impl<A: Allocator> ObjectCard<A> {
         Some(Entries::of(&self.applications[place]))
     }
 
-    /// Whether the application contains a data object with this tag that is locked.
+    /// Whether the application contains a data object with this tag that is locked. `false` also if
+    /// there is no such application or object.
     pub fn is_locked(&self, aid: &Aid, tag: ObjectTag) -> bool
         ensures { result
             ≡ is_locked_among (Some tag) (entries_in aid.now self.now.state.applications) }

@@ -16,7 +16,7 @@ pub trait DataCard: TpduCard {
     /// The state of the definitions before the TPDU in progress.
     ghost state: { Self → CardState };
 
-    /// Whether no chain is pending.
+    /// Whether no chain is pending, before the TPDU in progress. A response may be pending.
     ///
     /// For the proof, the clauses also say that the state is sound: no value exceeds the limit, and
     /// a pending response fits into what a terminal gathers.

@@ -27,15 +27,16 @@ pub enum Instruction {
     Select,
     /// GET DATA: P1-P2 name a tag, and its data object comes from the card.
     GetData,
-    /// PUT DATA: P1-P2 name a tag, and its value, or a piece of it, goes to the card.
+    /// PUT DATA: P1-P2 name a tag, and its value goes to the card. With CLA `10` it is a piece of
+    /// the value, and more follow.
     PutData,
     /// GET RESPONSE: P1-P2 are `0000`, and the rest of a response comes from the card.
     GetResponse,
 }
 
 impl Instruction {
-    /// Returns the instruction with this INS. `None` for any other byte, which the card refuses
-    /// with `6D00`.
+    /// Returns the instruction with this INS. `None` for any other byte, which the card does not
+    /// support (`6D00`).
     pub fn of(ins: u8) -> Option<Instruction>
         ensures { result ≡ instruction_of ins }
     {
@@ -71,9 +72,9 @@ impl Instruction {
     }
 }
 
-/// Whether terminal and card agree on the direction of a command's data. A command with Le and
-/// without data must not be a SELECT or PUT DATA. Any other command must not be a GET DATA or GET
-/// RESPONSE. The ends agree on a command with an INS that the card refuses.
+/// Whether terminal and card agree on the direction of a command's data (ISO/IEC 7816-3, 10.3.1). A
+/// command with Le and without data must not be a SELECT or PUT DATA. Any other command must not be
+/// a GET DATA or GET RESPONSE. With any other INS the ends agree.
 pub fn is_agreed(command: &Command) -> bool
     ensures { (result ≡ true) ↔ IsAgreed MayReceive MaySend command.now }
 {

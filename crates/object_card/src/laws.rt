@@ -14,14 +14,14 @@ ghost use Rattle.object_card.specs.CardMeaning.{Does};
 pub mod histories;
 pub mod runs;
 
-/// The function that finds the tag of P1-P2 agrees with the relation between them.
+/// P1-P2 name a tag (`NamesTag`) exactly if the function `named_tag` finds it.
 pub fn p1p2_name_the_tag()
     ensures { (tag : List ℕ) (p1 p2 : ℕ) → (named_tag p1 p2 ≡ Some tag) ↔ NamesTag tag p1 p2 }
 {}
 
-/// Every TPDU, and a reset, leaves a card state sound. Identifiers and tags are distinct, values
-/// are sound, and each number keeps to its limit. The selected application exists, a chain keeps to
-/// the limit, and a pending response has at least one byte.
+/// A TPDU under any cut, and a reset, leave a sound state sound. In one, identifiers and tags are
+/// distinct, values are sound, and each number keeps to its limit. The selected application exists,
+/// a chain keeps to the limit, and a pending response has at least one byte.
 pub fn a_card_state_stays_one()
     ensures step { (old new : CardState) (cut : ℕ) (tpdu : Tpdu) → Does old cut tpdu new →
         IsCardState old → IsCardState new }
@@ -35,20 +35,20 @@ pub fn a_refused_header_moves_nothing()
         × (tpdu.received ≡ []) × (tpdu.status ≡ status) }
 {}
 
-/// A command that is followed by more of its chain changes no entry.
+/// A command with CLA `10`, which more of its chain follows, changes no entry.
 pub fn a_piece_changes_no_entry()
     ensures { (old new : CardState) (cut : ℕ) (tpdu : Tpdu) → Does old cut tpdu new →
         tpdu.header.cla ≡ 0x10 → new.applications ≡ old.applications }
 {}
 
-/// A SELECT that finds no application (`6A82`) keeps the selection.
+/// A command with status `6A82`, such as a SELECT that finds no application, keeps the selection.
 pub fn not_found_keeps_the_selection()
     ensures { (old new : CardState) (cut : ℕ) (tpdu : Tpdu) → Does old cut tpdu new →
         tpdu.status ≡ (0x6A, 0x82) → new.selected ≡ old.selected }
 {}
 
-/// Every status except `9000` drops a chain. A command that is not followed by more of its chain
-/// ends it.
+/// After every status except `9000` no chain is pending. The same holds after every command whose
+/// CLA is not `10`.
 pub fn a_chain_is_dropped_or_ended()
     ensures dropped { (old new : CardState) (cut : ℕ) (tpdu : Tpdu) → Does old cut tpdu new →
         tpdu.status ≢ ok → is_idle new.pending ≡ true }
@@ -78,16 +78,17 @@ pub fn all_of_a_select_moves()
         tpdu.p3 ≡ length tpdu.sent }
 {}
 
-/// Entries change only by a PUT DATA with CLA `00` whose status is `9000`.
+/// Applications and their entries change only by a PUT DATA with CLA `00` whose status is `9000`.
 pub fn only_a_put_changes_entries()
     ensures { (old new : CardState) (cut : ℕ) (tpdu : Tpdu) → Does old cut tpdu new →
         (new.applications ≡ old.applications) ⊎ ((tpdu.header.cla ≡ 0x00) × (tpdu.header.ins ≡ 0xDA)
         × (tpdu.status ≡ ok)) }
 {}
 
-/// Unless memory runs out (`6581`), an operation has one reply and one next state, and a command
-/// with the same data to the card has the same data from it, status and next state. Memory can run
-/// out only if a value would be stored; the card is then unchanged.
+/// From one state, unless memory runs out (`6581`), an operation has one reply and one next state.
+/// A command with one header, P3, data to the card and cut has one status, next state, and data
+/// from the card. Memory can run out only in an operation that would store a value; the card is
+/// then unchanged.
 pub fn a_command_has_one_outcome()
     ensures operation { (old a b : CardState) (operation : Operation) (r s : Reply) →
         Answers old operation r a → Answers old operation s b → r.status ≢ (0x65, 0x81) →
@@ -101,7 +102,7 @@ pub fn a_command_has_one_outcome()
         × (t.status ≡ u.status) × (a ≡ b) }
 {}
 
-/// A put of a value among given entries has one status, unless memory runs out.
+/// A put of a value among given entries has at most one status, apart from `6581`.
 pub fn a_put_has_one_status()
     ensures { (entries : List Entry) (tag value : List ℕ) (s t : StatusWord) →
         PutStatus entries tag value s → PutStatus entries tag value t → s ≡ t }

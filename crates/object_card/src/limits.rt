@@ -1,6 +1,6 @@
 //! The limits of a card (profile).
 
-/// The most bytes of a value.
+/// The most bytes of a data object's value, without its tag and length.
 pub const VALUE_LIMIT: usize = 8_192;
 
 /// The most data objects of an application.

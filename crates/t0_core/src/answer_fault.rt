@@ -6,14 +6,15 @@ use std::fmt;
 /// Why a terminal's end refuses the answer to a whole TPDU (profile).
 ///
 /// After `TooLong` and `Stalled` the end has failed for good. After any other error it is
-/// unchanged.
+/// unchanged. A terminal of whole commands returns it too: there a command takes the place of the
+/// TPDU, and Le that of P3.
 #[derive(Clone, Copy, Debug, PartialEq, Eq)]
 pub enum AnswerFault {
-    /// No TPDU is about to start: some of its characters have been sent, or it has ended or failed.
+    /// No TPDU is about to start: it has begun, ended or failed, or no operation has begun.
     NotDue,
-    /// The TPDU sends data, and the answer contains data.
+    /// The TPDU asks for no data, and the answer contains data.
     NotAsked,
-    /// The answer contains more data than P3 asks for.
+    /// The answer contains more data than P3 asks for (`00`: 256).
     TooMany,
     /// The data exceed the room of the gather.
     TooLong,

@@ -80,7 +80,7 @@ pub enum Phase {
 ///
 /// `take` gives it each character of the terminal, and `turn` returns each character of the card.
 /// After a header it carries out the steps of the next plan in `Plans`, moves the data, and sends
-/// the card's status.
+/// the card's status. If the card refuses the header, only the plan's NULLs precede the status.
 #[derive(Drop)]
 pub struct CardEnd<C: TpduCard> {
     card: C,
@@ -129,8 +129,8 @@ impl<C: TpduCard> CardEnd<C> {
         &self.card
     }
 
-    /// The buffer for the terminal's data. It starts with those of the current TPDU. Between TPDUs
-    /// it holds zeros, so nothing is left of the last one.
+    /// The buffer for the terminal's data. It starts with those of the current TPDU. Between TPDUs,
+    /// and while a header comes in, it holds zeros, so nothing is left of the last TPDU.
     pub fn held(&self) -> &[u8; 255]
         ensures { (bytes : List ℕ) → self.now.stage ≡ Taking_header bytes →
             result.now ≡ replicate 255 0 }
@@ -138,15 +138,16 @@ impl<C: TpduCard> CardEnd<C> {
         &self.came
     }
 
-    /// Whether the header is complete and the card has not yet answered it. The next `turn` takes
-    /// the next plan.
+    /// Whether the header is complete and the card has not yet answered it. If so, the next `turn`
+    /// takes the next plan.
     pub fn takes_plan(&self) -> bool
         ensures { result ≡ takes_plan self.now.stage }
     {
         begins_to_answer(&self.phase)
     }
 
-    /// Resets the card, and drops the TPDU in progress.
+    /// Resets the card (`TpduCard::reset`), and drops the TPDU in progress. The end then waits for
+    /// a header. A cursor of plans is not rewound.
     pub fn reset(&mut self)
         ensures card { C.standing self.new.card ≡ C.after_reset (C.standing self.old.card) }
         ensures stage { self.new.stage ≡ Taking_header [] }
@@ -168,7 +169,7 @@ impl<C: TpduCard> CardEnd<C> {
         self.came = [0; 255];
     }
 
-    /// Takes a character of the terminal.
+    /// Takes a character of the terminal, of the header or its data.
     ///
     /// # Errors
     ///
@@ -209,8 +210,8 @@ impl<C: TpduCard> CardEnd<C> {
         Ok(())
     }
 
-    /// Takes characters of the terminal like `take`, one at a time, until the end stops listening.
-    /// Returns how many it took. The others change nothing.
+    /// Takes characters of the terminal like `take`, one at a time, until the end stops listening
+    /// or `bytes` ends. Returns how many it took. The others change nothing.
     #[inline(always)]
     pub fn take_bytes(&mut self, bytes: &[u8]) -> usize
         ensures taken { Steps (IsTaken C.TpduCard) self.old (take result bytes.now) self.new }
@@ -237,8 +238,9 @@ impl<C: TpduCard> CardEnd<C> {
 
     /// Returns the card's next character, or `Listens`, with no change, if the terminal sends next.
     ///
-    /// The first character after a header takes the next plan. Later ones continue that plan, by
-    /// the number of steps done so far. With SW2 the card's state changes.
+    /// The first character after a header takes the next plan of `plans`. Later ones continue the
+    /// plan that `plans` keeps, after the number of steps done so far, so pass the same cursor.
+    /// With SW2 the TPDU takes effect on the card.
     #[inline(always)]
     pub fn turn<A: Allocator>(&mut self, plans: &mut Plans<A>) -> Turn
         ensures whose { (result ≡ Turn.Listens) ↔ (listens self.old.stage ≡ true) }

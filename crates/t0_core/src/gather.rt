@@ -87,7 +87,7 @@ impl<A: Allocator> Gather<A> {
         count <= self.limit - self.bytes.len()
     }
 
-    /// Appends bytes, which must fit.
+    /// Appends bytes, which must fit (`has_room`).
     pub fn extend(&mut self, bytes: &[u8])
         requires { length self.old.bytes + length bytes.now ≤ self.old.limit }
         ensures { self.new ≡ record {

@@ -12,7 +12,8 @@ use apdu_core::{Header, Status};
 pub struct Said {
     /// CLA INS P1 P2.
     pub header: Header,
-    /// P3, the fifth character of the header, which states the number of data characters.
+    /// P3, the fifth character of the header. It states the number of data characters; `00` means
+    /// 256 from the card, or none to it.
     pub p3: u8,
     /// The direction of the data; `None` before the first data character.
     pub direction: Option<Direction>,
@@ -67,14 +68,14 @@ pub enum Heard {
     Data(Direction),
     /// SW1.
     FirstStatus,
-    /// SW2. The TPDU has ended with this status.
+    /// SW2. The TPDU has ended with this status; `said` is what the tap has read of it.
     SecondStatus { said: Said, status: Status },
 }
 
 /// The kind of character that a tap expects next.
 #[derive(Clone, Copy, Debug, PartialEq, Eq)]
 pub enum Due {
-    /// One of the terminal, of the header.
+    /// A header character, from the terminal.
     Header,
     /// A procedure byte or SW1, from the card.
     Procedure,

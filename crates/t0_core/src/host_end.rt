@@ -25,7 +25,8 @@ use apdu_core::{Header, Status, count};
 use std::alloc::Allocator;
 use std::marker::Model;
 
-/// What a terminal's end does next.
+/// What a terminal's end does next, or an exchange of several TPDUs, for which `Done` and `Failed`
+/// are about all of them.
 #[derive(Clone, Copy, Debug, PartialEq, Eq)]
 pub enum HostTurn {
     /// It sends this character.
@@ -34,7 +35,7 @@ pub enum HostTurn {
     Listens,
     /// The TPDU has ended with this status.
     Done(Status),
-    /// It has failed for good.
+    /// An error has ended the TPDU: the end has failed for good.
     Failed,
 }
 
@@ -85,8 +86,8 @@ impl<'a> HostEnd<'a> {
     ghost use Rattle.t0_core.specs.HostSide.{at_stage, HostStandsAt, IsRequest};
     ghost use Rattle.t0_core.specs.HostMark.{HasOnly, with_data};
 
-    /// Makes an end that sends `content`, at most 255 bytes, after a header with a valid INS. P3 is
-    /// the number of bytes.
+    /// Makes an end that sends `header` and then `content`, 0 to 255 bytes, to the card. P3 is the
+    /// number of these bytes. INS must be valid: not `6X` or `9X`.
     pub fn sending(header: Header, content: &'a [u8]) -> HostEnd<'a>
         requires valid { ins_is_valid header.ins ≡ true }
         requires counts { length content.now ≤ 255 }
@@ -107,8 +108,8 @@ impl<'a> HostEnd<'a> {
         }
     }
 
-    /// Makes an end that asks the card for `wanted` bytes, 1 to 256, with a header with a valid
-    /// INS. P3 states that number; `00` means 256.
+    /// Makes an end that sends `header` and asks the card for `wanted` bytes, 1 to 256. P3 states
+    /// that number; `00` means 256. INS must be valid: not `6X` or `9X`.
     pub fn asking(header: Header, wanted: u16) -> HostEnd<'a>
         requires valid { ins_is_valid header.ins ≡ true }
         requires counts { (1 ≤ wanted) × (wanted ≤ 256) }
@@ -138,8 +139,8 @@ impl<'a> HostEnd<'a> {
         mark_of(self.request, self.stage)
     }
 
-    /// Makes the end with this progress again. `content` is the data that the end sends, with the
-    /// same length as before; it is ignored if the end asks the card for data.
+    /// Makes the end with this progress again. `content` is the data that the end sends; it must be
+    /// as long as before. It is ignored if the end asks the card for data.
     pub fn at(mark: HostMark, content: &'a [u8]) -> HostEnd<'a>
         requires { IsInRange (with_data mark content.now) }
         ensures { result ≡ with_data mark content.now }
@@ -164,7 +165,8 @@ impl<'a> HostEnd<'a> {
         }
     }
 
-    /// Returns what the end does next. Only a character to send changes the end's state.
+    /// Returns what the end does next. A character that it returns counts as sent, so the next call
+    /// returns what follows it. Any other result changes nothing.
     #[inline(always)]
     pub fn next(&mut self) -> HostTurn
         ensures turn { result ≡ turn_of self.old }
@@ -180,8 +182,9 @@ impl<'a> HostEnd<'a> {
         turn_at(&self.request, &mut self.stage)
     }
 
-    /// Returns the next character of the command's data if one is to be sent, as `next` would.
-    /// Otherwise nothing changes. A loop over it sends what a procedure byte asked for.
+    /// Returns the next character of the command's data, as `next` does, if the end sends one next.
+    /// Otherwise returns `None`, and nothing changes. A loop over it sends what a procedure byte
+    /// asked for.
     #[inline(always)]
     pub fn next_data(&mut self) -> Option<u8>
         ensures due { result ≡ data_due self.old }
@@ -210,7 +213,7 @@ impl<'a> HostEnd<'a> {
         data_bytes_at(&self.request, &mut self.stage, bytes)
     }
 
-    /// The status, if the TPDU has ended.
+    /// The status, if the TPDU has ended; `None` before SW2 and after a failure.
     #[inline(always)]
     pub fn status(&self) -> Option<Status>
         ensures { (status : StatusWord) → (result ≡ Some status)
@@ -222,7 +225,8 @@ impl<'a> HostEnd<'a> {
         }
     }
 
-    /// Takes a character of the card. A data character is appended to `gather`.
+    /// Takes a character of the card: a procedure byte, data, SW1 or SW2. A data character is
+    /// appended to `gather`; SW2 ends the TPDU.
     ///
     /// # Errors
     ///
@@ -233,7 +237,7 @@ impl<'a> HostEnd<'a> {
     /// - `TooLong`: a data character is expected, and `gather` is full; the end has failed for
     ///   good.
     /// - `AfterEnd`: the TPDU has ended or failed; the end is unchanged.
-    /// - `NotListening`: the end has characters to send first; it is unchanged.
+    /// - `NotListening`: the end has header or data characters to send first; it is unchanged.
     #[inline(always)]
     pub fn take<A: Allocator>(&mut self, byte: u8, gather: &mut Gather<A>) -> Result<(), LineFault>
         ensures fault { result_err result ≡ fault_of self.old gather.old byte }
@@ -277,7 +281,8 @@ impl<'a> HostEnd<'a> {
         }
     }
 
-    /// The whole TPDU, if none of its characters was sent yet.
+    /// The whole TPDU, if it has not begun. `None` if a character was sent, if `take_up_to_sw2`
+    /// took an answer, or if the end has failed.
     pub fn whole(&self) -> Option<WholeTpdu<'a>>
         ensures { option_map asked_of result ≡ due_by self.now }
     {
@@ -288,17 +293,18 @@ impl<'a> HostEnd<'a> {
         }
     }
 
-    /// Takes the answer to the whole TPDU, which a transport of whole TPDUs has carried out.
-    /// `bytes`, the data from the card, are appended to `gather`. The end then waits for SW2, the
-    /// one character that `take` still has to get.
+    /// Takes the answer to the whole TPDU (`whole`), which a transport of whole TPDUs has carried
+    /// out. `bytes`, the data from the card, are appended to `gather`. They may be fewer than P3
+    /// states. The end takes only SW1 of `status`. It then waits for SW2, which `take` still has to
+    /// get.
     ///
     /// # Errors
     ///
-    /// `gather` is unchanged after each (profile):
+    /// The first that holds; `gather` is unchanged after each (profile):
     ///
-    /// - `NotDue`: a character of the TPDU was sent already; the end is unchanged.
-    /// - `NotAsked`: the TPDU sends data, and `bytes` is not empty; the end is unchanged.
-    /// - `TooMany`: `bytes` exceeds what P3 states; the end is unchanged.
+    /// - `NotDue`: the TPDU has begun, ended or failed; the end is unchanged.
+    /// - `NotAsked`: the TPDU asks for no data, and `bytes` is not empty; the end is unchanged.
+    /// - `TooMany`: `bytes` is longer than P3 states (`00`: 256); the end is unchanged.
     /// - `TooLong`: `gather` has too little room; the end has failed for good.
     pub fn take_up_to_sw2<A: Allocator>(
         &mut self,

@@ -18,13 +18,14 @@ ghost use Rattle.t0_core.specs.OwnLaws.{BeginsOwn};
 ghost use Rattle.t0_core.specs.History.{Item, IsItem, IsPart, IsByteEvent, AreAlikeInTurn, events_of, passed};
 ghost use Rattle.t0_core.specs.Front.{Front, IsFront, GoesOn, Ends, GoesThrough, fresh, front_characters};
 
-/// A dialogue that continues with a character is longer by that character.
+/// A front that continues with a character becomes another front, longer by exactly that character.
 pub fn goes_on_by_one()
     ensures { (front new : Front) (c : Character) → IsFront front → GoesOn front c new →
         IsFront new × (front_characters new ≡ front_characters front ++ c ∷ []) }
 {}
 
-/// What ends with SW2 is a dialogue, and these are its characters.
+/// A front that ends with a character, SW2, becomes a dialogue: its characters are those of the
+/// front and SW2.
 pub fn ends_as_dialogue()
     ensures { (front : Front) (c : Character) (d : Dialogue) → IsFront front → Ends front c d →
         IsDialogue d × (characters d ≡ front_characters front ++ c ∷ []) }
@@ -37,14 +38,16 @@ pub fn a_front_begins_a_dialogue()
         × IsDialogue d × (characters d ≡ front_characters front ++ c ∷ rest) }
 {}
 
-/// The front of a terminal's end begins a dialogue that this end opened, with its own data.
+/// If a terminal's end is at a front, some dialogue that this end opened, with its own data, begins
+/// with that front and is longer.
 pub fn a_front_begins_its_own_dialogue()
     ensures { (host : Hosting) (front : Front) → IsRequest host → HostStandsAt host front
         → IsFront front →
         BeginsOwn host front }
 {}
 
-/// Each dialogue is passed, character by character, from nothing to its end.
+/// Each dialogue begins with no characters, continues with its own, front by front, and ends with
+/// the last of them.
 pub fn a_dialogue_is_gone_through()
     ensures { (d : Dialogue) → IsDialogue d → GoesThrough fresh (characters d) d }
 {}
@@ -52,7 +55,7 @@ pub fn a_dialogue_is_gone_through()
 /// The characters determine what a terminal's end does. Take an end at a front, and a dialogue that
 /// it opened and that continues from there. If the next character is the terminal's, the end sends
 /// exactly that one. If it is the card's, the end takes it without an error, if the gather has
-/// room. A front is never a whole dialogue.
+/// room for the data still to come. No front of the end contains a whole dialogue that it opened.
 pub fn the_next_character_is_settled()
     ensures sent { (host : Hosting) (front : Front) (d : Dialogue) (byte : ℕ)
         (rest : List Character) → IsRequest host → HostStandsAt host front → IsFront front →
@@ -69,8 +72,8 @@ pub fn the_next_character_is_settled()
         IsOpenedBy host d.body → characters d ++ rest ≡ front_characters front → ⊥ }
 {}
 
-/// The bytes that a terminal's end writes for a whole TPDU are read as the TPDU that it opened, and
-/// are 4 to 260 bytes. So no end guesses the direction of data. P3 must be a byte.
+/// The bytes that a terminal's end writes for a whole TPDU are read as the TPDU that it opened. If
+/// P3 is a byte, they are 4 to 260 bytes. So no end guesses the direction of data.
 pub fn a_whole_tpdu_is_read_as_it_is_written()
     ensures read { (host : Hosting) → IsRequest host →
         asked_in (tpdu_bytes (asked_by host)) ≡ Some (asked_by host) }
@@ -79,7 +82,7 @@ pub fn a_whole_tpdu_is_read_as_it_is_written()
 {}
 
 /// Of two dialogues with data in the same direction, neither begins the other: if both begin one
-/// row of characters, they are equal. INS must be a byte.
+/// list of characters, they are equal. INS of the first must be a byte.
 pub fn dialogues_opened_alike_have_one_cutting()
     ensures { (d e : Dialogue) (after_d after_e : List Character) →
         d.body.header.ins < 256 → IsDialogue d → IsDialogue e →
@@ -90,7 +93,7 @@ pub fn dialogues_opened_alike_have_one_cutting()
 /// There is one way to cut what happened at a card's end into whole dialogues, parts that a reset
 /// cut off, and the part in progress. Equal events have equal items, except for a direction that
 /// nobody saw because no data moved. The characters must be bytes, and each dialogue must follow
-/// some plan.
+/// some plan or be cut off from one that does.
 pub fn events_have_one_cutting()
     ensures { (items others : List Item) (part other : List Character) →
         AllByRecursion IsItem items → AllByRecursion IsItem others → IsPart part → IsPart other →
@@ -109,7 +112,8 @@ pub fn a_tap_takes_the_dialogues_that_it_reads()
         × AreTold told dialogues }
 {}
 
-/// The same for dialogues that follow plans, whatever the plans: a tap can read each of them.
+/// A tap can read each dialogue that follows a plan, whatever the plan. So it takes such dialogues
+/// to their ends, one after another, and reports each of them. The characters must be bytes.
 pub fn a_tap_takes_dialogues_under_plans()
     ensures { (dialogues : List Dialogue) (plans : List Course) →
         AllByRecursion IsDialogue dialogues → FollowInTurn dialogues plans →

@@ -11,14 +11,14 @@ use std::fmt;
 pub enum LineFault {
     /// A procedure byte is expected, and this byte is neither one nor a SW1.
     BadProcedure(u8),
-    /// The TPDU has ended, or the end has failed.
+    /// The TPDU has ended, the end has failed, or no operation has begun.
     AfterEnd,
     /// A data character is expected from the card, and the gather is full.
     TooLong,
     /// A `GET RESPONSE` brought no data, and the card announces more. Only an exchange of several
     /// TPDUs returns this, never the end of one TPDU.
     Stalled,
-    /// The end has characters to send first.
+    /// The end has header or data characters to send first.
     NotListening,
 }
 

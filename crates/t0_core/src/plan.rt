@@ -8,19 +8,21 @@ ghost use Rattle.t0_core.specs.CardSide.{Starts};
 use std::alloc::{Allocator, Global};
 use std::marker::Model;
 
-/// What a procedure byte starts (ISO/IEC 7816-3, 10.3.3).
+/// What a procedure byte starts (ISO/IEC 7816-3, 10.3.3). Afterwards another procedure byte or SW1
+/// follows.
 #[derive(Clone, Copy, Debug, PartialEq, Eq, Hash)]
 pub enum Step {
-    /// `60`: nothing; another procedure byte follows.
+    /// `60`: nothing; the terminal waits.
     Null,
-    /// INS xor `FF`: the next data character.
+    /// INS xor `FF`: the next data character, if one is left.
     One,
     /// INS: all data characters that are left.
     All,
 }
 
 /// The procedure bytes that a card sends in a TPDU, and its cut: the most response bytes, 1 to 256,
-/// that one `61XX` announces (profile).
+/// that one `61XX` announces (profile). The card skips `One` and `All` if no data characters are
+/// left, as after a refused header. If some are left after the last step, it sends one more `All`.
 #[derive(Drop)]
 pub struct Plan<A: Allocator = Global> {
     steps: Vec<Step, A>,

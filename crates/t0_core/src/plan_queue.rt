@@ -41,7 +41,7 @@ impl<A: Allocator + Copy> PlanQueue<A> {
         PlanQueue::of(Vec::new(alloc))
     }
 
-    /// Makes a queue of these plans.
+    /// Makes a queue of these plans, which all wait.
     pub fn of(plans: Vec<Plan<A>, A>) -> PlanQueue<A>
         ensures { result ≡ record { rest = plans.items; kept = None } }
     {
@@ -52,14 +52,14 @@ impl<A: Allocator + Copy> PlanQueue<A> {
         }
     }
 
-    /// The number of plans that wait.
+    /// The number of plans that wait, without the one taken last.
     pub fn len(&self) -> usize
         ensures { result ≡ length self.now.rest }
     {
         self.plans.len() - self.taken
     }
 
-    /// Appends a plan.
+    /// Appends a plan, which is taken after those that wait.
     ///
     /// # Errors
     ///
@@ -72,14 +72,16 @@ impl<A: Allocator + Copy> PlanQueue<A> {
         self.plans.push(plan).map_err(AllocError::from)
     }
 
-    /// Returns a cursor over the queue.
+    /// Returns a cursor over the queue, which keeps the plan taken last. A plan that the cursor
+    /// takes stays in the queue: call `advance` or `advance_if` too.
     pub fn cursor(&self) -> Plans<'_, A>
         ensures { result ≡ self.now }
     {
         Plans::keeping(self.kept.as_ref(), &self.plans[self.taken..])
     }
 
-    /// Takes the next plan, as a cursor does. On average this moves one plan.
+    /// Takes the next plan, as a cursor does; if none waits, no plan is kept. On average this moves
+    /// one plan.
     pub fn advance(&mut self)
         ensures { self.new ≡ advanced self.old }
     {
@@ -87,7 +89,8 @@ impl<A: Allocator + Copy> PlanQueue<A> {
         self.clear_taken();
     }
 
-    /// Takes the next plan if `takes_plan`.
+    /// Takes the next plan if `takes_plan`, which is `CardEnd::takes_plan` from before the `turn`.
+    /// Otherwise nothing changes.
     pub fn advance_if(&mut self, takes_plan: bool)
         ensures { self.new ≡ (if takes_plan then advanced self.old else self.old) }
     {

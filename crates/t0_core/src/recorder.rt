@@ -7,7 +7,8 @@ use crate::watch::Watch;
 use std::alloc::{Allocator, Global};
 use std::marker::Model;
 
-/// Records the characters and their senders while memory lasts.
+/// Records the characters and their senders while memory lasts. After the first one that it loses,
+/// it records no more.
 #[derive(Drop)]
 pub struct Recorder<A: Allocator = Global> {
     heard: Vec<(End, u8), A>,

@@ -78,7 +78,8 @@ impl Tap {
     /// After each, the tap is unchanged (profile):
     ///
     /// - `OutOfTurn`: the other end sends the next character.
-    /// - `BadProcedure`: a procedure byte or SW1 is expected, and the byte is neither.
+    /// - `BadProcedure`: a procedure byte or SW1 is expected, and the byte is neither. If INS is
+    ///   `6X` or `9X`, only NULL is a procedure byte.
     pub fn hear(&mut self, from: End, byte: u8) -> Result<Heard, TapFault>
         ensures fault { result_err result ≡ tap_fault_at self.old from byte }
         ensures refused { OnErr result (self.new ≡ self.old) }
@@ -116,7 +117,7 @@ impl Tap {
         Ok(heard)
     }
 
-    /// Drops the dialogue in progress.
+    /// Drops the dialogue in progress. The tap then expects a header.
     pub fn reset(&mut self)
         ensures afresh { self.new ≡ afresh }
         ensures led { (events : List Event) → HasHeard events self.old →

@@ -3,14 +3,14 @@
 use std::error::Error;
 use std::fmt;
 
-/// Why no dialogue continues with a character (ISO/IEC 7816-3, 10.3). After either, the tap is
-/// unchanged.
+/// Why no dialogue that a tap can read continues with a character (ISO/IEC 7816-3, 10.3). After
+/// either, the tap is unchanged.
 #[derive(Clone, Copy, Debug, PartialEq, Eq)]
 pub enum TapFault {
     /// The other end sends the next character.
     OutOfTurn,
-    /// A procedure byte or SW1 is expected, and this byte is neither. If INS is invalid, only NULL
-    /// is a procedure byte.
+    /// A procedure byte or SW1 is expected, and this byte is neither. If INS is `6X` or `9X`, only
+    /// NULL is a procedure byte.
     BadProcedure,
 }
 

@@ -14,7 +14,7 @@ pub enum Verdict {
     Refuse(Status),
     /// The terminal sends as many data characters as P3 states, 0 to 255.
     Receive,
-    /// The card sends as many data characters as P3 states, 1 to 256.
+    /// The card sends as many data characters as P3 states, 1 to 256 (`00`: 256).
     Send,
 }
 
@@ -45,8 +45,9 @@ pub trait TpduCard {
     ghost prepared: { Self → Prepared State };
 
     /// Judges a header. It may be called at any time, and drops what an unfinished TPDU prepared.
-    /// `cut` is the most bytes, 1 to 256, that one `61XX` announces. A header with an invalid INS
-    /// must be refused.
+    /// `cut` is the most bytes, 1 to 256, that one `61XX` announces. A card must refuse an INS of
+    /// `6X` or `9X`. It may return `Receive` only for INS of `MayReceive`, `Send` only for INS of
+    /// `MaySend`.
     fn header(&mut self, header: Header, p3: u8, cut: u16) -> Verdict
         requires { (1 ≤ cut) × (cut ≤ 256) }
         ensures stands { standing self.new ≡ standing self.old }
@@ -79,7 +80,8 @@ pub trait TpduCard {
             Decides Does (standing self.old) ask.cut (answered_with ask bytes result)
             (prepared self.new)) };
 
-    /// SW2 is sent: the state that the TPDU decided takes effect.
+    /// SW2 is sent: the state that the TPDU decided takes effect. It may be called once, after
+    /// `Refuse`, `data` or `end_of_sending`.
     fn answered(&mut self)
         requires { IsDecided (prepared self.old) }
         ensures stands { (next : State) → prepared self.old ≡ Decided next

@@ -5,17 +5,16 @@ use std::fmt;
 
 /// Why a card's end does not carry out a whole TPDU (profile).
 ///
-/// After `UnderWay` and `NoTpdu` nothing has changed. After any other error the card is reset,
-/// since neither end would continue.
+/// After `UnderWay` and `NoTpdu` nothing has changed. After any other error the card is reset.
 #[derive(Clone, Copy, Debug, PartialEq, Eq)]
 pub enum TpduFault {
     /// Characters of another TPDU were sent already.
     UnderWay,
-    /// The bytes are not a whole TPDU.
+    /// The bytes are not a whole TPDU (see `WholeTpdu::read`).
     NoTpdu,
-    /// The card expects more data than were given, so both ends would wait.
+    /// The card expects data, and none were given, so both ends would wait.
     WantsData,
-    /// The card sends more data than were asked for.
+    /// The card sends data, and none may come back.
     SendsData,
     /// The card sends more data than the gather has room for.
     TooLong,

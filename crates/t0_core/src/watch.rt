@@ -9,8 +9,8 @@ pub trait Watch {
     /// What it has recorded, and whether it has lost a character.
     ghost hearing: { Self → Hearing };
 
-    /// Called for each character on the line. The watch records it or loses it; once it has lost
-    /// one, it records no more.
+    /// Called for each character on the line; `from` is the end that sent it. The watch records it
+    /// or loses it; once it has lost one, it records no more.
     fn seen(&mut self, from: End, byte: u8)
         ensures { Hears (hearing self.old) ((from, byte) ∷ []) (hearing self.new) };
 }

@@ -8,7 +8,9 @@ use apdu_core::{Header, count};
 /// A whole command TPDU, as a transport of whole TPDUs takes it.
 #[derive(Clone, Copy, Debug)]
 pub struct WholeTpdu<'a> {
+    /// CLA INS P1 P2.
     pub header: Header,
+    /// The number of data bytes to the card, or from it (`00`: 256). It is `00` if no data move.
     pub p3: u8,
     /// The data to the card, 0 to 255 bytes.
     pub content: &'a [u8],
@@ -64,7 +66,7 @@ impl<'a> WholeTpdu<'a> {
 
     /// Writes the TPDU to the front of `out`, in the format of `read`, and returns its size in
     /// bytes. It is 4 if no data move, else 5 and the data to the card; at most 260 for a TPDU of a
-    /// terminal's end. `None`, with no change, if `out` is too short.
+    /// terminal's end. The rest of `out` stays. `None`, with no change, if `out` is too short.
     pub fn write(&self, out: &mut [u8]) -> Option<usize>
         ensures { let bytes = tpdu_bytes (asked_of self.now) in MatchOption result
             ((length out.old < length bytes) × (out.new ≡ out.old))

@@ -1,7 +1,6 @@
 -- Reading the bytes of a block gives the same block.
-use Rattle.std.proofs.Common.{◌≡◌, refl, sym, ap, subst, ◌∙◌, ℕ, ◌+◌, ◌≤◌, Bool, true, false, Option, None, List, [], ◌∷◌, ◌++◌, length, take, Some, slice_index, length-append, arith, nat_lt, ◌==◌, eq-eqb}
+use Rattle.std.proofs.Common.{◌≡◌, refl, sym, ap, ◌∙◌, ℕ, ◌+◌, ◌≤◌, Bool, true, false, Option, None, List, [], ◌∷◌, ◌++◌, length, take, Some, slice_index, length-append, arith, nat_lt, ◌==◌, eq-eqb}
 use Rattle.std.specs.List.{slice_range}
-use Rattle.std.proofs.lemmas.Option.{same_Some}
 use Rattle.std.proofs.Math.Seq.{take-append_seam, get_or-append_seam}
 use Rattle.t1_core.specs.declared.pcb.Pcb.{Pcb}
 use Rattle.t1_core.specs.declared.pcb.Pcb.TheVariants.{Information, Ready, Supervisory}
@@ -10,7 +9,7 @@ use Rattle.t1_core.specs.declared.pcb.Subject.TheVariants.{Resynch}
 use Rattle.t1_core.specs.PcbBytes.{pcb_byte, pcb_of}
 use Rattle.t1_core.specs.declared.control.Control.{Control}
 use Rattle.t1_core.specs.declared.control.Control.TheVariants as control
-use Rattle.t1_core.specs.Block.{Block, I, R, Request, Response, is_filled}
+use Rattle.t1_core.specs.Block.{Block, I, R, Request, Response, are_filled, is_filled}
 use Rattle.t1_core.specs.BlockBytes.{lrc, before_lrc, spelled, parts_of, block_in, block_of, bytes_of, pcb_for, info_of, control_of, controlled, field_of, subject_of}
 
 -- each PCB is read back
@@ -72,20 +71,18 @@ reads_written b bytes few filled is =
     ap block_of is ∙ ap block_in (reads_spelled (pcb_for b) (info_of b) few) ∙ block_again b filled
 
 -- a block that was read has a field if its more-data bit is set
-controlled_is_filled : (response : Bool) (c : Option Control) (b : Block)
-    → controlled response c ≡ Some b → is_filled b ≡ true
-controlled_is_filled response None b e = absurd (cc)
-controlled_is_filled true (Some c) b e = subst (λ x. is_filled x ≡ true) (same_Some _ _ e) refl
-controlled_is_filled _ _ b e = subst (λ x. is_filled x ≡ true) (same_Some _ _ e) refl
+controlled_is_filled : (response : Bool) (c : Option Control)
+    → are_filled (controlled response c) ≡ true
+controlled_is_filled response None = refl
+controlled_is_filled true (Some c) = refl
+controlled_is_filled false (Some c) = refl
 
-block_is_filled : (parts : Option (Pcb × List ℕ)) (b : Block) → block_in parts ≡ Some b
-    → is_filled b ≡ true
-block_is_filled None b e = absurd (cc)
-block_is_filled (Some (Information number true, [])) b e = absurd (cc)
-block_is_filled (Some (Ready number reason, x ∷ field)) b e = absurd (cc)
-block_is_filled (Some (Supervisory response what, field)) b e =
-    controlled_is_filled response (control_of what field) b e
-block_is_filled _ b e = subst (λ x. is_filled x ≡ true) (same_Some _ _ e) refl
+block_is_filled : (parts : Option (Pcb × List ℕ)) → are_filled (block_in parts) ≡ true
+block_is_filled (Some (Information number true, [])) = refl
+block_is_filled (Some (Ready number reason, x ∷ field)) = refl
+block_is_filled (Some (Supervisory response what, field)) =
+    controlled_is_filled response (control_of what field)
+block_is_filled _ = refl
 
-pub read_is_filled : (bytes : List ℕ) (b : Block) → block_of bytes ≡ Some b → is_filled b ≡ true
-read_is_filled bytes b e = block_is_filled (parts_of bytes) b e
+pub read_is_filled : (bytes : List ℕ) → are_filled (block_of bytes) ≡ true
+read_is_filled bytes = block_is_filled (parts_of bytes)

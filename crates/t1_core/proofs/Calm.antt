@@ -1,5 +1,5 @@
 -- With twice as many tries as blocks that fail to arrive, the terminal does not give up.
-use Rattle.std.proofs.Common.{◌≡◌, ◌≢◌, refl, sym, ap, subst, ◌∙◌, ℕ, zero, suc, ◌+◌, ◌-◌, ◌*◌, ◌≤◌, Bool, true, false, List, [], ◌∷◌, ◌++◌, length, take, drop, nat_lt, length-append, Option, Some, None, arith, ◌⊎◌, inl, inr}
+use Rattle.std.proofs.Common.{◌≡◌, ◌≢◌, refl, sym, ap, subst, ◌∙◌, ℕ, zero, suc, ◌+◌, ◌-◌, ◌*◌, ◌≤◌, Bool, true, false, List, [], ◌∷◌, ◌++◌, length, length-append, append_assoc, Option, Some, None, arith, ◌⊎◌, inl, inr}
 use Rattle.std.proofs.lemmas.List.{take-append-drop}
 use Rattle.t1_core.specs.declared.line.Fate.{Fate}
 use Rattle.t1_core.specs.declared.line.Fate.TheVariants.{Delivers, Damages, Loses}
@@ -11,10 +11,11 @@ use Rattle.t1_core.specs.declared.terminal.Out.{Out}
 use Rattle.t1_core.specs.declared.terminal.Phase.TheVariants.{GivenUp}
 use Rattle.t1_core.specs.Block.{other, is_size}
 use Rattle.t1_core.specs.CardSide.{Meaning}
+use Rattle.t1_core.specs.TerminalSide.{has_stopped}
 use Rattle.t1_core.specs.Mild.{bad_of, bad, Stays, IsMild, Enough, IsSize, count_of}
-use Rattle.t1_core.specs.World.{World, exchange, run, start}
-use Rattle.t1_core.proofs.Places.{Kept, Place, Opens, Behind, Taken, Waits, Grows, Answering, Between, Repeating, Given_up, Finished, uses, proceeds, starts, out_at, world_of, heard, misses, comes, comes_next, is_long, IsHeard, is_heard, grows, arrived, garbled, step, is_step}
-use Rattle.t1_core.proofs.Holding.{first, first_is}
+use Rattle.t1_core.specs.World.{World, run, start}
+use Rattle.t1_core.proofs.Places.{Kept, Spot, Place, Going, Opens, Behind, Taken, Waits, Grows, Between, Sent, Given_up, Finished, asking, response_in, uses, proceeds, starts, out_at, world_of, runs, heard, misses, grants, comes, comes_next, numbered, is_long, IsHeard, is_heard, grows, garbled, garbled_by, step, is_step}
+use Rattle.t1_core.proofs.Holding.{first, first_is, moves}
 use Rattle.t1_core.proofs.Bits.{other_is_not}
 
 abbrev pair : Bool → Bool → Bool × Bool
@@ -31,108 +32,76 @@ abbrev one_if_not : Bool → ℕ
 one_if_not true = 0
 one_if_not false = 1
 
--- the place after the terminal has asked again
-abbrev asking : Place → Place
-asking (Behind k collected rest answering tries extensions asks) =
-    Behind k collected rest answering tries extensions true
-asking (Waits k rest n size granted tries extensions) = Waits k rest n size false tries extensions
-asking (Grows k rest size granted tries extensions) = Grows k rest size false tries extensions
-asking p = p
+-- a try that the terminal has used to ask
+abbrev spare : Spot → ℕ
+spare (Behind asks collected rest answering) = one_if asks
+spare _ = 0
 
 module _ (m : Meaning) (before : List (List ℕ)) (f : ℕ) where
   -- N(S) and N(R) of the terminal
   abbrev numbers : Place → Bool × Bool
   numbers p = let t = (world_of m before p).terminal in (t.number, t.due)
 
-  -- `long` is the length of the response in progress
-  pub record Quiet (left tries most : ℕ) (settings : Settings) (long : ℕ) : Type 0 where
+  pub record Quiet (left tries most : ℕ) (settings : Settings) (response : List ℕ) : Type 0 where
     pub tries_left : most ≤ tries
     pub left_le : left ≤ f
     pub enough : Enough m f settings
-    pub fits : long ≤ settings.limit
+    pub fits : length response ≤ settings.limit
+
+  -- the extensions are enough for the requests of the card
+  abbrev Grants : ℕ → Kept → Spot → (extensions : ℕ) → Type 0
+  Grants left k (Waits rest n size granted) extensions =
+      (n + count_of size + left + one_if_not granted ≤ extensions) × IsSize size
+  Grants left k (Grows rest size granted) extensions =
+      (left + one_if_not granted ≤ extensions) × (is_size size ≡ true)
+  Grants left k (Between got b bytes) extensions = Unit {0}
+  Grants left k (Sent first got rest) extensions = Unit {0}
+  Grants left k _ extensions = k.settings.extensions ≤ extensions
 
   -- `left` blocks may fail to arrive before the next step
-  abbrev pub Calm : ℕ → Place → Type 0
-  Calm left (Opens k rest tries extensions asks) =
-      Quiet left tries (2 * left) k.settings 0 × (k.settings.extensions ≤ extensions)
-  Calm left (Behind k collected rest answering tries extensions asks) =
-      Quiet left tries (2 * left + one_if asks) k.settings 0 × (k.settings.extensions ≤ extensions)
-  Calm left (Taken k collected b bytes tries extensions) =
-      Quiet left tries (2 * left) k.settings 0 × (k.settings.extensions ≤ extensions)
-  Calm left (Waits k rest n size granted tries extensions) =
-      Quiet left tries (2 * left) k.settings (length k.last + length rest)
-      × (n + count_of size + left + one_if_not granted ≤ extensions) × IsSize size
-  Calm left (Grows k rest size granted tries extensions) =
-      Quiet left tries (2 * left) k.settings (length k.last + length rest)
-      × (left + one_if_not granted ≤ extensions) × (is_size size ≡ true)
-  Calm left (Answering k rest tries extensions) =
-      Quiet left tries (2 * left) k.settings (length k.last + length rest)
-  Calm left (Between k got b bytes tries extensions) =
-      Quiet left tries (2 * left) k.settings (length got + length (b ∷ bytes))
-  Calm left (Repeating k got rest tries extensions) =
-      Quiet left tries (2 * left) k.settings (length got + (length k.last + length rest))
-  Calm left (Given_up w cause) = ⊥
-  Calm left (Finished w) = Unit {0}
+  abbrev Calm : ℕ → Kept → Spot → (tries extensions : ℕ) → Type 0
+  Calm left k s tries extensions =
+      Quiet left tries (2 * left + spare s) k.settings (response_in k s)
+      × Grants left k s extensions
+
+  abbrev CalmAt : ℕ → Place → Type 0
+  CalmAt left (Going k s tries extensions) = Calm left k s tries extensions
+  CalmAt left (Given_up w cause) = ⊥
+  CalmAt left (Finished w) = Unit {0}
 
   -- without progress `left` more may fail, with progress all `f`
   abbrev Goes : ℕ → Bool × Bool → Place → Type 0
-  Goes left old p = ((numbers p ≡ old) × Calm left p) ⊎ ((numbers p ≡ old → ⊥) × Calm f p)
+  Goes left old p = ((numbers p ≡ old) × CalmAt left p) ⊎ ((numbers p ≡ old → ⊥) × CalmAt f p)
 
-  quiet : {left tries most long : ℕ} {settings : Settings} (rest now need : ℕ) → Quiet left tries
-      most settings long
-      → need ≤ now → rest ≤ f → Quiet rest now need settings long
-  quiet rest now need q t l =
-      record { tries_left = t; left_le = l; enough = q.enough; fits = q.fits }
+  quiet : {left tries most : ℕ} {settings : Settings} {response : List ℕ} (now need : ℕ)
+      (other : List ℕ) → Quiet left tries most settings response → need ≤ now
+      → length other ≤ settings.limit → Quiet left now need settings other
+  quiet now need other q t fits =
+      record { tries_left = t; left_le = q.left_le; enough = q.enough; fits = fits }
 
-  afresh : (settings : Settings) (long : ℕ) → Enough m f settings → long ≤ settings.limit
-      → Quiet f settings.tries (2 * f) settings long
-  afresh settings long e fits =
-      record { tries_left = e.tries; left_le = omega arith; enough = e; fits = fits }
-
-  uses_calm : (cause : Cause) (n left : ℕ) (w : World) (again : ℕ → Place) → 1 ≤ n
-      → ((i : ℕ) → i + 1 ≡ n → Calm left (again i)) → Calm left (uses cause n w again)
-  uses_calm cause zero left w again some h = absurd (omega (arith, some))
-  uses_calm cause (suc n) left w again some h = h n (omega arith)
+  afresh : (settings : Settings) (response : List ℕ) → Enough m f settings
+      → length response ≤ settings.limit → Quiet f settings.tries (2 * f + 0) settings response
+  afresh settings response e fits =
+      let t = e.tries in
+      record { tries_left = omega (arith, t); left_le = omega arith; enough = e; fits = fits }
 
   -- one block fails to arrive
-  fewer : {left tries most long : ℕ} {settings : Settings} (now need : ℕ) → need + 1 ≤ most
-      → tries ≤ now + 1 → Quiet (left + 1) tries most settings long
-      → Quiet left now need settings long
+  fewer : {left tries most : ℕ} {settings : Settings} {response : List ℕ} (now need : ℕ)
+      → need + 1 ≤ most → tries ≤ now + 1 → Quiet (left + 1) tries most settings response
+      → Quiet left now need settings response
   fewer now need le less q =
       let t = q.tries_left in
-      let l = q.left_le in
-      quiet _ now need q (omega (arith, le, less, t)) (omega (arith, l))
+      let l = q.left_le in record {
+        tries_left = omega (arith, le, less, t);
+        left_le = omega (arith, l);
+        enough = q.enough;
+        fits = q.fits;
+      }
 
-  tried : {left tries most long : ℕ} {settings : Settings} (w : World) (again : ℕ → Place)
-      (need : ℕ) → need + 1 ≤ most → Quiet (left + 1) tries most settings long
-      → ((i : ℕ) → Quiet left i need settings long → Calm left (again i))
-      → Calm left (uses TriesSpent tries w again)
-  tried w again need le q h =
-      let t = q.tries_left in
-      uses_calm TriesSpent _ _ w again (omega (arith, t, le))
-      (λ i e. h i (fewer i need le (omega (arith, e)) q))
-
-  misses_calm : (out : Out) (p : Place) (left : ℕ) → Calm (left + 1) p
-      → Calm left (misses m before out p)
-  misses_calm out (Opens k rest tries extensions asks) left h =
-      tried _ _ (2 * left) (omega arith) h.0 (λ i q. (q, h.1))
-  misses_calm out (Behind k collected rest answering tries extensions asks) left h =
-      tried _ _ (2 * left + 1) (omega arith) h.0 (λ i q. (q, h.1))
-  misses_calm out (Taken k collected b bytes tries extensions) left h =
-      tried _ _ (2 * left) (omega arith) h.0 (λ i q. (q, h.1))
-  misses_calm out (Waits k rest n size granted tries extensions) left h =
-      let x = h.1 in
-      tried _ _ (2 * left) (omega arith) h.0 (λ i q. (q, omega (arith, x), h.2))
-  misses_calm out (Grows k rest size granted tries extensions) left h =
-      let x = h.1 in
-      tried _ _ (2 * left) (omega arith) h.0 (λ i q. (q, omega (arith, x), h.2))
-  misses_calm out (Answering k rest tries extensions) left h =
-      tried _ _ (2 * left) (omega arith) h (λ i q. q)
-  misses_calm out (Between k got b bytes tries extensions) left h =
-      tried _ _ (2 * left) (omega arith) h (λ i q. q)
-  misses_calm out (Repeating k got rest tries extensions) left h =
-      tried _ _ (2 * left) (omega arith) h (λ i q. q)
-  misses_calm _ _ left h = h
+  uses_calm : (cause : Cause) (n left : ℕ) (w : World) (again : ℕ → Place) → 1 ≤ n
+      → ((i : ℕ) → i + 1 ≡ n → CalmAt left (again i)) → CalmAt left (uses cause n w again)
+  uses_calm cause zero left w again some h = absurd (omega (arith, some))
+  uses_calm cause (suc n) left w again some h = h n (omega arith)
 
   -- N(S) and N(R) stay the same
   uses_stays : (cause : Cause) (n : ℕ) (w : World) (again : ℕ → Place) (old : Bool × Bool)
@@ -141,144 +110,111 @@ module _ (m : Meaning) (before : List (List ℕ)) (f : ℕ) where
   uses_stays cause zero w again old e h = e
   uses_stays cause (suc n) w again old e h = h n
 
-  misses_stays : (out : Out) (p : Place) → numbers (misses m before out p) ≡ numbers p
-  misses_stays out (Opens k rest zero extensions asks) = refl
-  misses_stays out (Behind k collected rest answering zero extensions asks) = refl
-  misses_stays out (Taken k collected b bytes zero extensions) = refl
-  misses_stays out (Waits k rest n size granted zero extensions) = refl
-  misses_stays out (Grows k rest size granted zero extensions) = refl
-  misses_stays out (Answering k rest zero extensions) = refl
-  misses_stays out (Between k got b bytes zero extensions) = refl
-  misses_stays out (Repeating k got rest zero extensions) = refl
-  misses_stays _ _ = refl
-
-  missed : (out : Out) (p : Place) (left : ℕ) → Calm (left + 1) p → Goes left (numbers p)
-      (misses m before out p)
-  missed out p left h = inl (misses_stays out p, misses_calm out p left h)
-
-  starts_calm : (k : Kept) (rest : List ℕ) (n : ℕ) (size : Option ℕ) (tries extensions left : ℕ)
-      → Quiet left tries (2 * left) k.settings (length k.last + length rest)
-      → n + count_of size + left ≤ extensions → IsSize size
-      → Calm left (asking (starts k rest n size tries extensions))
-  starts_calm k rest (suc n) size tries extensions left q x s = (q, omega (arith, x), s)
-  starts_calm k rest zero (Some size) tries extensions left q x s = (q, omega (arith, x), s)
-  starts_calm k rest zero None tries extensions left q x s = q
-
-  starts_stays : (k : Kept) (rest : List ℕ) (n : ℕ) (size : Option ℕ) (tries extensions : ℕ)
-      → numbers (starts k rest n size tries extensions) ≡ (k.number, k.due)
-  starts_stays k rest zero (Some size) tries extensions = refl
-  starts_stays _ _ _ _ _ _ = refl
-
-  heard_stays : (p : Place) → numbers (heard m before p) ≡ numbers p
-  heard_stays (Behind k collected [] answering tries extensions false) =
-      starts_stays _ _ _ _ tries extensions
-  heard_stays (Behind k collected (b ∷ bytes) answering tries extensions false) = refl
-  heard_stays (Waits k rest n size true tries extensions) =
-      starts_stays k rest n size tries extensions
-  heard_stays (Grows k rest size true tries extensions) = refl
-  heard_stays _ = refl
-
-  parts_fit : (n : ℕ) (bytes : List ℕ) (most : ℕ) → length bytes ≤ most
-      → length (take n bytes) + length (drop n bytes) ≤ most
-  parts_fit n bytes most le =
-      let e = length-append (take n bytes) (drop n bytes) in
-      let w = ap length (take-append-drop n bytes) in
-      omega (arith, le, e, w)
-
-  heard_calm : (p : Place) (left : ℕ) → Calm left p → Calm left (asking (heard m before p))
-  heard_calm (Behind k collected [] answering tries extensions false) left h =
-      let done : List (List ℕ) = before ++ (k.done ++ (collected ++ k.field) ∷ []) in
-      let q = h.0.tries_left in let l = h.0.left_le in let x = h.1 in
-      let y = h.0.enough.extensions done in
-      starts_calm _ _ (m.asks done).extensions (m.asks done).size tries extensions left
-      (record {
-        tries_left = omega (arith, q);
-        left_le = l;
-        enough = h.0.enough;
-        fits = parts_fit k.ifsd (m.does done) _ (h.0.enough.fits done);
-      }) (omega (arith, l, x, y)) (h.0.enough.sizes done)
-  heard_calm (Behind k collected (b ∷ bytes) answering tries extensions false) left h =
-      let q = h.0.tries_left in (
-        quiet left tries (2 * left) h.0 (omega (arith, q)) h.0.left_le,
-        h.1,
-      )
-  heard_calm (Waits k rest n size true tries extensions) left h =
-      let x = h.1 in starts_calm k rest n size tries extensions left h.0 (omega (arith, x)) h.2
-  heard_calm (Grows k rest size true tries extensions) left h = h.0
-  heard_calm (Between k got b bytes tries extensions) left h =
-      let e = h.fits in
-      let p = parts_fit k.ifsd (b ∷ bytes) (length (b ∷ bytes)) (omega arith) in
-      record {
-        tries_left = h.tries_left;
-        left_le = h.left_le;
-        enough = h.enough;
-        fits = omega (arith, e, p);
-      }
-  heard_calm _ left h = h
+  -- after one failure more the terminal may have asked again, with a try less
+  asked : (k : Kept) (s : Spot) (left tries now extensions : ℕ) → tries ≤ now + 1
+      → Calm (left + 1) k s tries extensions → Calm left k (asking s) now extensions
+  asked k (Behind asks collected rest answering) left tries now extensions le h =
+      (fewer now (2 * left + 1) (omega arith) le h.0, h.1)
+  asked k (Waits rest n size granted) left tries now extensions le h =
+      let x = h.1.0 in (fewer now (2 * left + 0) (omega arith) le h.0, (omega (arith, x), h.1.1))
+  asked k (Grows rest size granted) left tries now extensions le h =
+      let x = h.1.0 in (fewer now (2 * left + 0) (omega arith) le h.0, (omega (arith, x), h.1.1))
+  asked k _ left tries now extensions le h =
+      (fewer now (2 * left + 0) (omega arith) le h.0, h.1)
 
   -- a terminal that has asked again has fewer tries, so the other case follows
-  unasked : (p : Place) (left : ℕ) → Calm left (asking p) → Calm left p
-  unasked (Behind k collected rest answering tries extensions false) left h =
+  unasked : (k : Kept) (s : Spot) (left tries extensions : ℕ)
+      → Calm left k (asking s) tries extensions → Calm left k s tries extensions
+  unasked k (Behind false collected rest answering) left tries extensions h =
       let q = h.0.tries_left in
-      (quiet left tries (2 * left + 0) h.0 (omega (arith, q)) h.0.left_le, h.1)
-  unasked (Waits k rest n size true tries extensions) left h =
-      let x = h.1 in (h.0, omega (arith, x), h.2)
-  unasked (Grows k rest size true tries extensions) left h =
-      let x = h.1 in (h.0, omega (arith, x), h.2)
-  unasked _ left h = h
+      (quiet tries (2 * left + 0) [] h.0 (omega (arith, q)) h.0.fits, h.1)
+  unasked k (Waits rest n size true) left tries extensions h =
+      let x = h.1.0 in (h.0, (omega (arith, x), h.1.1))
+  unasked k (Grows rest size true) left tries extensions h =
+      let x = h.1.0 in (h.0, (omega (arith, x), h.1.1))
+  unasked k _ left tries extensions h = h
 
-  -- after one failure more the terminal may have asked again
-  asked : (p : Place) (left : ℕ) → Calm (left + 1) p → Calm left (asking p)
-  asked (Opens k rest tries extensions asks) left h =
-      (fewer tries (2 * left) (omega arith) (omega arith) h.0, h.1)
-  asked (Behind k collected rest answering tries extensions asks) left h =
-      (fewer tries (2 * left + 1) (omega arith) (omega arith) h.0, h.1)
-  asked (Taken k collected b bytes tries extensions) left h =
-      (fewer tries (2 * left) (omega arith) (omega arith) h.0, h.1)
-  asked (Waits k rest n size granted tries extensions) left h =
-      let x = h.1 in
-      (fewer tries (2 * left) (omega arith) (omega arith) h.0, omega (arith, x), h.2)
-  asked (Grows k rest size granted tries extensions) left h =
-      let x = h.1 in
-      (fewer tries (2 * left) (omega arith) (omega arith) h.0, omega (arith, x), h.2)
-  asked (Answering k rest tries extensions) left h =
-      fewer tries (2 * left) (omega arith) (omega arith) h
-  asked (Between k got b bytes tries extensions) left h =
-      fewer tries (2 * left) (omega arith) (omega arith) h
-  asked (Repeating k got rest tries extensions) left h =
-      fewer tries (2 * left) (omega arith) (omega arith) h
-  asked _ left h = h
+  weaker : (k : Kept) (s : Spot) (left tries extensions : ℕ)
+      → Calm (left + 1) k s tries extensions → Calm left k s tries extensions
+  weaker k s left tries extensions h =
+      unasked k s left tries extensions
+      (asked k s left tries tries extensions (omega arith) h)
+
+  missed : (out : Out) (k : Kept) (s : Spot) (left tries extensions : ℕ)
+      → Calm (left + 1) k s tries extensions
+      → Goes left (k.number, k.due) (misses m before out k s tries extensions)
+  missed out k s left tries extensions h =
+      let q = h.0.tries_left in inl (
+        uses_stays TriesSpent tries _ _ _ refl (λ i. refl),
+        uses_calm TriesSpent tries left _ _ (omega (arith, q))
+            (λ i e. asked k s left tries i extensions (omega (arith, e)) h),
+      )
+
+  starts_calm : (k : Kept) (rest : List ℕ) (n : ℕ) (size : Option ℕ) (tries extensions left : ℕ)
+      → Quiet left tries (2 * left + 0) k.settings (k.last ++ rest)
+      → n + count_of size + left ≤ extensions → IsSize size
+      → Calm left k (asking (starts rest n size)) tries extensions
+  starts_calm k rest (suc n) size tries extensions left q x s = (q, (omega (arith, x), s))
+  starts_calm k rest zero (Some size) tries extensions left q x s = (q, (omega (arith, x), s))
+  starts_calm k rest zero None tries extensions left q x s = (q, tt)
+
+  heard_stays : (k : Kept) (s : Spot)
+      → pair (heard m before k s).0.number (heard m before k s).0.due ≡ pair k.number k.due
+  heard_stays k (Behind false collected [] answering) = refl
+  heard_stays k (Behind false collected (b ∷ bytes) answering) = refl
+  heard_stays k (Waits rest n size true) = refl
+  heard_stays k (Grows rest size true) = refl
+  heard_stays k _ = refl
+
+  heard_calm : (k : Kept) (s : Spot) (left tries extensions : ℕ) → Calm left k s tries extensions
+      → Calm left (heard m before k s).0 (asking (heard m before k s).1) tries extensions
+  heard_calm k (Behind false collected [] answering) left tries extensions h =
+      let ran : List (List ℕ) = k.done ++ (collected ++ k.field) ∷ [] in
+      let done : List (List ℕ) = before ++ ran in
+      let l = h.0.left_le in let x = h.1 in
+      let y = h.0.enough.extensions done in
+      starts_calm (runs m before k ran) _ (m.asks done).extensions (m.asks done).size tries
+      extensions left
+      (quiet tries (2 * left + 0) _ h.0 h.0.tries_left
+      (subst (λ r. length r ≤ k.settings.limit) (sym (take-append-drop k.ifsd (m.does done)))
+      (h.0.enough.fits done))) (omega (arith, l, x, y)) (h.0.enough.sizes done)
+  heard_calm k (Behind false collected (b ∷ bytes) answering) left tries extensions h = h
+  heard_calm k (Waits rest n size true) left tries extensions h =
+      let x = h.1.0 in
+      starts_calm k rest n size tries extensions left h.0 (omega (arith, x)) h.1.1
+  heard_calm k (Grows rest size true) left tries extensions h = (h.0, tt)
+  heard_calm k (Between got b bytes) left tries extensions h = (
+    quiet tries (2 * left + 0) _ h.0 h.0.tries_left
+        (subst (λ r. length (got ++ r) ≤ k.settings.limit)
+        (sym (take-append-drop k.ifsd (b ∷ bytes))) h.0.fits),
+    tt,
+  )
+  heard_calm k _ left tries extensions h = h
 
   -- the card's block arrives
 
-  grows_goes : (v : Bool) (out : Out) (k : Kept) (rest : List ℕ) (size : ℕ) (granted : Bool)
-      (tries extensions left : ℕ)
-      → is_size size ≡ v → Calm left (Grows k rest size false tries extensions)
-      → Goes left (k.number, k.due) (grows m before v out k rest size granted tries extensions)
-  grows_goes true out k rest size granted tries extensions left e h =
-      let x = h.1 in inl (
-        uses_stays ExtensionsSpent extensions _ _ _ refl (λ i. refl),
-        uses_calm ExtensionsSpent extensions left _ _ (omega (arith, x)) (λ i is. (
-          quiet left tries (2 * left) h.0 h.0.tries_left h.0.left_le,
-          omega (arith, x, is),
-          h.2,
-        )),
-      )
-  grows_goes false out k rest size granted tries extensions left e h = absurd (let s = h.2 in cc)
+  granted : (out : Out) (k : Kept) (s next : Spot) (left tries extensions : ℕ) → 1 ≤ extensions
+      → ((i : ℕ) → i + 1 ≡ extensions → Calm left k next tries i)
+      → Goes left (k.number, k.due) (grants m before out k s next tries extensions)
+  granted out k s next left tries extensions some h = inl (
+    uses_stays ExtensionsSpent extensions _ _ _ refl (λ i. refl),
+    uses_calm ExtensionsSpent extensions left _ _ some h,
+  )
 
-  proceeds_calm : (k : Kept) (todo : List (List ℕ)) (w : World) → Enough m f k.settings → Calm f
-      (proceeds k todo w)
+  grows_goes : (v : Bool) (out : Out) (k : Kept) (rest : List ℕ) (size : ℕ) (was : Bool)
+      (left tries extensions : ℕ)
+      → is_size size ≡ v → Calm left k (Grows rest size false) tries extensions
+      → Goes left (k.number, k.due) (grows m before v out k rest size was tries extensions)
+  grows_goes true out k rest size was left tries extensions e h =
+      let x = h.1.0 in
+      granted out (record k { size = size }) (Grows rest size was) (Grows rest size true) left tries
+      extensions (omega (arith, x)) (λ i is. (h.0, (omega (arith, x, is), e)))
+  grows_goes false out k rest size was left tries extensions e h = absurd (let s = h.1.1 in cc)
+
+  proceeds_calm : (k : Kept) (todo : List (List ℕ)) (w : World) → Enough m f k.settings
+      → CalmAt f (proceeds k todo w)
   proceeds_calm k [] w e = tt
-  proceeds_calm k (c ∷ cs) w e =
-      let t = e.tries in (
-        record {
-          tries_left = omega (arith, t);
-          left_le = omega arith;
-          enough = e;
-          fits = omega arith;
-        },
-        omega arith,
-      )
+  proceeds_calm k (c ∷ cs) w e = (afresh k.settings [] e (omega arith), omega arith)
 
   proceeds_numbers : (k : Kept) (todo : List (List ℕ)) (w : World) → pair w.terminal.number
       w.terminal.due ≡ pair k.number k.due
@@ -287,180 +223,135 @@ module _ (m : Meaning) (before : List (List ℕ)) (f : ℕ) where
   proceeds_numbers k (c ∷ cs) w e = refl
 
   -- no response is too long
-  not_long : (limit n : ℕ) → nat_lt limit n ≡ true → n ≤ limit → ⊥
-  not_long limit n e le = absurd (grind (arith, e, le))
+  not_long : (k : Kept) (got rest : List ℕ) → is_long k got ≡ true
+      → length (got ++ (k.last ++ rest)) ≤ k.settings.limit → ⊥
+  not_long k got rest e le =
+      let n = length-append got (k.last ++ rest) in
+      let l = length-append k.last rest in
+      absurd (grind (arith, e, le, n, l))
 
   next_goes : (v : Bool) (out : Out) (k : Kept) (number : Bool) (got rest : List ℕ)
-      (tries extensions left : ℕ)
-      → is_long m before k got ≡ v
-      → Quiet left tries (2 * left) k.settings (length got + (length k.last + length rest))
+      (left tries extensions : ℕ) → is_long k got ≡ v
+      → Quiet left tries (2 * left + 0) k.settings (got ++ (k.last ++ rest))
       → Goes left (number, k.due) (comes_next m before v out k got rest tries extensions)
-  next_goes true out k number got rest tries extensions left e h =
-      let fits = h.fits in absurd (not_long _ _ e (omega (arith, fits)))
-  next_goes false out k number got [] tries extensions left e h = inr (
-    λ e. other_is_not k.due (ap (λ x. x.1) (sym (proceeds_numbers
-        (record k { due = other k.due; answers = k.answers ++ (got ++ k.last) ∷ [] }) k.todo _
-        refl) ∙ e)),
-    proceeds_calm (record k { due = other k.due; answers = k.answers ++ (got ++ k.last) ∷ [] })
-        k.todo _ h.enough,
+  next_goes true out k number got rest left tries extensions e h =
+      absurd (not_long k got rest e h.fits)
+  next_goes false out k number got [] left tries extensions e h =
+      let now : Kept = record k {
+        due = other k.due;
+        answers = k.answers ++ (got ++ k.last) ∷ [];
+      } in inr (
+        λ e. other_is_not k.due (ap (λ x. x.1) (sym (proceeds_numbers now k.todo _ refl) ∙ e)),
+        proceeds_calm now k.todo _ h.enough,
+      )
+  next_goes false out k number got (b ∷ bytes) left tries extensions e h = inr (
+    λ e. other_is_not k.due (ap (λ x. x.1) e),
+    (
+      afresh k.settings _ h.enough
+          (subst (λ r. length r ≤ k.settings.limit) (sym (append_assoc got k.last (b ∷ bytes)))
+          h.fits),
+      tt,
+    ),
   )
-  next_goes false out k number got (b ∷ bytes) tries extensions left e h =
-      let fits = h.fits in
-      let n = length-append got k.last in
-      inr (
-        λ e. other_is_not k.due (ap (λ x. x.1) e),
-        afresh k.settings _ h.enough (omega (arith, fits, n)),
-      )
 
-  comes_goes : (out : Out) (p : Place) (left : ℕ) → IsHeard m before p → Calm left (asking p)
-      → Goes left (numbers p) (comes m before out p)
-  comes_goes out (Opens k rest tries extensions asks) left a h =
-      let q = h.0.tries_left in inl (
-        refl,
-        (quiet left tries (2 * left + 0) h.0 (omega (arith, q)) h.0.left_le, h.1),
-      )
-  comes_goes out (Behind k collected rest answering tries extensions asks) left a h =
+  comes_goes : (out : Out) (k : Kept) (s : Spot) (left tries extensions : ℕ) → IsHeard k s
+      → Calm left k (asking s) tries extensions
+      → Goes left (k.number, k.due) (comes m before out k s tries extensions)
+  comes_goes out k (Opens rest asks) left tries extensions a h = inl (refl, h)
+  comes_goes out k (Behind asks collected rest answering) left tries extensions a h =
       let q = h.0.tries_left in inl (
         uses_stays TriesSpent tries _ _ _ refl (λ i. refl),
         uses_calm TriesSpent tries left _ _ (omega (arith, q))
-            (λ i e. (quiet left i (2 * left + 0) h.0 (omega (arith, e, q)) h.0.left_le, h.1)),
+            (λ i e. (quiet i (2 * left + 0) [] h.0 (omega (arith, e, q)) h.0.fits, h.1)),
       )
-  comes_goes out (Taken k collected b bytes tries extensions) left a h =
-      let t = h.0.enough.tries in inr (
-        λ e. other_is_not k.number (ap (λ x. x.0) e),
-        (
-          record {
-            tries_left = omega (arith, t);
-            left_le = omega arith;
-            enough = h.0.enough;
-            fits = omega arith;
-          },
-          h.1,
-        ),
-      )
-  comes_goes out (Waits k rest n size granted tries extensions) left a h =
-      let x = h.1 in inl (
-        uses_stays ExtensionsSpent extensions _ _ _ refl (λ i. refl),
-        uses_calm ExtensionsSpent extensions left _ _ (omega (arith, x))
-            (λ i is. (h.0, omega (arith, x, is), h.2)),
-      )
-  comes_goes out (Grows k rest size granted tries extensions) left a h =
-      grows_goes (is_size size) out k rest size granted tries extensions left refl h
-  comes_goes out (Answering k rest tries extensions) left a h =
-      next_goes (is_long m before k []) out (record k { number = other k.number }) k.number [] rest
-      tries extensions left refl
-      (record {
-        tries_left = h.tries_left;
-        left_le = h.left_le;
-        enough = h.enough;
-        fits = let x = h.fits in omega (arith, x);
-      })
-  comes_goes out (Between k got b bytes tries extensions) left a h = absurd a
-  comes_goes out (Repeating k got rest tries extensions) left a h =
-      next_goes (is_long m before k got) out k k.number got rest tries extensions left refl h
-  comes_goes out (Given_up w cause) left a h = absurd h
-  comes_goes out (Finished w) left a h = inl (refl, tt)
+  comes_goes out k (Taken collected b bytes) left tries extensions a h = inr (
+    λ e. other_is_not k.number (ap (λ x. x.0) e),
+    (afresh k.settings [] h.0.enough (omega arith), h.1),
+  )
+  comes_goes out k (Waits rest n size was) left tries extensions a h =
+      let x = h.1.0 in
+      granted out k (Waits rest n size was) (Waits rest n size true) left tries extensions
+      (omega (arith, x)) (λ i is. (h.0, (omega (arith, x, is), h.1.1)))
+  comes_goes out k (Grows rest size was) left tries extensions a h =
+      grows_goes (is_size size) out k rest size was left tries extensions refl h
+  comes_goes out k (Between got b bytes) left tries extensions a h = absurd a
+  comes_goes out k (Sent first got rest) left tries extensions a h =
+      next_goes (is_long k got) out (numbered first k) k.number got rest left tries extensions refl
+      h.0
 
-  weaker : (p : Place) (left : ℕ) → Calm (left + 1) p → Calm left p
-  weaker p left h = unasked p left (asked p left h)
-
-  heard_goes : (p q : Place) (left : ℕ) → numbers q ≡ numbers p → (r : Place) → Goes left
-      (numbers q) r → Goes left (numbers p) r
-  heard_goes p q left e r g = subst (λ n. Goes left n r) e g
-
-  arrived_goes : (up : Fate) (out : Out) (p : Place) (left : ℕ) → IsHeard m before p
-      → Calm (left + 1) p → Goes left (numbers p) (arrived m before out up p)
-  arrived_goes Delivers out p left a h = comes_goes out p left a (asked p left h)
-  arrived_goes _ out p left a h = missed out p left h
-
-  garbled_goes : (up : Fate) (p : Place) (left : ℕ) → Calm (left + 1) p → Goes left (numbers p)
-      (garbled m before up p)
-  garbled_goes up (Behind k collected rest answering tries extensions asks) left h =
-      arrived_goes up _ _ left tt h
-  garbled_goes up (Taken k collected b bytes tries extensions) left h =
-      arrived_goes up _ _ left tt h
-  garbled_goes up (Waits k rest n size granted tries extensions) left h =
-      arrived_goes up _ _ left tt h
-  garbled_goes up (Grows k rest size granted tries extensions) left h =
-      arrived_goes up _ _ left tt h
-  garbled_goes up p left h = missed (out_at p) p left h
+  garbled_goes : (up : Fate) (k : Kept) (s : Spot) (left tries extensions : ℕ)
+      → Calm (left + 1) k s tries extensions
+      → Goes left (k.number, k.due) (garbled m before up k s tries extensions)
+  garbled_goes up k s left tries extensions h =
+      garbled_by m before (Goes left (k.number, k.due)) up k s tries extensions
+      (missed (out_at k s) k s left tries extensions h)
+      (λ a. comes_goes (out_at k s) k s left tries extensions a
+      (asked k s left tries tries extensions (omega arith) h))
 
   -- one exchange; `bad_of` counts the blocks that fail to arrive
-  step_goes : (down up : Fate) (p : Place) (left : ℕ) → Calm (left + (bad_of down + bad_of up)) p
+  step_goes : (down up : Fate) (p : Place) (left : ℕ)
+      → CalmAt (left + (bad_of down + bad_of up)) p
       → Goes left (numbers p) (step m before down up p)
-  step_goes Delivers Delivers p left h =
-      let h0 : Calm left p = subst (λ l. Calm l p) (omega arith) h in
-      heard_goes p (heard m before p) left (heard_stays p) _
-      (comes_goes (out_at p) (heard m before p) left (is_heard m before p) (heard_calm p left h0))
-  step_goes Delivers _ p left h =
-      heard_goes p (heard m before p) left (heard_stays p) _
-      (missed (out_at p) (heard m before p) left (unasked _ (left + 1) (heard_calm p (left + 1) h)))
-  step_goes Damages Delivers p left h = garbled_goes Delivers p left h
-  step_goes Damages up p left h =
-      garbled_goes up p left (weaker p (left + 1) (subst (λ l. Calm l p) (omega arith) h))
-  step_goes Loses Delivers p left h = missed (out_at p) p left h
-  step_goes Loses _ p left h =
-      missed (out_at p) p left (weaker p (left + 1) (subst (λ l. Calm l p) (omega arith) h))
+  step_goes down up (Given_up w cause) left h = absurd h
+  step_goes down up (Finished w) left h = inl (refl, tt)
+  step_goes Delivers Delivers (Going k s tries extensions) left h =
+      let h0 : Calm left k s tries extensions =
+      subst (λ l. Calm l k s tries extensions) (omega arith) h in
+      subst (λ n. Goes left n (step m before Delivers Delivers (Going k s tries extensions)))
+      (heard_stays k s) (comes_goes (out_at k s) _ _ left tries extensions (is_heard m before k s)
+      (heard_calm k s left tries extensions h0))
+  step_goes Delivers up (Going k s tries extensions) left h =
+      let j : Kept = (heard m before k s).0 in
+      let r : Spot = (heard m before k s).1 in
+      subst (λ n. Goes left n (step m before Delivers up (Going k s tries extensions)))
+      (heard_stays k s) (missed (out_at k s) j r left tries extensions
+      (unasked j r (left + 1) tries extensions (heard_calm k s (left + 1) tries extensions h)))
+  step_goes Damages Delivers (Going k s tries extensions) left h =
+      garbled_goes Delivers k s left tries extensions h
+  step_goes Damages up (Going k s tries extensions) left h =
+      garbled_goes up k s left tries extensions (weaker k s (left + 1) tries extensions
+      (subst (λ l. Calm l k s tries extensions) (omega arith) h))
+  step_goes Loses Delivers (Going k s tries extensions) left h =
+      missed (out_at k s) k s left tries extensions h
+  step_goes Loses up (Going k s tries extensions) left h =
+      missed (out_at k s) k s left tries extensions (weaker k s (left + 1) tries extensions
+      (subst (λ l. Calm l k s tries extensions) (omega arith) h))
 
   -- all worlds
 
-  abbrev pub IsCalm : ℕ → World → Type 0
-  IsCalm left w = (p : Place) × (w ≡ world_of m before p) × Calm left p
-
-  abbrev GoesOn : ℕ → World → World → Type 0
-  GoesOn left old new =
-      (Stays old.terminal new.terminal × IsCalm left new) ⊎
-      ((Stays old.terminal new.terminal → ⊥) × IsCalm f new)
-
-  goes_at : (x : Fates) (left : ℕ) (p : Place) → Calm (left + bad x) p
-      → GoesOn left (world_of m before p) (exchange m x (world_of m before p))
-  goes_at x left p h =
+  stays_calm : (fates : List Fates) (left : ℕ) (p : Place) (cause : Cause) → CalmAt left p
+      → IsMild m f left (world_of m before p) fates
+      → (run m fates (world_of m before p)).terminal.phase ≡ GivenUp cause → ⊥
+  stays_calm [] left (Given_up w c) cause h mild = λ e. h
+  stays_calm [] left (Finished w) cause h mild = λ e. absurd (cc)
+  stays_calm [] left (Going k s tries extensions) cause h mild =
+      λ e. absurd (let no = sym (moves s) ∙ ap has_stopped e in cc)
+  stays_calm (x ∷ xs) left p cause h mild =
+      let w : World = world_of m before p in
       let q : Place = step m before x.down x.up p in
-      let e : exchange m x (world_of m before p) ≡ world_of m before q = is_step m before x.down
-      x.up p in
-      subst (λ v. GoesOn left (world_of m before p) v) (sym e)
-      (elim (step_goes x.down x.up p left h) [
+      let Ends : World → Type 0 = λ v.
+      ((Stays w.terminal v.terminal → IsMild m f (left - bad x) v xs)
+      × ((Stays w.terminal v.terminal → ⊥) → IsMild m f f v xs))
+      → (run m xs v).terminal.phase ≡ GivenUp cause → ⊥ in
+      subst Ends (sym (is_step m before x.down x.up p)) (λ on.
+      elim (step_goes x.down x.up p (left - bad x)
+      (subst (λ l. CalmAt l p) (let le = mild.0 in omega (arith, le)) h)) [
         | inl g ↦
-            inl ((ap (λ n. n.0) g.0, ap (λ n. n.1) g.0), (q, refl, g.1))
-        | inr g ↦
-            inr (λ s. g.0 (both s.0 s.1), (q, refl, g.1))
-      ])
+            stays_calm xs (left - bad x) q cause g.1 (on.0 (ap (λ n. n.0) g.0, ap (λ n. n.1) g.0))
+        | inr g ↦ stays_calm xs f q cause g.1 (on.1 (λ s. g.0 (both s.0 s.1)))
+      ]) (mild.1, mild.2)
 
-  one_more : (x : Fates) (left : ℕ) (w : World) → bad x ≤ left → IsCalm left w → GoesOn
-      (left - bad x) w (exchange m x w)
-  one_more x left w le s =
-      subst (λ v. GoesOn (left - bad x) v (exchange m x v)) (sym s.1)
-      (goes_at x (left - bad x) s.0 (subst (λ l. Calm l s.0) (omega (arith, le)) s.2))
-
-  not_given_up : (p : Place) (left : ℕ) (cause : Cause) → Calm left p →
-      (world_of m before p).terminal.phase ≡ GivenUp cause → ⊥
-  not_given_up (Given_up w c) left cause h e = h
-  not_given_up _ left cause h e = absurd (cc)
-
-  stays_calm : (fates : List Fates) (left : ℕ) (w : World) (cause : Cause) → IsCalm left w →
-      IsMild m f left w fates
-      → (run m fates w).terminal.phase ≡ GivenUp cause → ⊥
-  stays_calm [] left w cause s mild =
-      λ e. not_given_up s.0 left cause s.2 (ap (λ v. v.terminal.phase) (sym s.1) ∙ e)
-  stays_calm (x ∷ xs) left w cause s mild =
-      elim (one_more x left w mild.0 s) [
-        | inl g ↦ stays_calm xs (left - bad x) (exchange m x w) cause g.1 (mild.1 g.0)
-        | inr g ↦ stays_calm xs f (exchange m x w) cause g.1 (mild.2 g.0)
-      ]
-
-  first_calm : (settings : Settings) (commands : List (List ℕ)) → Enough m f settings → Calm f
-      (first before settings commands)
+  first_calm : (settings : Settings) (commands : List (List ℕ)) → Enough m f settings
+      → CalmAt f (first before settings commands)
   first_calm settings [] e = tt
-  first_calm settings (c ∷ cs) e = (afresh settings 0 e (omega arith), omega arith)
+  first_calm settings (c ∷ cs) e = (afresh settings [] e (omega arith), omega arith)
 
 pub never_given_up : (m : Meaning) (f : ℕ) (settings : Settings)
     (before commands : List (List ℕ)) (fates : List Fates)
     (cause : Cause) → Enough m f settings → IsMild m f f (start settings before commands) fates
     → (run m fates (start settings before commands)).terminal.phase ≢ GivenUp cause
 never_given_up m f settings before commands fates cause e mild =
-    stays_calm m before f fates f (start settings before commands) cause (
-      first before settings commands,
-      first_is m before settings commands,
-      first_calm m before f
-          settings commands e,
-    ) mild
+    let is = first_is m before settings commands in
+    subst (λ w. (run m fates w).terminal.phase ≡ GivenUp cause → ⊥) (sym is)
+    (stays_calm m before f fates f (first before settings commands) cause
+    (first_calm m before f settings commands e) (subst (λ w. IsMild m f f w fates) is mild))

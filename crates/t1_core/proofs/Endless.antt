@@ -6,7 +6,7 @@ use Rattle.t1_core.specs.declared.terminal.Out.{Out}
 use Rattle.t1_core.specs.declared.terminal.Out.TheVariants.{Own, Asks}
 use Rattle.t1_core.specs.declared.terminal.Phase.{Phase}
 use Rattle.t1_core.specs.declared.terminal.Phase.TheVariants.{Opening, Sending, Receiving, Aborting, Over, GivenUp}
-use Rattle.t1_core.specs.Block.{Block, I, R, Request, Response, is_filled, is_size, same}
+use Rattle.t1_core.specs.Block.{Block, I, R, Request, Response, are_filled, is_filled, is_size, same}
 use Rattle.t1_core.specs.BlockBytes.{block_of}
 use Rattle.t1_core.specs.Mild.{meets_all, most_receptions, steps_left}
 use Rattle.t1_core.specs.TerminalSide.{Terminal, spend, takes, takes_in, takes_opening, takes_sending, takes_receiving, takes_field, gathers, acknowledged, answered, asked, extend, opens, longest, has_stopped}
@@ -14,7 +14,7 @@ use Rattle.t1_core.proofs.BlockBytesFacts.{read_is_filled}
 use Rattle.t1_core.proofs.Measure.{weigh}
 
 -- the number of phases that can follow without progress
-abbrev room : Phase → ℕ
+abbrev pub room : Phase → ℕ
 room Opening = 2
 room Sending = 1
 room Receiving = 1
@@ -22,18 +22,30 @@ room Aborting = 0
 room Over = 0
 room (GivenUp cause) = 0
 
-abbrev left : Terminal → ℕ
+abbrev pub left : Terminal → ℕ
 left t = t.tries + t.extensions + room t.phase + steps_left t * (t.settings.tries + 1)
 
+-- a bound on the receptions until it has stopped
+abbrev pub receptions_left : Terminal → ℕ
+receptions_left t = cond (has_stopped t.phase) 0 (left t + 1)
+
 -- it has stopped, or fewer receptions are left
-abbrev Ends : Terminal → Terminal → Type 0
+abbrev pub Ends : Terminal → Terminal → Type 0
 Ends old new = (has_stopped new.phase ≡ true) ⊎ (left new + 1 ≤ left old)
 
+pub fewer_left : (old new : Terminal) → has_stopped old.phase ≡ false → Ends old new
+    → receptions_left new < receptions_left old
+fewer_left old new moving (inl stopped) = rw (moving, stopped) (omega arith)
+fewer_left old new moving (inr less) = rw moving (by (has_stopped new.phase)) where
+  by : (v : Bool) → cond v 0 (left new + 1) < left old + 1
+  by true = omega arith
+  by false = omega (arith, less)
+
 -- the settings stay the same, and IFSC stays positive
-abbrev Stands : Terminal → Terminal → Type 0
+abbrev pub Stands : Terminal → Terminal → Type 0
 Stands old new = (new.settings ≡ old.settings) × (0 < new.size)
 
-abbrev Takes : Terminal → Terminal → Type 0
+abbrev pub Takes : Terminal → Terminal → Type 0
 Takes old new = Stands old new × Ends old new
 
 module _ (t : Terminal) (sized : 0 < t.size) where
@@ -141,11 +153,7 @@ module _ (t : Terminal) (sized : 0 < t.size) where
       asked_spends control (let one : room t.phase ≡ 1 = ap room e in omega (arith, one))
   receiving_spends _ filled e = spends Asks
 
-  abbrev AreFilled : Option Block → Type 0
-  AreFilled None = Unit {0}
-  AreFilled (Some b) = is_filled b ≡ true
-
-  takes_spends : (b : Option Block) (p : Phase) → AreFilled b → t.phase ≡ p
+  pub takes_spends : (b : Option Block) (p : Phase) → are_filled b ≡ true → t.phase ≡ p
       → Takes t (takes_in p b t)
   takes_spends b Aborting filled e = ((refl, sized), inl refl)
   takes_spends b Over filled e = ((refl, sized), inl (ap has_stopped e))
@@ -167,12 +175,9 @@ abbrev block : Option (List ℕ) → Option Block
 block None = None
 block (Some bytes) = block_of bytes
 
-are_filled : (t : Terminal) (sized : 0 < t.size) (x : Option (List ℕ)) → AreFilled t sized (block x)
-are_filled t sized None = tt
-are_filled t sized (Some bytes) = Of (block_of bytes) refl where
-  Of : (b : Option Block) → block_of bytes ≡ b → AreFilled t sized b
-  Of None e = tt
-  Of (Some b) e = read_is_filled bytes b e
+read_filled : (x : Option (List ℕ)) → are_filled (block x) ≡ true
+read_filled None = refl
+read_filled (Some bytes) = read_is_filled bytes
 
 abbrev Has_stopped : Terminal → Type 0
 Has_stopped t = has_stopped t.phase ≡ true
@@ -194,7 +199,7 @@ ends : (xs : List (Option (List ℕ))) (t : Terminal) → 0 < t.size → left t 
 ends [] t sized few = absurd (omega (arith, few))
 ends (x ∷ xs) t sized few =
     let u : Terminal = takes t (block x) in
-    let step = takes_spends t sized (block x) t.phase (are_filled t sized x) refl in
+    let step = takes_spends t sized (block x) t.phase (read_filled x) refl in
     subst Has_stopped (met x xs t) (elim step.1 [
       | inl h ↦ all_stopped xs u h
       | inr less ↦ ends xs u step.0.1 (omega (arith, less, few))

@@ -1,5 +1,5 @@
 -- The log of a card: the commands that it has carried out, their responses, and its own meaning.
-use Rattle.std.proofs.Common.{◌≡◌, refl, sym, ap, subst, ◌∙◌, ℕ, ◌<◌, ◌≤◌, List, [], ◌∷◌, ◌++◌, length, Option, Some, None, append_assoc, append-nil, arith}
+use Rattle.std.proofs.Common.{◌≡◌, refl, sym, ap, subst, ◌∙◌, ℕ, ◌<◌, List, [], ◌∷◌, ◌++◌, length, Option, Some, None, append_assoc, append-nil}
 use Rattle.std.proofs.lemmas.List.{map-append}
 use Rattle.std.specs.List.{AllByRecursion}
 use Rattle.t1_core.specs.CardSide.{Did, Meaning}
@@ -85,10 +85,3 @@ responses_are m ran [] h = refl
 responses_are m ran (d ∷ log) ((does, asks), h) =
     ap (λ r. r ∷ responses m.does (ran ++ d.command ∷ []) (commands_of log)) does
     ∙ ap (λ rs. d.response ∷ rs) (responses_are m (ran ++ d.command ∷ []) log h)
-
-pub entry_short : (log : List Did) → AllByRecursion IsShort log → (ran : List (List ℕ))
-    → length (entry log ran).response ≤ most_bytes
-entry_short [] all ran = omega arith
-entry_short (d ∷ log) all [] = omega arith
-entry_short (d ∷ log) (is, all) (c ∷ []) = omega (arith, is)
-entry_short (d ∷ log) (is, all) (c ∷ e ∷ ran) = entry_short log all (e ∷ ran)

@@ -1,5 +1,5 @@
 -- The places of both ends between two exchanges, and the step of an exchange from each.
-use Rattle.std.proofs.Common.{◌≡◌, refl, ap, ◌∙◌, ℕ, zero, suc, Bool, true, false, List, [], ◌∷◌, ◌++◌, length, ◌+◌, nat_lt, take, drop, Option, Some, None, append_assoc}
+use Rattle.std.proofs.Common.{◌≡◌, refl, ap, ◌∙◌, ℕ, zero, suc, Bool, true, false, List, [], ◌∷◌, ◌++◌, length, ◌+◌, nat_lt, take, drop, Option, Some, None, append_assoc, cond}
 use Rattle.std.proofs.lemmas.Bool.{eq-eqb}
 use Rattle.t1_core.specs.declared.applet.Requests.{Requests}
 use Rattle.t1_core.specs.declared.control.Control.TheVariants.{Ifs, Wtx}
@@ -32,23 +32,76 @@ pub record Kept : Type 0 where
   pub ifsd : ℕ
   pub multiple : ℕ
 
+-- the progress of a command
+pub data Spot : Type 0 where
+  -- the terminal sends S(IFS request), before a command
+  Opens : (rest : List ℕ) → (asks : Bool) → Spot
+  -- the card has not received the current field; the terminal sends it, or asks
+  Behind : (asks : Bool) → (collected rest : List ℕ) → (answering : Bool) → Spot
+  -- the card has received it, and more follows
+  Taken : (collected : List ℕ) → (b : ℕ) → (bytes : List ℕ) → Spot
+  -- the card has carried out the command; S(WTX request) is in progress, and these requests follow
+  Waits : (rest : List ℕ) → (n : ℕ) → (size : Option ℕ) → (granted : Bool) → Spot
+  -- S(IFS request) of the card is in progress
+  Grows : (rest : List ℕ) → (size : ℕ) → (granted : Bool) → Spot
+  -- the card has not sent the next field of the response
+  Between : (got : List ℕ) → (b : ℕ) → (bytes : List ℕ) → Spot
+  -- the card has sent it; the first one also acknowledges the command
+  Sent : (first : Bool) → (got rest : List ℕ) → Spot
+
+pub data Place : Type 0 where
+  Going : (k : Kept) → (s : Spot) → (tries extensions : ℕ) → Place
+  Given_up : (w : World) → (cause : Cause) → Place
+  Finished : (w : World) → Place
+
 abbrev pub out_of : Bool → Out
 out_of true = Asks
 out_of false = Own
 
-abbrev pub terminal_at : Kept → (rest got : List ℕ) → Bool → (tries extensions : ℕ) → Phase → Out
-    → Terminal
-terminal_at k rest got opened tries extensions phase out =
+abbrev pub out_at : Kept → Spot → Out
+out_at k (Opens rest asks) = out_of asks
+out_at k (Behind asks collected rest answering) = out_of asks
+out_at k (Waits rest n size true) = Grants (Wtx k.multiple)
+out_at k (Grows rest size true) = Grants (Ifs size)
+out_at k _ = Asks
+
+-- the spot after the terminal has asked for the card's block again
+abbrev pub asking : Spot → Spot
+asking (Opens rest asks) = Opens rest true
+asking (Behind asks collected rest answering) = Behind true collected rest answering
+asking (Waits rest n size granted) = Waits rest n size false
+asking (Grows rest size granted) = Grows rest size false
+asking s = s
+
+-- the response in progress
+abbrev pub response_in : Kept → Spot → List ℕ
+response_in k (Waits rest n size granted) = k.last ++ rest
+response_in k (Grows rest size granted) = k.last ++ rest
+response_in k (Between got b bytes) = got ++ (b ∷ bytes)
+response_in k (Sent first got rest) = got ++ (k.last ++ rest)
+response_in k _ = []
+
+-- of the terminal: the rest of the command, the response so far, whether it is opened, the phase
+abbrev pub terminal_in : Spot → List ℕ × List ℕ × Bool × Phase
+terminal_in (Opens rest asks) = (rest, [], false, Opening)
+terminal_in (Behind asks collected rest answering) = (rest, [], true, Sending)
+terminal_in (Taken collected b bytes) = (b ∷ bytes, [], true, Sending)
+terminal_in (Between got b bytes) = ([], got, true, Receiving)
+terminal_in (Sent first got rest) = ([], got, true, cond first Sending Receiving)
+terminal_in _ = ([], [], true, Sending)
+
+abbrev pub terminal_at : Out → Kept → Spot → (tries extensions : ℕ) → Terminal
+terminal_at out k s tries extensions =
     record {
       settings = k.settings;
       field = k.field;
-      rest = rest;
+      rest = (terminal_in s).0;
       size = k.size;
-      got = got;
+      got = (terminal_in s).1;
       number = k.number;
       due = k.due;
-      opened = opened;
-      phase = phase;
+      opened = (terminal_in s).2;
+      phase = (terminal_in s).3;
       out = out;
       tries = tries;
       extensions = extensions;
@@ -60,38 +113,6 @@ requests extensions multiple size =
 
 abbrev pub idle : Kept → Requests
 idle k = requests 0 k.multiple None
-
-pub data Place : Type 0 where
-  -- the terminal sends S(IFS request), before a command
-  Opens : (k : Kept) → (rest : List ℕ) → (tries extensions : ℕ) → (asks : Bool) → Place
-  -- the card has not received the current field; the terminal sends it, or asks
-  Behind : (k : Kept) → (collected rest : List ℕ) → (answering : Bool) → (tries extensions : ℕ)
-      → (asks : Bool) → Place
-  -- the card has received it, and more follows
-  Taken : (k : Kept) → (collected : List ℕ) → (b : ℕ) → (bytes : List ℕ)
-      → (tries extensions : ℕ) → Place
-  -- the card has carried out the command; S(WTX request) is in progress, and these requests follow
-  Waits : (k : Kept) → (rest : List ℕ) → (n : ℕ) → (size : Option ℕ) → (granted : Bool)
-      → (tries extensions : ℕ) → Place
-  -- S(IFS request) of the card is in progress
-  Grows : (k : Kept) → (rest : List ℕ) → (size : ℕ) → (granted : Bool)
-      → (tries extensions : ℕ) → Place
-  -- the card has sent the first field of the response
-  Answering : (k : Kept) → (rest : List ℕ) → (tries extensions : ℕ) → Place
-  -- the card has not sent the next field of the response
-  Between : (k : Kept) → (got : List ℕ) → (b : ℕ) → (bytes : List ℕ)
-      → (tries extensions : ℕ) → Place
-  -- the card has sent it
-  Repeating : (k : Kept) → (got rest : List ℕ) → (tries extensions : ℕ) → Place
-  Given_up : (w : World) → (cause : Cause) → Place
-  Finished : (w : World) → Place
-
-abbrev pub out_at : Place → Out
-out_at (Opens k rest tries extensions asks) = out_of asks
-out_at (Behind k collected rest answering tries extensions asks) = out_of asks
-out_at (Waits k rest n size true tries extensions) = Grants (Wtx k.multiple)
-out_at (Grows k rest size true tries extensions) = Grants (Ifs size)
-out_at _ = Asks
 
 abbrev pub with_phase : Phase → World → World
 with_phase phase w = record w { terminal = record w.terminal { phase = phase } }
@@ -105,76 +126,83 @@ uses cause (suc n) w again = again n
 abbrev pub proceeds : Kept → List (List ℕ) → World → Place
 proceeds k [] w = Finished (record w { todo = [] })
 proceeds k (c ∷ cs) w =
-    Behind (record k { todo = cs; field = take k.size c }) [] (drop k.size c) true
-    k.settings.tries k.settings.extensions false
+    Going (record k { todo = cs; field = take k.size c }) (Behind false [] (drop k.size c) true)
+    k.settings.tries k.settings.extensions
 
-abbrev pub starts : Kept → List ℕ → ℕ → Option ℕ → (tries extensions : ℕ) → Place
-starts k rest (suc n) size tries extensions = Waits k rest n size false tries extensions
-starts k rest zero (Some size) tries extensions = Grows k rest size false tries extensions
-starts k rest zero None tries extensions = Answering k rest tries extensions
+abbrev pub starts : List ℕ → ℕ → Option ℕ → Spot
+starts rest (suc n) size = Waits rest n size false
+starts rest zero (Some size) = Grows rest size false
+starts rest zero None = Sent true [] rest
+
+-- with the card's field the response exceeds the limit
+abbrev pub is_long : Kept → List ℕ → Bool
+is_long k got = nat_lt k.settings.limit (length got + length k.last)
+
+-- N(S) of the terminal's next I-block, after it has taken a field of the response
+abbrev pub numbered : Bool → Kept → Kept
+numbered first k = record k { number = cond first (other k.number) k.number }
+
+-- a spot after the card has taken the terminal's block
+abbrev pub IsHeard : Kept → Spot → Type 0
+IsHeard k (Opens rest asks) = k.ifsd ≡ longest
+IsHeard k (Between got b bytes) = ⊥
+IsHeard k _ = Unit {0}
+
+starts_heard : (k : Kept) (rest : List ℕ) (n : ℕ) (size : Option ℕ)
+    → IsHeard k (starts rest n size)
+starts_heard k rest zero (Some size) = tt
+starts_heard k rest _ _ = tt
+
+-- of the card: the collected bytes of the command, the rest of the response, N(S) of the next
+-- I-block of each end, whether it is answering, and its requests
+abbrev pub card_in : Kept → Spot → List ℕ × List ℕ × Bool × Bool × Bool × Requests
+card_in k (Opens rest asks) = ([], [], k.number, k.due, false, idle k)
+card_in k (Behind asks collected rest answering) =
+    (collected, [], k.number, k.due, answering, idle k)
+card_in k (Taken collected b bytes) = (collected, [], other k.number, k.due, false, idle k)
+card_in k (Waits rest n size granted) =
+    ([], rest, other k.number, k.due, false, requests (suc n) k.multiple size)
+card_in k (Grows rest size granted) =
+    ([], rest, other k.number, k.due, false, requests 0 k.multiple (Some size))
+card_in k (Between got b bytes) = ([], b ∷ bytes, k.number, k.due, true, idle k)
+card_in k (Sent first got rest) =
+    ([], rest, cond first (other k.number) k.number, other k.due, true, idle k)
 
 module _ (m : Meaning) (before : List (List ℕ)) where
-  abbrev pub card_at : Kept → (collected rest : List ℕ) → (due next answering : Bool) → Requests
-      → Card
-  card_at k collected rest due next answering left =
+  abbrev pub card_at : Kept → Spot → Card
+  card_at k s =
       record {
-        due = due;
-        next = next;
-        collected = collected;
+        due = (card_in k s).2;
+        next = (card_in k s).3;
+        collected = (card_in k s).0;
         field = k.last;
-        rest = rest;
-        answering = answering;
+        rest = (card_in k s).1;
+        answering = (card_in k s).4;
         size = k.ifsd;
-        left = left;
+        left = (card_in k s).5;
         ran = before ++ k.done;
       }
 
   abbrev pub world : Kept → Terminal → Card → World
   world k t c = record { terminal = t; card = c; todo = k.todo; answers = k.answers }
 
-  abbrev pub world_at : Out → Place → World
-  world_at out (Opens k rest tries extensions asks) =
-      world k (terminal_at k rest [] false tries extensions Opening out)
-      (card_at k [] [] k.number k.due false (idle k))
-  world_at out (Behind k collected rest answering tries extensions asks) =
-      world k (terminal_at k rest [] true tries extensions Sending out)
-      (card_at k collected [] k.number k.due answering (idle k))
-  world_at out (Taken k collected b bytes tries extensions) =
-      world k (terminal_at k (b ∷ bytes) [] true tries extensions Sending out)
-      (card_at k collected [] (other k.number) k.due false (idle k))
-  world_at out (Waits k rest n size granted tries extensions) =
-      world k (terminal_at k [] [] true tries extensions Sending out)
-      (card_at k [] rest (other k.number) k.due false (requests (suc n) k.multiple size))
-  world_at out (Grows k rest size granted tries extensions) =
-      world k (terminal_at k [] [] true tries extensions Sending out)
-      (card_at k [] rest (other k.number) k.due false (requests 0 k.multiple (Some size)))
-  world_at out (Answering k rest tries extensions) =
-      world k (terminal_at k [] [] true tries extensions Sending out)
-      (card_at k [] rest (other k.number) (other k.due) true (idle k))
-  world_at out (Between k got b bytes tries extensions) =
-      world k (terminal_at k [] got true tries extensions Receiving out)
-      (card_at k [] (b ∷ bytes) k.number k.due true (idle k))
-  world_at out (Repeating k got rest tries extensions) =
-      world k (terminal_at k [] got true tries extensions Receiving out)
-      (card_at k [] rest k.number (other k.due) true (idle k))
-  world_at out (Given_up w cause) = with_phase (GivenUp cause) w
-  world_at out (Finished w) = with_phase Over w
+  abbrev pub world_at : Out → Kept → Spot → (tries extensions : ℕ) → World
+  world_at out k s tries extensions = world k (terminal_at out k s tries extensions) (card_at k s)
 
   abbrev pub world_of : Place → World
-  world_of p = world_at (out_at p) p
+  world_of (Going k s tries extensions) = world_at (out_at k s) k s tries extensions
+  world_of (Given_up w cause) = with_phase (GivenUp cause) w
+  world_of (Finished w) = with_phase Over w
 
   -- the card's reply, after it has taken the terminal's block
-  abbrev pub reply_of : Place → Block
-  reply_of (Opens k rest tries extensions asks) = Response (Ifs longest)
-  reply_of (Taken k collected b bytes tries extensions) = R (other k.number)
-  reply_of (Waits k rest n size granted tries extensions) = Request (Wtx k.multiple)
-  reply_of (Grows k rest size granted tries extensions) = Request (Ifs size)
-  reply_of (Answering k rest tries extensions) = I k.due (more rest) k.last
-  reply_of (Repeating k got rest tries extensions) = I k.due (more rest) k.last
-  reply_of (Behind k collected rest answering tries extensions asks) = R k.number
-  reply_of (Between k got b bytes tries extensions) = R k.number
-  reply_of (Given_up w cause) = R false
-  reply_of (Finished w) = R false
+  abbrev pub reply_of : Kept → Spot → Block
+  reply_of k (Opens rest asks) = Response (Ifs longest)
+  reply_of k (Behind asks collected rest answering) = R k.number
+  reply_of k (Taken collected b bytes) = R (other k.number)
+  reply_of k (Waits rest n size granted) = Request (Wtx k.multiple)
+  reply_of k (Grows rest size granted) = Request (Ifs size)
+  reply_of k (Between got b bytes) = R k.number
+  reply_of k (Sent first got rest) = I k.due (more rest) k.last
 
   abbrev pub runs : Kept → List (List ℕ) → Kept
   runs k done =
@@ -185,370 +213,308 @@ module _ (m : Meaning) (before : List (List ℕ)) where
       }
 
   -- the card takes the terminal's block
-  abbrev pub heard : Place → Place
-  heard (Opens k rest tries extensions asks) =
-      Opens (record k { ifsd = longest }) rest tries extensions asks
-  heard (Behind k collected [] answering tries extensions false) =
+  abbrev pub heard : Kept → Spot → Kept × Spot
+  heard k (Opens rest asks) = (record k { ifsd = longest }, Opens rest asks)
+  heard k (Behind false collected [] answering) =
       let done : List (List ℕ) = k.done ++ (collected ++ k.field) ∷ [] in
       let asks : Requests = m.asks (before ++ done) in
-      starts (runs k done) (drop k.ifsd (m.does (before ++ done))) asks.extensions asks.size
-      tries extensions
-  heard (Behind k collected (b ∷ bytes) answering tries extensions false) =
-      Taken (record k { last = [] }) (collected ++ k.field) b bytes tries extensions
-  heard (Waits k rest n size true tries extensions) = starts k rest n size tries extensions
-  heard (Grows k rest size true tries extensions) = Answering k rest tries extensions
-  heard (Between k got b bytes tries extensions) =
-      Repeating (record k { last = take k.ifsd (b ∷ bytes) }) got (drop k.ifsd (b ∷ bytes)) tries
-      extensions
-  heard p = p
+      (runs k done, starts (drop k.ifsd (m.does (before ++ done))) asks.extensions asks.size)
+  heard k (Behind false collected (b ∷ bytes) answering) =
+      (record k { last = [] }, Taken (collected ++ k.field) b bytes)
+  heard k (Waits rest n size true) = (k, starts rest n size)
+  heard k (Grows rest size true) = (k, Sent true [] rest)
+  heard k (Between got b bytes) =
+      (record k { last = take k.ifsd (b ∷ bytes) }, Sent false got (drop k.ifsd (b ∷ bytes)))
+  heard k s = (k, s)
 
-  -- a place after the card has taken the terminal's block
-  abbrev pub IsHeard : Place → Type 0
-  IsHeard (Opens k rest tries extensions asks) = k.ifsd ≡ longest
-  IsHeard (Between k got b bytes tries extensions) = ⊥
-  IsHeard _ = Unit {0}
-
-  starts_heard : (k : Kept) (rest : List ℕ) (n : ℕ) (size : Option ℕ) (tries extensions : ℕ)
-      → IsHeard (starts k rest n size tries extensions)
-  starts_heard k rest zero (Some size) tries extensions = tt
-  starts_heard _ _ _ _ _ _ = tt
-
-  pub is_heard : (p : Place) → IsHeard (heard p)
-  is_heard (Opens k rest tries extensions asks) = refl
-  is_heard (Behind k collected [] answering tries extensions false) =
-      starts_heard _ _ _ _ tries extensions
-  is_heard (Behind k collected (b ∷ bytes) answering tries extensions false) = tt
-  is_heard (Waits k rest n size true tries extensions) = starts_heard k rest n size tries extensions
-  is_heard (Grows k rest size true tries extensions) = tt
-  is_heard _ = tt
+  pub is_heard : (k : Kept) (s : Spot) → IsHeard (heard k s).0 (heard k s).1
+  is_heard k (Opens rest asks) = refl
+  is_heard k (Behind false collected [] answering) =
+      starts_heard (runs k (k.done ++ (collected ++ k.field) ∷ [])) _ _ _
+  is_heard k (Behind false collected (b ∷ bytes) answering) = tt
+  is_heard k (Waits rest n size true) = starts_heard k rest n size
+  is_heard k (Grows rest size true) = tt
+  is_heard k _ = tt
 
   -- the card's block does not arrive
-  abbrev pub misses : Out → Place → Place
-  misses out (Opens k rest tries extensions asks) =
-      uses TriesSpent tries (world_at out (Opens k rest tries extensions asks))
-      (λ n. Opens k rest n extensions true)
-  misses out (Behind k collected rest answering tries extensions asks) =
-      uses TriesSpent tries (world_at out (Behind k collected rest answering tries extensions asks))
-      (λ n. Behind k collected rest answering n extensions true)
-  misses out (Taken k collected b bytes tries extensions) =
-      uses TriesSpent tries (world_at out (Taken k collected b bytes tries extensions))
-      (λ n. Taken k collected b bytes n extensions)
-  misses out (Waits k rest n size granted tries extensions) =
-      uses TriesSpent tries (world_at out (Waits k rest n size granted tries extensions))
-      (λ t. Waits k rest n size false t extensions)
-  misses out (Grows k rest size granted tries extensions) =
-      uses TriesSpent tries (world_at out (Grows k rest size granted tries extensions))
-      (λ n. Grows k rest size false n extensions)
-  misses out (Answering k rest tries extensions) =
-      uses TriesSpent tries (world_at out (Answering k rest tries extensions))
-      (λ n. Answering k rest n extensions)
-  misses out (Between k got b bytes tries extensions) =
-      uses TriesSpent tries (world_at out (Between k got b bytes tries extensions))
-      (λ n. Between k got b bytes n extensions)
-  misses out (Repeating k got rest tries extensions) =
-      uses TriesSpent tries (world_at out (Repeating k got rest tries extensions))
-      (λ n. Repeating k got rest n extensions)
-  misses out (Given_up w cause) = Given_up w cause
-  misses out (Finished w) = Finished w
+  abbrev pub misses : Out → Kept → Spot → (tries extensions : ℕ) → Place
+  misses out k s tries extensions =
+      uses TriesSpent tries (world_at out k s tries extensions)
+      (λ n. Going k (asking s) n extensions)
+
+  -- the terminal grants the card's request
+  abbrev pub grants : Out → Kept → (s granted : Spot) → (tries extensions : ℕ) → Place
+  grants out k s granted tries extensions =
+      uses ExtensionsSpent extensions (world_at out k s tries extensions)
+      (λ n. Going k granted tries n)
 
   -- the terminal ignores an invalid IFSC
   abbrev pub grows : Bool → Out → Kept → List ℕ → ℕ → Bool → (tries extensions : ℕ) → Place
   grows true out k rest size granted tries extensions =
-      uses ExtensionsSpent extensions
-      (world_at out (Grows (record k { size = size }) rest size granted tries extensions))
-      (λ n. Grows (record k { size = size }) rest size true tries n)
+      grants out (record k { size = size }) (Grows rest size granted) (Grows rest size true) tries
+      extensions
   grows false out k rest size granted tries extensions =
-      misses out (Grows k rest size granted tries extensions)
+      misses out k (Grows rest size granted) tries extensions
 
-  -- with the card's field the response exceeds the limit
-  abbrev pub is_long : Kept → List ℕ → Bool
-  is_long k got = nat_lt k.settings.limit (length got + length k.last)
+  -- the world after a field of the response, before the next command
+  abbrev pub world_after : Out → Kept → (got rest : List ℕ) → (tries extensions : ℕ) → World
+  world_after out k got rest tries extensions =
+      world k
+      (terminal_at out (record k { due = other k.due }) (Sent false got rest) tries extensions)
+      (card_at k (Sent false [] rest))
 
   -- a field of the response arrives
   abbrev pub comes_next : Bool → Out → Kept → (got rest : List ℕ) → (tries extensions : ℕ) → Place
   comes_next true out k got rest tries extensions =
-      Given_up (world k
-      (terminal_at (record k { due = other k.due }) [] got true tries extensions Receiving out)
-      (card_at k [] rest k.number (other k.due) true (idle k))) TooLong
+      Given_up (world_after out k got rest tries extensions) TooLong
   comes_next false out k got [] tries extensions =
-      let now : Kept = record k {
-        due = other k.due;
-        answers = k.answers ++ (got ++ k.last) ∷ [];
-      } in
-      proceeds now k.todo (world now
-      (terminal_at (record k { due = other k.due }) [] (got ++ k.last) true tries extensions Over
-      out)
-      (card_at k [] [] k.number (other k.due) true (idle k)))
+      let now : Kept = record k { answers = k.answers ++ (got ++ k.last) ∷ [] } in
+      proceeds (record now { due = other k.due }) k.todo
+      (world_after out now (got ++ k.last) [] tries extensions)
   comes_next false out k got (b ∷ bytes) tries extensions =
-      Between (record k { due = other k.due }) (got ++ k.last) b bytes k.settings.tries extensions
+      Going (record k { due = other k.due }) (Between (got ++ k.last) b bytes) k.settings.tries
+      extensions
 
   -- the card's block arrives
-  abbrev pub comes : Out → Place → Place
-  comes out (Opens k rest tries extensions asks) = Behind k [] rest false tries extensions false
-  comes out (Behind k collected rest answering tries extensions asks) =
-      uses TriesSpent tries (world_at out (Behind k collected rest answering tries extensions asks))
-      (λ n. Behind k collected rest answering n extensions false)
-  comes out (Taken k collected b bytes tries extensions) =
-      Behind (record k { field = take k.size (b ∷ bytes); number = other k.number }) collected
-      (drop k.size (b ∷ bytes)) false k.settings.tries extensions false
-  comes out (Waits k rest n size granted tries extensions) =
-      uses ExtensionsSpent extensions (world_at out (Waits k rest n size granted tries extensions))
-      (λ e. Waits k rest n size true tries e)
-  comes out (Grows k rest size granted tries extensions) =
+  abbrev pub comes : Out → Kept → Spot → (tries extensions : ℕ) → Place
+  comes out k (Opens rest asks) tries extensions =
+      Going k (Behind false [] rest false) tries extensions
+  comes out k (Behind asks collected rest answering) tries extensions =
+      uses TriesSpent tries
+      (world_at out k (Behind asks collected rest answering) tries extensions)
+      (λ n. Going k (Behind false collected rest answering) n extensions)
+  comes out k (Taken collected b bytes) tries extensions =
+      Going (record k { field = take k.size (b ∷ bytes); number = other k.number })
+      (Behind false collected (drop k.size (b ∷ bytes)) false) k.settings.tries extensions
+  comes out k (Waits rest n size granted) tries extensions =
+      grants out k (Waits rest n size granted) (Waits rest n size true) tries extensions
+  comes out k (Grows rest size granted) tries extensions =
       grows (is_size size) out k rest size granted tries extensions
-  comes out (Answering k rest tries extensions) =
-      comes_next (is_long k []) out (record k { number = other k.number }) [] rest tries extensions
-  comes out (Repeating k got rest tries extensions) =
-      comes_next (is_long k got) out k got rest tries extensions
-  comes out p = misses out p
+  comes out k (Between got b bytes) tries extensions =
+      misses out k (Between got b bytes) tries extensions
+  comes out k (Sent first got rest) tries extensions =
+      comes_next (is_long k got) out (numbered first k) got rest tries extensions
 
-  abbrev pub arrived : Out → Fate → Place → Place
-  arrived out Delivers p = comes out p
-  arrived out _ p = misses out p
+  abbrev pub arrived : Out → Fate → Kept → Spot → (tries extensions : ℕ) → Place
+  arrived out Delivers k s tries extensions = comes out k s tries extensions
+  arrived out _ k s tries extensions = misses out k s tries extensions
 
-  -- the card has received a damaged block
-  abbrev pub garbled : Fate → Place → Place
-  garbled up (Behind k collected rest answering tries extensions asks) =
-      arrived (out_of asks) up (Behind k collected rest answering tries extensions asks)
-  garbled up (Taken k collected b bytes tries extensions) =
-      arrived Asks up (Taken k collected b bytes tries extensions)
-  garbled up (Waits k rest n size granted tries extensions) =
-      let p : Place = Waits k rest n size granted tries extensions in arrived (out_at p) up p
-  garbled up (Grows k rest size granted tries extensions) =
-      let p : Place = Grows k rest size granted tries extensions in arrived (out_at p) up p
-  garbled up p = misses (out_at p) p
+  -- The card has received a damaged block. Its R-block has no effect in the first three.
+  abbrev pub garbled : Fate → Kept → Spot → (tries extensions : ℕ) → Place
+  garbled up k (Opens rest asks) tries extensions =
+      misses (out_of asks) k (Opens rest asks) tries extensions
+  garbled up k (Between got b bytes) tries extensions =
+      misses Asks k (Between got b bytes) tries extensions
+  garbled up k (Sent first got rest) tries extensions =
+      misses Asks k (Sent first got rest) tries extensions
+  garbled up k s tries extensions = arrived (out_at k s) up k s tries extensions
 
   abbrev pub step : Fate → Fate → Place → Place
-  step Delivers up p = arrived (out_at p) up (heard p)
-  step Damages up p = garbled up p
-  step Loses up p = misses (out_at p) p
+  step down up (Given_up w cause) = Given_up w cause
+  step down up (Finished w) = Finished w
+  step Delivers up (Going k s tries extensions) =
+      arrived (out_at k s) up (heard k s).0 (heard k s).1 tries extensions
+  step Damages up (Going k s tries extensions) = garbled up k s tries extensions
+  step Loses up (Going k s tries extensions) = misses (out_at k s) k s tries extensions
+
+  -- A step is one of these, so what holds of each holds of it.
+  pub garbled_by : (P : Place → Type 0) (up : Fate) (k : Kept) (s : Spot) (tries extensions : ℕ)
+      → P (misses (out_at k s) k s tries extensions)
+      → (IsHeard k s → P (comes (out_at k s) k s tries extensions))
+      → P (garbled up k s tries extensions)
+  garbled_by P up k (Opens rest asks) tries extensions missed came = missed
+  garbled_by P up k (Between got b bytes) tries extensions missed came = missed
+  garbled_by P up k (Sent first got rest) tries extensions missed came = missed
+  garbled_by P Delivers k _ tries extensions missed came = came tt
+  garbled_by P _ k _ tries extensions missed came = missed
 
   -- the terminal takes a block, or none
 
-  abbrev pub IsActive : Place → Type 0
-  IsActive (Given_up w cause) = ⊥
-  IsActive (Finished w) = ⊥
-  IsActive _ = Unit {0}
+  abbrev pub took : Out → Kept → Spot → (tries extensions : ℕ) → Option Block → World
+  took out k s tries extensions b =
+      let w : World = world_at out k s tries extensions in
+      settled (record w { terminal = takes w.terminal b })
 
-  abbrev pub took : Out → Place → Option Block → World
-  took out p b = let w : World = world_at out p in settled
-      (record w { terminal = takes w.terminal b })
+  missed : (out : Out) (k : Kept) (tries extensions : ℕ) (s : Spot)
+      → took out k s tries extensions None ≡ world_of (misses out k s tries extensions)
+  missed out k zero extensions (Opens rest asks) = refl
+  missed out k zero extensions (Sent true got rest) = refl
+  missed out k zero extensions _ = refl
+  missed out k (suc n) extensions (Opens rest asks) = refl
+  missed out k (suc n) extensions (Sent true got rest) = refl
+  missed out k (suc n) extensions _ = refl
 
-  missed : (out : Out) (p : Place) → IsActive p → took out p None ≡ world_of (misses out p)
-  missed out (Opens k rest zero extensions asks) a = refl
-  missed out (Behind k collected rest answering zero extensions asks) a = refl
-  missed out (Taken k collected b bytes zero extensions) a = refl
-  missed out (Waits k rest n size granted zero extensions) a = refl
-  missed out (Grows k rest size granted zero extensions) a = refl
-  missed out (Answering k rest zero extensions) a = refl
-  missed out (Between k got b bytes zero extensions) a = refl
-  missed out (Repeating k got rest zero extensions) a = refl
-  missed out (Given_up w cause) a = absurd a
-  missed out (Finished w) a = absurd a
-  missed _ _ _ = refl
-
-  proceeds_is : (k : Kept) (todo old : List (List ℕ)) (out : Out) (got : List ℕ)
-      (tries extensions : ℕ) (answers : List (List ℕ))
-      → next_command todo (record {
-        terminal = terminal_at k [] got true tries extensions Over out;
-        card = card_at k [] [] k.number k.due true (idle k);
-        todo = old;
-        answers = answers;
-      })
-      ≡ world_of (proceeds (record k { answers = answers }) todo (record {
-        terminal = terminal_at k [] got true tries extensions Over out;
-        card = card_at k [] [] k.number k.due true (idle k);
-        todo = old;
-        answers = answers;
-      }))
-  proceeds_is k [] old out got tries extensions answers = refl
-  proceeds_is k (c ∷ cs) old out got tries extensions answers = refl
+  proceeds_is : (k : Kept) (todo : List (List ℕ)) (out : Out) (got : List ℕ)
+      (tries extensions : ℕ)
+      → next_command todo (with_phase Over (world_after out k got [] tries extensions))
+      ≡ world_of (proceeds (record k { due = other k.due }) todo
+      (world_after out k got [] tries extensions))
+  proceeds_is k [] out got tries extensions = refl
+  proceeds_is k (c ∷ cs) out got tries extensions = refl
 
   grown : (out : Out) (k : Kept) (rest : List ℕ) (size : ℕ) (granted : Bool)
-      (tries extensions : ℕ) (v : Bool)
-      → is_size size ≡ v
-      → took out (Grows k rest size granted tries extensions) (Some (Request (Ifs size)))
+      (tries extensions : ℕ) (v : Bool) → is_size size ≡ v
+      → took out k (Grows rest size granted) tries extensions (Some (Request (Ifs size)))
       ≡ world_of (grows v out k rest size granted tries extensions)
   grown out k rest size granted tries zero true e = rw e refl
   grown out k rest size granted tries (suc n) true e = rw e refl
   grown out k rest size granted zero extensions false e = rw e refl
   grown out k rest size granted (suc n) extensions false e = rw e refl
 
-  first_is : (out : Out) (k : Kept) (rest : List ℕ) (tries extensions : ℕ) (v : Bool)
-      → is_long k [] ≡ v
-      → took out (Answering k rest tries extensions) (Some (I k.due (more rest) k.last))
-      ≡ world_of (comes_next v out (record k { number = other k.number }) [] rest tries extensions)
-  first_is out k rest tries extensions true e = rw (same_self k.due) (rw e refl)
-  first_is out k [] tries extensions false e =
+  next_is : (out : Out) (k : Kept) (got : List ℕ) (tries extensions : ℕ) (v first : Bool)
+      (rest : List ℕ) → is_long k got ≡ v
+      → took out k (Sent first got rest) tries extensions (Some (I k.due (more rest) k.last))
+      ≡ world_of (comes_next v out (numbered first k) got rest tries extensions)
+  next_is out k got tries extensions true true rest e = rw (same_self k.due) (rw e refl)
+  next_is out k got tries extensions false true [] e =
       rw (same_self k.due) (rw e (proceeds_is (record k {
         number = other k.number;
-        due = other k.due;
-      }) k.todo k.todo out k.last tries extensions
-      (k.answers ++ k.last ∷ [])))
-  first_is out k (b ∷ bytes) tries extensions false e = rw (same_self k.due) (rw e refl)
+        answers = k.answers ++ (got ++ k.last) ∷ [];
+      }) k.todo out (got ++ k.last) tries extensions))
+  next_is out k got tries extensions false false [] e =
+      rw (same_self k.due) (rw e (proceeds_is (record k {
+        answers = k.answers ++ (got ++ k.last) ∷ [];
+      }) k.todo out (got ++ k.last) tries extensions))
+  next_is out k got tries extensions _ _ _ e = rw (same_self k.due) (rw e refl)
 
-  next_is : (out : Out) (k : Kept) (got rest : List ℕ) (tries extensions : ℕ) (v : Bool)
-      → is_long k got ≡ v
-      → took out (Repeating k got rest tries extensions) (Some (I k.due (more rest) k.last))
-      ≡ world_of (comes_next v out k got rest tries extensions)
-  next_is out k got rest tries extensions true e = rw (same_self k.due) (rw e refl)
-  next_is out k got [] tries extensions false e =
-      rw (same_self k.due) (rw e (proceeds_is (record k { due = other k.due }) k.todo k.todo out
-      (got ++ k.last) tries extensions (k.answers ++ (got ++ k.last) ∷ [])))
-  next_is out k got (b ∷ bytes) tries extensions false e = rw (same_self k.due) (rw e refl)
-
-  comes_is : (out : Out) (p : Place) → IsActive p → took out p (Some (reply_of p)) ≡ world_of
-      (comes out p)
-  comes_is out (Opens k rest tries extensions asks) a = refl
-  comes_is out (Behind k collected rest answering zero extensions asks) a = rw
-      (same_self k.number) refl
-  comes_is out (Behind k collected rest answering (suc n) extensions asks) a = rw
-      (same_self k.number) refl
-  comes_is out (Taken k collected b bytes tries extensions) a = rw (same_other k.number) refl
-  comes_is out (Waits k rest n size granted tries zero) a = refl
-  comes_is out (Waits k rest n size granted tries (suc e)) a = refl
-  comes_is out (Grows k rest size granted tries extensions) a =
+  comes_is : (out : Out) (k : Kept) (s : Spot) (tries extensions : ℕ)
+      → took out k s tries extensions (Some (reply_of k s))
+      ≡ world_of (comes out k s tries extensions)
+  comes_is out k (Opens rest asks) tries extensions = refl
+  comes_is out k (Behind asks collected rest answering) zero extensions =
+      rw (same_self k.number) refl
+  comes_is out k (Behind asks collected rest answering) (suc n) extensions =
+      rw (same_self k.number) refl
+  comes_is out k (Taken collected b bytes) tries extensions = rw (same_other k.number) refl
+  comes_is out k (Waits rest n size granted) tries zero = refl
+  comes_is out k (Waits rest n size granted) tries (suc e) = refl
+  comes_is out k (Grows rest size granted) tries extensions =
       grown out k rest size granted tries extensions (is_size size) refl
-  comes_is out (Answering k rest tries extensions) a =
-      first_is out k rest tries extensions (is_long k []) refl
-  comes_is out (Between k got b bytes tries extensions) a =
-      missed out (Between k got b bytes tries extensions) a
-  comes_is out (Repeating k got rest tries extensions) a =
-      next_is out k got rest tries extensions (is_long k got) refl
-  comes_is out (Given_up w cause) a = absurd a
-  comes_is out (Finished w) a = absurd a
+  comes_is out k (Between got b bytes) tries extensions =
+      missed out k tries extensions (Between got b bytes)
+  comes_is out k (Sent first got rest) tries extensions =
+      next_is out k got tries extensions (is_long k got) first rest refl
 
-  ups : (out : Out) (up : Fate) (p : Place) → IsActive p
-      → took out p (arrives up (Some (reply_of p))) ≡ world_of (arrived out up p)
-  ups out Delivers p a = comes_is out p a
-  ups out _ p a = missed out p a
+  ups : (out : Out) (up : Fate) (k : Kept) (s : Spot) (tries extensions : ℕ)
+      → took out k s tries extensions (arrives up (Some (reply_of k s)))
+      ≡ world_of (arrived out up k s tries extensions)
+  ups out Delivers k s tries extensions = comes_is out k s tries extensions
+  ups out _ k s tries extensions = missed out k tries extensions s
 
   -- the terminal ignores this R-block, which replies to a damaged block
-  unread : (out : Out) (up : Fate) (p : Place) (number : Bool) → IsActive p
-      → took out p (Some (R number)) ≡ took out p None
-      → took out p (arrives up (Some (R number))) ≡ world_of (misses out p)
-  unread out Delivers p number a e = e ∙ missed out p a
-  unread out _ p number a e = missed out p a
+  unread : (out : Out) (up : Fate) (k : Kept) (s : Spot) (tries extensions : ℕ) (number : Bool)
+      → took out k s tries extensions (Some (R number)) ≡ took out k s tries extensions None
+      → took out k s tries extensions (arrives up (Some (R number)))
+      ≡ world_of (misses out k s tries extensions)
+  unread out Delivers k s tries extensions number e = e ∙ missed out k tries extensions s
+  unread out _ k s tries extensions number e = missed out k tries extensions s
 
   -- the world after the card's turn
-  abbrev turned : Kept → Terminal → Fate → Turn → World
+  abbrev pub turned : Kept → Terminal → Fate → Turn → World
   turned k t up x = settled (world k (takes t (arrives up x.block)) x.card)
 
   -- the card sends its next request, or its response
   answers_now : (out : Out) (up : Fate) (k : Kept) (rest : List ℕ) (n : ℕ) (size : Option ℕ)
       (tries extensions : ℕ)
-      → turned k (terminal_at k [] [] true tries extensions Sending out) up
+      → turned k (terminal_at out k (Sent true [] rest) tries extensions) up
       (answers_with (request_of (requests n k.multiple size))
-      (card_at k [] rest (other k.number) k.due false (requests n k.multiple size)))
-      ≡ world_of (arrived out up (starts k rest n size tries extensions))
-  answers_now out up k rest (suc n) size tries extensions = ups out up
-      (Waits k rest n size false tries extensions) tt
-  answers_now out up k rest zero (Some size) tries extensions = ups out up
-      (Grows k rest size false tries extensions) tt
-  answers_now out up k rest zero None tries extensions = ups out up
-      (Answering k rest tries extensions) tt
+      (record (card_at k (Sent true [] rest)) {
+        next = k.due;
+        answering = false;
+        left = requests n k.multiple size;
+      }))
+      ≡ world_of (arrived out up k (starts rest n size) tries extensions)
+  answers_now out up k rest (suc n) size = ups out up k (Waits rest n size false)
+  answers_now out up k rest zero (Some size) = ups out up k (Grows rest size false)
+  answers_now out up k rest zero None = ups out up k (Sent true [] rest)
 
   abbrev After : Fate → Fate → Place → World
   After down up p = exchange m (record { down = down; up = up }) (world_of p)
 
   runs_now : (up : Fate) (k : Kept) (collected : List ℕ) (answering : Bool) (tries extensions : ℕ)
-      → After Delivers up (Behind k collected [] answering tries extensions false)
-      ≡ world_of (step Delivers up (Behind k collected [] answering tries extensions false))
+      → let p : Place = Going k (Behind false collected [] answering) tries extensions in
+      After Delivers up p ≡ world_of (step Delivers up p)
   runs_now up k collected answering tries extensions =
+      let s : Spot = Behind false collected [] answering in
       let done : List (List ℕ) = k.done ++ (collected ++ k.field) ∷ [] in
-      let c : Card = card_at k collected [] k.number k.due answering (idle k) in
       let after : List (List ℕ) → World =
-      λ ran. turned k (terminal_at k [] [] true tries extensions Sending Own) up
-      (carries_out m c ran) in
+      λ ran. turned k (terminal_at Own k s tries extensions) up (carries_out m (card_at k s) ran) in
       rw (same_self k.number) (
       ap after (append_assoc before k.done ((collected ++ k.field) ∷ []))
       ∙ answers_now Own up (runs k done) (drop k.ifsd (m.does (before ++ done)))
-      (m.asks (before ++ done)).extensions
-      (m.asks (before ++ done)).size tries extensions)
+      (m.asks (before ++ done)).extensions (m.asks (before ++ done)).size tries extensions)
 
-  -- after the end nothing changes
-  gone : (down up : Fate) (w : World) (cause : Cause)
-      → After down up (Given_up w cause) ≡ world_of (step down up (Given_up w cause))
-  gone Delivers Delivers w cause = refl
-  gone _ _ w cause = refl
+  sends_some : (k : Kept) (s : Spot) (tries extensions : ℕ)
+      → (b : Block) × (sends (terminal_at (out_at k s) k s tries extensions) ≡ Some b)
+  sends_some k (Opens rest true) tries extensions = (_, refl)
+  sends_some k (Behind true collected rest answering) tries extensions = (_, refl)
+  sends_some k (Waits rest n size true) tries extensions = (_, refl)
+  sends_some k (Grows rest size true) tries extensions = (_, refl)
+  sends_some k (Sent true got rest) tries extensions = (_, refl)
+  sends_some k _ tries extensions = (_, refl)
 
-  over : (down up : Fate) (w : World)
-      → After down up (Finished w) ≡ world_of (step down up (Finished w))
-  over Delivers Delivers w = refl
-  over _ _ w = refl
-
-  sends_some : (p : Place) → IsActive p → (b : Block) × (sends (world_of p).terminal ≡ Some b)
-  sends_some (Opens k rest tries extensions true) a = (_, refl)
-  sends_some (Behind k collected rest answering tries extensions true) a = (_, refl)
-  sends_some (Waits k rest n size true tries extensions) a = (_, refl)
-  sends_some (Grows k rest size true tries extensions) a = (_, refl)
-  sends_some (Given_up w cause) a = absurd a
-  sends_some (Finished w) a = absurd a
-  sends_some _ a = (_, refl)
-
-  lost : (up : Fate) (p : Place) → IsActive p
-      → After Loses up p ≡ world_of (misses (out_at p) p)
-  lost up p a =
-      ap (exchanged m (record { down = Loses; up = up }) (world_of p)) (sends_some p a).1
-      ∙ missed (out_at p) p a
+  lost : (up : Fate) (k : Kept) (s : Spot) (tries extensions : ℕ)
+      → After Loses up (Going k s tries extensions)
+      ≡ world_of (misses (out_at k s) k s tries extensions)
+  lost up k s tries extensions =
+      ap (exchanged m (record { down = Loses; up = up })
+      (world_at (out_at k s) k s tries extensions)) (sends_some k s tries extensions).1
+      ∙ missed (out_at k s) k tries extensions s
 
   -- the card replies to a damaged block with this one
-  garbles : (up : Fate) (p : Place) (b : Block) → IsActive p
-      → card_damaged (world_of p).card ≡ turn (world_of p).card b
-      → After Damages up p ≡ took (out_at p) p (arrives up (Some b))
-  garbles up p b a e =
-      let w : World = world_of p in
-      ap (exchanged m (record { down = Damages; up = up }) w) (sends_some p a).1
-      ∙ ap (λ (t : Turn). settled (record w {
-        terminal = takes w.terminal (arrives up t.block);
-        card = t.card;
-      })) e
+  garbles : (up : Fate) (k : Kept) (s : Spot) (tries extensions : ℕ) (b : Block)
+      → card_damaged (card_at k s) ≡ turn (card_at k s) b
+      → After Damages up (Going k s tries extensions)
+      ≡ took (out_at k s) k s tries extensions (arrives up (Some b))
+  garbles up k s tries extensions b e =
+      let w : World = world_at (out_at k s) k s tries extensions in
+      ap (exchanged m (record { down = Damages; up = up }) w) (sends_some k s tries extensions).1
+      ∙ ap (turned k w.terminal up) e
 
   pub is_step : (down up : Fate) (p : Place) → After down up p ≡ world_of (step down up p)
-  is_step down up (Given_up w cause) = gone down up w cause
-  is_step down up (Finished w) = over down up w
-  is_step Delivers up (Opens k rest tries extensions true) =
-      ups Asks up (Opens (record k { ifsd = longest }) rest tries extensions true) tt
-  is_step Delivers up (Behind k collected [] answering tries extensions true) =
-      rw (same_self k.due) (ups Asks up (Behind k collected [] answering tries extensions true) tt)
-  is_step Delivers up (Behind k collected (b ∷ bytes) answering tries extensions true) =
-      rw (same_self k.due) (ups Asks up (Behind k collected (b ∷ bytes) answering tries
-      extensions true) tt)
-  is_step Delivers up (Behind k collected [] answering tries extensions false) =
+  is_step down up (Given_up w cause) = refl
+  is_step down up (Finished w) = refl
+  is_step Delivers up (Going k (Opens rest true) tries extensions) =
+      ups Asks up (record k { ifsd = longest }) (Opens rest true) tries extensions
+  is_step Delivers up (Going k (Behind true collected rest answering) tries extensions) =
+      rw (same_self k.due) (ups Asks up k (Behind true collected rest answering) tries extensions)
+  is_step Delivers up (Going k (Behind false collected [] answering) tries extensions) =
       runs_now up k collected answering tries extensions
-  is_step Delivers up (Behind k collected (b ∷ bytes) answering tries extensions false) =
-      rw (same_self k.number) (ups Own up
-      (Taken (record k { last = [] }) (collected ++ k.field) b bytes tries extensions) tt)
-  is_step Delivers up (Taken k collected b bytes tries extensions) =
-      rw (same_self k.due) (ups Asks up (Taken k collected b bytes tries extensions) tt)
-  is_step Delivers up (Waits k rest n size true tries extensions) =
+  is_step Delivers up (Going k (Behind false collected (b ∷ bytes) answering) tries extensions) =
+      rw (same_self k.number) (ups Own up (record k { last = [] })
+      (Taken (collected ++ k.field) b bytes) tries extensions)
+  is_step Delivers up (Going k (Taken collected b bytes) tries extensions) =
+      rw (same_self k.due) (ups Asks up k (Taken collected b bytes) tries extensions)
+  is_step Delivers up (Going k (Waits rest n size true) tries extensions) =
       rw (eq-eqb k.multiple k.multiple refl)
       (answers_now (Grants (Wtx k.multiple)) up k rest n size tries extensions)
-  is_step Delivers up (Grows k rest size true tries extensions) =
-      rw (eq-eqb size size refl) (ups (Grants (Ifs size)) up (Answering k rest tries extensions) tt)
-  is_step Delivers up (Answering k rest tries extensions) =
+  is_step Delivers up (Going k (Grows rest size true) tries extensions) =
+      rw (eq-eqb size size refl)
+      (ups (Grants (Ifs size)) up k (Sent true [] rest) tries extensions)
+  is_step Delivers up (Going k (Between got b bytes) tries extensions) =
+      rw (same_self k.due) (ups Asks up (record k { last = take k.ifsd (b ∷ bytes) })
+      (Sent false got (drop k.ifsd (b ∷ bytes))) tries extensions)
+  is_step Delivers up (Going k (Sent true got rest) tries extensions) =
       rw (same_other_2 k.due) (rw (other_other k.due)
-      (ups Asks up (Answering k rest tries extensions) tt))
-  is_step Delivers up (Between k got b bytes tries extensions) =
-      rw (same_self k.due) (ups Asks up
-      (Repeating (record k { last = take k.ifsd (b ∷ bytes) }) got (drop k.ifsd (b ∷ bytes))
-      tries extensions) tt)
-  is_step Delivers up (Repeating k got rest tries extensions) =
+      (ups Asks up k (Sent true got rest) tries extensions))
+  is_step Delivers up (Going k (Sent false got rest) tries extensions) =
       rw (same_other_2 k.due) (rw (other_other k.due)
-      (ups Asks up (Repeating k got rest tries extensions) tt))
-  is_step Delivers up p = ups (out_at p) up (heard p) tt
-  is_step Damages up (Opens k rest tries extensions asks) =
-      let p = Opens k rest tries extensions asks in
-      garbles up p _ tt refl ∙ unread (out_of asks) up p k.number tt refl
-  is_step Damages up (Answering k rest tries extensions) =
-      let p = Answering k rest tries extensions in
-      garbles up p _ tt refl
-      ∙ unread Asks up p (other k.number) tt (rw (same_other k.number) refl)
-  is_step Damages up (Between k got b bytes tries extensions) =
-      let p = Between k got b bytes tries extensions in
-      garbles up p _ tt refl ∙ unread Asks up p k.number tt refl
-  is_step Damages up (Repeating k got rest tries extensions) =
-      let p = Repeating k got rest tries extensions in
-      garbles up p _ tt refl ∙ unread Asks up p k.number tt refl
-  is_step Damages up p = garbles up p _ tt refl ∙ ups (out_at p) up p tt
-  is_step Loses up p = lost up p tt
+      (ups Asks up k (Sent false got rest) tries extensions))
+  is_step Delivers up (Going k s tries extensions) =
+      ups (out_at k s) up (heard k s).0 (heard k s).1 tries extensions
+  is_step Damages up (Going k (Opens rest asks) tries extensions) =
+      garbles up k (Opens rest asks) tries extensions _ refl
+      ∙ unread (out_of asks) up k (Opens rest asks) tries extensions k.number refl
+  is_step Damages up (Going k (Between got b bytes) tries extensions) =
+      garbles up k (Between got b bytes) tries extensions _ refl
+      ∙ unread Asks up k (Between got b bytes) tries extensions k.number refl
+  is_step Damages up (Going k (Sent true got rest) tries extensions) =
+      garbles up k (Sent true got rest) tries extensions _ refl
+      ∙ unread Asks up k (Sent true got rest) tries extensions (other k.number)
+      (rw (same_other k.number) refl)
+  is_step Damages up (Going k (Sent false got rest) tries extensions) =
+      garbles up k (Sent false got rest) tries extensions _ refl
+      ∙ unread Asks up k (Sent false got rest) tries extensions k.number refl
+  is_step Damages up (Going k s tries extensions) =
+      garbles up k s tries extensions _ refl ∙ ups (out_at k s) up k s tries extensions
+  is_step Loses up (Going k s tries extensions) = lost up k s tries extensions

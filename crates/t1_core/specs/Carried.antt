@@ -74,6 +74,7 @@ pub record HasCarried {C : Type 0} (a : Ghosts C) (past : Past a.State) (now : L
   pub short : AllByRecursion (λ (d : Did). length d.response < most_bytes) did
   pub fates : List Fates
   pub passed : now ≡ past.passed ++ fates
+  pub sized : 0 < e.terminal.size
   pub leads : (m : Meaning) → Agrees m [] did → (commands : List (List ℕ))
       → run m fates (start past.settings [] (past.commands ++ commands))
       ≡ more commands (world_now e did past.answers)

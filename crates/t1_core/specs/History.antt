@@ -25,7 +25,7 @@ happens Resets t = fresh t.settings
 
 -- The counts since the command began or the end was reset.
 pub record Account : Type 0 where
-  pub fruitless : ℕ  -- receptions in a row without progress
+  pub fruitless : ℕ  -- fruitless receptions since the last progress
   pub grants : ℕ  -- requests of the card for more time or another IFSC
   pub arrived : ℕ  -- bytes of the response, with the newest field
   pub aborts : ℕ  -- receptions from S(ABORT request) on

@@ -54,7 +54,7 @@ pub record Enough (m : Meaning) (f : ℕ) (settings : Settings) : Type 0 where
 abbrev pub steps_left : Terminal → ℕ
 steps_left t = length t.rest + (t.settings.limit - length t.got)
 
--- After this number of receptions a terminal has stopped. It counts the tries and extensions left,
+-- After more receptions than this a terminal has stopped. It counts the tries and extensions left,
 -- two more, and for each step left all tries and one more.
 abbrev pub most_receptions : Terminal → ℕ
 most_receptions t =

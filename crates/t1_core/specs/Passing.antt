@@ -1,11 +1,11 @@
 -- A block of the terminal and the card's reply, over the line.
-use Rattle.std.specs.Prelude.{◌≡◌, ℕ, List, Option, Some, None}
+use Rattle.std.specs.Prelude.{◌≡◌, ℕ, List, Option, Some, None, true}
 use Rattle.std.specs.Option.{option_map}
 use Rattle.t1_core.specs.declared.applet.Applet.{Ghosts}
 use Rattle.t1_core.specs.declared.card.Reply.{Reply}
 use Rattle.t1_core.specs.declared.line.Fate.{Fate}
 use Rattle.t1_core.specs.declared.line.Fates.{Fates}
-use Rattle.t1_core.specs.Block.{Block}
+use Rattle.t1_core.specs.Block.{Block, are_filled}
 use Rattle.t1_core.specs.CardReplies.{replies}
 use Rattle.t1_core.specs.CardSide.{Card, Did, Meaning, card_meets}
 use Rattle.t1_core.specs.Doing.{EndOf, after, DoesSome, IsOfSome, ran_with}
@@ -29,6 +29,7 @@ PassesWith m fates None old new before later = (new ≡ old) × (later ≡ befor
 PassesWith m fates (Some b) old new before later =
     let t = card_meets m fates.down b before in
     (new ≡ takes old (arrives fates.up t.block)) × (later ≡ t.card)
+    × (are_filled (arrives fates.up t.block) ≡ true)
 
 -- both ends make the steps of each meaning that agrees with what the card carries out
 abbrev pub Passes : {C : Type 0} (a : Ghosts C) → Fates → (old new : Terminal)

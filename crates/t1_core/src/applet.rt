@@ -2,10 +2,11 @@
 
 use std::alloc::AllocError;
 
-/// The requests that a card makes before it responds to a command.
+/// The requests that a card makes before it responds to a command: first each S(WTX request), then
+/// S(IFS request).
 #[derive(Clone, Copy, Debug, PartialEq, Eq)]
 pub struct Requests {
-    /// The number of S(WTX request).
+    /// The number of S(WTX request), 0 to 255.
     pub extensions: u8,
     /// The multiple of BWT that each of them asks for.
     pub multiple: u8,
@@ -32,7 +33,7 @@ pub trait Applet {
     /// the requests to make before that response.
     ///
     /// # Errors
-    /// - `AllocError`: memory ran out; the command is not carried out.
+    /// - `AllocError`: memory ran out; the command is not carried out, and the card is unchanged.
     fn carry_out(&mut self, command: &[u8], response: &mut Vec<u8>) -> Result<Requests, AllocError>
         ensures { MatchResult result
             (λ asks. Does (standing self.old) (record {

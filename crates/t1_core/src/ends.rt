@@ -33,7 +33,7 @@ impl<C: Applet> Model for Ends<C> {
 }
 
 impl<C: Applet> Ends<C> {
-    /// Makes both ends after a reset.
+    /// Makes both ends after a reset. The card above is in the state of `applet`.
     pub fn new(alloc: Global, applet: C, settings: Settings) -> Ends<C>
         ensures led { (passed : List Fates) → HasCarried C.Applet
             (nothing_yet settings (C.standing applet) passed) passed result }
@@ -46,10 +46,12 @@ impl<C: Applet> Ends<C> {
     }
 
     /// Carries a command to the card over the line, until its response has arrived or the terminal
-    /// gives up.
+    /// gives up: `response` and `fault` tell which. `is_ready` must hold. Each call gets the same
+    /// line, which nothing else uses.
     ///
     /// # Errors
-    /// - `AllocError`: memory ran out; the command may be in progress at either end.
+    /// - `AllocError`: memory ran out; the command may be in progress at either end, and these ends
+    ///   can carry no other.
     pub fn carry<L: Line>(&mut self, line: &mut L, command: &[u8]) -> Result<(), AllocError>
         requires ready { is_ready self.old.terminal.phase ≡ true }
         requires led { (past : Past C.State)
@@ -96,14 +98,14 @@ impl<C: Applet> Ends<C> {
         self.terminal.has_stopped()
     }
 
-    /// Whether a command can begin: there was no fault.
+    /// Whether a command can begin: none is in progress, and there was no fault.
     pub fn is_ready(&self) -> bool
         ensures { result ≡ is_ready self.now.terminal.phase }
     {
         self.terminal.is_ready()
     }
 
-    /// The newest response.
+    /// The response to the last command; after a fault, the part of it that has arrived.
     pub fn response(&self) -> &[u8]
         ensures { result.now ≡ self.now.terminal.got }
     {
@@ -125,9 +127,10 @@ impl<C: Applet> Ends<C> {
     }
 }
 
-/// The carried commands are a dialogue. The card has carried out the first of them, in order, each
-/// once. Each answer is its response, and the outcome in a fault is true. The dialogue ends. On a
-/// mild line there is no fault.
+/// The commands that `Ends::carry` has carried are a dialogue, once the terminal has stopped. The
+/// card has carried out the first of them, in order, each once. Each answer is its response, at
+/// most one of them has no answer, and the outcome in a fault is true. The dialogue ends. On a line
+/// that is mild enough for the settings (`laws::mild_lines_are_survived`) there is no fault.
 pub fn carried_commands_are_a_dialogue<C: Applet>()
     ensures { (past : Past C.State) (passed : List Fates) (e : EndsOf C)
         → HasCarried C.Applet past passed e → has_stopped e.terminal.phase ≡ true

@@ -1,7 +1,8 @@
 //! One exchange: a block of the terminal and the card's reply, over a line.
 
-ghost use Rattle.std.specs.Prelude.{OnOk, IfOk, ◌≡◌};
+ghost use Rattle.std.specs.Prelude.{OnOk, IfOk, ◌≡◌, true};
 ghost use Rattle.std.specs.Option.{option_map};
+ghost use Rattle.t1_core.specs.Block.{are_filled};
 ghost use Rattle.t1_core.specs.BlockView.{said};
 ghost use Rattle.t1_core.specs.CardReplies.{replies};
 ghost use Rattle.t1_core.specs.Passing.{Hears, Passes};
@@ -60,8 +61,10 @@ fn bring<C: Applet>(
     fate: Fate,
     reply: Option<Reply>,
 ) -> Result<(), AllocError>
-    ensures { OnOk result (terminal.new ≡ takes terminal.old
+    ensures taken { OnOk result (terminal.new ≡ takes terminal.old
         (arrives fate (option_map (λ r. replies r card.now.at) reply))) }
+    ensures filled { OnOk result (are_filled
+        (arrives fate (option_map (λ r. replies r card.now.at) reply)) ≡ true) }
 {
     match reply {
         None => terminal.timed_out(),

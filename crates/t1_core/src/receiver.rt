@@ -19,7 +19,7 @@ pub enum Received {
 /// Collects the bytes of a block (ISO/IEC 7816-3, clause 11).
 ///
 /// Call `take` with each byte. At `Whole`, pass `bytes` to an end's `take_bytes`. After a parity
-/// error, or a pause longer than CWT, call the end's `damaged`. Then call `clear`.
+/// error, or a pause longer than CWT, call the end's `damaged`. After either, call `clear`.
 #[derive(Drop)]
 pub struct Receiver {
     block: [u8; 259],
@@ -86,7 +86,7 @@ impl Receiver {
     }
 
     /// Takes bytes of the line up to the end of the block, and returns how many. The others change
-    /// nothing.
+    /// nothing: they may begin the next block.
     pub fn take_bytes(&mut self, bytes: &[u8]) -> usize
         ensures after { self.new ≡ self.old ++ take result bytes.now }
         ensures all { (result ≡ length bytes.now) ⊎ (is_whole self.new ≡ true) }

@@ -25,8 +25,9 @@ pub struct Conversation<C> {
 /// or the terminal gives up. The card itself starts in the state of `applet`.
 ///
 /// Whatever the line damages or loses, the card carries out the first of the commands, in order,
-/// each once. Each answer is the card's response, and the outcome in a fault is true. The dialogue
-/// ends. On a line that is mild enough for the settings there is no fault.
+/// each once. Each answer is the card's response, at most one of them has no answer, and the
+/// outcome in a fault is true. The dialogue ends. On a line that is mild enough for the settings
+/// (`laws::mild_lines_are_survived`) there is no fault.
 ///
 /// # Errors
 /// - `AllocError`: memory ran out; both ends and the card are dropped.

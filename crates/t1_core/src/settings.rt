@@ -4,8 +4,8 @@ ghost use Rattle.std.specs.Prelude.{◌≡◌, ◌<◌, IfOk};
 ghost use Rattle.std.specs.Result.{result_err};
 ghost use Rattle.t1_core.specs.Settings.{fault_of};
 
-/// The default number of receptions in a row without progress that a terminal survives: the fifth
-/// is a fault (profile). EMV has 2.
+/// The default number of fruitless receptions since the last progress that a terminal survives: the
+/// fifth is a fault (profile). EMV has 2.
 pub const TRIES: u8 = 4;
 
 /// The default number of S(WTX request) and S(IFS request) that a terminal grants per command
@@ -19,7 +19,7 @@ pub enum Edc {
     Crc,
 }
 
-/// Why settings are refused.
+/// Why settings are refused. `Crc` comes first if both hold.
 #[derive(Clone, Copy, Debug, PartialEq, Eq)]
 pub enum SettingsFault {
     /// The card uses CRC, and only LRC is supported (profile).
@@ -33,9 +33,11 @@ pub enum SettingsFault {
 pub struct Settings {
     /// IFSC, the longest field in bytes that the card takes: 1 to 254.
     pub ifsc: u8,
-    /// The number of receptions in a row without progress that the terminal survives.
+    /// The number of fruitless receptions since the last progress that the terminal survives, 0 to
+    /// 255 (see `Cause::TriesSpent`).
     pub tries: u8,
-    /// The number of requests of the card that the terminal grants per command.
+    /// The number of S(WTX request) and S(IFS request) that the terminal grants per command, 0 to
+    /// 255.
     pub extensions: u8,
     /// The longest response that the terminal takes, in bytes.
     pub limit: usize,
@@ -46,6 +48,8 @@ impl Settings {
     /// Makes settings from the EDC and IFSC of an answer to reset, and from the terminal's limits.
     ///
     /// # Errors
+    /// The first that holds; there are no settings after either:
+    ///
     /// - `Crc`: the card uses CRC, which is not supported (profile).
     /// - `Ifsc`: `ifsc` is 0 or 255, which are reserved.
     pub fn new(

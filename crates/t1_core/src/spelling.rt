@@ -25,7 +25,8 @@ pub fn lrc(bytes: &[u8]) -> u8
     sum
 }
 
-/// Returns the bytes of a block, 4 to 258. Its field has at most 254 bytes.
+/// Returns the bytes of a block, 4 to 258. Its field must have at most 254 bytes. An R-block is
+/// written as one that reports no error.
 ///
 /// # Errors
 /// - `AllocError`: memory ran out; nothing has changed.
@@ -112,7 +113,11 @@ fn read_whole(bytes: &[u8]) -> Option<Block<'_>>
     }
 }
 
-/// Returns the PCB and the field of a whole block. `None` if NAD, PCB, LEN or LRC is wrong.
+/// Returns the PCB and the field, 0 to 254 bytes, of a whole block. Unlike `read`, it accepts any
+/// field with any PCB.
+///
+/// `None` if there are fewer than 4 bytes, NAD is not `00`, the PCB is invalid, LEN is `FF` or not
+/// the size of the field, or the LRC is wrong.
 pub fn parts(bytes: &[u8]) -> Option<(Pcb, &[u8])>
     ensures exact { Reads (λ b. (b.0, b.1.now)) result (parts_of bytes.now) }
 

@@ -18,10 +18,11 @@ use t1_core::{Applet, Requests};
 pub const RESPONSE_ROOM: usize = 258;
 
 /// A card of data objects above its end of a line at T=1. It carries out each command as
-/// `apdu_terminal::respond` does, and makes no request before a response (profile).
+/// `apdu_terminal::respond` does, and makes no request before a response (profile). A response is
+/// the data, then the status.
 ///
-/// It responds `6700` to bytes that are no short command, and `6D00` to an invalid INS. The card is
-/// unchanged after both.
+/// It responds `6700` to bytes that are no short command, and `6D00` to an INS of `6X` or `9X`. The
+/// card is unchanged after both.
 #[derive(Drop)]
 pub struct DataApplet<C: DataCard> {
     alloc: Global,
@@ -41,7 +42,8 @@ impl<C: DataCard> Model for DataApplet<C> {
 }
 
 impl<C: DataCard> DataApplet<C> {
-    /// Makes the card from an end at T=0 at which no TPDU is in progress.
+    /// Makes the card from an end at T=0. No TPDU may be in progress there
+    /// (`CardEnd::is_at_rest`).
     pub fn new(alloc: Global, end: CardEnd<C>) -> DataApplet<C>
         requires { rests end.stage ≡ true }
         ensures { result ≡ end }
@@ -56,7 +58,7 @@ impl<C: DataCard> DataApplet<C> {
         self.end.card()
     }
 
-    /// Returns the end.
+    /// Returns the end at T=0, at which no TPDU is in progress.
     pub fn into_end(self) -> CardEnd<C>
         ensures end { result ≡ self }
         ensures rests { rests result.stage ≡ true }

@@ -27,7 +27,8 @@ use object_card::DataCard;
 use std::alloc::{AllocError, Allocator, Global};
 use t1_core::{Applet, Ends, Fault, Line, Outcome, carried_commands_are_a_dialogue};
 
-/// Carries out one operation. Returns its answer, or the fault, after which no command begins.
+/// Carries out one operation. `ends.is_ready()` must hold. Returns its answer, or the fault, after
+/// which no command begins.
 ///
 /// # Errors
 /// - `AllocError`: memory ran out; a command may be in progress at either end.

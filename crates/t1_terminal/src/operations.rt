@@ -19,19 +19,22 @@ use t1_core::{Applet, Ends, Fault, Line, Settings, carried_commands_are_a_dialog
 pub struct Operated<C: DataCard> {
     /// The card.
     pub card: DataApplet<C>,
-    /// The answers, one for each of the first operations.
+    /// The answers, one for each of the first operations: for all if there is no fault.
     pub answers: Answers,
     /// Why the terminal gave up, if it did, and what is known of the operation in progress.
     pub fault: Option<Fault>,
 }
 
-/// Carries out operations with a card of data objects over a line, from a reset on, until all have
-/// answers or the terminal gives up.
+/// Carries out operations with a card of data objects over a line, until all have answers or the
+/// terminal gives up. Both ends start as after a reset; the card starts in its own state. No chain
+/// may be pending at it (`DataCard::is_idle`), and without a fault none is afterwards.
 ///
 /// Whatever the line damages or loses, the answers are the first of those of the card that answers
-/// each operation in one step. The outcome in a fault is true of the next operation. On a mild line
-/// there is no fault: with at most f failed blocks between two steps, `tries` at least 2 f,
-/// `extensions` at least f, `limit` at least 258.
+/// each operation in one step. After a fault the card has carried out the answered operations, and
+/// at most the next one, and a chain may be pending. The outcome in the fault is true of that
+/// operation. There is no fault on a mild line, where at most f blocks fail between two steps, if
+/// the settings suffice. `tries` must be at least 2 f, `extensions` at least f, and `limit` at
+/// least `RESPONSE_ROOM`.
 ///
 /// # Errors
 /// - `AllocError`: memory ran out; both ends and the card are dropped.

@@ -56,6 +56,24 @@ fn operations_by_whole_commands(rt: HostRuntime) {
     );
 }
 
+/// `first`, and then `next` 400 times.
+fn list_of(rt: &(impl Abort + AllocGlobal), first: &str, next: &str) -> String {
+    let mut list = String::new(rt.alloc());
+    list.push_str(first).expect(rt, "memory");
+    for _ in 0..400 {
+        list.push_str(next).expect(rt, "memory");
+    }
+    list
+}
+
+/// One list of 401 operations. Each has its answer.
+#[test]
+fn hundreds_of_operations(rt: HostRuntime) {
+    let ops = list_of(&rt, "select A0000000031010", "; get 5F20");
+    let answers = list_of(&rt, "9000 6F098407A0000000031010", "; 9000 5F20034A4F45");
+    runs(&rt, NAME, &ops, &answers, NAME);
+}
+
 /// The card's response to a command: the data, then the status. For the proof, also without a
 /// clause.
 fn response<C: DataCard>(

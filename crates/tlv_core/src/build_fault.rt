@@ -4,6 +4,7 @@ use std::alloc::AllocError;
 use std::fmt;
 
 /// Why an object cannot be added to a forest. If several reasons hold, the error is the first.
+/// After each, the forest is unchanged.
 #[derive(Clone, Copy, Debug, PartialEq, Eq, Hash)]
 pub enum BuildFault {
     /// The tag is constructed and the object is primitive, or the other way round.

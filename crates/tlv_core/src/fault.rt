@@ -14,11 +14,11 @@ pub enum Reason {
     TagForm,
     /// The list ends inside a length.
     LengthCut,
-    /// No length follows the tag.
+    /// No length follows the tag: its first byte is `80` or `83` to `FF`.
     LengthForm,
     /// The value extends past the end of the list.
     ValueCut,
-    /// The list is at level 17; the deepest level is 16 (profile).
+    /// The object is at level 17; the deepest level is 16 (profile).
     TooDeep,
 }
 

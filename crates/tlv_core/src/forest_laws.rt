@@ -4,13 +4,13 @@
 ghost use Rattle.std.specs.Prelude.{◌≡◌, ℕ, ◌≤◌, List, length};
 ghost use Rattle.tlv_core.specs.Spelling.{Forest, Spells, encoding, IsWritable};
 
-/// The same bytes never spell two lists of objects.
+/// The same bytes never spell two lists of objects at one level.
 pub fn one_forest()
     ensures { (f g : Forest) (bytes : List ℕ) (level : ℕ) →
         Spells f bytes level → Spells g bytes level → f ≡ g }
 {}
 
-/// The written bytes of objects spell those objects.
+/// The written bytes of objects that can be written spell those objects at level 1.
 pub fn written_bytes_spell()
     ensures { (f : Forest) → IsWritable f → Spells f (encoding f) 1 }
 {}
@@ -21,7 +21,7 @@ pub fn written_bytes_are_fewest()
         Spells f bytes level → length (encoding f) ≤ length bytes }
 {}
 
-/// A list of objects that some bytes spell can be written.
+/// A list of objects that some bytes spell at level 1 can be written.
 pub fn spelled_objects_can_be_written()
     ensures { (f : Forest) (bytes : List ℕ) → Spells f bytes 1 → IsWritable f }
 {}

@@ -13,9 +13,9 @@ use crate::front::{FirstObject, front_object, past_padding};
 use crate::tag::Tag;
 use std::marker::Model;
 
-/// An iterator over a list of objects (EMV Book 3, Annex B). `Objects::over` checks all levels at
-/// once, so the iteration never fails. Contracts see it as the bytes that are left, with the level
-/// of their objects.
+/// An iterator over a list of objects (EMV Book 3, Annex B), in order; it skips padding.
+/// `Objects::over` checks all levels at once, so the iteration never fails. Contracts see it as the
+/// bytes that are left, with the level of their objects.
 #[derive(Debug, Drop)]
 pub struct Objects<'a> {
     bytes: &'a [u8],
@@ -55,8 +55,8 @@ impl<'a> Model for Obj<'a> {
 }
 
 impl<'a> Objects<'a> {
-    /// Checks that the bytes are a list of objects at level 1, at all levels, and returns an
-    /// iterator over it.
+    /// Checks that the bytes are a list of objects at level 1, at all levels down to 16, and
+    /// returns an iterator over it. No bytes, or padding alone, are an empty list.
     ///
     /// # Errors
     ///
@@ -138,7 +138,7 @@ impl<'a> Obj<'a> {
         self.level
     }
 
-    /// The bytes of the value.
+    /// The bytes of the value; of a constructed object the list inside, with its padding.
     pub fn value(&self) -> &'a [u8]
         ensures { result.now ≡ self.now.value }
     {

@@ -22,14 +22,14 @@ pub fn no_length_starts_another()
         SpellsLength (size ++ rest) m → (rest ≡ []) × (n ≡ m) }
 {}
 
-/// Bytes have a first fault exactly if they are not a list of objects.
+/// Bytes have a first fault at a level exactly if they are not a list of objects of that level.
 pub fn a_fault_where_no_objects()
     ensures { (bytes : List ℕ) (level : ℕ) →
         ((place : ℕ) × (reason : Reason) × IsFirstFault bytes level place reason)
         ↔ (AreObjects bytes level → ⊥) }
 {}
 
-/// There is at most one first fault.
+/// Bytes have at most one first fault at a level.
 pub fn one_first_fault()
     ensures { (bytes : List ℕ) (level p q : ℕ) (r s : Reason) →
         IsFirstFault bytes level p r → IsFirstFault bytes level q s → (p ≡ q) × (r ≡ s) }

@@ -1,4 +1,4 @@
--- Boxes added behind others.
+-- Boxes that are added after others.
 use Rattle.std.proofs.Common.{◌≡◌, ℕ, List, [], ◌∷◌, ◌++◌, ◌∙◌, ap, append-nil, append_assoc, Bool, true, false, if◌then◌else◌, Option, Result, Ok, Err, IfErr, length, ◌==◌, refl, subst, sym}
 use Rattle.std.proofs.lemmas.List.{map-append}
 use Rattle.std.specs.Result.{is_err}
@@ -7,11 +7,10 @@ use Rattle.std.specs.Io.KnownBytes.{Appends}
 use Rattle.std.specs.String.{string_bytes}
 use Rattle.trace_explain.specs.declared.explainer.Explainer.{Explainer}
 use Rattle.trace_explain.specs.declared.write.layout.Layout.{Layout}
-use Rattle.trace_explain.specs.declared.write.layout.Medium.{Medium}
 use Rattle.trace_explain.specs.declared.follow.listener.Listener.{Listener}
 use Rattle.trace_explain.specs.declared.describe.mask.Mask.{Mask}
 use Rattle.trace_explain.specs.declared.write.sheet.Sheet.{Sheet}
-use Rattle.trace_explain.specs.Account.{Account, AddsBox, AddsBoxes, AddsText, AreBoxes, Boxed, HasWritten, Out, Shows, ShowsReports, WritesOut, WritesReports, number_after, out_with, parts_in, reports_in}
+use Rattle.trace_explain.specs.Account.{Account, AddsBox, AddsBoxes, AddsText, AreBoxes, Boxed, HasWritten, Manner, Out, Shows, ShowsReports, Writes, WritesOut, WritesReports, account_of, manner_of, number_after, out_with, parts_in, reports_in, writing}
 use Rattle.trace_explain.specs.Boxes.{PutsBox}
 use Rattle.trace_explain.specs.Noted.{as_ended, bared, ended_by, is_bare}
 use Rattle.trace_explain.specs.Sheets.{Joins}
@@ -20,10 +19,10 @@ use Rattle.trace_explain.specs.Written.{InTurn}
 use Rattle.trace_explain.proofs.BoxLemmas.{in_turn_both}
 use Rattle.trace_explain.proofs.SheetLemmas.{adds_nothing}
 
-are_both : (m : Medium) (mask : Mask) (n : ℕ) (xs ys : List Boxed) → AreBoxes m mask n xs
-    → AreBoxes m mask (number_after n xs) ys → AreBoxes m mask n (xs ++ ys)
-are_both m mask n [] ys h k = k
-are_both m mask n (x ∷ xs) ys (is, h) k = (is, are_both m mask (one_more n) xs ys h k)
+are_both : (w : Manner) (n : ℕ) (xs ys : List Boxed) → AreBoxes w n xs
+    → AreBoxes w (number_after n xs) ys → AreBoxes w n (xs ++ ys)
+are_both w n [] ys h k = k
+are_both w n (x ∷ xs) ys (is, h) k = (is, are_both w (one_more n) xs ys h k)
 
 number_both : (n : ℕ) (xs ys : List Boxed)
     → number_after n (xs ++ ys) ≡ number_after (number_after n xs) ys
@@ -35,15 +34,14 @@ parts_both [] ys = refl
 parts_both (x ∷ xs) ys = ap (λ t. x.parts ++ t) (parts_both xs ys)
     ∙ sym (append_assoc x.parts (parts_in xs) (parts_in ys))
 
-shows_both : (m : Medium) (mask : Mask) (n k l : ℕ) (ts us : List Report) (x y : List ℕ)
-    → ShowsReports m mask n ts x k → ShowsReports m mask k us y l
-    → ShowsReports m mask n (ts ++ us) (x ++ y) l
-shows_both m mask n k l ts us x y h i =
-    let P : ℕ → Type 0 = λ z. AreBoxes m mask z i.boxes in
+shows_both : (w : Manner) (n k l : ℕ) (ts us : List Report) (x y : List ℕ)
+    → ShowsReports w n ts x k → ShowsReports w k us y l → ShowsReports w n (ts ++ us) (x ++ y) l
+shows_both w n k l ts us x y h i =
+    let P : ℕ → Type 0 = λ z. AreBoxes w z i.boxes in
     let Q : List (List ℕ) → Type 0 = λ ps. InTurn ps (x ++ y) in
     record {
       boxes = h.boxes ++ i.boxes;
-      are = are_both m mask n h.boxes i.boxes h.are (subst P h.after_is i.are);
+      are = are_both w n h.boxes i.boxes h.are (subst P h.after_is i.are);
       reports_are = ap (λ t. t ++ us) h.reports_are
           ∙ ap (λ t. reports_in h.boxes ++ t) i.reports_are
           ∙ sym (map-append (λ (b : Boxed). b.report) h.boxes i.boxes);
@@ -53,39 +51,39 @@ shows_both m mask n k l ts us x y h i =
           (in_turn_both (parts_in h.boxes) (parts_in i.boxes) x y h.has i.has);
     }
 
--- boxes behind boxes
+same_manner : (a b : Account) → b.keeps ≡ a.keeps → b.mask ≡ a.mask
+    → b.sheet.layout ≡ a.sheet.layout → manner_of b ≡ manner_of a
+same_manner a b keeps mask layout =
+    let of : Bool → Mask → Layout → Manner =
+    λ k m l. record { keeps = k; mask = m; layout = l } in
+    ap (λ k. of k b.mask b.sheet.layout) keeps ∙ ap (λ m. of a.keeps m b.sheet.layout) mask
+    ∙ ap (λ l. of a.keeps a.mask l) layout
+
+-- boxes after boxes
 pub boxes_both : {ts us : List Report} {a b c : Account} → Shows ts a b → Shows us b c
     → Shows (ts ++ us) a c
 boxes_both {ts} {us} {a} {b} {c} h k = record {
-  keeps = k.keeps ∙ h.keeps;
-  mask = k.mask ∙ h.mask;
-  layout = k.layout ∙ h.layout;
-  adds = λ writes all w.
-      let P : Layout → Type 0 = λ l. AddsText l.medium b.mask b.number us c.number b.sheet c.sheet
-      in
-      let Q : Mask → Type 0 = λ m. AddsText a.sheet.layout.medium m b.number us c.number b.sheet
-      c.sheet in
-      let next = subst Q h.mask (subst P h.layout (k.adds (h.keeps ∙ writes)
-      (ap (λ (l : Layout). l.is_summary) h.layout ∙ all) w)) in
-      let first = h.adds writes all next.whole in
+  manner = k.manner ∙ h.manner;
+  adds = λ writes w.
+      let P : Manner → Type 0 = λ m. Writes m → AddsText m b.number us c.number b.sheet c.sheet in
+      let next = subst P h.manner (λ x. k.adds x w) writes in
+      let first = h.adds writes next.whole in
       record {
         whole = first.whole;
         more = first.more ++ next.more;
         text_is = next.text_is ∙ ap (λ t. t ++ next.more) first.text_is
             ∙ append_assoc (string_bytes a.sheet.text) first.more next.more;
-        shows = shows_both a.sheet.layout.medium a.mask a.number b.number c.number ts us first.more
-            next.more first.shows next.shows;
+        shows = shows_both (manner_of a) a.number b.number c.number ts us first.more next.more
+            first.shows next.shows;
       };
 }
 
 -- words alone
 pub boxes_none : {a b : Account} → b.keeps ≡ a.keeps → b.mask ≡ a.mask → b.number ≡ a.number
     → Joins a.sheet b.sheet → Shows [] a b
-boxes_none keeps mask number (more, joins) = record {
-  keeps = keeps;
-  mask = mask;
-  layout = joins.layout;
-  adds = λ writes all w. record {
+boxes_none {a} {b} keeps mask number (more, joins) = record {
+  manner = same_manner a b keeps mask joins.layout;
+  adds = λ writes w. record {
     whole = joins.whole w;
     more = more;
     text_is = joins.text w;
@@ -96,23 +94,17 @@ boxes_none keeps mask number (more, joins) = record {
 pub boxes_stay : {a : Account} → Shows [] a a
 boxes_stay {a} = boxes_none {a = a} {b = a} refl refl refl ([], adds_nothing a.sheet)
 
--- one box
-pub boxes_one : (t : Report) (number line : ℕ) {a b c : Account} → b.keeps ≡ a.keeps
-    → b.mask ≡ a.mask → b.sheet ≡ a.sheet → b.number ≡ one_more a.number → number ≡ b.number
-    → AddsBox number line t b c → Shows (t ∷ []) a c
-boxes_one t number line {a} {b} {c} keeps mask sheet counted number_is h = record {
-  keeps = h.keeps ∙ keeps;
-  mask = h.mask ∙ mask;
-  layout = h.layout ∙ ap (λ (s : Sheet). s.layout) sheet;
-  adds = λ writes all w.
-      let P : Sheet → Type 0 = λ s. PutsBox b.mask number line t s c.sheet in
-      let Q : Mask → Type 0 = λ m. PutsBox m number line t a.sheet c.sheet in
-      let R : ℕ → Type 0 = λ n. PutsBox a.mask n line t a.sheet c.sheet in
-      let (parts, is_box, puts) = subst R (number_is ∙ counted) (subst Q mask (subst P sheet
-      (h.box (keeps ∙ writes) (ap (λ (s : Sheet). s.layout.is_summary) sheet ∙ all)))) in
+-- one box, after it was counted
+pub boxes_one : (t : Report) (number line n : ℕ) {a c : Account} → n ≡ one_more a.number
+    → number ≡ n → AddsBox number line t (record a { number = n }) c → Shows (t ∷ []) a c
+boxes_one t number line n {a} {c} counted number_is h = record {
+  manner = h.manner;
+  adds = λ writes w.
+      let P : ℕ → Type 0 = λ k. PutsBox a.mask k line t a.sheet c.sheet in
+      let (parts, is_box, puts) = subst P (number_is ∙ counted) (h.box writes) in
       let (more, text_is, has) = puts.text w in
       let one : Boxed = record { report = t; line = line; parts = parts } in
-      let S : List (List ℕ) → Type 0 = λ ps. InTurn ps more in
+      let Q : List (List ℕ) → Type 0 = λ ps. InTurn ps more in
       record {
         whole = puts.whole w;
         more = more;
@@ -122,27 +114,27 @@ boxes_one t number line {a} {b} {c} keeps mask sheet counted number_is h = recor
           are = (is_box, tt);
           reports_are = refl;
           after_is = h.counted ∙ counted;
-          has = subst S (sym (append-nil parts)) has;
+          has = subst Q (sym (append-nil parts)) has;
         };
       };
 }
 
--- words behind boxes
+-- words after boxes
 pub boxes_words : {ts : List Report} {a b c : Account} → Shows ts a b → c.keeps ≡ b.keeps
     → c.mask ≡ b.mask → c.number ≡ b.number → Joins b.sheet c.sheet → Shows ts a c
 boxes_words {ts} {a} {b} {c} h keeps mask number joins =
     let P : List Report → Type 0 = λ x. Shows x a c in
     subst P (append-nil ts) (boxes_both h (boxes_none {a = b} {b = c} keeps mask number joins))
 
--- where what is written stays before boxes
+-- boxes after the output stayed the same
 pub boxes_from : {ts : List Report} {a b c : Account} → b ≡ a → Shows ts b c → Shows ts a c
 boxes_from {ts} {c = c} same h = let P : Account → Type 0 = λ x. Shows ts x c in subst P same h
 
--- and behind them
+-- and before it does
 pub boxes_to : {ts : List Report} {a b c : Account} → Shows ts a b → c ≡ b → Shows ts a c
 boxes_to {ts} {a} h same = let P : Account → Type 0 = λ x. Shows ts a x in subst P (sym same) h
 
--- what ended has no box if nothing of it came, and else one
+-- a TPDU that ended has a box, unless it is empty
 same_header : (t : Report) (v : Bool) → length (if v then bared t else t).header ≡ length t.header
 same_header t true = refl
 same_header t false = refl
@@ -159,16 +151,14 @@ ended_is t p none p_is header =
 pub boxes_as : {ts us : List Report} {a b : Account} → ts ≡ us → Shows ts a b → Shows us a b
 boxes_as {a = a} {b = b} e h = let P : List Report → Type 0 = λ x. Shows x a b in subst P e h
 
--- nothing is said where memory was wanting
+-- if memory ran out, any boxes are shown
 pub boxes_cut : {T E : Type 0} {ts : List Report} {a b : Account} (r : Result T E)
     → b.keeps ≡ a.keeps → b.mask ≡ a.mask → Joins a.sheet b.sheet → is_err r ≡ true
     → IfErr r (λ _. b.sheet.is_cut ≡ true) → Shows ts a b
 boxes_cut (Ok x) keeps mask joins failed h = absurd (let no : false ≡ true = failed in cc)
-boxes_cut (Err e) keeps mask joins failed h = record {
-  keeps = keeps;
-  mask = mask;
-  layout = joins.1.layout;
-  adds = λ writes all w. absurd (let no : false ≡ true = sym w ∙ h in cc);
+boxes_cut {a = a} {b = b} (Err e) keeps mask joins failed h = record {
+  manner = same_manner a b keeps mask joins.1.layout;
+  adds = λ writes w. absurd (let no : false ≡ true = sym w ∙ h in cc);
 }
 
 -- more is written
@@ -177,73 +167,64 @@ pub written_more : (front : Out) (ts us : List Report) (a b : Explainer)
     → HasWritten front (ts ++ us) b
 written_more front ts us a b hears h k = record {
   hears = hears;
-  keeps = k.keeps ∙ h.keeps;
-  layout = k.layout ∙ h.layout;
-  mask = k.mask ∙ h.mask;
-  shows = λ writes all w.
-      let next = k.adds (h.keeps ∙ writes) (ap (λ (l : Layout). l.is_summary) h.layout ∙ all) w in
-      let first = h.shows writes all next.whole in
-      let text : List ℕ = string_bytes a.teller.output.sheet.text in
-      let n : ℕ = a.teller.story.number in
-      let m : ℕ = b.teller.story.number in
-      let P : List ℕ → Type 0 = λ x. ShowsReports front.layout.medium front.mask 0 (ts ++ us) x m in
-      let Q : Layout → Type 0 = λ l. ShowsReports l.medium a.teller.mask n us next.more m in
-      let R : Mask → Type 0 = λ v. ShowsReports front.layout.medium v n us next.more m in
-      subst P (append_assoc front.text text next.more
+  manner = k.manner ∙ h.manner;
+  shows = λ writes w.
+      let old = account_of a.teller in
+      let new = account_of b.teller in
+      let text : List ℕ = string_bytes old.sheet.text in
+      let P : Manner → Type 0 = λ m. Writes m
+      → AddsText m old.number us new.number old.sheet new.sheet in
+      let next = subst P h.manner (λ x. k.adds x w) writes in
+      let Q : List ℕ → Type 0 = λ x. ShowsReports front.manner 0 (ts ++ us) x new.number in
+      subst Q (append_assoc front.text text next.more
       ∙ ap (λ x. front.text ++ x) (sym next.text_is))
-      (shows_both front.layout.medium front.mask 0 n m ts us (front.text ++ text) next.more first
-      (subst R h.mask (subst Q h.layout next.shows)));
+      (shows_both front.manner 0 old.number new.number ts us (front.text ++ text) next.more
+      (h.shows writes next.whole) next.shows);
 }
 
--- and written out
+-- and a writer gets it
 pub written_out : (front : Out) (ts : List Report) (a : Explainer) (s : Sheet)
     → WritesOut a.teller.output.sheet s → HasWritten front ts a
     → HasWritten (out_with front (string_bytes a.teller.output.sheet.text)) ts
     (record a { teller = record a.teller { output = record a.teller.output { sheet = s } } })
-written_out front ts a s k h = record {
-  hears = h.hears;
-  keeps = h.keeps;
-  layout = k.layout ∙ h.layout;
-  mask = h.mask;
-  shows = λ writes all w.
-      let text : List ℕ = front.text ++ string_bytes a.teller.output.sheet.text in
-      let P : List ℕ → Type 0 = λ x. ShowsReports front.layout.medium front.mask 0 ts x
-      a.teller.story.number in
-      subst P (sym (append-nil text) ∙ ap (λ x. text ++ x) (sym k.text))
-      (h.shows writes all (sym k.is_cut ∙ w));
-}
+written_out front ts a s k h =
+    let old = account_of a.teller in
+    record {
+      hears = h.hears;
+      manner = same_manner old (record old { sheet = s }) refl refl k.layout ∙ h.manner;
+      shows = λ writes w.
+          let text : List ℕ = front.text ++ string_bytes old.sheet.text in
+          let P : List ℕ → Type 0 = λ x. ShowsReports front.manner 0 ts x old.number in
+          subst P (sym (append-nil text) ∙ ap (λ x. text ++ x) (sym k.text))
+          (h.shows writes (sym k.is_cut ∙ w));
+    }
 
 -- at the end of a trace
 pub writes_reports : (front : Out) (reports : List Report) (l : Listener) (layout : Layout)
-    (mask : Mask)
-    (old mid new : Option (List ℕ)) (a b : Explainer) → front.keeps ≡ false
-    → front.layout ≡ layout → front.mask ≡ mask → Appends old mid front.text
+    (mask : Mask) (old mid new : Option (List ℕ)) (a b : Explainer)
+    → front.manner ≡ writing layout mask → Appends old mid front.text
     → Appends mid new (string_bytes b.teller.output.sheet.text) → HasWritten front reports a
     → l ≡ a.listener
     → (a.reading.of_tpdus ≡ false
     → AddsBoxes (ended_by (report_of a.listener.under_way)) a.teller b.teller)
     → b.teller.output.sheet.is_cut ≡ false
     → b.reading.of_tpdus ≡ a.reading.of_tpdus → WritesReports layout mask old new reports l
-writes_reports front reports l layout mask old mid new a b keeps layout_is mask_is first next h same
-    adds
-    whole reads = λ all.
+writes_reports front reports l layout mask old mid new a b manner_is first next h same adds whole
+    reads = λ all.
     let ends : Listener → List Report = λ x. reports ++ ended_by (report_of x.under_way) in
     let last = written_more front reports (ended_by (report_of a.listener.under_way)) a b
     (reads ∙ h.hears) h (adds h.hears) in
-    let shows = last.shows keeps (ap (λ (x : Layout). x.is_summary) layout_is ∙ all) whole in
     let text : List ℕ = front.text ++ string_bytes b.teller.output.sheet.text in
     let n : ℕ = b.teller.story.number in
-    let P : Listener → Type 0 = λ x.
-    ShowsReports front.layout.medium front.mask 0 (ends x) text n in
-    let Q : Layout → Type 0 = λ x. ShowsReports x.medium front.mask 0 (ends l) text n in
-    let R : Mask → Type 0 = λ v. ShowsReports layout.medium v 0 (ends l) text n in (
+    let P : Manner → Type 0 = λ m. Writes m → ShowsReports m 0 (ends a.listener) text n in
+    let Q : Listener → Type 0 = λ x. ShowsReports (writing layout mask) 0 (ends x) text n in (
       text,
       n,
       Appends-trans old mid new front.text (string_bytes b.teller.output.sheet.text) first next,
-      subst R mask_is (subst Q layout_is (subst P (sym same) shows)),
+      subst Q (sym same) (subst P manner_is (λ x. last.shows x whole) (refl, all)),
     )
 
--- nothing is written out yet
+-- no writer got anything yet
 pub none_out : (first : Out) (reports : List Report) (e : Explainer) → HasWritten first reports e
     → HasWritten (out_with first []) reports e
 none_out first reports e h =

@@ -12,7 +12,7 @@ use Rattle.trace_explain.specs.Reports.{Report}
 use Rattle.trace_explain.specs.Written.{InTurn, header_row, line_text, number_text, status_row}
 use Rattle.trace_explain.proofs.SheetLemmas.{adds_both}
 
--- words more before
+-- more words before
 ahead : (parts : List (List ℕ)) (text more : List ℕ) → InTurn parts text
     → InTurn parts (more ++ text)
 ahead [] text more h = tt
@@ -61,7 +61,7 @@ joins_both a b c (x, h) (y, k) = (x ++ y, adds_both x y a b c h k)
 same_medium : (a b : Sheet) → b.layout ≡ a.layout → b.layout.medium ≡ a.layout.medium
 same_medium a b e = ap (λ (x : Layout). x.medium) e
 
--- parts that hang on the medium, behind others
+-- parts that depend on the medium, after others
 puts_next : (ps : List (List ℕ)) (qs : Medium → List (List ℕ)) (a b c : Sheet) → Puts ps a b
     → Puts (qs b.layout.medium) b c → Puts (ps ++ qs a.layout.medium) a c
 puts_next ps qs a b c h k =

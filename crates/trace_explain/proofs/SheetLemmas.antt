@@ -1,11 +1,11 @@
--- What is added to a sheet, piece after piece.
+-- Pieces that are added to a sheet, one after another.
 use Rattle.std.proofs.Common.{◌≡◌, ℕ, List, [], ◌∷◌, ◌++◌, ◌∙◌, ◌+◌, ◌-◌, ◌<◌, ◌≤◌, length, drop, get_or, take, replicate, flat_map, suc, add-one, arith, ap, append-nil, append_assoc, Bool, refl, subst, sym}
 use Rattle.std.proofs.lemmas.List.{drop_more, length-drop, nil_from_length}
 use Rattle.std.proofs.lemmas.List.Concat.{flat_map-append}
 use Rattle.std.specs.String.{string_bytes}
 use Rattle.trace_explain.specs.declared.write.sheet.Sheet.{Sheet}
 use Rattle.trace_explain.specs.Sheets.{Adds, PutsLines}
-use Rattle.trace_explain.specs.Written.{AreLines, character_text, content, lines_text, named}
+use Rattle.trace_explain.specs.Written.{AreLines, content, lines_text, spaces}
 
 pub adds_both : (x y : List ℕ) (a b c : Sheet) → Adds a x b → Adds b y c → Adds a (x ++ y) c
 adds_both x y a b c h k = record {
@@ -29,7 +29,7 @@ adds_nothing a = record {
 pub adds_as : (x y : List ℕ) (a b : Sheet) → x ≡ y → Adds a x b → Adds a y b
 adds_as x y a b e h = let P : List ℕ → Type 0 = λ t. Adds a t b in subst P e h
 
--- whatever this is followed by makes all of it complete
+-- the rest completes all of the text
 abbrev pub Completes : Sheet → List ℕ → Sheet → List ℕ → Type 0
 Completes first all now rest = (last : Sheet) → Adds now rest last → Adds first all last
 
@@ -45,23 +45,6 @@ completed first now all so_far = so_far now (adds_nothing now)
 -- nothing is left
 none_left : (xs : List ℕ) (i : ℕ) → length xs ≤ i → drop i xs ≡ []
 none_left xs i h = nil_from_length (drop i xs) (omega (arith, h, length-drop i xs))
-
--- one space more
-pub spaces_more : (n i : ℕ) (first now next : Sheet) → i < n
-    → Completes first (replicate n 32) now (replicate (n - i) 32) → Adds now (32 ∷ []) next
-    → Completes first (replicate n 32) next (replicate (n - (i + 1)) 32)
-spaces_more n i first now next lt so_far more =
-    let P : ℕ → Type 0 = λ k. Completes first (replicate n 32) now (replicate k 32) in
-    let e : n - i ≡ suc (n - (i + 1)) = omega (arith, lt) in
-    completes_more first now next (replicate n 32) (32 ∷ []) (replicate (n - (i + 1)) 32)
-    (subst P e so_far) more
-
-pub spaces_done : (n i : ℕ) (first now : Sheet) → n ≤ i
-    → Completes first (replicate n 32) now (replicate (n - i) 32) → Adds first (replicate n 32) now
-spaces_done n i first now le so_far =
-    let P : ℕ → Type 0 = λ k. Completes first (replicate n 32) now (replicate k 32) in
-    let e : n - i ≡ 0 = omega (arith, le) in
-    completed first now (replicate n 32) (subst P e so_far)
 
 -- one letter more
 pub letters_more : (f : ℕ → List ℕ) (line : List ℕ) (i : ℕ) (first now next : Sheet)
@@ -80,27 +63,7 @@ letters_done f line i first now le so_far =
     let Q : List ℕ → Type 0 = λ x. Completes first (flat_map f line) now (flat_map f x) in
     completed first now (flat_map f line) (subst Q (none_left line i le) so_far)
 
--- one character of a header more
-pub named_more : (header : List ℕ) (i : ℕ) (first now next : Sheet) → i < length header
-    → Completes first (named 0 header) now (named i (drop i header))
-    → Adds now (character_text i (get_or header i 0)) next
-    → Completes first (named 0 header) next (named (i + 1) (drop (i + 1) header))
-named_more header i first now next lt so_far more =
-    let Q : List ℕ → Type 0 = λ x. Completes first (named 0 header) now (named i x) in
-    let R : ℕ → Type 0 = λ n. Completes first (named 0 header) next
-    (named n (drop (i + 1) header)) in
-    subst R (sym (add-one i)) (completes_more first now next (named 0 header)
-    (character_text i (get_or header i 0)) (named (suc i) (drop (i + 1) header))
-    (subst Q (drop_more header i 0 lt) so_far) more)
-
-pub named_done : (header : List ℕ) (i : ℕ) (first now : Sheet) → length header ≤ i
-    → Completes first (named 0 header) now (named i (drop i header))
-    → Adds first (named 0 header) now
-named_done header i first now le so_far =
-    let Q : List ℕ → Type 0 = λ x. Completes first (named 0 header) now (named i x) in
-    completed first now (named 0 header) (subst Q (none_left header i le) so_far)
-
--- whatever the lines of the rest are, they complete the lines of all
+-- any lines of the rest complete the lines of all
 abbrev pub LinesGoOn : ℕ → ℕ → Bool → List ℕ → List ℕ → Sheet → Sheet → Type 0
 LinesGoOn indent width in_text bytes rest first now = (left : List (List ℕ))
     → AreLines indent width in_text rest left
@@ -110,12 +73,12 @@ LinesGoOn indent width in_text bytes rest first now = (left : List (List ℕ))
 pub one_line : (indent width : ℕ) (in_text : Bool) (bytes rest line others : List ℕ)
     (first now next : Sheet) → LinesGoOn indent width in_text bytes rest first now
     → 0 < length rest → line ≡ take width rest → others ≡ drop width rest
-    → Adds now (10 ∷ (replicate indent 32 ++ content in_text line)) next
+    → Adds now (10 ∷ (spaces indent ++ content in_text line)) next
     → LinesGoOn indent width in_text bytes others first next
 one_line indent width in_text bytes rest line others first now next so_far some line_is others_is
     more left are =
-    let one : List ℕ = replicate indent 32 ++ content in_text (take width rest) in
-    let R : List ℕ → Type 0 = λ x. Adds now (10 ∷ (replicate indent 32 ++ content in_text x)) next
+    let one : List ℕ = spaces indent ++ content in_text (take width rest) in
+    let R : List ℕ → Type 0 = λ x. Adds now (10 ∷ (spaces indent ++ content in_text x)) next
     in
     let Q : List ℕ → Type 0 = λ x. AreLines indent width in_text x left in
     let (all, are_all, completes) = so_far (one ∷ left) (some, refl, subst Q others_is are) in (

@@ -10,7 +10,7 @@ use Rattle.trace_explain.specs.Trees.{AreTree, IsValue, indent, listed, masked, 
 use Rattle.trace_explain.specs.Written.{AreLines, content, is_text, lines_text}
 use Rattle.trace_explain.proofs.SheetLemmas.{adds_as, adds_both, lines_both}
 
--- a value with what stands behind its tag, and the lines below
+-- a value with the words after its tag, and the lines below
 pub whole_value : (in_text : Bool) (level : ℕ) (value line rest : List ℕ) (w n : ℕ)
     (a b c d : Sheet) → 0 < length value → in_text ≡ is_text value → w ≡ value_width in_text
     → line ≡ take w value → rest ≡ drop w value → n ≡ indent level + 5
@@ -62,7 +62,7 @@ pub record Going (tags : List (List ℕ)) (all now : ObjectList) (old new : Shee
   pub has : some ≡ has_lines lines
   pub same_level : now.level ≡ all.level
 
--- one object more, with these words behind its tag and these lines below
+-- one more object, with these words after its tag and these lines below
 past_object : (tags : List (List ℕ)) (all now next : ObjectList) (old new put after : Sheet)
     (some : Bool) (tag words : List ℕ) (below : List (List ℕ))
     → Going tags all now old new some → next.level ≡ now.level

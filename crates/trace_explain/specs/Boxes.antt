@@ -1,4 +1,4 @@
--- The box of a TPDU: what shows it, with any words between.
+-- The box of a TPDU: its proved parts, with any words between.
 use Rattle.std.specs.Prelude.{◌≡◌, ◌≢◌, ℕ, List, [], ◌∷◌, ◌++◌, codes, length, get_or, Bool, true, false, ◌==◌, ◌&&◌, if◌then◌else◌, Option, Some, None, IfSome}
 use Rattle.std.specs.Fmt.{decimal}
 use Rattle.std.specs.String.{string_bytes}
@@ -22,17 +22,17 @@ use Rattle.trace_explain.specs.Reports.{IsOfCommand, Report}
 use Rattle.trace_explain.specs.Trees.{IsTree}
 use Rattle.trace_explain.specs.Written.{AreDigits, InTurn, data_row, header_row, hidden, line_text, lines_text, number_text, row, status_row}
 
--- which end says what goes this way
+-- the end that sends data this way
 abbrev pub side_of : Direction → Side
 side_of ToCard = side.Terminal
 side_of FromCard = side.Card
 
--- nobody says the status of a TPDU that was cut off
+-- neither end sent the status of a TPDU that is cut off
 abbrev pub status_side : List ℕ → List ℕ → Side
 status_side header status =
     if are_status status && (length header == 5) then side.Card else side.Nobody
 
--- a tree, or these lines where it has none
+-- a tree, or other lines if the tree is empty
 abbrev pub Instead : (List (List ℕ) → Type 0) → List (List ℕ) → List (List ℕ) → Type 0
 Instead Are [] lines = Are lines
 Instead Are (line ∷ tree) lines = lines ≡ line ∷ tree
@@ -45,8 +45,8 @@ ShowsData Objects tags may bytes lines = (tree : List (List ℕ)) × IsTree tags
     × Instead (λ all. all ≡ hidden ∷ []) tree lines
 ShowsData Nothing tags may bytes lines = lines ≡ hidden ∷ []
 
--- Data are shown by the mask as those of their TPDU's command; under GET RESPONSE the card's are
--- those of the command whose response they are.
+-- The mask shows data by the command of their TPDU. Under GET RESPONSE the card's data are those of
+-- the command whose response they are.
 pub record IsShown (mask : Mask) (way : Direction) (header : List ℕ) (shown : Shown) : Type 0 where
   pub origin : Origin
   pub way_is : origin.way ≡ way
@@ -54,11 +54,11 @@ pub record IsShown (mask : Mask) (way : Direction) (header : List ℕ) (shown : 
   pub from_card : get_or header 1 0 ≢ 0xC0 → IsOfCommand header origin.header
   pub shows : Shows mask.hides mask.tags.items origin shown
 
--- the command whose response a TPDU brings is its own, but for GET RESPONSE
+-- the command whose response a TPDU moves is its own, except under GET RESPONSE
 abbrev pub HasAsker : List ℕ → Links → Type 0
 HasAsker header links = get_or header 1 0 ≢ 0xC0 → IfSome links.asker (IsOfCommand header)
 
--- what shows the data of a TPDU, if it moved any, behind a whole header
+-- the row of data of a TPDU, if it moved any, after a whole header
 abbrev pub DataText : Medium → Mask → Option Direction → List ℕ → List ℕ → List ℕ → Type 0
 DataText m mask None header moved text = text ≡ []
 DataText m mask (Some way) header moved text = length header ≡ 5 → (shown : Shown)
@@ -66,7 +66,7 @@ DataText m mask (Some way) header moved text = length header ≡ 5 → (shown : 
     × (lines : List (List ℕ)) × ShowsData shown mask.tags.items may moved lines
     × (text ≡ data_row m (side_of way) (lines_text lines))
 
--- What shows a TPDU: its number, the line in which it begins, its header, its data, and its status.
+-- The parts of a box: the number, the line where the TPDU begins, its header, data and status.
 pub record IsBox (m : Medium) (mask : Mask) (number line : ℕ) (t : Report) (parts : List (List ℕ))
     : Type 0 where
   pub moved : List ℕ
@@ -75,7 +75,7 @@ pub record IsBox (m : Medium) (mask : Mask) (number line : ℕ) (t : Report) (pa
   pub parts_are : parts ≡ number_text number ∷ line_text m line ∷ header_row m t.header
       ∷ moved ∷ status_row m (status_side t.header t.status) t.status words ∷ []
 
--- Where memory was not wanting, some text was added that has these parts in turn.
+-- Unless memory ran out, a text was added that has these parts in turn.
 pub record Puts (parts : List (List ℕ)) (old new : Sheet) : Type 0 where
   pub layout : new.layout ≡ old.layout
   pub whole : new.is_cut ≡ false → old.is_cut ≡ false
@@ -93,12 +93,12 @@ abbrev pub PutsDataOf : Mask → Option Direction → List ℕ → List ℕ → 
 PutsDataOf mask way header moved old new = (text : List ℕ)
     × DataText old.layout.medium mask way header moved text × Adds old text new
 
--- the row of a status, with words behind it
+-- the row of a status, with words after it
 abbrev pub PutsStatus : Side → List ℕ → Sheet → Sheet → Type 0
 PutsStatus s status old new =
     (words : List ℕ) × Adds old (status_row old.layout.medium s status words) new
 
--- the row of what has come together, behind its size and in how many TPDUs it came
+-- the row of data that are shown together, after their size and the number of TPDUs
 abbrev pub size_words : ℕ → ℕ → List ℕ → List ℕ
 size_words size count parts = decimal size ++ codes " bytes in " ++ decimal count ++ parts
 

@@ -1,6 +1,6 @@
--- What precedes a dialogue: the card's answer to reset, and PPS exchanges (ISO/IEC 7816-3, clauses
--- 8 and 9).
-use Rattle.std.specs.Prelude.{ℕ, ◌+◌, List, [], ◌∷◌, ◌++◌, length, slice_index, Option, Some, None, Bool, true, false, not, ◌==◌, ◌&&◌, is_some, if◌then◌else◌}
+-- What comes before a dialogue: the card's answer to reset, and PPS exchanges (ISO/IEC 7816-3,
+-- clauses 8 and 9).
+use Rattle.std.specs.Prelude.{ℕ, zero, suc, ◌+◌, List, [], ◌∷◌, ◌++◌, length, slice_index, Option, Some, None, Bool, true, false, not, ◌==◌, ◌&&◌, is_some, if◌then◌else◌}
 use Rattle.atr_core.specs.Conventions.{convention_of, as_sent}
 use Rattle.atr_core.specs.FirstFault.{first_fault}
 use Rattle.atr_core.specs.PpsBytes.{pps_end}
@@ -17,8 +17,8 @@ use Rattle.trace_explain.specs.declared.follow.opening.Role.{Role}
 use Rattle.trace_explain.specs.declared.follow.opening.Role.TheVariants as role
 use Rattle.trace_explain.specs.declared.follow.preface.Preface.{Preface}
 
--- What was received since the trace began or the card was reset: its stage; how the characters of
--- the answer are turned; the answer; the last PPS request, and the response to it.
+-- What has come since the trace began or the card was reset: how far it is; how the characters of
+-- the answer are turned; the answer; the last PPS request and the response to it.
 pub record Opening : Type 0 where
   pub stage : Stage
   pub turned : Convention
@@ -35,7 +35,7 @@ opening_of p = record {
   response = p.response.items;
 }
 
--- Nothing but the stage.
+-- nothing has come; and the dialogue has begun
 abbrev pub opening_at : Stage → Opening
 opening_at stage =
     record { stage = stage; turned = Direct; answer = []; request = []; response = [] }
@@ -50,18 +50,18 @@ abbrev pub has_begun : Stage → Bool
 has_begun stage.Begun = true
 has_begun other = false
 
--- How an answer with this first character is turned: `3B` and `3F` are TS as the card means it,
--- `03` is TS of the inverse convention, read by the direct one (8.1).
+-- How an answer is turned that begins with this character in the trace: `3B` and `3F` are TS as it
+-- is meant, `03` is TS of the inverse convention, read by the direct one (8.1).
 abbrev pub turned_by : ℕ → Option Convention
 turned_by b = if b == 0x03 then Some Inverse
     else if is_some (convention_of b) then Some Direct else None
 
--- A character of the card where an answer may begin.
+-- a character of the card where an answer may begin
 abbrev pub as_ts : Option Convention → Role
 as_ts (Some turned) = role.Ts turned
 as_ts None = role.Stray
 
--- The same where a response may begin too.
+-- and where a response may begin, too
 abbrev pub as_ppss : ℕ → Role
 as_ppss b = if b == 0xFF then role.ResponsePpss else as_ts (turned_by b)
 
@@ -74,7 +74,7 @@ card_role stage.Asked b = as_ppss b
 card_role stage.Response b = role.Response
 card_role stage.Begun b = role.Dialogue
 
--- A character of the terminal that may begin a request or the dialogue.
+-- a character of the terminal that may be the first of a request, or of the dialogue
 abbrev pub asks : Bool → ℕ → Role
 asks may_ask b = if may_ask && (b == 0xFF) then role.RequestPpss else role.Dialogue
 
@@ -94,30 +94,30 @@ is_direct Inverse = false
 abbrev pub has_answered : Opening → Bool
 has_answered o = not (length o.answer == 0)
 
--- A terminal may ask by PPS after an answer whose characters were not turned.
+-- a terminal may ask by PPS behind an answer whose characters are read as they are meant
 abbrev pub may_ask : Opening → Bool
 may_ask o = is_direct o.turned && has_answered o
 
--- What a character is.
+-- what a character is
 abbrev pub role_of : Opening → End → ℕ → Role
 role_of o from b = role_at o.stage (may_ask o) from b
 
--- The only fault of the answer so far is that characters are missing.
+-- an answer so far wants nothing but more characters
 abbrev pub is_short : Reason → Bool
 is_short Cut = true
 is_short CheckMissing = true
 is_short other = false
 
--- An answer ends if it is whole, or at its first fault.
+-- an answer ends where it is whole, or has its first fault
 abbrev pub after_answer : Option AtrFault → Stage
 after_answer None = stage.Ready
 after_answer (Some fault) = if is_short fault.reason then stage.Answer else stage.Astray
 
--- PPS0, the second character of a request or response, decides how many characters it has.
+-- a request or response ends with as many characters as its PPS0, the second of them, says
 abbrev pub is_full : List ℕ → Bool
 is_full bytes = length bytes == pps_end (slice_index bytes 1) + 1
 
--- The opening after one more character, in this role.
+-- an opening with one character more, which is this
 abbrev pub opens : Opening → Role → ℕ → Opening
 opens o (role.Ts turned) b = record {
   stage = stage.Answer;
@@ -150,7 +150,13 @@ abbrev pub is_dialogue : Role → Bool
 is_dialogue role.Dialogue = true
 is_dialogue other = false
 
--- The card may begin an answer with this character.
+-- the card may begin an answer with this character
 abbrev pub begins_answer : End → ℕ → Bool
 begins_answer Terminal b = false
 begins_answer Card b = is_some (turned_by b)
+
+-- the first protocol that an answer offers, if the program does not read it: it reads T=0 only
+abbrev pub unread : List ℕ → Option ℕ
+unread [] = None
+unread (zero ∷ others) = None
+unread (suc t ∷ others) = Some (suc t)

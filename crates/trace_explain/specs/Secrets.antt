@@ -1,4 +1,4 @@
--- What a mask leaves of data: those of some commands are secret, and objects with some tags.
+-- What a mask shows of data. It hides those of some commands, and objects with some tags.
 use Rattle.std.specs.Prelude.{◌≡◌, ◌<◌, ℕ, List, [], ◌∷◌, length, Bool, true, false, not, ◌==◌, ◌&&◌, ◌||◌, nat_lt, if◌then◌else◌}
 use Rattle.std.specs.List.{Contains}
 use Rattle.apdu_core.specs.declared.header.Header.{Header}
@@ -17,8 +17,8 @@ abbrev pub is_secret : ℕ → Bool
 is_secret ins = is_among ins
     (0x20 ∷ 0x21 ∷ 0x24 ∷ 0x25 ∷ 0x26 ∷ 0x28 ∷ 0x2C ∷ 0x2D ∷ [])
 
--- Data may begin or end within an object: parts of a file or record that do not begin with it, what
--- is fetched with nothing known before it, and ENVELOPE.
+-- Data may begin or end within an object: parts of a file or record after its start, the data of a
+-- GET RESPONSE that stands alone, and of ENVELOPE.
 abbrev pub may_be_cut : Header → Bool
 may_be_cut h = if is_among h.ins (0x0E ∷ 0xB0 ∷ 0xD0 ∷ 0xD6 ∷ [])
     then (not (h.p2 == 0) || (nat_lt h.p1 0x80 && not (h.p1 == 0)))
@@ -33,7 +33,7 @@ is_name ins FromCard = false
 abbrev pub Names : Header → List ℕ → Type 0
 Names h tag = (is_among h.ins (0xCA ∷ 0xDA ∷ []) ≡ true) × NamesTag tag h.p1 h.p2
 
--- Data may be objects, or parts of some: parts are not shown.
+-- Data may be objects, or parts of objects. Parts are hidden.
 abbrev pub whole_or_nothing : Bool → Shown
 whole_or_nothing is_part = if is_part then Nothing else Objects
 
@@ -45,7 +45,7 @@ pub record ShowsValue (tags : List (List ℕ)) (tag : List ℕ) (continues : Boo
   pub template : (Contains tags tag → ⊥) → is_constructed tag ≡ true
       → shown ≡ whole_or_nothing continues
 
--- data that are no secret, where there are tags
+-- data that are not secret, with tags
 pub record ShowsTagged (tags : List (List ℕ)) (o : Origin) (shown : Shown) : Type 0 where
   pub name : is_name o.header.ins o.way ≡ true → shown ≡ All
   pub named : is_name o.header.ins o.way ≡ false → (t : List ℕ) → Names o.header t
@@ -53,7 +53,7 @@ pub record ShowsTagged (tags : List (List ℕ)) (o : Origin) (shown : Shown) : T
   pub others : is_name o.header.ins o.way ≡ false → ((tag : List ℕ) → Names o.header tag → ⊥)
       → shown ≡ whole_or_nothing (o.continues || may_be_cut o.header)
 
--- Without a mask all data are shown. With one none that are secret are; without tags all others.
+-- Without a mask all data are shown. A mask hides secret data. Without tags it shows all others.
 pub record Shows (hides : Bool) (tags : List (List ℕ)) (o : Origin) (shown : Shown) : Type 0 where
   pub all : hides ≡ false → shown ≡ All
   pub secret : hides ≡ true → is_secret o.header.ins ≡ true → shown ≡ Nothing

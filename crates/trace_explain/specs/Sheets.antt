@@ -1,11 +1,11 @@
--- What is added to a sheet.
+-- What a call adds to a sheet.
 use Rattle.std.specs.Prelude.{◌≡◌, ℕ, List, [], ◌∷◌, ◌++◌, Bool, true, false}
 use Rattle.std.specs.String.{string_bytes}
 use Rattle.trace_explain.specs.declared.write.sheet.Sheet.{Sheet}
 use Rattle.trace_explain.specs.Trees.{IsValue}
 use Rattle.trace_explain.specs.Written.{lines_text}
 
--- Exactly this was added, unless memory ran out; once it did, nothing more is.
+-- Exactly this was added, unless memory ran out. Once it ran out, nothing is added.
 pub record Adds (old : Sheet) (more : List ℕ) (new : Sheet) : Type 0 where
   pub layout : new.layout ≡ old.layout
   pub whole : new.is_cut ≡ false → old.is_cut ≡ false
@@ -17,11 +17,11 @@ pub record Adds (old : Sheet) (more : List ℕ) (new : Sheet) : Type 0 where
 abbrev pub Joins : Sheet → Sheet → Type 0
 Joins old new = (more : List ℕ) × Adds old more new
 
--- all that has been added is this, unless memory ran out
+-- the text is this, unless memory ran out
 abbrev pub HasText : Sheet → List ℕ → Type 0
 HasText sheet text = sheet.is_cut ≡ false → string_bytes sheet.text ≡ text
 
--- some lines were added, of which this holds
+-- lines were added for which this holds
 abbrev pub PutsLines : (List (List ℕ) → Type 0) → Sheet → Sheet → Type 0
 PutsLines Are old new = (lines : List (List ℕ)) × Are lines × Adds old (lines_text lines) new
 
@@ -29,12 +29,12 @@ abbrev pub has_lines : List (List ℕ) → Bool
 has_lines [] = false
 has_lines (line ∷ lines) = true
 
--- and this says whether there are any
+-- the same, and this is whether there are any
 abbrev pub PutsAny : (List (List ℕ) → Type 0) → Bool → Sheet → Sheet → Type 0
 PutsAny Are some old new =
     PutsLines (λ lines. Are lines × (some ≡ has_lines lines)) old new
 
--- a value was added behind its tag
+-- a value was added after its tag
 abbrev pub PutsValue : ℕ → List ℕ → Sheet → Sheet → Type 0
 PutsValue level value old new = (words : List ℕ) × (below : List (List ℕ))
     × IsValue level value words below × Adds old (words ++ lines_text below) new

@@ -1,24 +1,24 @@
--- The lines of a list of objects, one below the other.
-use Rattle.std.specs.Prelude.{◌≡◌, ◌<◌, ℕ, suc, ◌+◌, ◌-◌, ◌*◌, List, [], ◌∷◌, ◌++◌, codes, length, take, drop, replicate, All, Bool, true, false}
+-- The lines of a list of objects, one below another.
+use Rattle.std.specs.Prelude.{◌≡◌, ◌<◌, ℕ, suc, ◌+◌, ◌-◌, ◌*◌, List, [], ◌∷◌, ◌++◌, codes, length, take, drop, All, Bool, true, false}
 use Rattle.std.specs.List.{Contains}
 use Rattle.hex.specs.Hex.{encode_upper}
 use Rattle.tlv_core.specs.Spelling.{AreObjects, Begins}
 use Rattle.tlv_core.specs.TagForm.{is_constructed}
-use Rattle.trace_explain.specs.Written.{AreLines, content, is_text}
+use Rattle.trace_explain.specs.Written.{AreLines, content, is_text, spaces}
 
--- an object's tag, behind two spaces for each level below the first, which is 1
+-- an object's tag, after two spaces for each level below 1, the first
 abbrev pub indent : ℕ → ℕ
 indent level = (level - 1) * 2
 
 abbrev pub object : ℕ → List ℕ → List ℕ
-object level tag = replicate (indent level) 32 ++ encode_upper tag
+object level tag = spaces (indent level) ++ encode_upper tag
 
--- so many bytes of a value stand in a line, which are text or not
+-- the number of bytes of a value in a line, with or without text
 abbrev pub value_width : Bool → ℕ
 value_width true = 15
 value_width false = 24
 
--- a value behind its tag, and in the lines below
+-- a value after its tag, and in the lines below
 abbrev pub IsValue : ℕ → List ℕ → List ℕ → List (List ℕ) → Type 0
 IsValue level [] words below = (words ≡ codes " -") × (below ≡ [])
 IsValue level (b ∷ bytes) words below =
@@ -27,12 +27,12 @@ IsValue level (b ∷ bytes) words below =
     × AreLines (indent level + 5) (value_width (is_text (b ∷ bytes))) (is_text (b ∷ bytes))
     (drop (value_width (is_text (b ∷ bytes))) (b ∷ bytes)) below
 
--- an object, with these words behind its tag, and others
+-- an object, with these words after its tag, and other objects
 abbrev pub listed : ℕ → List ℕ → List ℕ → List (List ℕ) → List (List ℕ) → List (List ℕ)
 listed level tag words below others = ((object level tag ++ words) ∷ below) ++ others
 
--- The lines of the bytes, which are objects of a level: where an object's tag is among these
--- nothing of its value stands there, and below a template stand the objects in it.
+-- The lines of bytes that are objects of a level. If an object's tag is among these, its value is
+-- hidden. Below a template are its objects.
 pub data AreTree : List (List ℕ) → List ℕ → ℕ → List (List ℕ) → Type 0 where
   no_object : {tags : List (List ℕ)} {bytes : List ℕ} {level : ℕ} {lines : List (List ℕ)}
       → All (λ b. b ≡ 0) bytes → lines ≡ [] → AreTree tags bytes level lines
@@ -54,7 +54,7 @@ pub data AreTree : List (List ℕ) → List ℕ → ℕ → List (List ℕ) → 
       → lines ≡ listed level tag [] inside others
       → AreTree tags rest level others → AreTree tags bytes level lines
 
--- The lines of data as a tree: there are some only where the data may be objects and are some.
+-- The lines of data as a tree: none, unless the data may be objects and are some.
 pub record IsTree (tags : List (List ℕ)) (may : Bool) (bytes : List ℕ) (lines : List (List ℕ))
     : Type 0 where
   pub never : may ≡ false → lines ≡ []

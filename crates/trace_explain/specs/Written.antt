@@ -1,15 +1,15 @@
--- What is written of a TPDU, in either layout. What stands between are words, of which nothing is
--- said here.
-use Rattle.std.specs.Prelude.{◌≡◌, ◌<◌, ℕ, zero, suc, ◌-◌, List, [], ◌∷◌, ◌++◌, codes, length, take, drop, flat_map, replicate, Bool, true, false, nat_le, ◌==◌, ◌&&◌, if◌then◌else◌}
+-- The parts of a box, in either format. Any words may be between them.
+use Rattle.std.specs.Prelude.{◌≡◌, ◌<◌, ℕ, ◌-◌, List, [], ◌∷◌, ◌++◌, codes, length, take, drop, get_or, flat_map, Option, Some, None, Bool, true, false, nat_le, nat_lt, ◌==◌, ◌&&◌, if◌then◌else◌}
 use Rattle.std.specs.Char.{encode_utf8}
 use Rattle.std.specs.Fmt.{decimal}
+use Rattle.std.specs.List.{repeat}
 use Rattle.hex.specs.Hex.{encode_upper}
 use Rattle.trace_explain.specs.declared.write.layout.Medium.{Medium}
 use Rattle.trace_explain.specs.declared.write.layout.Medium.TheVariants.{Text, Html}
 use Rattle.trace_explain.specs.declared.write.layout.Side.{Side}
 use Rattle.trace_explain.specs.declared.write.layout.Side.TheVariants.{Terminal, Card, Nobody}
 
--- a text has these parts, one after another, with any words before, between and behind them
+-- a text has these parts, one after another, with any words before, between and after them
 abbrev pub InTurn : List (List ℕ) → List ℕ → Type 0
 InTurn [] text = Unit {0}
 InTurn (part ∷ parts) text =
@@ -19,11 +19,14 @@ InTurn (part ∷ parts) text =
 abbrev pub newline : List ℕ
 newline = 10 ∷ []
 
--- a TPDU has a number, with which its title begins, and behind which stands a space
+abbrev pub spaces : ℕ → List ℕ
+spaces n = repeat n (codes " ")
+
+-- the title of a TPDU begins with its number, and a space
 abbrev pub number_text : ℕ → List ℕ
 number_text n = codes "#" ++ decimal n ++ codes " "
 
--- and its title ends with the line in which it began
+-- and ends with the line where it began
 abbrev pub line_before : Medium → List ℕ
 line_before Text = codes "(line "
 line_before Html = codes "<small>line "
@@ -35,7 +38,7 @@ line_behind Html = codes "</small></summary>" ++ newline
 abbrev pub line_text : Medium → ℕ → List ℕ
 line_text m line = line_before m ++ decimal line ++ line_behind m
 
--- A row begins with the sign of the end that says it, and a label, of eleven columns in a text.
+-- A row begins with the sign of its end, and a label, which takes eleven columns of a text.
 abbrev pub label_before : Medium → Side → List ℕ
 label_before Text Terminal = codes "  > "
 label_before Text Card = codes "  < "
@@ -45,7 +48,7 @@ label_before Html Card = codes "<div class=\"m c\"><b>"
 label_before Html Nobody = codes "<div class=\"m n\"><b>"
 
 abbrev pub label_behind : Medium → ℕ → List ℕ
-label_behind Text size = replicate (11 - size) 32
+label_behind Text size = spaces (11 - size)
 label_behind Html size = codes "</b><pre>"
 
 abbrev pub before : Medium → Side → List ℕ → List ℕ
@@ -57,40 +60,35 @@ behind Html Terminal = codes "</pre><i></i></div>" ++ newline
 behind Html Card = codes "</pre><i></i></div>" ++ newline
 behind Html Nobody = codes "</pre></div>" ++ newline
 
--- Between them stands its text. Each further line of it is below the first one; on a page nothing
--- in it is markup.
-abbrev pub letter : Medium → ℕ → List ℕ
-letter Text b = if b == 10 then newline ++ codes "               " else encode_utf8 b
-letter Html b = if b == 60 then codes "&lt;" else if b == 62 then codes "&gt;"
+-- Between them is its text. Each further line of it is below the first one; on a page nothing in it
+-- is markup. Plain text has no medium.
+abbrev pub letter : Option Medium → ℕ → List ℕ
+letter None b = encode_utf8 b
+letter (Some Text) b = if b == 10 then newline ++ codes "               " else encode_utf8 b
+letter (Some Html) b = if b == 60 then codes "&lt;" else if b == 62 then codes "&gt;"
     else if b == 38 then codes "&amp;" else encode_utf8 b
 
 abbrev pub row : Medium → Side → List ℕ → List ℕ → List ℕ
-row m side label text = before m side label ++ flat_map (letter m) text ++ behind m side
+row m side label text = before m side label ++ flat_map (letter (Some m)) text ++ behind m side
 
--- the characters of a header, each behind its name on a page
-abbrev pub name_before : ℕ → List ℕ
-name_before zero = codes "CLA "
-name_before (suc zero) = codes "  INS "
-name_before (suc (suc zero)) = codes "  P1 "
-name_before (suc (suc (suc zero))) = codes "  P2 "
-name_before (suc (suc (suc (suc zero)))) = codes "  P3 "
-name_before (suc (suc (suc (suc (suc n))))) = []
+-- the characters of a header, each after its name on a page
+abbrev pub character_text : List ℕ → List ℕ → ℕ → List ℕ
+character_text name bytes place =
+    if nat_lt place (length bytes) then name ++ encode_upper (get_or bytes place 0 ∷ []) else []
 
-abbrev pub character_text : ℕ → ℕ → List ℕ
-character_text place b = name_before place ++ encode_upper (b ∷ [])
-
-abbrev pub named : ℕ → List ℕ → List ℕ
-named place [] = []
-named place (b ∷ bytes) = character_text place b ++ named (suc place) bytes
+abbrev pub named : List ℕ → List ℕ
+named bytes = character_text (codes "CLA ") bytes 0 ++ character_text (codes "  INS ") bytes 1
+    ++ character_text (codes "  P1 ") bytes 2 ++ character_text (codes "  P2 ") bytes 3
+    ++ character_text (codes "  P3 ") bytes 4 ++ encode_upper (drop 5 bytes)
 
 abbrev pub header_text : Medium → List ℕ → List ℕ
 header_text Text bytes = encode_upper bytes
-header_text Html bytes = named 0 bytes
+header_text Html bytes = named bytes
 
 abbrev pub header_row : Medium → List ℕ → List ℕ
 header_row m bytes = before m Terminal (codes "header") ++ header_text m bytes ++ behind m Terminal
 
--- a status as digits, and a space, behind which words say what it means
+-- a status as digits, and a space; words after it give its meaning
 abbrev pub status_digits : List ℕ → List ℕ
 status_digits [] = []
 status_digits (b ∷ status) = encode_upper (b ∷ status) ++ codes " "
@@ -99,8 +97,7 @@ abbrev pub status_row : Medium → Side → List ℕ → List ℕ → List ℕ
 status_row m side status words =
     (before m side (codes "status") ++ status_digits status) ++ words ++ behind m side
 
--- Data stand in lines, each behind an LF, but for the first one of a row. Where there are none,
--- there is no row.
+-- Data are lines, each after an LF, except the first one of a row. Without data there is no row.
 abbrev pub lines_text : List (List ℕ) → List ℕ
 lines_text lines = flat_map (λ line. 10 ∷ line) lines
 
@@ -108,19 +105,19 @@ abbrev pub data_row : Medium → Side → List ℕ → List ℕ
 data_row m side [] = []
 data_row m side (b ∷ text) = row m side (codes "data") text
 
--- what stands in the place of data that are not shown
+-- what is shown in place of hidden data
 abbrev pub hidden : List ℕ
 hidden = codes "**"
 
--- digits, and for text the text in quotes beside them
+-- digits, with text in quotes beside them if they are text
 abbrev pub beside : Bool → List ℕ → List ℕ
 beside false line = []
-beside true line = codes " \"" ++ flat_map encode_utf8 line ++ codes "\""
+beside true line = codes " \"" ++ flat_map (letter None) line ++ codes "\""
 
 abbrev pub content : Bool → List ℕ → List ℕ
 content in_text line = encode_upper line ++ beside in_text line
 
--- at least three bytes, each of printable ASCII, are taken for text
+-- at least three bytes, all printable ASCII, count as text
 abbrev pub are_printable : List ℕ → Bool
 are_printable [] = true
 are_printable (b ∷ bytes) = nat_le 32 b && nat_le b 126 && are_printable bytes
@@ -128,14 +125,14 @@ are_printable (b ∷ bytes) = nat_le 32 b && nat_le b 126 && are_printable bytes
 abbrev pub is_text : List ℕ → Bool
 is_text bytes = nat_le 3 (length bytes) && are_printable bytes
 
--- these lines have all of the bytes, in their order, so many in a line behind so many spaces
+-- these lines have all bytes, in their order, `width` in a line after `indent` spaces
 abbrev pub AreLines : ℕ → ℕ → Bool → List ℕ → List (List ℕ) → Type 0
 AreLines indent width in_text bytes [] = bytes ≡ []
 AreLines indent width in_text bytes (line ∷ lines) = (0 < length bytes)
-    × (line ≡ replicate indent 32 ++ content in_text (take width bytes))
+    × (line ≡ spaces indent ++ content in_text (take width bytes))
     × AreLines indent width in_text (drop width bytes) lines
 
--- data as digits, with the text beside them where they are text
+-- data as digits, with text beside them if they are text
 abbrev pub width : Bool → ℕ
 width true = 25
 width false = 40

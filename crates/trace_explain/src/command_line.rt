@@ -11,26 +11,29 @@ use clap::{Arg, ArgAction, ArgMatches, Command, Error};
 use std::alloc::{AllocError, Global};
 use t0_core::Direction;
 
-/// What the words ask for.
+/// What the command line asks for.
 #[derive(Drop)]
 pub struct Request<'a> {
-    /// How the explanation is laid out.
+    /// The layout of the explanation.
     pub layout: Layout,
-    /// What is not shown.
+    /// What is hidden.
     pub mask: Mask,
-    /// Whether it goes on after a character with which no dialogue does.
+    /// Whether it continues after an unexpected byte.
     pub resumes: bool,
     /// How the lines of the trace are read.
     pub reading: Reading,
-    /// The files of two traces that are compared, where no trace is explained.
+    /// The files of two traces, if two are compared.
     pub compared: Option<(&'a str, &'a str)>,
 }
 
-/// What the words, of which the first is the program's name, ask for. The error is the parser's:
-/// a call for help, a mistake in the words, or want of memory.
+/// Parses the command line. Its first word is the program's name.
+///
+/// # Errors
+///
+/// That of the parser: help is asked for, a word is wrong, or memory ran out.
 pub fn parsed<'a>(alloc: Global, words: &'a [String]) -> Result<Request<'a>, Error> {
     let matches = command(alloc)?.try_get_matches_from(words)?;
-    let reading = reading(alloc, &matches)?;
+    let unsigned = unsigned(alloc, &matches)?;
     let mask = mask(alloc, &matches)?;
     let medium = if matches.get_flag("html") {
         Medium::Html
@@ -40,7 +43,12 @@ pub fn parsed<'a>(alloc: Global, words: &'a [String]) -> Result<Request<'a>, Err
     let is_summary = matches.get_flag("summary");
     Ok(Request {
         mask,
-        reading,
+        reading: Reading {
+            form: matches.get_str("form").and_then(Form::of_name),
+            swaps: matches.get_flag("swap"),
+            unsigned,
+            of_tpdus: matches.get_flag("tpdu"),
+        },
         layout: Layout { medium, is_summary },
         resumes: matches.get_flag("resume"),
         compared: match matches.get_strs("diff") {
@@ -50,26 +58,11 @@ pub fn parsed<'a>(alloc: Global, words: &'a [String]) -> Result<Request<'a>, Err
     })
 }
 
-/// How the lines of the trace are read; the error says what is wrong with the ways of instructions.
-fn reading(alloc: Global, matches: &ArgMatches<'_>) -> Result<Reading, Error> {
-    Ok(Reading {
-        form: matches.get_str("form").and_then(Form::of_name),
-        swaps: matches.get_flag("swap"),
-        unsigned: unsigned(alloc, matches)?,
-        of_tpdus: matches.get_flag("tpdu"),
-    })
-}
-
-/// What is not shown; the error says what is wrong with the tags.
+/// What is hidden. The error says what is wrong with the tags.
 fn mask(alloc: Global, matches: &ArgMatches<'_>) -> Result<Mask, Error> {
-    match matches.get_str("mask") {
-        None => Ok(Mask::none(alloc)),
-        Some(tags) => masked(alloc, tags),
-    }
-}
-
-/// What is not shown where these tags are given; the error says what is wrong with them.
-fn masked(alloc: Global, tags: &str) -> Result<Mask, Error> {
+    let Some(tags) = matches.get_str("mask") else {
+        return Ok(Mask::none(alloc));
+    };
     match Mask::of(alloc, tags) {
         Ok(mask) => Ok(mask),
         Err(TagsFault::OutOfMemory) => Err(Error::from(AllocError)),
@@ -83,8 +76,8 @@ fn masked(alloc: Global, tags: &str) -> Result<Mask, Error> {
     }
 }
 
-/// What is said of the ways of instructions, where the lines have no signs; the error says what is
-/// wrong with that.
+/// Which way the data of instructions go, if the lines have no signs. The error says what is wrong
+/// with the instructions.
 fn unsigned(alloc: Global, matches: &ArgMatches<'_>) -> Result<Option<Ways>, Error> {
     if !matches.get_flag("unsigned") {
         return Ok(None);
@@ -111,80 +104,59 @@ fn command<'a>(alloc: Global) -> Result<Command<'a>, AllocError> {
         .version(help::VERSION)
         .about(help::PROGRAM)
         .after_help(help::TRACE)
-        .arg(diff_flag(alloc)?)?
+        .arg(
+            valued(alloc, "diff", help::DIFF)
+                .value_names(["A", "B"].as_slice())
+                .num_args(2..=2)
+                .conflicts_with("html")?
+                .conflicts_with("summary")?,
+        )?
         .arg(flag(alloc, "html", help::HTML))?
-        .arg(mask_flag(alloc))?
+        .arg(
+            valued(alloc, "mask", help::MASK)
+                .value_name("TAGS")
+                .num_args(0..=1)
+                .default_missing_value(""),
+        )?
         .arg(flag(alloc, "resume", help::RESUME))?
-        .arg(form(alloc))?
+        .arg(
+            valued(alloc, "form", help::FORM)
+                .action(ArgAction::Set)
+                .value_name("FORM")
+                .value_parser(FORM_NAMES.as_slice()),
+        )?
         .arg(flag(alloc, "swap", help::SWAP))?
-        .arg(unsigned_flag(alloc)?)?
+        .arg(
+            flag(alloc, "unsigned", help::UNSIGNED)
+                .conflicts_with("form")?
+                .conflicts_with("swap")?,
+        )?
         .arg(way(alloc, "to-card", help::TO_CARD)?)?
         .arg(way(alloc, "from-card", help::FROM_CARD)?)?
         .arg(flag(alloc, "summary", help::SUMMARY))?
-        .arg(tpdu(alloc)?)
+        .arg(
+            flag(alloc, "tpdu", help::TPDU)
+                .conflicts_with("form")?
+                .conflicts_with("resume")?
+                .conflicts_with("swap")?
+                .conflicts_with("unsigned")?,
+        )
 }
 
-/// The option that takes two files to compare.
-fn diff_flag<'a>(alloc: Global) -> Result<Arg<'a>, AllocError> {
-    Arg::new(alloc, "diff")
-        .long("diff")
-        .value_names(["A", "B"].as_slice())
-        .num_args(2..=2)
-        .help(help::DIFF)
-        .conflicts_with("html")?
-        .conflicts_with("summary")
-}
-
-/// The option that says what is not shown.
-fn mask_flag<'a>(alloc: Global) -> Arg<'a> {
-    Arg::new(alloc, "mask")
-        .long("mask")
-        .value_name("TAGS")
-        .num_args(0..=1)
-        .default_missing_value("")
-        .help(help::MASK)
-}
-
-/// The option that says the form of the lines.
-fn form<'a>(alloc: Global) -> Arg<'a> {
-    Arg::new(alloc, "form")
-        .long("form")
-        .action(ArgAction::Set)
-        .value_name("FORM")
-        .value_parser(FORM_NAMES.as_slice())
-        .help(help::FORM)
-}
-
-/// The option that says that the lines have no signs.
-fn unsigned_flag<'a>(alloc: Global) -> Result<Arg<'a>, AllocError> {
-    flag(alloc, "unsigned", help::UNSIGNED)
-        .conflicts_with("form")?
-        .conflicts_with("swap")
-}
-
-/// An option that says which way the data of instructions go.
+/// An option that lists instructions.
 fn way<'a>(alloc: Global, name: &'a str, about: &'a str) -> Result<Arg<'a>, AllocError> {
-    Arg::new(alloc, name)
-        .long(name)
+    valued(alloc, name, about)
         .action(ArgAction::Set)
         .value_name("INS")
-        .help(about)
         .requires_arg("unsigned")
-}
-
-/// The option that says that the lines are those of a log of TPDUs, of which each stands alone.
-fn tpdu<'a>(alloc: Global) -> Result<Arg<'a>, AllocError> {
-    flag(alloc, "tpdu", help::TPDU)
-        .conflicts_with("form")?
-        .conflicts_with("resume")?
-        .conflicts_with("swap")?
-        .conflicts_with("unsigned")
 }
 
 /// An option without a value.
 fn flag<'a>(alloc: Global, name: &'a str, about: &'a str) -> Arg<'a> {
-    Arg::new(alloc, name)
-        .long(name)
-        .action(ArgAction::SetTrue)
-        .help(about)
+    valued(alloc, name, about).action(ArgAction::SetTrue)
+}
+
+/// An option with its help.
+fn valued<'a>(alloc: Global, name: &'a str, about: &'a str) -> Arg<'a> {
+    Arg::new(alloc, name).long(name).help(about)
 }

@@ -1,4 +1,4 @@
-//! What is said of a TPDU, in words, and what of its data is shown.
+//! Words for a TPDU, and which of its data are shown.
 pub mod clock;
 pub mod complaint;
 pub mod mask;

@@ -1,4 +1,4 @@
-//! A whole trace.
+//! Explains a whole trace: reads it in chunks, and gives its lines to an `Explainer`.
 ghost use Rattle.std.specs.Prelude.{◌≡◌, ◌++◌, List, [], ℕ, false, IfErr, IfSome, OnOk};
 ghost use Rattle.std.specs.Io.KnownBytes.{Appends};
 ghost use Rattle.std.specs.String.{string_bytes};
@@ -26,10 +26,14 @@ pub const TRACE_LIMIT: usize = 1_099_511_627_776;
 /// The most bytes of a line (this project's profile).
 pub const LINE_LIMIT: usize = 4_194_304;
 
-/// How many bytes are asked of the reader at once.
+/// How many bytes a reader is asked for at once.
 pub const CHUNK: usize = 16_384;
 
-/// Explains a trace, whose lines are read so, and writes what it explains.
+/// Explains a trace, and writes the explanation.
+///
+/// # Errors
+///
+/// The first fault. What precedes it is written, unless the writer failed or memory ran out.
 pub fn explain<R: Read, W: Write>(
     alloc: Global,
     layout: Layout,
@@ -56,7 +60,7 @@ pub fn explain<R: Read, W: Write>(
     explainer.outcome()
 }
 
-/// Reads the trace, and explains line after line.
+/// Reads the trace, and explains it line by line.
 fn explain_chunks<R: Read, W: Write>(
     alloc: Global,
     explainer: &mut Explainer,
@@ -96,7 +100,7 @@ fn explain_chunks<R: Read, W: Write>(
     Err(ExplainFault::InputTooLong)
 }
 
-/// Explains the lines that end in a chunk, and keeps the line that does not.
+/// Explains the lines that end in a chunk, and keeps the start of the next line in `line`.
 pub fn explain_chunk(
     explainer: &mut Explainer,
     chunk: &[u8],
@@ -125,7 +129,7 @@ pub fn explain_chunk(
     Ok(())
 }
 
-/// Explains the last line, where it has no LF.
+/// Explains the last line, if it has no LF.
 pub fn explain_last(explainer: &mut Explainer, line: &[u8]) -> Result<(), ExplainFault>
     ensures explained { (front : Out) (reading : Reading) (all : List (List ℕ)) →
         HasReceived front reading all line.now [] explainer.old →
@@ -142,7 +146,7 @@ pub fn explain_last(explainer: &mut Explainer, line: &[u8]) -> Result<(), Explai
     explainer.line(line)
 }
 
-/// The line without the CR at its end, if it has one.
+/// Returns the line without the CR at its end, if it has one.
 fn without_return(line: &[u8]) -> &[u8]
     ensures { result.now ≡ strip_carriage_return line.now }
 {
@@ -152,7 +156,7 @@ fn without_return(line: &[u8]) -> &[u8]
     }
 }
 
-/// Writes what is told, and forgets it.
+/// Writes the text of a sheet, and clears it.
 fn write_output<W: Write>(sheet: &mut Sheet, writer: &mut W) -> Result<(), ExplainFault>
     ensures out { WritesOut sheet.old sheet.new }
     ensures written { OnOk result (Appends (W.contents writer.old) (W.contents writer.new)

@@ -1,4 +1,4 @@
-//! A trace of both ends of a line, explained.
+//! The program `trace_explain`: explains a trace of both ends of a line.
 #![tactic(auto)]
 
 mod command_line;
@@ -20,7 +20,7 @@ use main_status::{main_status, status_without_words};
 use std::process::ExitCode;
 use std::{env, io};
 
-/// Runs the program on its own words and streams.
+/// Runs the program on its own command line and streams.
 fn main(rt: HostRuntime) -> ExitCode {
     let stderr = rt.stderr();
     let mut faults = io::writer(&stderr);
@@ -38,7 +38,7 @@ fn main(rt: HostRuntime) -> ExitCode {
     ExitCode::from(status)
 }
 
-/// The program's own words.
+/// Returns the words of the command line.
 fn words(rt: &HostRuntime) -> io::Result<Vec<String>> {
     let words = env::args(rt)?;
     Ok(words.collect(rt.alloc())?)

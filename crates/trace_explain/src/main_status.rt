@@ -18,11 +18,13 @@ use std::io::{Read, Write};
 use std::rt::Files;
 use std::{fmt, io};
 
-/// Runs the program on its words, of which the first is its name, and answers its exit status.
+/// Runs the program on its words, and returns its exit status. The first word is its name.
 ///
-/// 0: the trace was explained, or help was asked for, which goes to `output`, or nobody reads
-/// `output` any more. 1: a fault, which is told on `faults`. 2: the words were refused, as `faults`
-/// tells. That `faults` fails changes no status.
+/// - 0: it explained the trace, or wrote help to `output`, or nobody reads `output` any more.
+/// - 1: a fault, which it writes to `faults`.
+/// - 2: the command line is refused, for a reason that it writes to `faults`.
+///
+/// A failure of `faults` changes no status.
 pub fn main_status<D: Files, R: Read, W: Write, F: Write>(
     alloc: Global,
     words: &[String],
@@ -39,7 +41,7 @@ pub fn main_status<D: Files, R: Read, W: Write, F: Write>(
     }
 }
 
-/// Does what the words ask for, and answers the status.
+/// Does what the command line asks for, and returns the status.
 fn carried_out<D: Files, R: Read, W: Write, F: Write>(
     alloc: Global,
     request: Request<'_>,
@@ -87,7 +89,7 @@ fn diff_files<D: Files, W: Write>(
     diff(alloc, mask, resumes, reading, (&mut a, &mut b), output)
 }
 
-/// The file that has a trace.
+/// Opens the file of a trace.
 fn opened<D: Files>(files: &D, path: &str, name: &'static str) -> Result<D::File, DiffFault> {
     match File::open(files, path) {
         Ok(file) => Ok(file),
@@ -95,8 +97,7 @@ fn opened<D: Files>(files: &D, path: &str, name: &'static str) -> Result<D::File
     }
 }
 
-/// The status for what the parser answered in place of matches. Help goes to `output`, and a
-/// refusal to `faults`.
+/// The status for an error of the parser. Help goes to `output`, and a refusal to `faults`.
 fn answered<W: Write, F: Write>(error: &Error, output: &mut W, faults: &mut F) -> u8
     ensures status { result ≤ 2 }
 {
@@ -118,8 +119,8 @@ fn shown<W: Write>(error: &Error, output: &mut W) -> Result<(), ExplainFault> {
     }
 }
 
-/// The status for an outcome: 0, also if nobody reads what is written any more, or 1 for a fault,
-/// which is told on `faults`.
+/// The status for an outcome: 0, also if nobody reads the output any more. Or 1 for a fault, which
+/// it writes to `faults`.
 fn status<F: Write>(outcome: &Result<(), ExplainFault>, faults: &mut F) -> u8
     ensures success { OnOk outcome.now (result ≡ 0) }
     ensures fault { IfErr outcome.now (λ fault. result ≡ status_of fault) }
@@ -130,7 +131,7 @@ fn status<F: Write>(outcome: &Result<(), ExplainFault>, faults: &mut F) -> u8
     }
 }
 
-/// Tells a fault on `faults` in one line, and answers its status.
+/// Writes a fault to `faults` in one line, and returns its status.
 fn print_fault<E: fmt::Display, F: Write>(fault: &E, faults: &mut F) -> u8
     ensures { result ≡ 1 }
 {
@@ -138,8 +139,8 @@ fn print_fault<E: fmt::Display, F: Write>(fault: &E, faults: &mut F) -> u8
     1
 }
 
-/// The exit status where the words can't be had, which is told on `faults`: 1 for want of memory,
-/// and else 2, as one of them is not UTF-8. That `faults` fails changes no status.
+/// The exit status if the words can't be read: 1 if memory ran out, or 2 if a word is not UTF-8. It
+/// writes the reason to `faults`. A failure of `faults` changes no status.
 pub fn status_without_words<F: Write>(error: &io::Error, faults: &mut F) -> u8
     ensures status { result ≤ 2 }
 {

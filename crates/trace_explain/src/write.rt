@@ -1,4 +1,4 @@
-//! What is written: the rows of boxes, as text or as a page.
+//! Writes the explanation: boxes with rows, and notes between them, as text or as a page.
 pub mod answer;
 pub mod ascii;
 pub mod complaint_box;

@@ -167,5 +167,10 @@ class Pps:
         self.request = copied(made, count)
 
     def is_agreed(self, response: Bytes) -> bool:
-        """Whether the card's response accepts the request. Raises `PpsError` for other bytes."""
+        """Whether the card's response accepts the request (9.3).
+
+        It does if it names the same protocol, and each of PPS1 to PPS3 is as requested or absent.
+        The card does not accept an absent one: without PPS1, Fi is 372 and Di 1. It has accepted
+        all if the response equals `request`. Raises `PpsError` if the bytes are not a response.
+        """
         return checked(lib.gt_pps_agreed(*readable(self.request), *readable(response))) == 1

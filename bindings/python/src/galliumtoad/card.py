@@ -56,9 +56,13 @@ class Holder(Lasting):
     def plan(self, steps: str, cut: int = 256) -> None:
         """Adds a plan: how the card answers one more TPDU.
 
-        `steps` are its procedure bytes: `n` (NULL), `o` (one byte), `a` (all bytes). `cut`, 1 to
-        256, is the most that a status 61XX announces. Errors, after which nothing has changed:
-        - CallError, GT_ARGUMENT: another letter, or a cut out of range.
+        `steps` are its procedure bytes: `n` (NULL), `o` (one byte), `a` (all bytes). If no bytes
+        are left, `o` and `a` are skipped. After the last letter all bytes that are left move.
+        `cut`, 1 to 256, is the most that a status 61XX announces.
+
+        Errors, after which nothing has changed:
+        - CallError, GT_ARGUMENT: another letter, or a cut of 0 or above 256.
+        - ValueError: `cut` is below 0 or above 65,535, or `steps` is not ASCII.
         - CallError, GT_PLANS: too many plans wait.
         """
         self._call("plan", str.encode(steps, "ascii"), within(cut, 0, 0xFFFF, "a cut"))

@@ -101,6 +101,6 @@ class Lasting(Handle):
     def reset(self) -> None:
         """Drops the operation or command in progress, and what is selected or pending at a card.
 
-        A card keeps its data objects and plans.
+        A card keeps its data objects and plans. A session also keeps what `heard` returns.
         """
         self._call("reset")

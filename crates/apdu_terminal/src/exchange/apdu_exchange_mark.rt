@@ -45,8 +45,11 @@ impl<A: Allocator + Copy> Model for ApduExchangeMark<A> {
 }
 
 impl<A: Allocator + Copy> ApduExchangeMark<A> {
-    /// Starts the exchange of a command, with room for `limit` bytes of the response. Returns
-    /// `AllocError` if memory ran out.
+    /// Starts the exchange of a command, with room for `limit` bytes of the response, at most
+    /// `RESPONSE_LIMIT`.
+    ///
+    /// # Errors
+    /// - `AllocError`: memory ran out. Nothing has begun.
     pub fn start(
         alloc: A,
         command: Command<'_>,
@@ -64,7 +67,8 @@ impl<A: Allocator + Copy> ApduExchangeMark<A> {
         Ok(ApduExchangeMark::of(alloc, exchange))
     }
 
-    /// Starts the exchange of another command in the same room, and empties that.
+    /// Starts the exchange of another command in the same room, whose limit stays. This one is
+    /// dropped in any state, and zeros overwrite its data.
     pub fn again(&mut self, command: Command<'_>)
         requires { self.old.gather.limit ≤ response_limit }
         ensures led { ComesTo command.entry (wanted_by command.entry.le) []
@@ -120,8 +124,8 @@ impl<A: Allocator + Copy> ApduExchangeMark<A> {
         }
     }
 
-    /// Takes the response to it, as `ApduExchange::responded`. Also returns whether the data are
-    /// kept: if not, the next command has no data.
+    /// Takes the response to the command that `apdu` returns, as `ApduExchange::responded`. Also
+    /// returns whether the data are kept: if not, the next command has no data.
     pub fn responded(
         &mut self,
         bytes: &[u8],
@@ -147,7 +151,8 @@ impl<A: Allocator + Copy> ApduExchangeMark<A> {
         (taken, keeps)
     }
 
-    /// Returns the status and all data, or `None` if the exchange has not ended.
+    /// Returns the last status and all data, or `None` if the exchange is in progress or has
+    /// failed.
     pub fn answer(&self) -> Option<(Status, &[u8])>
         ensures { answer_of self.now ≡ option_map (λ a. (a.0, a.1.now)) result }
     {
@@ -157,7 +162,7 @@ impl<A: Allocator + Copy> ApduExchangeMark<A> {
         }
     }
 
-    /// Returns the same as an `Answer`, in memory of its size.
+    /// Returns what `answer` does as an `Answer`, in memory of its size.
     pub fn into_answer(self) -> Option<Answer<A>>
         ensures { answer_of self ≡ option_map (λ a. (a.status, a.content)) result }
     {

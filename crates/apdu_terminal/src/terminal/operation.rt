@@ -16,7 +16,8 @@ use std::alloc::{AllocError, Allocator, Global};
 use std::marker::Model;
 use t0_core::AnswerFault;
 
-/// An operation that has begun.
+/// An operation of an `ApduTerminal` that has begun: the exchange of its last command, and the rest
+/// of a put.
 #[derive(Drop)]
 pub struct ApduOperation<A: Allocator + Copy = Global> {
     exchange: ApduExchangeMark<A>,
@@ -50,8 +51,11 @@ impl<A: Allocator + Copy> Model for ApduOperation<A> {
 }
 
 impl<A: Allocator + Copy> ApduOperation<A> {
-    /// Begins an operation. This takes all its memory: room for `limit` bytes of a response, and
-    /// for a copy of the data. Returns `AllocError` if memory ran out.
+    /// Begins an operation. This takes all its memory: room for `limit` bytes of a response, at
+    /// most `RESPONSE_LIMIT`, and for a copy of the data.
+    ///
+    /// # Errors
+    /// - `AllocError`: memory ran out. Nothing has begun.
     pub fn start(alloc: A, limit: usize, unsent: Unsent<'_>) -> Result<ApduOperation<A>, AllocError>
         requires { limit ≤ response_limit }
         ensures begins { IfOk result (λ o. Begins unsent.entry o) }
@@ -79,8 +83,10 @@ impl<A: Allocator + Copy> ApduOperation<A> {
     }
 
     /// Begins another operation in place of this one, as `start`, in the same memory. Takes more
-    /// only for longer data than any before. If memory ran out, returns `AllocError` and changes
-    /// nothing.
+    /// only for longer data than any before.
+    ///
+    /// # Errors
+    /// - `AllocError`: memory ran out. Nothing changes.
     pub fn again(&mut self, unsent: Unsent<'_>) -> Result<(), AllocError>
         ensures begins { MatchResult result (λ _. Begins unsent.entry self.new)
             (λ _. self.new ≡ self.old) }
@@ -109,15 +115,15 @@ impl<A: Allocator + Copy> ApduOperation<A> {
         matches!(self.exchange.stage(), Stage::Going)
     }
 
-    /// Returns the command to send now, if there is one.
+    /// Returns the command to send now, or `None` if the operation has ended or failed.
     pub fn apdu(&self) -> Option<Command<'_>>
         ensures { result ≡ due_of self.now.exchange }
     {
         self.exchange.apdu(&self.content[self.from..self.until])
     }
 
-    /// Takes the response to it, as `ApduExchange::responded`. After the status `9000` the next
-    /// piece of a put begins, if one follows.
+    /// Takes the response to the command that `apdu` returns, as `ApduExchange::responded`. After
+    /// the status `9000` the next piece of a put begins, if one follows.
     pub fn responded(&mut self, bytes: &[u8], status: Status) -> Result<(), AnswerFault>
         ensures responding { (ex : ApduExchangeOf)
             × IsResponding self.old.exchange bytes.now status result ex
@@ -162,14 +168,15 @@ impl<A: Allocator + Copy> ApduOperation<A> {
         self.exchange.again(next);
     }
 
-    /// Returns the status and the data of the last command, if the operation has ended.
+    /// Returns the status and the data of the last command, or `None` if the operation is in
+    /// progress or has failed.
     pub fn answer(&self) -> Option<(Status, &[u8])>
         ensures { answer_of self.now.exchange ≡ option_map (λ a. (a.0, a.1.now)) result }
     {
         self.exchange.answer()
     }
 
-    /// Returns the same as an `Answer`, in memory of its size.
+    /// Returns what `answer` does as an `Answer`, in memory of its size.
     pub fn into_answer(self) -> Option<Answer<A>>
         ensures { answer_of self.exchange ≡ option_map (λ a. (a.status, a.content)) result }
     {

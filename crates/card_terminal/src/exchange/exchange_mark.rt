@@ -53,8 +53,12 @@ impl<A: Allocator + Copy> Model for ExchangeMark<A> {
 }
 
 impl<A: Allocator + Copy> ExchangeMark<A> {
-    /// Begins the exchange of a command, and allocates room for `limit` bytes. The error is that
-    /// memory ran out.
+    /// Begins the exchange of a command, and allocates room for `limit` bytes, at most
+    /// `RESPONSE_LIMIT`.
+    ///
+    /// # Errors
+    ///
+    /// - `AllocError`: memory ran out; there is no exchange.
     pub fn start(
         alloc: A,
         command: Command<'_>,
@@ -72,7 +76,8 @@ impl<A: Allocator + Copy> ExchangeMark<A> {
         Ok(ExchangeMark::of(alloc, exchange))
     }
 
-    /// Begins the exchange of another command in the same room. Zeros overwrite the data in it.
+    /// Begins the exchange of another command in the same room, whose limit stays. This one is
+    /// dropped in any state, and zeros overwrite its data.
     pub fn again(&mut self, command: Command<'_>)
         requires { self.old.gather.limit ≤ response_limit }
         ensures led { ComesTo command.entry [] (over_data self.new command.entry.content) }
@@ -232,7 +237,7 @@ impl<A: Allocator + Copy> ExchangeMark<A> {
         HostEnd::at(self.end, content).whole()
     }
 
-    /// The command, if no character of the exchange was sent.
+    /// The command, if nothing of the exchange was sent, as `OwnedExchange::unsent`.
     pub fn unsent<'c>(&self, content: &'c [u8]) -> Option<Command<'c>>
         requires { IsSound (over_data self.now content.now) }
         ensures { IsFirst (over_data self.now content.now) result }
@@ -246,7 +251,7 @@ impl<A: Allocator + Copy> ExchangeMark<A> {
         }
     }
 
-    /// Takes the answer to that TPDU, as `Exchange::answered`.
+    /// Takes the answer to the TPDU that `tpdu` returns, as `Exchange::answered`.
     pub fn answered(
         &mut self,
         bytes: &[u8],
@@ -271,7 +276,8 @@ impl<A: Allocator + Copy> ExchangeMark<A> {
         taken
     }
 
-    /// The status and the data, if the exchange has ended.
+    /// The status of the last TPDU and all data, if the exchange has ended. `None` if it is in
+    /// progress or has failed.
     pub fn answer(&self, content: &[u8]) -> Option<(Status, &[u8])>
         requires { IsSound (over_data self.now content.now) }
         ensures { IsAnswer (over_data self.now content.now)

@@ -58,7 +58,8 @@ impl OwnedExchange {
     }
 
     /// Begins the exchange of a command whose response has at most `limit` bytes, 0 to
-    /// `RESPONSE_LIMIT`. Allocates room for them, and a copy of the command's data.
+    /// `RESPONSE_LIMIT`. Allocates room for them, and a copy of the command's data. More data are a
+    /// fault, `TooLong`.
     ///
     /// # Errors
     ///
@@ -135,14 +136,15 @@ impl OwnedExchange {
         self.exchange.tpdu(self.content.as_slice())
     }
 
-    /// The command, if no character of the exchange was sent: it can still be sent in another way.
+    /// The command, if nothing of the exchange was sent: it can still be sent in another way.
+    /// `None` after the first character, answer or final error.
     pub fn unsent(&self) -> Option<Command<'_>>
         ensures { IsFirst self.now result }
     {
         self.exchange.unsent(self.content.as_slice())
     }
 
-    /// Takes the answer to that TPDU, with the errors of `Exchange::answered`.
+    /// Takes the answer to the TPDU that `tpdu` returns, with the errors of `Exchange::answered`.
     pub fn answered(&mut self, bytes: &[u8], status: Status) -> Result<(), AnswerFault>
         ensures { IsAnswering self.old bytes.now status result self.new }
     {
@@ -150,7 +152,8 @@ impl OwnedExchange {
             .answered(bytes, status, self.content.as_slice())
     }
 
-    /// The status and the data, if the exchange has ended.
+    /// The status of the last TPDU and all data, if the exchange has ended. `None` if it is in
+    /// progress or has failed.
     pub fn answer(&self) -> Option<(Status, &[u8])>
         ensures { IsAnswer self.now (option_map (λ a. (a.0, a.1.now)) result) }
     {

@@ -40,8 +40,9 @@ impl<C: DataCard> Session<C> {
         self.end.card().is_idle()
     }
 
-    /// Carries out the operations in turn, and appends an answer to `out` for each. The card
-    /// follows the plans at the cursor `plans`, and `watch` hears each character.
+    /// Carries out the operations in turn, and appends an answer to `out` for each, whatever its
+    /// status. No chain may be pending (`is_idle`), and none is afterwards. The card follows the
+    /// plans at the cursor `plans`, and `watch` hears each character.
     ///
     /// # Errors
     ///
@@ -86,7 +87,8 @@ impl<C: DataCard> Session<C> {
         Ok(())
     }
 
-    /// Carries out one operation, as `run`, and returns its answer.
+    /// Carries out one operation, as `run`, and returns its answer. No chain may be pending
+    /// (`is_idle`), and none is afterwards.
     ///
     /// # Errors
     ///
@@ -117,8 +119,9 @@ impl<C: DataCard> Session<C> {
         Ok(self.operate_in(room, op, plans, watch).into_answer())
     }
 
-    /// Carries out one operation, as `operate`, and allocates nothing at the terminal. `room` is
-    /// empty and for `RESPONSE_LIMIT` bytes, as `HeldAnswer::into_room` returns it.
+    /// Carries out one operation, as `operate`, and allocates nothing at the terminal. No chain may
+    /// be pending (`is_idle`), and none is afterwards. `room` must be empty and for
+    /// `RESPONSE_LIMIT` bytes, as `HeldAnswer::into_room` returns it.
     pub fn operate_in<A: Allocator, B: Allocator, V: Allocator, W: Watch>(
         &mut self,
         room: Gather<A>,
@@ -143,8 +146,9 @@ impl<C: DataCard> Session<C> {
         self.carry_out(room, op, plans, watch)
     }
 
-    /// Carries out a command that is agreed with the card, as `transmit`. A card of data objects
-    /// neither stalls nor sends more than there is room for.
+    /// Carries out a command that is agreed with the card (`object_card::is_agreed`), as
+    /// `transmit`. A chain may be pending. A card of data objects neither stalls nor sends more
+    /// than there is room for.
     ///
     /// # Errors
     ///
@@ -169,8 +173,8 @@ impl<C: DataCard> Session<C> {
         Ok(self.send_in(room, command, plans, watch).into_answer())
     }
 
-    /// Carries out a command, as `send`, and allocates nothing at the terminal. `room` is as for
-    /// `operate_in`.
+    /// Carries out a command that is agreed with the card, as `send`, and allocates nothing at the
+    /// terminal. `room` must be empty and for `RESPONSE_LIMIT` bytes.
     pub fn send_in<A: Allocator, B: Allocator, W: Watch>(
         &mut self,
         room: Gather<A>,

@@ -3,7 +3,7 @@ use std::alloc::AllocError;
 use std::error::Error;
 use std::fmt;
 
-/// Why no operation has begun. The terminal is unchanged.
+/// Why no operation has begun. After either, the terminal is unchanged.
 #[derive(Clone, Copy, Debug, PartialEq, Eq)]
 pub enum BeginFault {
     /// Memory ran out, for the response or for the copy of the operation's data.

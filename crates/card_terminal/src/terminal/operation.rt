@@ -22,7 +22,8 @@ use std::alloc::{AllocError, Allocator, Global};
 use std::marker::Model;
 use t0_core::{AnswerFault, HostTurn, LineFault, WholeTpdu};
 
-/// An operation that has begun.
+/// An operation of a `Terminal` that has begun: the exchange of its current command, and the rest
+/// of a put.
 #[derive(Drop)]
 pub struct Operation<A: Allocator + Copy = Global> {
     exchange: ExchangeMark<A>,
@@ -60,10 +61,14 @@ impl<A: Allocator + Copy> Model for Operation<A> {
 }
 
 impl<A: Allocator + Copy> Operation<A> {
-    /// Begins an operation by its first command. `content` is the data of all its commands: it
-    /// begins with those of the first, and more pieces of a put send the rest, with the same P1-P2.
-    /// Allocates room for `limit` bytes of a response, and a copy of `content`. The error is that
-    /// memory ran out.
+    /// Begins an operation by its first command. `content` is the data of all its commands, and
+    /// must begin with those of the first. More pieces of a put send the rest, with the same P1-P2.
+    /// Allocates room for `limit` bytes of a response, at most `RESPONSE_LIMIT`, and a copy of
+    /// `content`.
+    ///
+    /// # Errors
+    ///
+    /// - `AllocError`: memory ran out; there is no operation.
     pub fn start(
         alloc: A,
         limit: usize,
@@ -91,8 +96,11 @@ impl<A: Allocator + Copy> Operation<A> {
     }
 
     /// Begins another operation, as `start`, in the place and the memory of this one. It allocates
-    /// only if `content` is longer than any before. The error is that memory ran out; nothing has
-    /// changed then.
+    /// only if `content` is longer than any before.
+    ///
+    /// # Errors
+    ///
+    /// - `AllocError`: memory ran out; nothing has changed.
     pub fn again(&mut self, first: Command<'_>, content: &[u8]) -> Result<(), AllocError>
         requires front { (more : List ℕ) × (content.now ≡ first.content ++ more) }
         ensures begins { MatchResult result (λ _. BeginsWith first.entry content.now self.new)
@@ -129,8 +137,8 @@ impl<A: Allocator + Copy> Operation<A> {
         self.exchange.next(&self.content[self.from..self.until])
     }
 
-    /// Returns the next character of the data if one is to be sent, as `next` would. Otherwise
-    /// nothing changes.
+    /// Returns the next character of the data, as `next` does, if the terminal sends one next.
+    /// Otherwise returns `None`, and nothing changes.
     #[inline(always)]
     pub fn next_data(&mut self) -> Option<u8>
         ensures due { result ≡ data_due self.old.exchange.host }
@@ -208,7 +216,7 @@ impl<A: Allocator + Copy> Operation<A> {
         self.exchange.tpdu(&self.content[self.from..self.until])
     }
 
-    /// The commands of the operation, if no character of it was sent.
+    /// The commands of the operation, if nothing of it was sent, as `Terminal::unsent`.
     pub fn unsent(&self) -> Option<Unsent<'_>>
         ensures { IsUnsent (Some self.now) result }
     {
@@ -226,8 +234,8 @@ impl<A: Allocator + Copy> Operation<A> {
         }
     }
 
-    /// Takes the answer to that TPDU, as `Exchange::answered`. After the status `9000`, the next
-    /// piece of a put begins, if one follows.
+    /// Takes the answer to the TPDU that `tpdu` returns, as `Exchange::answered`. After the status
+    /// `9000`, the next piece of a put begins, if one follows.
     pub fn answered(&mut self, bytes: &[u8], status: Status) -> Result<(), AnswerFault>
         ensures answering { (ex : ExchangeOf)
             × IsAnswering self.old.exchange bytes.now status result ex
@@ -278,7 +286,8 @@ impl<A: Allocator + Copy> Operation<A> {
         self.exchange.again(next);
     }
 
-    /// The status and the data, if the exchange has ended.
+    /// The status and the data of the last command, if the operation has ended. `None` if it is in
+    /// progress or has failed.
     pub fn answer(&self) -> Option<(Status, &[u8])>
         ensures { IsAnswer self.now.exchange (option_map (λ a. (a.0, a.1.now)) result) }
     {

@@ -20,11 +20,12 @@ pub fn alike_items_show_the_same_puts()
 {}
 
 /// Whatever happens at the end of a card of data objects, its tables are the first ones with
-/// exactly the puts applied that the events show, in order. This holds however the events are cut
-/// into whole dialogues, parts that resets cut off, and the part in progress.
+/// exactly the shown puts applied, in order. The events can be cut into whole dialogues, parts that
+/// resets cut off, and the part in progress. The law holds for each such cutting. The characters
+/// must be bytes.
 ///
-/// `first` is the card when the end was made, as `finish` makes one, or after a reset. `card` is
-/// the card now, at an end of this stage.
+/// `first` is the card when the end was made, as `finish` makes one, or after a reset: nothing is
+/// selected or pending. `card` is the card now, at an end of this stage. A reset keeps the tables.
 pub fn an_end_holds_what_its_history_shows<C: DataCard>()
     ensures is_cut { (first card : C) (events : List Event) (stage : Stage) →
         Leads C.Does C.after_reset (C.standing first) events (C.standing card) (C.prepared card)

@@ -19,16 +19,18 @@ ghost use Rattle.object_card.specs.ShownPuts.{shown_puts, with_puts};
 
 use crate::DataCard;
 
-/// However a terminal uses a card, its tables are the first ones with exactly the puts applied that
-/// the history shows, in order. So an abandoned chain, an unfinished data field, and a reset
-/// between SW1 and SW2 change no entry.
+/// Take a card at which nothing is selected or pending, as after a reset. However a terminal uses
+/// it, its tables are the first ones with exactly the puts applied that the history shows, in
+/// order. So an abandoned chain, an unfinished data field, and a reset between SW1 and SW2 change
+/// no entry.
 pub fn the_tables_are_those_of_the_shown_puts()
     ensures { (first last : CardState) (items : List Item) → first.selected ≡ None →
         first.pending ≡ NothingPending → RunsOver Does after_reset first items last →
         last.applications ≡ with_puts (shown_puts items) first.applications }
 {}
 
-/// The same holds for any card of data objects, by what its own states stand for.
+/// `the_tables_are_those_of_the_shown_puts`, for any `DataCard` whose states stand for card states.
+/// Nothing is selected or pending in the card state that its first state stands for.
 pub fn so_are_those_of_any_card<C: DataCard>()
     ensures { (state_of : C.State → CardState) → StandsFor C.Does C.after_reset state_of →
         (first last : C.State) (items : List Item) → (state_of first).selected ≡ None →
@@ -44,8 +46,9 @@ pub fn an_answer_does_not_hang_on_what_is_pending()
         × SameTables a' b' }
 {}
 
-/// The commands that carry a value, one TPDU each under any cuts, up to the first whose status is
-/// not `9000`, are the put of the value in one step. Afterwards no chain is pending.
+/// The commands that carry a value are the put of the value in one step. No chain may be pending
+/// before, and P1-P2 name the tag. Each is one TPDU under any cut. The first status other than
+/// `9000` ends them. Afterwards no chain is pending.
 pub fn the_commands_of_a_value_put_it()
     ensures { (old new : CardState) (tag value : List ℕ) (p1 p2 : ℕ) (pieces : List (List ℕ))
         (status : StatusWord) →
@@ -54,8 +57,9 @@ pub fn the_commands_of_a_value_put_it()
         IsCarriedOut old (Put tag value) status [] new }
 {}
 
-/// A SELECT, followed by GET RESPONSE for all that is announced, each under any cut, selects in one
-/// step.
+/// A SELECT, followed by GET RESPONSE for all that is announced, selects in one step. No chain may
+/// be pending before, and the identifier has 5 to 16 bytes. Each command is under any cut, 1 to
+/// 256. Afterwards no chain is pending.
 pub fn a_select_with_its_fetches_selects()
     ensures { (old mid new : CardState) (cut : ℕ) (aid : List ℕ) (t : Tpdu) (fetches : List Tpdu)
         (last : StatusWord) →
@@ -64,8 +68,10 @@ pub fn a_select_with_its_fetches_selects()
         IsCarriedOut old (Select aid) last (flat_map (λ t. t.received) (t ∷ fetches)) new }
 {}
 
-/// A GET DATA, repeated with the length of a `6CXX`, followed by GET RESPONSE for all that is
-/// announced, each under any cut, gets the object in one step.
+/// A GET DATA, followed by GET RESPONSE for all that is announced, gets the object in one step. No
+/// chain may be pending before, and P1-P2 name the tag. If the status is `6CXX`, the GET DATA is
+/// first repeated with that length. Each command is under any cut, 1 to 256. Afterwards no chain is
+/// pending.
 pub fn a_get_with_its_fetches_gets()
     ensures once { (old mid new : CardState) (tag : List ℕ) (p1 p2 cut : ℕ) (t : Tpdu)
         (fetches : List Tpdu) (last : StatusWord) →
@@ -80,9 +86,9 @@ pub fn a_get_with_its_fetches_gets()
         IsCarriedOut old (Get tag) last (flat_map (λ t. t.received) (t ∷ u ∷ fetches)) new }
 {}
 
-/// What `61XX` announces waits. A GET RESPONSE for no more than what waits brings as many bytes as
-/// its P3 states. So a fetch that the card announced brings data, without a `6CXX`, and no exchange
-/// stalls.
+/// What `61XX` announces waits, if the cut is 1 to 256. A GET RESPONSE for no more than what waits
+/// brings as many bytes as its P3 states. So a fetch that the card announced brings data, without a
+/// `6CXX`, and no exchange stalls.
 pub fn what_is_announced_is_brought()
     ensures waits { (old new : CardState) (cut n : ℕ) (t : Tpdu) → Does old cut t new → IsCut cut →
         announces t.status ≡ Some n → (1 ≤ n) × (n ≤ length (waiting new.pending)) }
@@ -95,9 +101,10 @@ pub fn what_is_announced_is_brought()
         × (length fetch.received ≡ count fetch.p3) × (corrects fetch.status ≡ None) }
 {}
 
-/// No exchange brings more than a terminal gathers. The bytes that a TPDU brings, and those that
-/// wait afterwards, are at most a value with its tag and length. `6CXX` comes without data, and
-/// each GET RESPONSE takes from what waits. That leaves room for the data of one more TPDU.
+/// No exchange brings more than a terminal gathers (`RESPONSE_LIMIT`). From a sound state, a TPDU
+/// brings, and leaves waiting, together at most a value with its tag and length. `6CXX` comes
+/// without data, and each GET RESPONSE takes from what waits. That leaves room for the data of one
+/// more TPDU.
 pub fn an_exchange_brings_no_more_than_is_gathered()
     ensures first { (old new : CardState) (cut : ℕ) (t : Tpdu) → Does old cut t new →
         IsCardState old →

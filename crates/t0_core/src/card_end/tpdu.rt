@@ -41,15 +41,16 @@ impl<C: TpduCard> CardEnd<C> {
     ///
     /// # Errors
     ///
-    /// In this order:
+    /// In this order (profile):
     ///
     /// - `UnderWay`: characters of another TPDU were sent already; nothing has changed.
     /// - `NoTpdu`: the bytes are not a whole TPDU; nothing has changed.
-    /// - `WantsData`: the card expects data, and none were given.
-    /// - `SendsData`: the card sends data, and none may come back.
-    /// - `TooLong`: the card's next data exceed the room of `gather`.
+    /// - `WantsData`: the card expects data, and none were given; the card is reset.
+    /// - `SendsData`: the card sends data, and none may come back; the card is reset.
+    /// - `TooLong`: the card sends more data than `gather` has room for; the card is reset, and
+    ///   `gather` is full.
     ///
-    /// After the last three the card is reset, and `gather` contains the data that it had sent.
+    /// Except after the first two, the plan is used up, and the end waits for a header.
     pub fn tpdu<A: Allocator, B: Allocator>(
         &mut self,
         bytes: &[u8],

@@ -1,4 +1,4 @@
-//! When the TPDUs of a trace began, by the times before the signs of its lines.
+//! When each TPDU of a trace began, by the times before the signs of its lines.
 
 use crate::write::sheet::Sheet;
 use std::alloc::{AllocError, Global};
@@ -7,52 +7,52 @@ use std::mem;
 /// The nanoseconds of a second.
 const SECOND: u64 = 1_000_000_000;
 
-/// The same of a day.
+/// The nanoseconds of a day.
 const DAY: u64 = 86_400_000_000_000;
 
-/// What a time is counted from.
+/// The start from which a time counts.
 #[derive(Clone, Copy, PartialEq, Eq)]
 enum Measure {
-    /// Midnight, as `12:34:56.789`.
+    /// Midnight: `12:34:56.789`.
     Day,
-    /// Some beginning, in seconds, as `[0.001234]`.
+    /// An unknown start, in seconds: `[0.001234]`.
     Seconds,
-    /// The line before, as `+0.5 ms`.
+    /// The line before: `+0.5 ms`.
     Shift,
-    /// Some beginning, in microseconds.
+    /// An unknown start, in microseconds.
     Count,
 }
 
-/// A time, in nanoseconds; a shift counts from the first one.
+/// A time in nanoseconds. A shift counts from the first one.
 #[derive(Clone, Copy)]
 struct Moment {
     measure: Measure,
     nanos: u64,
 }
 
-/// The time of the last line, and when the TPDU under way began.
+/// The time of the last line, and of the line where the last TPDU began.
 #[derive(Drop)]
 pub struct Clock {
-    /// The time of the last line, as it stands there.
+    /// The text of the last line's time.
     text: Vec<u8>,
-    /// The same, or that of the last line that had one.
+    /// The last time.
     now: Option<Moment>,
-    /// When the TPDU under way began, as its line has it.
+    /// The text of the time when the last TPDU began.
     shown: Vec<u8>,
-    /// The same, or that of the last TPDU of which it is known.
+    /// The last time when a TPDU began.
     began: Option<Moment>,
-    /// How long that is behind the one before it.
+    /// How much later that is than the time before it.
     since: Option<u64>,
-    /// The time of the last line of characters that had one.
+    /// The time of the last line of characters with a time.
     counted: Option<Moment>,
-    /// How long it is from the first of these lines to the last, where that is known.
+    /// The time from the first such line to the last, if known.
     whole: Option<u64>,
-    /// Whether a TPDU has begun in the last line.
+    /// Whether a TPDU began in the last line.
     has_begun: bool,
 }
 
 impl Clock {
-    /// No line has come.
+    /// The clock before the first line.
     pub fn new(alloc: Global) -> Clock {
         Clock {
             text: Vec::new(alloc),
@@ -66,7 +66,7 @@ impl Clock {
         }
     }
 
-    /// The next line has this time, which is empty where it has none. The error is want of memory.
+    /// Takes the time of the next line. It is empty if the line has none.
     pub fn pass(&mut self, time: &[u8]) -> Result<(), AllocError> {
         self.has_begun = false;
         self.text.clear();
@@ -77,7 +77,7 @@ impl Clock {
         Ok(())
     }
 
-    /// The last line has characters that are heard. Once a TPDU has begun in it, it counts no more.
+    /// Notes that the last line has characters. It has no effect once a TPDU began in that line.
     pub fn count(&mut self) {
         if self.text.is_empty() || self.has_begun {
             return;
@@ -88,8 +88,7 @@ impl Clock {
         self.counted = self.now;
     }
 
-    /// A TPDU begins in the last line. Of a second one there it is not known how long after the
-    /// first that is.
+    /// Notes that a TPDU begins in the last line. For a second one in a line, no time is known.
     pub fn begin(&mut self) {
         self.since = None;
         if self.has_begun {
@@ -103,7 +102,7 @@ impl Clock {
         mem::swap(&mut self.text, &mut self.shown);
     }
 
-    /// Adds when the TPDU under way began, and how long after the one before it: nothing, where its
+    /// Adds when the last TPDU began, and how much later than the one before. Adds nothing if its
     /// line has no time.
     pub fn push_begin(&self, text: &mut Sheet) {
         if self.shown.is_empty() {
@@ -120,22 +119,22 @@ impl Clock {
         text.push('\n');
     }
 
-    /// Adds how long it is from the first line of characters with a time to the last: nothing,
-    /// where none has one.
+    /// Adds the time from the first line of characters with a time to the last. Adds nothing if no
+    /// line has a time.
     pub fn push_whole(&self, text: &mut Sheet) {
         if self.counted.is_none() {
             return;
         }
         match self.whole {
             Some(nanos) => push_duration(text, nanos),
-            None => text.push_str("not known, as times go back or are of two kinds"),
+            None => text.push_str("unknown: times go back, or are of two kinds"),
         }
         text.push('\n');
     }
 }
 
 impl Moment {
-    /// The time that is written so, if it is one that can be counted.
+    /// The moment of this text. `None` if it is empty, or too large a number.
     fn of(time: &[u8]) -> Option<Moment> {
         let measure = Measure::of(time)?;
         let mut fields: u64 = 0;
@@ -165,7 +164,7 @@ impl Moment {
         Some(Moment { measure, nanos })
     }
 
-    /// The same behind the time before it: a shift counts from there.
+    /// The moment after the one before it, from which a shift counts.
     fn behind(self, before: Option<Moment>) -> Moment {
         let mut nanos = self.nanos;
         if let Some(other) = before
@@ -179,7 +178,7 @@ impl Moment {
 }
 
 impl Measure {
-    /// What such a time is counted from; `None` where there is none.
+    /// The start from which this text counts. `None` if it is empty.
     fn of(time: &[u8]) -> Option<Measure> {
         if time.is_empty() {
             None
@@ -194,7 +193,7 @@ impl Measure {
         }
     }
 
-    /// The nanoseconds of one that is counted in such a time.
+    /// The nanoseconds of the unit of this text.
     fn unit(self, time: &[u8]) -> u64 {
         match self {
             Measure::Day | Measure::Seconds => SECOND,
@@ -206,7 +205,7 @@ impl Measure {
     }
 }
 
-/// How long one time is behind another, of the same measure; a day ends at midnight.
+/// How much later the second moment is, if both count from the same start. Days end at midnight.
 fn span(before: Option<Moment>, now: Option<Moment>) -> Option<u64> {
     let (before, now) = (before?, now?);
     if before.measure != now.measure {
@@ -220,12 +219,12 @@ fn span(before: Option<Moment>, now: Option<Moment>) -> Option<u64> {
     }
 }
 
-/// Both together, if both are known.
+/// The sum, if both are known.
 fn sum(one: Option<u64>, other: Option<u64>) -> Option<u64> {
     one?.checked_add(other?)
 }
 
-/// Adds how long something took.
+/// Adds a duration.
 fn push_duration(text: &mut Sheet, nanos: u64) {
     let micros = nanos / 1_000;
     if nanos < SECOND {

@@ -1,18 +1,18 @@
-//! What is said of a character with which no dialogue that a tap reads goes on.
+//! Words for an unexpected byte: no dialogue continues with it.
 
 use crate::describe::mask::HIDDEN;
 use std::fmt;
 use t0_core::{Direction, Due, End};
 
-/// What may be where a trace without signs leads to no dialogue from its beginning on.
+/// A hint, if a trace without signs has an unexpected byte before its first whole TPDU.
 pub const ASTRAY: &str = "the trace may begin within a TPDU";
 
-/// A character of the trace, which is shown or not.
+/// A byte of the trace, which may be hidden.
 #[derive(Clone, Copy, Debug)]
 pub struct Seen {
-    /// The character.
+    /// The byte.
     pub byte: u8,
-    /// Whether it is not shown.
+    /// Whether it is hidden.
     pub hides: bool,
 }
 
@@ -26,21 +26,20 @@ impl fmt::Display for Seen {
     }
 }
 
-/// A character with which no dialogue that a tap reads goes on: where it stands, what was due, and
-/// what came.
+/// An unexpected byte, its place, and what was expected.
 #[derive(Clone, Copy, Debug)]
 pub struct Complaint {
     /// The line, counted from 1.
     pub line: u64,
-    /// The character's place in the line, counted from 0.
+    /// Its place in the line, counted from 0.
     pub place: usize,
-    /// What a dialogue goes on with.
+    /// What was expected.
     pub expected: Due,
-    /// Who sent the character.
+    /// Which end sent the byte.
     pub from: End,
-    /// The character.
+    /// The byte.
     pub received: Seen,
-    /// Whether no sign says so, and no answer to reset, line `reset` or whole TPDU came before it.
+    /// Whether lines have no signs, and no answer to reset, line `reset` or whole TPDU precedes it.
     pub is_astray: bool,
 }
 
@@ -48,8 +47,8 @@ impl fmt::Display for Complaint {
     fn fmt<W: fmt::Write>(&self, f: &mut fmt::Formatter<W>) -> fmt::Result {
         let line = self.line;
         let character = self.place.saturating_add(1);
-        let due = expected_text(self.expected);
-        let came = self.received;
+        let expected = expected_text(self.expected);
+        let received = self.received;
         let from = end_text(self.from);
         let (or, astray) = if self.is_astray {
             ("; ", ASTRAY)
@@ -58,15 +57,15 @@ impl fmt::Display for Complaint {
         };
         write!(
             f,
-            "line {line}, character {character}: no dialogue that it reads: {due} was due, and \
-             {came} of the {from} came{or}{astray}"
+            "line {line}, character {character}: unexpected byte: the {from} sent {received} \
+             in place of {expected}{or}{astray}"
         )
     }
 }
 
-/// What a dialogue goes on with, in words.
-pub fn expected_text(due: Due) -> &'static str {
-    match due {
+/// Words for what is expected.
+pub fn expected_text(expected: Due) -> &'static str {
+    match expected {
         Due::Header => "a character of a header",
         Due::Procedure => "a procedure byte or SW1 of the card",
         Due::Data(None) => "a data character of either end",
@@ -76,7 +75,7 @@ pub fn expected_text(due: Due) -> &'static str {
     }
 }
 
-/// An end of the line, in words.
+/// The word for an end of the line.
 pub fn end_text(from: End) -> &'static str {
     match from {
         End::Terminal => "terminal",

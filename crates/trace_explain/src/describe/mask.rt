@@ -1,4 +1,4 @@
-//! What of a trace is not shown: a trace gets passed around.
+//! What a mask hides of a trace, so that the explanation can be passed on.
 
 ghost use Rattle.std.specs.Prelude.{◌≡◌, ◌↔◌, ℕ, List, [], None, false, length, true, IfOk, IfSome, IsSome, IsTrue};
 ghost use Rattle.std.specs.List.{Contains};
@@ -17,22 +17,22 @@ use std::alloc::{AllocError, Global};
 use t0_core::Direction;
 use tlv_core::{ObjectTag, Tag};
 
-/// What stands in the place of what is not shown.
+/// What is shown in place of hidden data.
 pub const HIDDEN: &str = "**";
 
-/// What is not shown.
+/// What is hidden: nothing; or reference data, and objects with these tags.
 #[derive(Drop)]
 pub struct Mask {
     hides: bool,
     tags: Vec<Tag>,
 }
 
-/// Why words are no list of tags.
+/// Why a text is not a list of tags.
 #[derive(Clone, Copy)]
 pub enum TagsFault {
-    /// One of them is no tag of one to three bytes.
+    /// A part of it is not a tag of one to three bytes.
     Form,
-    /// Memory was wanting.
+    /// Memory ran out.
     OutOfMemory,
 }
 
@@ -42,19 +42,19 @@ impl From<AllocError> for TagsFault {
     }
 }
 
-/// Whose data a TPDU moves.
+/// The command whose data a TPDU moves.
 #[derive(Clone, Copy)]
 pub struct Origin {
-    /// The header of the command: of the first one, where a response comes in parts.
+    /// The header of the command. For a response in parts it is that of the first command.
     pub header: Header,
-    /// Which way they go.
+    /// Which way the data go.
     pub way: Direction,
-    /// Whether others of them came before.
+    /// Whether an earlier TPDU moved other parts of the data.
     pub continues: bool,
 }
 
 impl Origin {
-    /// That of the data that go this way in a TPDU; `None` where no whole header came.
+    /// The origin of the data that go this way in a TPDU. `None` if its header is cut off.
     pub fn of(tpdu: &Tpdu, links: Links, way: Direction) -> Option<Origin>
         ensures way { IfSome result (λ origin. origin.way ≡ way) }
         ensures own { IfSome result (λ origin. way ≡ ToCard →
@@ -76,7 +76,7 @@ impl Origin {
         })
     }
 
-    /// That of the data of the card that came beside those of the terminal.
+    /// The origin of the data that the card returned in one exchange with data of the terminal.
     pub fn of_answer(tpdu: &Tpdu, links: Links) -> Option<Origin> {
         let origin = Origin::of(tpdu, links, Direction::FromCard)?;
         let continues = links.answer_continues;
@@ -86,7 +86,7 @@ impl Origin {
         })
     }
 
-    /// That of what has come together with a TPDU, if anything has.
+    /// The origin of the data that are shown together with a TPDU, if there are any.
     pub fn of_whole(tpdu: &Tpdu, links: Links) -> Option<Origin> {
         let way = match links.whole {
             Whole::None => return None,
@@ -101,19 +101,19 @@ impl Origin {
     }
 }
 
-/// What of data is shown.
+/// How much of some data is shown.
 #[derive(Clone, Copy)]
 pub enum Shown {
-    /// All of them.
+    /// All.
     All,
-    /// Objects, but for the values of those that are not shown.
+    /// Objects, except the values of those that the mask hides.
     Objects,
-    /// None of them.
+    /// Nothing.
     Nothing,
 }
 
 impl Mask {
-    /// All is shown.
+    /// The mask that hides nothing.
     pub fn none(alloc: Global) -> Mask
         ensures { result.hides ≡ false }
     {
@@ -123,8 +123,8 @@ impl Mask {
         }
     }
 
-    /// Reference data are not shown, nor objects with these tags, of which each stands between
-    /// commas as hexadecimal digits. No tag is asked for where there are no words.
+    /// The mask that hides reference data, and objects with the tags in `words`. Tags are
+    /// hexadecimal digits, separated by commas. An empty text has no tag.
     pub fn of(alloc: Global, words: &str) -> Result<Mask, TagsFault>
         ensures hides { IfOk result (λ mask. mask.hides ≡ true) }
         ensures no_tags { words.now ≡ [] → IfOk result (λ mask. mask.tags.items ≡ []) }
@@ -140,7 +140,7 @@ impl Mask {
         Ok(Mask { hides: true, tags })
     }
 
-    /// The same once more. The error is want of memory.
+    /// A copy.
     pub fn copied(&self, alloc: Global) -> Result<Mask, AllocError>
         ensures { IfOk result (λ mask. (mask.hides ≡ self.now.hides)
             × (mask.tags.items ≡ self.now.tags.items)) }
@@ -151,15 +151,15 @@ impl Mask {
         Ok(Mask { hides, tags })
     }
 
-    /// Whether anything is not shown. Then nothing is of which it can't be known what it is: notes,
-    /// characters out of turn, and a line that may be a header.
+    /// Whether it hides anything. If so it hides all bytes of unknown meaning: notes, unexpected
+    /// bytes, and a line that may be a header.
     pub fn hides(&self) -> bool
         ensures { result ≡ self.now.hides }
     {
         self.hides
     }
 
-    /// Whether an object with this tag is not shown.
+    /// Whether it hides objects with this tag.
     pub fn has(&self, tag: Tag) -> bool
         ensures { IsTrue result ↔ Contains self.now.tags.items tag }
     {
@@ -171,7 +171,7 @@ impl Mask {
         false
     }
 
-    /// What of these data is shown.
+    /// How much is shown of data of this origin.
     pub fn shown(&self, origin: Origin) -> Shown
         ensures { Shows self.now.hides self.now.tags.items origin result }
     {
@@ -187,7 +187,7 @@ impl Mask {
         self.shown_by_tags(origin)
     }
 
-    /// What of data that are no secret is shown by the tags.
+    /// How much the tags show of data that are not secret.
     fn shown_by_tags(&self, origin: Origin) -> Shown
         ensures { ShowsTagged self.now.tags.items origin result }
     {
@@ -200,7 +200,7 @@ impl Mask {
         }
     }
 
-    /// What is shown of an object with this tag, which P1-P2 name.
+    /// How much is shown of an object whose tag P1-P2 name.
     fn shown_of(&self, named: Tag, continues: bool) -> Shown
         ensures { ShowsValue self.now.tags.items named continues result }
     {
@@ -213,7 +213,7 @@ impl Mask {
         }
     }
 
-    /// Adds bytes of which it can't be known what they are, as lines of digits.
+    /// Adds bytes of unknown meaning, as lines of digits. Each mask hides them.
     pub fn push_unknown(&self, text: &mut Sheet, bytes: &[u8]) {
         if self.hides {
             push_hidden_line(text);
@@ -223,14 +223,14 @@ impl Mask {
     }
 }
 
-/// Whether these are one tag.
+/// Whether two tags are the same.
 fn is_same(tag: Tag, other: Tag) -> bool
     ensures { IsTrue result ↔ (tag ≡ other) }
 {
     tag.bytes() == other.bytes()
 }
 
-/// Whether the data are the name or path that SELECT has.
+/// Whether the data are the name or path of SELECT.
 fn is_name(ins: u8, way: Direction) -> bool
     ensures { result ≡ is_name ins way }
 {
@@ -240,7 +240,7 @@ fn is_name(ins: u8, way: Direction) -> bool
     }
 }
 
-/// The tag of the object that P1-P2 of GET DATA or PUT DATA name.
+/// The tag that P1-P2 of GET DATA or PUT DATA name.
 fn named(header: Header) -> Option<Tag>
     ensures some { IfSome result (Names header) }
     ensures none { result ≡ None → (tag : List ℕ) → Names header tag → ⊥ }
@@ -251,7 +251,7 @@ fn named(header: Header) -> Option<Tag>
     }
 }
 
-/// What is shown of objects, or of parts of some.
+/// How much is shown of objects, or of parts of objects.
 fn whole_or_nothing(is_part: bool) -> Shown
     ensures { result ≡ whole_or_nothing is_part }
 {
@@ -262,8 +262,8 @@ fn whole_or_nothing(is_part: bool) -> Shown
     }
 }
 
-/// Whether the data of a command may begin or end within an object: parts of a file or record that
-/// do not begin with it, what is fetched with nothing known before it, and ENVELOPE.
+/// Whether the data of a command may begin or end within an object. They may if they are a part of
+/// a file or record after its start, the data of ENVELOPE, or of a GET RESPONSE that stands alone.
 fn may_be_cut(header: Header) -> bool
     ensures { result ≡ may_be_cut header }
 {
@@ -275,7 +275,7 @@ fn may_be_cut(header: Header) -> bool
     }
 }
 
-/// The tag that these hexadecimal digits are.
+/// Reads a tag in hexadecimal digits.
 fn tag_of(alloc: Global, digits: &str) -> Result<Tag, TagsFault> {
     let bytes = match hex::decode(alloc, digits.as_bytes()) {
         Ok(bytes) => bytes,
@@ -288,7 +288,7 @@ fn tag_of(alloc: Global, digits: &str) -> Result<Tag, TagsFault> {
     }
 }
 
-/// Adds a line that shows nothing.
+/// Adds the line that is shown in place of hidden data.
 pub fn push_hidden_line(text: &mut Sheet) {
     writeln!(text, "{HIDDEN}");
 }

@@ -1,4 +1,4 @@
-//! What is said of a status word (ISO/IEC 7816-4, 5.1.3).
+//! Words for a status (ISO/IEC 7816-4, 5.1.3).
 
 use crate::describe::phrases::unit_of;
 use crate::describe::statuses::{of_first, of_sim, of_word};
@@ -7,7 +7,7 @@ use crate::instructions::{SIM_CLASS, counts_tries};
 use crate::write::sheet::Sheet;
 use apdu_core::{Header, Status};
 
-/// Whether a command went well, or asks for one more: also `91XX` and `920X` of a SIM card.
+/// Whether a command succeeded, or its status asks for another: also `91XX` and `920X` of a SIM.
 pub fn is_well(header: Header, status: Status) -> bool {
     match (header.cla, status.sw1(), status.sw2()) {
         (_, 0x6C, _) | (SIM_CLASS, 0x91, _) | (SIM_CLASS, 0x92, 0x00..=0x0F) => true,
@@ -15,14 +15,14 @@ pub fn is_well(header: Header, status: Status) -> bool {
     }
 }
 
-/// Adds what the status of a command means; of a SIM card also by 3GPP TS 51.011, 9.4.
+/// Adds the meaning of the status of a command; for a SIM card also by 3GPP TS 51.011, 9.4.
 pub fn push_meaning(text: &mut Sheet, header: Header, status: Status) {
     if let Some(bytes) = waiting(header, status) {
         return push_waiting(text, status, bytes);
     }
     if let Some(bytes) = status.corrects() {
         let unit = unit_of(u64::from(bytes));
-        return write!(text, "wrong Le: {bytes} {unit} should have been asked for");
+        return write!(text, "wrong Le: ask for {bytes} {unit}");
     }
     match (header.cla, status.sw1(), status.sw2()) {
         (_, 0x63, 0xC0..=0xCF) => push_counter(text, header, status.sw2() & 0x0F),
@@ -50,7 +50,7 @@ pub fn push_meaning(text: &mut Sheet, header: Header, status: Status) {
     }
 }
 
-/// Adds how many bytes wait: `6100` says that they are 256 or more (ISO/IEC 7816-3, 12).
+/// Adds how many bytes wait: `6100` means 256 or more (ISO/IEC 7816-3, 12).
 fn push_waiting(text: &mut Sheet, status: Status, bytes: u16) {
     let least = if status.sw1() == 0x61 && bytes == 256 {
         "at least "
@@ -65,10 +65,10 @@ fn push_waiting(text: &mut Sheet, status: Status, bytes: u16) {
     write!(text, "{least}{bytes} {unit} of the response {verb}");
 }
 
-/// Adds what `63CX` says: the tries that are left, where the command has such a counter.
+/// Adds the meaning of `63CX`: how many tries are left, if the command counts tries.
 fn push_counter(text: &mut Sheet, header: Header, left: u8) {
     if !counts_tries(header) {
-        return write!(text, "a warning: a counter stands at {left}");
+        return write!(text, "a warning: a counter is at {left}");
     }
     match left {
         0 => text.push_str("a warning: no try is left"),
@@ -77,12 +77,12 @@ fn push_counter(text: &mut Sheet, header: Header, left: u8) {
     }
 }
 
-/// Adds that the card has a question of so many bytes.
+/// Adds that the card has a query of this length.
 fn push_query(text: &mut Sheet, kind: &str, bytes: u8) {
     write!(text, "{kind}: the card has a query of {bytes} bytes");
 }
 
-/// What a status word means that counts nothing, in the class of a header.
+/// The meaning of a status that contains no number, in the class of a header.
 fn fixed_meaning(header: Header, status: Status) -> &'static str {
     let word = u16::from_be_bytes([status.sw1(), status.sw2()]);
     let own = match header.cla {

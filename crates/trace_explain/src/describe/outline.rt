@@ -1,4 +1,4 @@
-//! What words tell of a TPDU: all of it but its data, which are not here.
+//! A TPDU without its data, from which the words for it are made. So no word can show hidden data.
 
 ghost use Rattle.std.specs.Prelude.{◌≡◌, ◌≢◌, [], get_or};
 
@@ -11,24 +11,24 @@ use t0_core::Direction;
 /// A TPDU without its data.
 #[derive(Clone, Copy)]
 pub struct Outline {
-    /// The header and P3, if all of it has come.
+    /// The header and P3, if complete.
     pub header: Option<(Header, u8)>,
-    /// How many characters of the header have come.
+    /// How many characters the header has.
     pub received: usize,
     /// The procedure bytes.
     pub tally: Tally,
-    /// Which way the data went, if there are any.
+    /// Which way data went, if there are any.
     pub way: Option<Direction>,
-    /// How many data have come.
+    /// How many bytes of data it has.
     pub moved: usize,
-    /// The status, if all of it has come.
+    /// The status, if complete.
     pub status: Option<Status>,
-    /// Whether SW1 has come.
+    /// Whether it has SW1.
     pub has_sw1: bool,
 }
 
 impl Outline {
-    /// That of a TPDU.
+    /// The outline of a TPDU.
     pub fn of(tpdu: &Tpdu) -> Outline {
         Outline {
             header: header_of(tpdu),
@@ -42,7 +42,7 @@ impl Outline {
     }
 }
 
-/// The name or path that SELECT has; nothing for any other command, whose data may be hidden.
+/// The name or path of SELECT. Nothing for any other command, whose data may be hidden.
 pub fn name_of(tpdu: &Tpdu) -> &[u8]
     ensures { get_or tpdu.now.header.items 1 0 ≢ 0xA4 → result.now ≡ [] }
 {

@@ -1,21 +1,21 @@
-//! Commands by their names, with what their P1-P2 say.
+//! Words for commands: their names, and what P1-P2 mean.
 
 use crate::instructions::{Parts, instruction};
 use crate::write::sheet::Sheet;
 use apdu_core::Header;
 use tlv_core::ObjectTag;
 
-/// The most bytes of an identifier or a path that stands in a title.
+/// The most bytes of an identifier or a path that a title shows.
 const LONGEST_NAME: usize = 16;
 
-/// Bit 8 of P1 in commands of bytes: a short file identifier stands in its bits 5 to 1.
+/// Bit 8 of P1 in commands for bytes: bits 5 to 1 are a short file identifier.
 const SHORT: u8 = 0x80;
 
-/// The short file identifier that names none.
+/// The short file identifier that names no file.
 const NO_FILE: u8 = 0x1F;
 
-/// Adds the name of a command with this header and these data of the terminal, with its parts, and
-/// its class where that says more.
+/// Adds the name of a command, what P1-P2 mean, and its class if that is not `00` or `10`. `sent`
+/// is the data of SELECT.
 pub fn push_command(text: &mut Sheet, header: Header, sent: &[u8]) {
     match instruction(header.cla, header.ins) {
         Some((name, _, parts)) => {
@@ -34,7 +34,7 @@ pub fn push_command(text: &mut Sheet, header: Header, sent: &[u8]) {
     }
 }
 
-/// Adds what P1 and P2 say.
+/// Adds what P1 and P2 mean.
 fn push_parts(text: &mut Sheet, parts: Parts, header: Header, sent: &[u8]) {
     match parts {
         Parts::Selected => push_selected(text, header, sent),
@@ -55,7 +55,7 @@ fn push_parameters(text: &mut Sheet, header: Header) {
     write!(text, " with P1-P2 {p1:02X}{p2:02X}");
 }
 
-/// Adds P1 and P2, where they are not `0000`.
+/// Adds P1 and P2, if they are not `0000`.
 fn push_others(text: &mut Sheet, header: Header) {
     if header.p1 == 0 && header.p2 == 0 {
         return;
@@ -74,7 +74,7 @@ fn push_object(text: &mut Sheet, header: Header) {
     }
 }
 
-/// Adds what SELECT selects: P1 says what its data name, bits 2-1 of P2 which of several
+/// Adds what SELECT selects. P1 says what its data are, and bits 2-1 of P2 which of several files
 /// (ISO/IEC 7816-4, 7.1.1).
 fn push_selected(text: &mut Sheet, header: Header, name: &[u8]) {
     let (what, unnamed) = match header.p1 {
@@ -110,7 +110,7 @@ fn push_selected(text: &mut Sheet, header: Header, name: &[u8]) {
     });
 }
 
-/// Adds where the bytes stand: P1-P2 are the offset, or P1 has a short file identifier and P2 is
+/// Adds where the bytes are. P1-P2 are the offset, or P1 contains a short file identifier and P2 is
 /// the offset (ISO/IEC 7816-4, 7.2.2).
 fn push_place(text: &mut Sheet, header: Header) {
     let Header { p1, p2, .. } = header;
@@ -125,8 +125,8 @@ fn push_place(text: &mut Sheet, header: Header) {
     write!(text, " of file {file} from byte {p2} on");
 }
 
-/// Adds which records: P1 is a number or an identifier, bits 3-1 of P2 say which and bits 8-4 are a
-/// short file identifier (ISO/IEC 7816-4, 7.3.2).
+/// Adds which records. P1 is a number or an identifier, bits 3-1 of P2 say which, and bits 8-4 are
+/// a short file identifier (ISO/IEC 7816-4, 7.3.2).
 fn push_records(text: &mut Sheet, header: Header) {
     let Header { ins, p1, p2, .. } = header;
     let file = p2 >> 3;
@@ -163,8 +163,8 @@ fn occurrence(which: u8) -> &'static str {
     }
 }
 
-/// Adds the reference in P2: bit 8 says whether it is the application's own, bits 5-1 are a number
-/// (ISO/IEC 7816-4, 7.5.1).
+/// Adds the reference in P2. Bit 8 says whether it belongs to the application, and bits 5-1 are a
+/// number (ISO/IEC 7816-4, 7.5.1).
 fn push_reference(text: &mut Sheet, header: Header) {
     let p2 = header.p2;
     let number = p2 & 0x1F;
@@ -189,8 +189,8 @@ fn push_channel(text: &mut Sheet, header: Header) {
     }
 }
 
-/// Adds which cryptogram GENERATE AC asks for, by bits 8-7 of P1, and whether it is to be signed,
-/// by bit 5 (EMV 4.3, Book 3, 6.5.5).
+/// Adds which cryptogram GENERATE AC asks for (bits 8-7 of P1), and whether signed (bit 5; EMV 4.3,
+/// Book 3, 6.5.5).
 fn push_cryptogram(text: &mut Sheet, header: Header) {
     let signed = match header.p1 & 0x3F {
         0x00 => "",

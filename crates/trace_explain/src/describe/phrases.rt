@@ -1,7 +1,5 @@
-//! What is said of a TPDU, in plain words.
+//! Words for a TPDU and its place among others.
 
-ghost use Rattle.std.specs.Prelude.{◌++◌};
-ghost use Rattle.std.specs.Fmt.{decimal};
 ghost use Rattle.trace_explain.specs.Boxes.{size_words, whole_words};
 ghost use Rattle.trace_explain.specs.Sheets.{Adds};
 
@@ -13,7 +11,7 @@ use crate::write::sheet::Sheet;
 use apdu_core::count;
 use t0_core::Direction;
 
-/// Adds the title of a TPDU: its command by name, with its parts, and what it selects.
+/// Adds the title of a TPDU: its command, and what it selects.
 pub fn push_title(text: &mut Sheet, outline: &Outline, selected: &[u8]) {
     match outline.header {
         Some((header, _)) => push_command(text, header, selected),
@@ -21,7 +19,7 @@ pub fn push_title(text: &mut Sheet, outline: &Outline, selected: &[u8]) {
     }
 }
 
-/// Adds how a TPDU goes on with those before it.
+/// Adds how a TPDU continues those before it.
 pub fn push_links(text: &mut Sheet, links: Links) {
     match links.link {
         Link::None => {}
@@ -38,23 +36,11 @@ pub fn push_links(text: &mut Sheet, links: Links) {
     }
 }
 
-/// Adds how many procedure bytes came, in words; nothing where none came.
+/// Adds how many procedure bytes there are of each kind.
 pub fn push_procedure(text: &mut Sheet, tally: Tally) {
     let Tally { nulls, ones, alls } = tally;
-    if nulls > 0 {
-        let unit = if nulls == 1 { "NULL" } else { "NULLs" };
-        let comma = comma_where(ones > 0 || alls > 0);
-        write!(text, "{nulls} {unit}{comma}");
-    }
-    if ones > 0 {
-        let unit = if ones == 1 {
-            "single byte"
-        } else {
-            "single bytes"
-        };
-        let comma = comma_where(alls > 0);
-        write!(text, "{ones} {unit}{comma}");
-    }
+    push_kind(text, nulls, ("NULL", "NULLs"), ones > 0 || alls > 0);
+    push_kind(text, ones, ("single byte", "single bytes"), alls > 0);
     match alls {
         0 => {}
         1 if ones == 0 => text.push_str("all at once"),
@@ -63,15 +49,17 @@ pub fn push_procedure(text: &mut Sheet, tally: Tally) {
     }
 }
 
-/// Adds Le behind the data of a command, in words.
-pub fn push_most(text: &mut Sheet, le: u8) {
-    let most = count(le);
-    let unit = unit_of(u64::from(most));
-    writeln!(text, "{le:02X} up to {most} {unit}");
+/// Adds Le of a command with data, if it has one.
+pub fn push_most(text: &mut Sheet, le: Option<u8>) {
+    if let Some(le) = le {
+        let most = count(le);
+        let unit = unit_of(u64::from(most));
+        writeln!(text, "{le:02X} up to {most} {unit}");
+    }
 }
 
-/// Adds how far a TPDU came that was cut off: behind SW1, or within its header, or after how many
-/// of the bytes that P3 foresees, where some have come.
+/// Adds where a TPDU is cut off: after `n` characters of its header, or after `n` bytes of the data
+/// that P3 foresees.
 pub fn push_cut_off(text: &mut Sheet, outline: &Outline) {
     text.push_str("cut off");
     match (outline.header, outline.way) {
@@ -94,12 +82,17 @@ pub fn push_cut_off(text: &mut Sheet, outline: &Outline) {
     text.push('\n');
 }
 
-/// A comma where more follows.
-fn comma_where(more: bool) -> &'static str {
-    if more { ", " } else { "" }
+/// Adds how many procedure bytes there are of one kind, and a comma if more follows.
+fn push_kind(text: &mut Sheet, count: u64, units: (&str, &str), more: bool) {
+    if count == 0 {
+        return;
+    }
+    let unit = if count == 1 { units.0 } else { units.1 };
+    let comma = if more { ", " } else { "" };
+    write!(text, "{count} {unit}{comma}");
 }
 
-/// Adds the size of what has come together, and in how many TPDUs it did.
+/// Adds the size of the data that are shown together, and how many TPDUs moved them.
 pub fn push_whole(lines: &mut Sheet, whole: Whole, size: u64)
     ensures { Adds lines.old (whole_words whole size) lines.new }
 {
@@ -110,24 +103,17 @@ pub fn push_whole(lines: &mut Sheet, whole: Whole, size: u64)
     }
 }
 
-/// Adds a size, and in how many of these it came.
+/// Adds a size, and a number of parts.
 fn push_size(lines: &mut Sheet, size: u64, count: u64, parts: &str)
     ensures { Adds lines.old (size_words size count parts.now) lines.new }
 {
     lines.push_number(size);
     lines.push_str(" bytes in ");
-    push_count(lines, count, parts);
-}
-
-/// Adds a count of these.
-fn push_count(lines: &mut Sheet, count: u64, parts: &str)
-    ensures { Adds lines.old (decimal count ++ parts.now) lines.new }
-{
     lines.push_number(count);
     lines.push_str(parts);
 }
 
-/// What is counted.
+/// The unit for this number of bytes.
 pub fn unit_of(count: u64) -> &'static str {
     if count == 1 { "byte" } else { "bytes" }
 }

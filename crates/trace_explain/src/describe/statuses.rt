@@ -1,11 +1,11 @@
-//! What status words mean (ISO/IEC 7816-4, 5.1.3, tables 5 and 6).
+//! The meaning of status words (ISO/IEC 7816-4, 5.1.3, tables 5 and 6).
 
-/// What a word means that has a meaning of its own in table 6, or stands alone in table 5.
+/// The meaning of a word that table 6 lists, or that table 5 lists alone.
 pub fn of_word(word: u16) -> Option<&'static str> {
     Some(match word {
         0x9000 => "normal processing",
         0x6281 => "a warning: part of the data may be corrupted",
-        0x6282 => "a warning: the file or record ended before all that was asked for",
+        0x6282 => "a warning: the file or record ended before Le bytes",
         0x6283 => "a warning: the selected file is deactivated",
         0x6284 => "a warning: the control information is not formatted by the standard",
         0x6285 => "a warning: the selected file is in termination state",
@@ -30,7 +30,7 @@ pub fn of_word(word: u16) -> Option<&'static str> {
         0x6984 => "the reference data are not usable",
         0x6985 => "conditions of use not satisfied",
         0x6986 => "the command is not allowed: there is no current elementary file",
-        0x6987 => "data objects for secure messaging were expected, and are missing",
+        0x6987 => "expected data objects for secure messaging are missing",
         0x6988 => "data objects for secure messaging are incorrect",
         0x6A80 => "wrong data field",
         0x6A81 => "the function is not supported",
@@ -50,7 +50,7 @@ pub fn of_word(word: u16) -> Option<&'static str> {
     })
 }
 
-/// What a word of a SIM card means, in its class `A0` (3GPP TS 51.011, 9.4; GSM 11.11, 9.4).
+/// The meaning of a word in class `A0` of a SIM card (3GPP TS 51.011, 9.4; GSM 11.11, 9.4).
 pub fn of_sim(word: u16) -> Option<&'static str> {
     Some(match word {
         0x9240 => "memory problem",
@@ -69,7 +69,7 @@ pub fn of_sim(word: u16) -> Option<&'static str> {
     })
 }
 
-/// What a first status byte means, by table 5, if the word has no meaning of its own.
+/// The meaning of SW1 by table 5, if the word has no meaning of its own.
 pub fn of_first(sw1: u8) -> &'static str {
     match sw1 {
         0x62 => "a warning: what the card holds is unchanged",
@@ -82,6 +82,6 @@ pub fn of_first(sw1: u8) -> &'static str {
         0x69 => "an error of checking: the command is not allowed",
         0x6A => "an error of checking: wrong parameters",
         0x6B | 0x6D | 0x6E | 0x6F => "an error of checking",
-        _ => "no meaning that is known here",
+        _ => "no known meaning",
     }
 }

@@ -1,4 +1,8 @@
-//! What is told of an answer to reset, in plain words.
+//! The box of an answer to reset.
+
+ghost use Rattle.std.specs.Prelude.{◌≡◌};
+ghost use Rattle.atr_core.specs.Values.{protocols_of};
+ghost use Rattle.trace_explain.specs.Openings.{unread};
 
 use crate::describe::mask::Mask;
 use crate::follow::opening::{is_direct, is_short};
@@ -9,8 +13,8 @@ use crate::write::page::Page;
 use crate::write::sheet::Sheet;
 use atr_core::{Atr, AtrFault, Category, Fi, di};
 
-/// Adds the box of an answer: all of it, or how far it came. What is none may be data of which the
-/// front was not heard, and is then not shown where something is not.
+/// Adds the box of an answer, whole or cut off. Each mask hides an invalid answer, since it may be
+/// the end of some data.
 pub fn tell_answer(mask: &Mask, preface: &Preface, page: &mut Page) {
     let bytes = preface.answer.as_slice();
     let read = Atr::read(bytes);
@@ -22,34 +26,37 @@ pub fn tell_answer(mask: &Mask, preface: &Preface, page: &mut Page) {
     }
     page.row(Side::Card, "characters");
     if !is_direct(preface.turned) {
-        let turned = "by the direct convention, which shows TS as 03; here all are turned\n";
+        let turned =
+            "by the direct convention, so that TS was 03; all characters are shown turned
+";
         page.line_row("read", turned);
     }
     match read {
         Ok(answer) => tell_values(&answer, page),
         Err(fault) => {
-            writeln!(page.lines, "{fault}, where TS is at 0");
+            writeln!(page.lines, "{fault} (TS is at 0)");
             page.row(Side::Nobody, "fault");
         }
     }
     page.close();
 }
 
-/// Whether an answer is whole.
+/// The kind of the box: whether the answer is whole, cut off or invalid.
 fn kind_of(read: &Result<Atr, AtrFault>) -> Kind {
     match read {
         Ok(_) => Kind::Well,
         Err(fault) if is_short(fault.reason) => Kind::CutOff,
-        Err(_) => Kind::Complaint,
+        Err(_) => Kind::Error,
     }
 }
 
-/// Adds what a whole answer says.
+/// Adds the values of a whole answer.
 fn tell_values(answer: &Atr, page: &mut Page) {
     writeln!(page.lines, "{}", answer.convention());
     page.row(Side::Nobody, "convention");
     push_protocols(&mut page.lines, answer);
     page.row(Side::Nobody, "protocols");
+    tell_unread(answer, page);
     push_rate(&mut page.lines, answer.rate_code());
     page.line_row("rate", "\n");
     push_guard_times(&mut page.lines, answer);
@@ -61,7 +68,28 @@ fn tell_values(answer: &Atr, page: &mut Page) {
     page.line_row("historical", form_of(answer));
 }
 
-/// Adds the protocols, in the order in which they are offered.
+/// Adds a hint, if the program does not read the protocol that the card offers first.
+fn tell_unread(answer: &Atr, page: &mut Page) {
+    if let Some(t) = unread(answer) {
+        writeln!(
+            page.lines,
+            "the card offers T={t} first, and this program reads T=0 only"
+        );
+        page.row(Side::Nobody, "hint");
+    }
+}
+
+/// Returns the first protocol that an answer offers, if it is not T=0.
+fn unread(answer: &Atr) -> Option<u8>
+    ensures { result ≡ unread (protocols_of answer.now.others) }
+{
+    match answer.protocols().as_slice() {
+        [t, ..] if *t != 0 => Some(*t),
+        _ => None,
+    }
+}
+
+/// Adds the protocols, in the order of the offer.
 fn push_protocols(text: &mut Sheet, answer: &Atr) {
     for t in &answer.protocols() {
         if !text.is_empty() {
@@ -91,7 +119,7 @@ fn push_guard_times(text: &mut Sheet, answer: &Atr) {
     }
 }
 
-/// Adds the waiting time, which T=0 alone has.
+/// Adds the waiting time of T=0, if offered.
 fn push_waiting_time(text: &mut Sheet, answer: &Atr) {
     if !answer.protocols().contains(&0) {
         return;
@@ -102,14 +130,14 @@ fn push_waiting_time(text: &mut Sheet, answer: &Atr) {
     }
 }
 
-/// Which form the historical bytes have.
+/// The form of the historical bytes.
 fn form_of(answer: &Atr) -> &'static str {
     match answer.category() {
         Category::Absent => "none\n",
         Category::StatusBehind => "objects in COMPACT-TLV, and a status of three bytes\n",
         Category::DirReference => "a reference to EF.DIR\n",
         Category::Objects => "objects in COMPACT-TLV\n",
-        Category::Reserved => "a form that is reserved\n",
-        Category::Proprietary => "a form of the maker's own\n",
+        Category::Reserved => "a reserved form\n",
+        Category::Proprietary => "a proprietary form\n",
     }
 }

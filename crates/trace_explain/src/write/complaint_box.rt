@@ -1,5 +1,4 @@
-//! What is told of a complaint: of a character with which no dialogue goes on, and of a command and
-//! its answer that are no TPDU.
+//! The boxes of protocol errors: unexpected bytes, and unexpected commands or answers.
 
 use crate::describe::complaint::{ASTRAY, Complaint, end_text, expected_text};
 use crate::describe::mask::Mask;
@@ -7,27 +6,30 @@ use crate::follow::pair::PairFault;
 use crate::write::layout::{Anchor, Head, Kind, Side};
 use crate::write::page::Page;
 
-/// Adds the box of a complaint of this number, about a character.
+/// Adds the box of the protocol error with this number, an unexpected byte.
 pub fn tell_complaint(number: u64, complaint: Complaint, page: &mut Page) {
-    page.lines.push_str("no dialogue that it reads");
+    page.lines.push_str("unexpected byte");
     page.open(head(number, complaint.line));
     let character = complaint.place.saturating_add(1);
     writeln!(page.lines, "line {}, character {character}", complaint.line);
     page.row(Side::Nobody, "place");
     writeln!(page.lines, "{}", expected_text(complaint.expected));
-    page.row(Side::Nobody, "due");
-    let came = complaint.received;
-    writeln!(page.lines, "{came} of the {}", end_text(complaint.from));
-    page.row(Side::Nobody, "came");
+    page.row(Side::Nobody, "expected");
+    let received = complaint.received;
+    writeln!(
+        page.lines,
+        "{received} from the {}",
+        end_text(complaint.from)
+    );
+    page.row(Side::Nobody, "received");
     if complaint.is_astray {
         page.lines.push_str(ASTRAY);
-        page.line_row("or", "\n");
+        page.line_row("hint", "\n");
     }
     page.close();
 }
 
-/// Adds the box of a complaint of this number, about a command that began in this line, and its
-/// answer.
+/// Adds the box of the protocol error with this number, a command from this line with its answer.
 pub fn tell_bad_pair(
     number: u64,
     line: u64,
@@ -37,7 +39,7 @@ pub fn tell_bad_pair(
     mask: &Mask,
     page: &mut Page,
 ) {
-    page.lines.push_str("no exchange that it reads");
+    page.lines.push_str("unexpected command or answer");
     page.open(head(number, line));
     writeln!(page.lines, "{why}");
     page.row(Side::Nobody, "fault");
@@ -51,12 +53,12 @@ pub fn tell_bad_pair(
     page.close();
 }
 
-/// What stands above the rows of the complaint of this number.
+/// The head of the box of the protocol error with this number.
 fn head(number: u64, line: u64) -> Head<'static> {
     Head {
-        kind: Kind::Complaint,
+        kind: Kind::Error,
         line,
         status: &[],
-        anchor: Anchor::Complaint(number),
+        anchor: Anchor::Error(number),
     }
 }

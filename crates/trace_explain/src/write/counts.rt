@@ -1,4 +1,4 @@
-//! What is counted over a whole trace, and told in its last block.
+//! The counts over a whole trace, which the last block shows.
 
 use crate::describe::clock::Clock;
 use crate::follow::story::{header_of, status_of};
@@ -10,32 +10,32 @@ use crate::write::sheet::Sheet;
 use std::alloc::{AllocError, Global};
 use std::collections::BTreeMap;
 
-/// How many complaints, and how many statuses, have links on a page.
+/// How many protocol errors, and how many statuses, have links on a page.
 const LINKS: usize = 1_000;
 
-/// How many TPDUs a trace has, with which commands and statuses, and how many complaints.
+/// The counts of TPDUs, commands, statuses and protocol errors.
 #[derive(Drop)]
 pub struct Counts {
     tpdus: u64,
     cut_off: u64,
-    /// TPDUs of which no whole header came.
+    /// TPDUs without a whole header.
     parts: u64,
     named: BTreeMap<&'static str, u64>,
-    /// Those of commands that have no name here, by INS.
+    /// Commands without a name, by INS.
     unnamed: BTreeMap<u8, u64>,
-    /// Those of statuses other than `9000`.
+    /// Statuses other than `9000`.
     statuses: BTreeMap<u16, u64>,
     complaints: u64,
-    /// The lines of the first complaints.
-    complaint_lines: Vec<u64>,
-    /// How many TPDUs have a status that is none of `9000`, `61XX` and `6CXX`.
+    /// The lines of the first protocol errors.
+    error_lines: Vec<u64>,
+    /// TPDUs with a status other than `9000`, `61XX` and `6CXX`.
     unwell: u64,
     /// The numbers of the first of these, and their statuses.
     first_unwell: Vec<(u64, u16)>,
 }
 
 impl Counts {
-    /// Nothing has come.
+    /// The counts before the first TPDU.
     pub fn new(alloc: Global) -> Counts {
         Counts {
             tpdus: 0,
@@ -45,24 +45,24 @@ impl Counts {
             unnamed: BTreeMap::new(alloc),
             statuses: BTreeMap::new(alloc),
             complaints: 0,
-            complaint_lines: Vec::new(alloc),
+            error_lines: Vec::new(alloc),
             unwell: 0,
             first_unwell: Vec::new(alloc),
         }
     }
 
-    /// How many complaints there are.
+    /// The number of protocol errors.
     pub fn complaints(&self) -> u64 {
         self.complaints
     }
 
-    /// One complaint more, which stands in this line. The error is want of memory.
+    /// Counts a protocol error in this line.
     pub fn complain(&mut self, line: u64) -> Result<(), AllocError> {
         self.complaints = self.complaints.saturating_add(1);
-        push_first(&mut self.complaint_lines, line)
+        push_first(&mut self.error_lines, line)
     }
 
-    /// One TPDU more. The error is want of memory.
+    /// Counts a TPDU.
     pub fn take(&mut self, tpdu: &Tpdu) -> Result<(), AllocError> {
         self.tpdus = self.tpdus.saturating_add(1);
         self.take_command(tpdu)?;
@@ -81,7 +81,7 @@ impl Counts {
         count(&mut self.statuses, word)
     }
 
-    /// One command more.
+    /// Counts the command of a TPDU.
     fn take_command(&mut self, tpdu: &Tpdu) -> Result<(), AllocError> {
         let Some((header, _)) = header_of(tpdu) else {
             self.parts = self.parts.saturating_add(1);
@@ -93,8 +93,8 @@ impl Counts {
         }
     }
 
-    /// Adds the last block, with how long it all took by this clock: the sum of its known steps, so
-    /// that a capture of several days is told right.
+    /// Adds the last block. Its time is the sum of the clock's known steps, which is right for a
+    /// capture of several days too.
     pub fn tell(&self, clock: &Clock, page: &mut Page) {
         page.open_block("summary");
         write!(page.lines, "{}", self.tpdus);
@@ -106,17 +106,16 @@ impl Counts {
         page.row(Side::Nobody, "commands");
         self.push_statuses(&mut page.lines);
         page.row(Side::Nobody, "statuses");
-        writeln!(page.lines, "{}", self.complaints);
-        page.row(Side::Nobody, "complaints");
+        writeln!(page.lines, "errors: {}", self.complaints);
+        page.row(Side::Nobody, "protocol");
         clock.push_whole(&mut page.lines);
         page.row(Side::Nobody, "time");
-        page.complaint_links(self.complaint_lines.as_slice(), self.complaints);
-        page.status_links(self.first_unwell.as_slice(), self.unwell);
+        let (lines, unwell) = (self.error_lines.as_slice(), self.first_unwell.as_slice());
+        page.links(lines, self.complaints, unwell, self.unwell);
         page.close_block();
     }
 
-    /// Adds a line for each command: those with a name, by their names; the others, by INS; and
-    /// headers that did not come whole.
+    /// Adds a line for each name of a command, for each INS without a name, and for cut headers.
     fn push_commands(&self, text: &mut Sheet) {
         for (name, count) in &self.named {
             writeln!(text, "{name}: {count}");
@@ -143,7 +142,7 @@ impl Counts {
     }
 }
 
-/// Keeps one that is among the first.
+/// Keeps an element, unless there are `LINKS` already.
 fn push_first<T: Drop>(all: &mut Vec<T>, one: T) -> Result<(), AllocError> {
     if all.len() < LINKS {
         all.push(one).map_err(AllocError::from)?;
@@ -151,7 +150,7 @@ fn push_first<T: Drop>(all: &mut Vec<T>, one: T) -> Result<(), AllocError> {
     Ok(())
 }
 
-/// Counts one more.
+/// Adds one to the count of a key.
 fn count<K: Ord + Drop>(counts: &mut BTreeMap<K, u64>, key: K) -> Result<(), AllocError> {
     let count = counts.entry(key)?.or_insert(0);
     *count = count.saturating_add(1);

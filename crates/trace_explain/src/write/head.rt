@@ -1,6 +1,6 @@
-//! What a page of HTML begins with: its style stands in it, so that it needs nothing else.
+//! The start of a page of HTML. It contains the style, so that the page needs no other file.
 
-/// Up to the first box.
+/// The page up to its first box.
 pub const HEAD: &str = "\
 <!DOCTYPE html>
 <html lang=\"en\">
@@ -37,8 +37,8 @@ details { margin: .35rem 0; background: var(--box); border: 1px solid var(--line
   content-visibility: auto; contain-intrinsic-size: auto 2.3rem; }
 details[open] { padding-bottom: .6rem; contain-intrinsic-size: auto 11rem; }
 details.cut { border-style: dashed; }
-details.complaint { border-color: var(--bad); }
-details.complaint summary, summary .failed { color: var(--bad); }
+details.error { border-color: var(--bad); }
+details.error summary, summary .failed { color: var(--bad); }
 summary .well { color: var(--from); }
 summary .warning { color: var(--warn); }
 summary b { font: 600 13px/1.4 ui-monospace, monospace; }

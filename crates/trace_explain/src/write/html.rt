@@ -1,25 +1,25 @@
-//! An explanation as one page of HTML, which needs nothing else: no script, and no network.
+//! Parts of a page of HTML. The page needs no other file, no script and no network.
 
 use crate::write::layout::{Anchor, Head, Kind};
 use crate::write::sheet::Sheet;
 
-/// Behind all boxes, and the last block.
+/// The end of the page.
 pub const END: &str = "</main>\n</body>\n</html>\n";
 
-/// Behind the rows of a box.
+/// The end of a box.
 pub const BOX_END: &str = "</details>\n";
 
-/// Behind the rows of the last block.
+/// The end of the last block.
 pub const BLOCK_END: &str = "</section>\n";
 
-/// Begins a box that can be folded, and is where it tells of what went well.
+/// Begins a box. It is folded if it shows a success.
 pub fn begin(out: &mut Sheet, head: Head<'_>) {
     let class = class_of(head.kind);
     write!(out, "<details class=\"{class}\"");
     match head.anchor {
         Anchor::None => {}
         Anchor::Tpdu(number) => write!(out, " id=\"t{number}\""),
-        Anchor::Complaint(number) => write!(out, " id=\"c{number}\""),
+        Anchor::Error(number) => write!(out, " id=\"e{number}\""),
     }
     if head.kind != Kind::Well {
         out.push_str(" open");
@@ -27,7 +27,7 @@ pub fn begin(out: &mut Sheet, head: Head<'_>) {
     out.push_str("><summary>");
 }
 
-/// Adds the title of a box, with a status behind it, and goes on to where its line is told.
+/// Adds the title of a box, a status after it, and a space.
 pub fn push_title(out: &mut Sheet, title: &str, head: Head<'_>) {
     push_escaped(out, title);
     if let [sw1, sw2] = head.status {
@@ -37,32 +37,32 @@ pub fn push_title(out: &mut Sheet, title: &str, head: Head<'_>) {
     out.push(' ');
 }
 
-/// The style of a box, and of the status in its title.
+/// The CSS class of a box, and of the status in its title.
 fn class_of(kind: Kind) -> &'static str {
     match kind {
         Kind::Well => "well",
         Kind::Warning => "warning",
         Kind::Failed => "failed",
         Kind::CutOff => "cut",
-        Kind::Complaint => "complaint",
+        Kind::Error => "error",
     }
 }
 
-/// Adds links to complaints, which stand in these lines and are the first of so many.
-pub fn complaint_links(out: &mut Sheet, lines: &[u64], all: u64) {
+/// Adds links to the first of `all` protocol errors, which are in these lines.
+pub fn error_links(out: &mut Sheet, lines: &[u64], all: u64) {
     if lines.is_empty() {
         return;
     }
-    out.push_str("<p>complaints in");
+    out.push_str("<p>protocol errors in");
     let mut number: u64 = 0;
     for line in lines {
         number = number.saturating_add(1);
-        write!(out, " <a href=\"#c{number}\">line {line}</a>");
+        write!(out, " <a href=\"#e{number}\">line {line}</a>");
     }
     push_more(out, all.saturating_sub(number));
 }
 
-/// Adds links to TPDUs, which have these numbers and statuses and are the first of so many.
+/// Adds links to the first of `all` TPDUs, with their numbers and statuses.
 pub fn status_links(out: &mut Sheet, tpdus: &[(u64, u16)], all: u64) {
     if tpdus.is_empty() {
         return;
@@ -76,7 +76,7 @@ pub fn status_links(out: &mut Sheet, tpdus: &[(u64, u16)], all: u64) {
     push_more(out, all.saturating_sub(told));
 }
 
-/// Adds how many more there are, and ends the links.
+/// Adds how many more there are, and the end of the links.
 fn push_more(out: &mut Sheet, more: u64) {
     if more > 0 {
         write!(out, " and {more} more");
@@ -84,7 +84,7 @@ fn push_more(out: &mut Sheet, more: u64) {
     out.push_str("</p>\n");
 }
 
-/// Adds text, in which nothing is markup.
+/// Adds text without markup.
 pub fn push_escaped(out: &mut Sheet, text: &str) {
     for letter in text.chars() {
         match letter {

@@ -1,21 +1,21 @@
-//! What a comparison keeps of a trace: its TPDUs, each with the box that tells of it.
+//! The TPDUs of a trace that a comparison keeps, each with its box.
 
 use crate::follow::tpdu::Tpdu;
 
-/// A TPDU, and the box that tells of it.
+/// A TPDU and its box.
 #[derive(Drop)]
 pub struct Kept {
     /// The TPDU.
     pub tpdu: Tpdu,
-    /// What is told of it.
+    /// The text of its box.
     pub text: String,
 }
 
-/// The TPDUs that are kept, in place of what is written of them.
+/// The TPDUs that are kept in place of being written.
 #[derive(Drop)]
 pub struct Keeping {
-    /// Whether any are.
+    /// Whether TPDUs are kept.
     pub is_on: bool,
-    /// Those that are.
+    /// The kept TPDUs.
     pub all: Vec<Kept>,
 }

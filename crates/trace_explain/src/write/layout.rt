@@ -1,6 +1,6 @@
-//! What an explanation is written as, and what is in it.
+//! The layout of an explanation: text or HTML, and the kinds of boxes and rows.
 
-/// What an explanation is written as.
+/// The format of an explanation.
 #[derive(Clone, Copy)]
 pub enum Medium {
     /// Lines of text.
@@ -9,61 +9,61 @@ pub enum Medium {
     Html,
 }
 
-/// How an explanation is laid out.
+/// The layout of an explanation.
 #[derive(Clone, Copy)]
 pub struct Layout {
-    /// What it is written as.
+    /// The format.
     pub medium: Medium,
-    /// Whether its last block is all that is written.
+    /// Whether only the last block is written.
     pub is_summary: bool,
 }
 
-/// Who says what a row tells.
+/// Which end sent what a row shows.
 #[derive(Clone, Copy)]
 pub enum Side {
-    /// The terminal, to the card.
+    /// The terminal.
     Terminal,
-    /// The card, to the terminal.
+    /// The card.
     Card,
-    /// Nobody: it is told of them.
+    /// Neither: the program adds the row.
     Nobody,
 }
 
 /// What a box of rows is about.
 #[derive(Clone, Copy, PartialEq, Eq)]
 pub enum Kind {
-    /// What came whole, and went well.
+    /// A success.
     Well,
-    /// A TPDU that ended with a warning.
+    /// A TPDU with a warning.
     Warning,
-    /// A TPDU that ended with an error.
+    /// A TPDU with an error.
     Failed,
-    /// What was cut off.
+    /// Something that was cut off.
     CutOff,
-    /// A character with which no dialogue goes on, or a bad answer to reset.
-    Complaint,
+    /// A protocol error, or an invalid answer to reset.
+    Error,
 }
 
-/// What a box is called by links.
+/// The name of a box in links.
 #[derive(Clone, Copy)]
 pub enum Anchor {
-    /// Nothing.
+    /// No name.
     None,
     /// The TPDU of this number.
     Tpdu(u64),
-    /// The complaint of this number, counted from 1.
-    Complaint(u64),
+    /// The protocol error of this number, counted from 1.
+    Error(u64),
 }
 
-/// What stands above the rows of a box, beside its title.
+/// The head of a box, without its title.
 #[derive(Clone, Copy)]
 pub struct Head<'a> {
-    /// What it is about.
+    /// The kind of the box.
     pub kind: Kind,
-    /// The line of the trace, counted from 1, in which it begins.
+    /// The line of the trace in which it begins, counted from 1.
     pub line: u64,
-    /// SW1 and SW2 of a whole TPDU.
+    /// SW1 and SW2 of a whole TPDU, otherwise nothing.
     pub status: &'a [u8],
-    /// What links call it.
+    /// Its name in links.
     pub anchor: Anchor,
 }

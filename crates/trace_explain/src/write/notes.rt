@@ -1,5 +1,4 @@
-//! What is told between boxes: lines that are none of characters, bytes of no TPDU, and what is
-//! passed over.
+//! Notes between boxes: lines without characters, bytes outside of TPDUs, and skipped lines.
 
 ghost use Rattle.std.specs.Prelude.{◌<◌};
 
@@ -8,13 +7,13 @@ use crate::resuming::Passed;
 use crate::write::page::Page;
 use crate::write::sheet::Sheet;
 
-/// How many bytes of a note stand in a line.
+/// The number of bytes of a note in a line.
 const NOTE_BYTES: usize = 96;
 
-/// The same where some are told by their numbers, in four columns each.
+/// The same if some are not printable. Those take four columns each.
 const ODD_BYTES: usize = 24;
 
-/// Tells what has been passed over, if anything has.
+/// Adds which lines were skipped, if any.
 pub fn tell_passed(passed: Option<Passed>, page: &mut Page) {
     let Some(Passed { line, place, last }) = passed else {
         return;
@@ -22,7 +21,7 @@ pub fn tell_passed(passed: Option<Passed>, page: &mut Page) {
     let character = place.saturating_add(1);
     write!(
         page.lines,
-        "passed over: line {line} from character {character}"
+        "skipped: line {line} from character {character}"
     );
     if last > line {
         write!(page.lines, ", to line {last}");
@@ -30,14 +29,14 @@ pub fn tell_passed(passed: Option<Passed>, page: &mut Page) {
     page.note_line("\n");
 }
 
-/// Tells bytes that are of no TPDU, behind what they are.
+/// Adds bytes outside of TPDUs, after words for them.
 pub fn tell_bytes(what: &str, bytes: &[u8], mask: &Mask, page: &mut Page) {
     page.lines.push_str(what);
     mask.push_unknown(&mut page.lines, bytes);
     page.note();
 }
 
-/// Tells a line that is none of characters.
+/// Adds a line without characters.
 pub fn tell_note(note: &[u8], mask: &Mask, page: &mut Page) {
     if note.is_empty() {
         return;
@@ -50,7 +49,7 @@ pub fn tell_note(note: &[u8], mask: &Mask, page: &mut Page) {
     page.note();
 }
 
-/// Adds a note in as many lines as it takes.
+/// Adds a note, in several lines if it is long.
 fn push_note(text: &mut Sheet, note: &[u8]) {
     for piece in note.chunks(note_width(note)) {
         push_printable(text, piece);
@@ -58,7 +57,7 @@ fn push_note(text: &mut Sheet, note: &[u8]) {
     }
 }
 
-/// How many bytes of this note stand in a line.
+/// The number of bytes of this note in a line.
 fn note_width(note: &[u8]) -> usize
     ensures { 0 < result }
 {
@@ -70,7 +69,7 @@ fn note_width(note: &[u8]) -> usize
     NOTE_BYTES
 }
 
-/// Adds the bytes of a note, those that are no printable ASCII by their numbers.
+/// Adds the bytes of a note: printable ASCII as it is, others as `\xHH`.
 fn push_printable(text: &mut Sheet, bytes: &[u8]) {
     for &byte in bytes {
         match byte {

@@ -1,27 +1,25 @@
-//! What is written: what is proved of TPDUs, and the words beside it.
+//! The output: proved rows of TPDUs, joined with words.
 
-ghost use Rattle.std.specs.Prelude.{◌≡◌, ℕ, List, [], true, false, IfErr, OnOk};
+ghost use Rattle.std.specs.Prelude.{◌≡◌, [], true, false, IfErr, OnOk};
 ghost use Rattle.std.specs.String.{string_bytes};
-ghost use Rattle.trace_explain.specs.Sheets.{Adds, HasText, Joins};
-ghost use Rattle.trace_explain.specs.Written.{data_row, row};
+ghost use Rattle.trace_explain.specs.Sheets.{Joins};
 
-use crate::write::layout::{Layout, Side};
+use crate::write::layout::Layout;
 use crate::write::page::Page;
-use crate::write::row::{push_data_row, push_lines_row};
 use crate::write::sheet::Sheet;
 use std::alloc::{AllocError, Global};
 
-/// What is written, with the words that are still to be joined to it.
+/// The output, and the words that are still to be joined to it.
 #[derive(Drop)]
 pub struct Output {
-    /// Words, of which nothing is proved.
+    /// Words, about which nothing is proved.
     pub page: Page,
-    /// What is written so far.
+    /// The output so far.
     pub sheet: Sheet,
 }
 
 impl Output {
-    /// Nothing has been added.
+    /// An empty output.
     pub fn new(alloc: Global, layout: Layout) -> Output
         ensures layout { result.sheet.layout ≡ layout }
         ensures text { string_bytes result.sheet.text ≡ [] }
@@ -32,26 +30,7 @@ impl Output {
         }
     }
 
-    /// Adds the row of data that the lines of the page are, and forgets them.
-    pub fn data_row(&mut self, side: Side)
-        ensures { (text : List ℕ) → HasText self.old.page.lines text →
-            Adds self.old.sheet (data_row self.old.sheet.layout.medium side text) self.new.sheet }
-    {
-        push_data_row(&mut self.sheet, side, &self.page.lines);
-        self.page.lines.clear();
-    }
-
-    /// Adds a row with this label, whose text the lines of the page are, and forgets them.
-    pub fn lines_row(&mut self, side: Side, label: &str)
-        ensures { (text : List ℕ) → HasText self.old.page.lines text →
-            Adds self.old.sheet (row self.old.sheet.layout.medium side label.now text)
-            self.new.sheet }
-    {
-        push_lines_row(&mut self.sheet, side, label, &self.page.lines);
-        self.page.lines.clear();
-    }
-
-    /// Joins the words to what is written.
+    /// Joins the words to the output.
     pub fn join(&mut self)
         ensures { Joins self.old.sheet self.new.sheet }
     {
@@ -60,7 +39,7 @@ impl Output {
         self.page.clear();
     }
 
-    /// Joins the words, and answers whether all is there. The error is want of memory.
+    /// Joins the words. Returns an error if memory ran out, now or before.
     pub fn outcome(&mut self) -> Result<(), AllocError>
         ensures joins { Joins self.old.sheet self.new.sheet }
         ensures whole { OnOk result (self.new.sheet.is_cut ≡ false) }
@@ -70,7 +49,7 @@ impl Output {
         self.sheet.is_whole()
     }
 
-    /// All that has been added.
+    /// Returns the whole text.
     pub fn into_text(self) -> Result<String, AllocError> {
         let mut output = self;
         output.join();

@@ -1,9 +1,9 @@
-//! An explanation in the making, in either layout, with one call for each thing in it.
+//! The words of an explanation, in either format, with one call for each part.
 
 use crate::write::head::HEAD;
 use crate::write::html;
 use crate::write::layout::{Anchor, Head, Kind, Layout, Medium, Side};
-use crate::write::row::{ROW_INDENT, behind, between, push_before};
+use crate::write::row::{ROW_INDENT, between, marks, push_before};
 use crate::write::sheet::Sheet;
 use crate::write::shown::push_line;
 use std::alloc::Global;
@@ -11,17 +11,17 @@ use std::alloc::Global;
 /// The most columns of a line of text.
 const COLUMNS: usize = 100;
 
-/// An explanation to which more is added. Once memory ran out nothing more is.
+/// Words to which parts are added. Once memory ran out, nothing is added.
 #[derive(Drop)]
 pub struct Page {
     layout: Layout,
     out: Sheet,
-    /// What the next thing says: the title of a box, or the lines of a row or a note.
+    /// The text of the next part: the title of a box, or the lines of a row or a note.
     pub lines: Sheet,
 }
 
 impl Page {
-    /// Nothing has been added.
+    /// An empty page.
     pub fn new(alloc: Global, layout: Layout) -> Page {
         Page {
             layout,
@@ -30,12 +30,12 @@ impl Page {
         }
     }
 
-    /// What has been added since the last call of `clear`.
+    /// The words since the last call of `clear`.
     pub fn as_str(&self) -> &str {
         self.out.as_str()
     }
 
-    /// Forgets what has been added, as it was written.
+    /// Clears the words.
     pub fn clear(&mut self) {
         self.out.clear();
     }
@@ -45,36 +45,36 @@ impl Page {
         self.out.is_cut() || self.lines.is_cut()
     }
 
-    /// Whether what is told now is added.
+    /// Whether the next part is added.
     fn prints(&self) -> bool {
         !self.layout.is_summary && !self.lines.is_cut()
     }
 
-    /// Whether it is a page of HTML, and what is told now is added.
+    /// Whether it is HTML, and the next part is added.
     fn marks(&self) -> bool {
         matches!(self.layout.medium, Medium::Html) && self.prints()
     }
 
-    /// Adds what comes before all else.
+    /// Adds the start of the page.
     pub fn begin(&mut self) {
         if matches!(self.layout.medium, Medium::Html) {
             self.out.push_str(HEAD);
         }
     }
 
-    /// Adds what comes after all else.
+    /// Adds the end of the page.
     pub fn end(&mut self) {
         self.mark(html::END);
     }
 
-    /// Adds what is a mark of a page of HTML alone.
+    /// Adds this text if it is HTML.
     fn mark(&mut self, mark: &str) {
         if self.marks() {
             self.out.push_str(mark);
         }
     }
 
-    /// Opens a box, whose title the lines are.
+    /// Opens a box. The lines are its title.
     pub fn open(&mut self, head: Head<'_>) {
         self.begin_box(head);
         self.push_title(0, head);
@@ -83,7 +83,7 @@ impl Page {
         }
     }
 
-    /// Opens a box of no TPDU with this title, to which no link leads.
+    /// Opens a box with this title, which has no links.
     pub fn open_titled(&mut self, kind: Kind, title: &str, line: u64) {
         self.lines.push_str(title);
         self.open(Head {
@@ -101,12 +101,12 @@ impl Page {
         }
     }
 
-    /// Adds the title of a TPDU behind its number: the lines are its words.
+    /// Adds the title of a TPDU after its number. The lines are the title.
     pub fn push_numbered(&mut self, number: u64, head: Head<'_>) {
         self.push_title("# ".len().saturating_add(digits(number)), head);
     }
 
-    /// Adds a title that begins in this column, and goes on to where its line is told.
+    /// Adds a title that begins in this column, and the space before its line number.
     fn push_title(&mut self, begins: usize, head: Head<'_>) {
         if self.marks() {
             html::push_title(&mut self.out, self.lines.as_str(), head);
@@ -119,7 +119,7 @@ impl Page {
         self.lines.clear();
     }
 
-    /// Adds what a row says behind so many bytes as digits: the lines are its words.
+    /// Adds the lines as the text of a row, after the digits of this number of bytes.
     pub fn push_rest(&mut self, bytes: usize) {
         if self.prints() {
             let space = usize::from(bytes > 0);
@@ -130,17 +130,17 @@ impl Page {
         self.lines.clear();
     }
 
-    /// Adds a row with this label: nothing where there are no lines.
+    /// Adds the lines as a row with this label. Adds nothing if there are no lines.
     pub fn row(&mut self, side: Side, label: &str) {
         if self.prints() && !self.lines.is_empty() {
             push_before(&mut self.out, side, label);
             self.push_rest(0);
-            self.out.push_str(behind(self.layout.medium, side));
+            self.out.push_str(marks(self.layout.medium, side).1);
         }
         self.lines.clear();
     }
 
-    /// Adds a row that nobody says, with this label and this line.
+    /// Adds a row of the program with this label, and this text after the lines.
     pub fn line_row(&mut self, label: &str, line: &str) {
         self.lines.push_str(line);
         self.row(Side::Nobody, label);
@@ -151,8 +151,7 @@ impl Page {
         self.mark(html::BOX_END);
     }
 
-    /// Opens the last block, which is of no line, stands first on a page, and is written whatever
-    /// else is not.
+    /// Opens the last block, which is always written. A page shows it first.
     pub fn open_block(&mut self, title: &str) {
         self.layout.is_summary = false;
         if self.prints() {
@@ -163,16 +162,11 @@ impl Page {
         }
     }
 
-    /// Adds links to complaints, which stand in these lines and are the first of so many.
-    pub fn complaint_links(&mut self, lines: &[u64], all: u64) {
+    /// Adds links to the lines of the first of `errors` protocol errors, and to the first of `all`
+    /// TPDUs with a status.
+    pub fn links(&mut self, lines: &[u64], errors: u64, tpdus: &[(u64, u16)], all: u64) {
         if self.marks() {
-            html::complaint_links(&mut self.out, lines, all);
-        }
-    }
-
-    /// Adds links to TPDUs, which have these numbers and statuses and are the first of so many.
-    pub fn status_links(&mut self, tpdus: &[(u64, u16)], all: u64) {
-        if self.marks() {
+            html::error_links(&mut self.out, lines, errors);
             html::status_links(&mut self.out, tpdus, all);
         }
     }
@@ -182,7 +176,7 @@ impl Page {
         self.mark(html::BLOCK_END);
     }
 
-    /// Adds the lines, each of which stands alone.
+    /// Adds the lines as a note.
     pub fn note(&mut self) {
         if self.prints() {
             self.mark("<pre class=\"note\">");
@@ -192,15 +186,15 @@ impl Page {
         self.lines.clear();
     }
 
-    /// Adds this line, which stands alone.
+    /// Adds a note that ends with this text, after the lines.
     pub fn note_line(&mut self, line: &str) {
         self.lines.push_str(line);
         self.note();
     }
 }
 
-/// Adds lines of words that are not empty, of which the first begins in this column, with this
-/// between them.
+/// Adds the lines of `words` that are not empty, with `between` between them. The first begins in
+/// column `begins`.
 fn push_words(out: &mut Sheet, words: &str, begins: usize, between: &str) {
     let mut begins = begins;
     let mut is_first = true;
@@ -240,8 +234,8 @@ fn push_note(out: &mut Sheet, note: &str) {
     }
 }
 
-/// Adds words that begin in this column, counted from 0, with this in the place of a space where a
-/// line of text has no room for more; it answers the column behind them.
+/// Adds words that begin in this column, counted from 0. Where a line of text is full, `wrap`
+/// replaces a space. Returns the column after the words.
 fn push_wrapped(out: &mut Sheet, words: &str, begins: usize, wrap: &str) -> usize {
     let mut column = begins;
     let mut is_first = true;
@@ -262,7 +256,7 @@ fn push_wrapped(out: &mut Sheet, words: &str, begins: usize, wrap: &str) -> usiz
     column
 }
 
-/// How many decimal digits a number has.
+/// The number of decimal digits of a number.
 fn digits(number: u64) -> usize {
     let mut rest = number;
     let mut count: usize = 1;

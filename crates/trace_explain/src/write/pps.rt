@@ -1,4 +1,4 @@
-//! What is told of a PPS exchange, in plain words.
+//! The box of a PPS exchange.
 
 use crate::describe::mask::Mask;
 use crate::follow::preface::Preface;
@@ -9,8 +9,7 @@ use crate::write::page::Page;
 use crate::write::sheet::Sheet;
 use atr_core::{Pps, PpsFault, agreed};
 
-/// Adds the box of an exchange: the request with what it asks for, and the response, as far as they
-/// came.
+/// Adds the box of a PPS exchange: request and response with their values, whole or cut off.
 pub fn tell_pps(mask: &Mask, preface: &Preface, page: &mut Page) {
     let asked = preface.request.as_slice();
     let answered = preface.response.as_slice();
@@ -33,8 +32,8 @@ pub fn tell_pps(mask: &Mask, preface: &Preface, page: &mut Page) {
     page.close();
 }
 
-/// Adds the characters of a request or response; those that are none may be data, and are then not
-/// shown where something is not.
+/// Adds the characters of a request or response. Each mask hides those of an invalid one: they may
+/// be data.
 fn push_characters(text: &mut Sheet, mask: &Mask, bytes: &[u8], is_one: bool) {
     if is_one {
         push_hex_lines(text, bytes);
@@ -43,7 +42,7 @@ fn push_characters(text: &mut Sheet, mask: &Mask, bytes: &[u8], is_one: bool) {
     }
 }
 
-/// Adds whether a response accepts the request, where both are whole.
+/// Adds whether a response accepts the request, if both are whole.
 fn push_agreed(
     text: &mut Sheet,
     request: &Result<Pps, PpsFault>,
@@ -59,7 +58,7 @@ fn push_agreed(
     });
 }
 
-/// Adds what a request or response says, or what is wrong with it.
+/// Adds the values of a request or response, or what is wrong with it.
 fn push_pps(text: &mut Sheet, read: &Result<Pps, PpsFault>) {
     match read {
         Ok(pps) => {
@@ -73,7 +72,7 @@ fn push_pps(text: &mut Sheet, read: &Result<Pps, PpsFault>) {
     }
 }
 
-/// Adds a character that says something else, where it is there.
+/// Adds PPS2 or PPS3, if present.
 fn push_other(text: &mut Sheet, name: &str, byte: Option<u8>) {
     if let Some(byte) = byte {
         write!(text, "; {name} {byte:02X}");

@@ -1,4 +1,4 @@
-//! What is told of what comes before a dialogue, part by part.
+//! The boxes of the parts before a dialogue: answers to reset and PPS exchanges.
 
 use crate::describe::mask::Mask;
 use crate::follow::opening::{Role, Stage};
@@ -7,14 +7,14 @@ use crate::write::answer::tell_answer;
 use crate::write::page::Page;
 use crate::write::pps::tell_pps;
 
-/// Tells the part before a character that is this, where it goes on no more.
+/// Adds the box of the part that ends before a character of this role.
 pub fn tell_before(role: Role, preface: &Preface, mask: &Mask, page: &mut Page) {
     if !role.continues() {
         tell_part(preface.stage(), preface, mask, page);
     }
 }
 
-/// Tells the part that is over with a character that was this.
+/// Adds the box of the part that ended with a character of this role.
 pub fn tell_after(role: Role, preface: &Preface, mask: &Mask, page: &mut Page) {
     match (role, preface.stage()) {
         (Role::Answer, Stage::Ready | Stage::Astray) => tell_answer(mask, preface, page),
@@ -23,7 +23,7 @@ pub fn tell_after(role: Role, preface: &Preface, mask: &Mask, page: &mut Page) {
     }
 }
 
-/// Tells the part that is under way in this stage, if one is.
+/// Adds the box of the part that is in progress in this stage, if any.
 pub fn tell_part(stage: Stage, preface: &Preface, mask: &Mask, page: &mut Page) {
     match stage {
         Stage::Answer => tell_answer(mask, preface, page),

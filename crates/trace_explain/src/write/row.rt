@@ -1,16 +1,16 @@
-//! Rows, by one table of what stands before, between and behind the words of each.
+//! Rows, by one table of the text before, between and after the lines of each.
 
-ghost use Rattle.std.specs.Prelude.{◌≡◌, ℕ, List, flat_map, replicate};
+ghost use Rattle.std.specs.Prelude.{◌≡◌, ℕ, List, flat_map};
 ghost use Rattle.trace_explain.specs.Sheets.{Adds, HasText};
-ghost use Rattle.trace_explain.specs.Written.{before, behind, data_row, label_before, label_behind, letter, row};
+ghost use Rattle.trace_explain.specs.Written.{before, behind, data_row, label_before, letter, row};
 
 use crate::write::layout::{Medium, Side};
 use crate::write::sheet::Sheet;
 
-/// How many columns stand before the words of a row.
+/// The number of columns before the text of a row.
 pub const ROW_INDENT: usize = 15;
 
-/// What stands between two lines of a row.
+/// The text between two lines of a row.
 pub fn between(medium: Medium) -> &'static str {
     match medium {
         Medium::Text => "\n               ",
@@ -18,58 +18,31 @@ pub fn between(medium: Medium) -> &'static str {
     }
 }
 
-/// Adds what stands before the words of a row: who says it, and its label.
+/// Adds the start of a row: the sign of its end, and its label.
 pub fn push_before(sheet: &mut Sheet, side: Side, label: &str)
     ensures { Adds sheet.old (before sheet.old.layout.medium side label.now) sheet.new }
 {
     let medium = sheet.layout().medium;
-    sheet.push_str(label_before(medium, side));
+    sheet.push_str(marks(medium, side).0);
     sheet.push_str(label);
-    push_label_behind(sheet, medium, label.len());
-}
-
-/// What stands before a label.
-fn label_before(medium: Medium, side: Side) -> &'static str
-    ensures { result.now ≡ label_before medium side }
-{
-    match (medium, side) {
-        (Medium::Text, Side::Terminal) => "  > ",
-        (Medium::Text, Side::Card) => "  < ",
-        (Medium::Text, Side::Nobody) => "    ",
-        (Medium::Html, Side::Terminal) => "<div class=\"m t\"><b>",
-        (Medium::Html, Side::Card) => "<div class=\"m c\"><b>",
-        (Medium::Html, Side::Nobody) => "<div class=\"m n\"><b>",
-    }
-}
-
-/// Adds what stands behind a label of this size.
-fn push_label_behind(sheet: &mut Sheet, medium: Medium, size: usize)
-    ensures { Adds sheet.old (label_behind medium size) sheet.new }
-{
     match medium {
-        Medium::Text => push_spaces(sheet, 11usize.saturating_sub(size)),
+        Medium::Text => sheet.push_spaces(11usize.saturating_sub(label.len())),
         Medium::Html => sheet.push_str("</b><pre>"),
     }
 }
 
-/// Adds spaces.
-pub fn push_spaces(sheet: &mut Sheet, count: usize)
-    ensures { Adds sheet.old (replicate count 32) sheet.new }
-{
-    for space in 0..count {
-        sheet.push_str(" ");
-    }
-}
-
-/// What stands behind the words of a row.
-pub fn behind(medium: Medium, side: Side) -> &'static str
-    ensures { result.now ≡ behind medium side }
+/// The text before the label of a row, and the text after its lines.
+pub fn marks(medium: Medium, side: Side) -> (&'static str, &'static str)
+    ensures before { result.0.now ≡ label_before medium side }
+    ensures behind { result.1.now ≡ behind medium side }
 {
     match (medium, side) {
-        (Medium::Text, _) => "\n",
-        (Medium::Html, Side::Terminal) => "</pre><i></i></div>\n",
-        (Medium::Html, Side::Card) => "</pre><i></i></div>\n",
-        (Medium::Html, Side::Nobody) => "</pre></div>\n",
+        (Medium::Text, Side::Terminal) => ("  > ", "\n"),
+        (Medium::Text, Side::Card) => ("  < ", "\n"),
+        (Medium::Text, Side::Nobody) => ("    ", "\n"),
+        (Medium::Html, Side::Terminal) => ("<div class=\"m t\"><b>", "</pre><i></i></div>\n"),
+        (Medium::Html, Side::Card) => ("<div class=\"m c\"><b>", "</pre><i></i></div>\n"),
+        (Medium::Html, Side::Nobody) => ("<div class=\"m n\"><b>", "</pre></div>\n"),
     }
 }
 
@@ -79,12 +52,12 @@ fn push_row(sheet: &mut Sheet, side: Side, label: &str, text: &[u8])
 {
     let medium = sheet.layout().medium;
     push_before(sheet, side, label);
-    push_letters(sheet, medium, text);
-    sheet.push_str(behind(medium, side));
+    push_letters(sheet, Some(medium), text);
+    sheet.push_str(marks(medium, side).1);
 }
 
-/// Adds text, in which nothing is markup.
-fn push_letters(sheet: &mut Sheet, medium: Medium, text: &[u8])
+/// Adds text: plain, or without markup.
+pub fn push_letters(sheet: &mut Sheet, medium: Option<Medium>, text: &[u8])
     ensures { Adds sheet.old (flat_map (letter medium) text.now) sheet.new }
 {
     for &byte in text {
@@ -93,19 +66,19 @@ fn push_letters(sheet: &mut Sheet, medium: Medium, text: &[u8])
 }
 
 /// Adds a byte as text.
-fn push_letter(sheet: &mut Sheet, medium: Medium, byte: u8)
+fn push_letter(sheet: &mut Sheet, medium: Option<Medium>, byte: u8)
     ensures { Adds sheet.old (letter medium byte) sheet.new }
 {
     match (medium, byte) {
-        (Medium::Text, b'\n') => sheet.push_str("\n               "),
-        (Medium::Html, b'<') => sheet.push_str("&lt;"),
-        (Medium::Html, b'>') => sheet.push_str("&gt;"),
-        (Medium::Html, b'&') => sheet.push_str("&amp;"),
+        (Some(Medium::Text), b'\n') => sheet.push_str("\n               "),
+        (Some(Medium::Html), b'<') => sheet.push_str("&lt;"),
+        (Some(Medium::Html), b'>') => sheet.push_str("&gt;"),
+        (Some(Medium::Html), b'&') => sheet.push_str("&amp;"),
         _ => sheet.push(char::from(byte)),
     }
 }
 
-/// Adds the row of data that the lines are: none where there are no lines.
+/// Adds lines as the row of data. Adds nothing if there are no lines.
 pub fn push_data_row(sheet: &mut Sheet, side: Side, lines: &Sheet)
     ensures { (text : List ℕ) → HasText lines.now text →
         Adds sheet.old (data_row sheet.old.layout.medium side text) sheet.new }
@@ -118,7 +91,7 @@ pub fn push_data_row(sheet: &mut Sheet, side: Side, lines: &Sheet)
     }
 }
 
-/// Adds a row with this label, whose text the lines are.
+/// Adds lines as a row with this label.
 pub fn push_lines_row(sheet: &mut Sheet, side: Side, label: &str, lines: &Sheet)
     ensures { (text : List ℕ) → HasText lines.now text →
         Adds sheet.old (row sheet.old.layout.medium side label.now text) sheet.new }

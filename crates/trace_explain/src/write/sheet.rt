@@ -1,4 +1,4 @@
-//! A text in the making, of which it is proved what is added to it.
+//! A text with proved contents: the contract of each call says what it adds.
 
 ghost use Rattle.std.specs.Prelude.{◌≡◌, ℕ, List, [], true, false, IfErr, OnOk};
 ghost use Rattle.std.specs.String.{string_bytes};
@@ -6,13 +6,14 @@ ghost use Rattle.std.specs.Char.{encode_utf8};
 ghost use Rattle.std.specs.Fmt.{decimal};
 ghost use Rattle.hex.specs.Hex.{encode_upper};
 ghost use Rattle.trace_explain.specs.Sheets.{Adds, Joins};
+ghost use Rattle.trace_explain.specs.Written.{spaces};
 
 use crate::write::layout::Layout;
 use std::alloc::{AllocError, Global};
 use std::fmt;
 
-/// A text to which more is added. Once memory ran out nothing more is: whoever adds to it asks
-/// once, at the end, whether all of it is there.
+/// A text to which parts are added. Once memory ran out, nothing is added. So callers add without
+/// errors, and at the end ask `is_whole`.
 #[derive(Drop)]
 pub struct Sheet {
     alloc: Global,
@@ -22,7 +23,7 @@ pub struct Sheet {
 }
 
 impl Sheet {
-    /// Nothing has been added.
+    /// An empty text.
     pub fn new(alloc: Global, layout: Layout) -> Sheet
         ensures layout { result.layout ≡ layout }
         ensures text { string_bytes result.text ≡ [] }
@@ -35,7 +36,7 @@ impl Sheet {
         }
     }
 
-    /// How it is laid out.
+    /// The layout.
     pub fn layout(&self) -> Layout
         ensures { result ≡ self.now.layout }
     {
@@ -88,6 +89,16 @@ impl Sheet {
         }
     }
 
+    /// Adds spaces.
+    pub fn push_spaces(&mut self, count: usize)
+        ensures { Adds self.old (spaces count) self.new }
+    {
+        match " ".repeat(self.alloc, count) {
+            Ok(spaces) => self.push_str(spaces.as_str()),
+            Err(_) => self.is_cut = true,
+        }
+    }
+
     /// Adds what `write!` and `writeln!` format.
     pub fn write_fmt<D: fmt::Display + Drop>(&mut self, value: D) {
         if !self.is_cut {
@@ -95,7 +106,7 @@ impl Sheet {
         }
     }
 
-    /// Adds words from elsewhere, and whether memory ran out there.
+    /// Adds words of another text, and notes whether memory ran out there.
     pub fn join(&mut self, words: &str, is_cut: bool)
         ensures { Joins self.old self.new }
     {
@@ -105,21 +116,21 @@ impl Sheet {
         }
     }
 
-    /// Memory ran out: whatever was to be added is not.
+    /// Notes that memory ran out elsewhere, so that a part is missing.
     pub fn cut(&mut self)
         ensures { (more : List ℕ) → Adds self.old more self.new }
     {
         self.is_cut = true;
     }
 
-    /// What has been added since the last call of `clear`.
+    /// The text since the last call of `clear`.
     pub fn as_str(&self) -> &str
         ensures { result.now ≡ string_bytes self.now.text }
     {
         self.text.as_str()
     }
 
-    /// Whether nothing has.
+    /// Whether the text is empty.
     pub fn is_empty(&self) -> bool {
         self.text.is_empty()
     }
@@ -131,7 +142,7 @@ impl Sheet {
         self.is_cut
     }
 
-    /// Forgets what has been added, but not whether memory ran out.
+    /// Clears the text, but not the note that memory ran out.
     pub fn clear(&mut self)
         ensures text { string_bytes self.new.text ≡ [] }
         ensures layout { self.new.layout ≡ self.old.layout }
@@ -140,7 +151,7 @@ impl Sheet {
         self.text.clear();
     }
 
-    /// Whether all is there. The error is want of memory.
+    /// Returns an error if memory ran out.
     pub fn is_whole(&self) -> Result<(), AllocError>
         ensures whole { OnOk result (self.now.is_cut ≡ false) }
         ensures cut { IfErr result (λ _. self.now.is_cut ≡ true) }
@@ -148,7 +159,7 @@ impl Sheet {
         if self.is_cut { Err(AllocError) } else { Ok(()) }
     }
 
-    /// The whole text.
+    /// Returns the whole text.
     pub fn into_text(self) -> Result<String, AllocError> {
         if self.is_cut {
             Err(AllocError)

@@ -1,11 +1,12 @@
-//! What shows a TPDU beside its data: its number, its line, its header and its status.
+//! The number, line, header and status of a TPDU.
 
 ghost use Rattle.std.specs.Prelude.{◌≡◌, ◌++◌, codes};
 ghost use Rattle.trace_explain.specs.Sheets.{Adds};
-ghost use Rattle.trace_explain.specs.Written.{before, character_text, header_row, header_text, line_before, line_behind, line_text, name_before, named, number_text, status_digits};
+ghost use Rattle.trace_explain.specs.Written.{before, character_text, header_row, header_text, line_before, line_behind, line_text, named, number_text, status_digits};
 
+use crate::write::ascii::cut;
 use crate::write::layout::{Medium, Side};
-use crate::write::row::{behind, push_before};
+use crate::write::row::{marks, push_before};
 use crate::write::sheet::Sheet;
 
 /// Adds the number of a TPDU, and a space.
@@ -17,44 +18,35 @@ pub fn push_number(sheet: &mut Sheet, number: u64)
     sheet.push_str(" ");
 }
 
-/// Adds the line in which a TPDU begins, and ends its title.
+/// Adds the line where a TPDU begins, and the end of its title.
 pub fn push_line(sheet: &mut Sheet, line: u64)
     ensures { Adds sheet.old (line_text sheet.old.layout.medium line) sheet.new }
 {
-    let medium = sheet.layout().medium;
-    sheet.push_str(line_before(medium));
+    let (before, behind) = line_marks(sheet.layout().medium);
+    sheet.push_str(before);
     sheet.push_number(line);
-    sheet.push_str(line_behind(medium));
+    sheet.push_str(behind);
 }
 
-/// What stands before the number of a line.
-fn line_before(medium: Medium) -> &'static str
-    ensures { result.now ≡ line_before medium }
+/// The text before and after the number of a line.
+fn line_marks(medium: Medium) -> (&'static str, &'static str)
+    ensures before { result.0.now ≡ line_before medium }
+    ensures behind { result.1.now ≡ line_behind medium }
 {
     match medium {
-        Medium::Text => "(line ",
-        Medium::Html => "<small>line ",
+        Medium::Text => ("(line ", ")\n"),
+        Medium::Html => ("<small>line ", "</small></summary>\n"),
     }
 }
 
-/// What stands behind the number of a line.
-fn line_behind(medium: Medium) -> &'static str
-    ensures { result.now ≡ line_behind medium }
-{
-    match medium {
-        Medium::Text => ")\n",
-        Medium::Html => "</small></summary>\n",
-    }
-}
-
-/// Adds the row of a header; on a page each of its characters stands behind its name.
+/// Adds the row of a header. On a page each character follows its name.
 pub fn push_header(sheet: &mut Sheet, header: &[u8])
     ensures { Adds sheet.old (header_row sheet.old.layout.medium header.now) sheet.new }
 {
     let medium = sheet.layout().medium;
     push_before(sheet, Side::Terminal, "header");
     push_characters(sheet, medium, header);
-    sheet.push_str(behind(medium, Side::Terminal));
+    sheet.push_str(marks(medium, Side::Terminal).1);
 }
 
 /// Adds the characters of a header.
@@ -67,53 +59,37 @@ fn push_characters(sheet: &mut Sheet, medium: Medium, header: &[u8])
     }
 }
 
-/// Adds the characters of a header, each behind its name.
+/// Adds the characters of a header, each after its name.
 fn push_named(sheet: &mut Sheet, header: &[u8])
-    ensures { Adds sheet.old (named 0 header.now) sheet.new }
+    ensures { Adds sheet.old (named header.now) sheet.new }
 {
-    for place in 0..header.len() {
-        push_character(sheet, place, header[place]);
+    push_character(sheet, "CLA ", header, 0);
+    push_character(sheet, "  INS ", header, 1);
+    push_character(sheet, "  P1 ", header, 2);
+    push_character(sheet, "  P2 ", header, 3);
+    push_character(sheet, "  P3 ", header, 4);
+    let (_, rest) = cut(header, 5);
+    sheet.push_hex(rest);
+}
+
+/// Adds the character of a header at this place, counted from 0, after its name.
+fn push_character(sheet: &mut Sheet, name: &str, header: &[u8], place: usize)
+    ensures { Adds sheet.old (character_text name.now header.now place) sheet.new }
+{
+    if place < header.len() {
+        sheet.push_str(name);
+        sheet.push_hex(&[header[place]]);
     }
 }
 
-/// Adds the character of a header at this place, counted from 0, behind its name.
-fn push_character(sheet: &mut Sheet, place: usize, byte: u8)
-    ensures { Adds sheet.old (character_text place byte) sheet.new }
-{
-    sheet.push_str(name_before(place));
-    sheet.push_hex(&[byte]);
-}
-
-/// What stands before the character of a header at this place.
-fn name_before(place: usize) -> &'static str
-    ensures { result.now ≡ name_before place }
-{
-    match place {
-        0 => "CLA ",
-        1 => "  INS ",
-        2 => "  P1 ",
-        3 => "  P2 ",
-        4 => "  P3 ",
-        _ => "",
-    }
-}
-
-/// Begins the row of a status with its characters, and a space if there are any.
+/// Adds the start of the row of a status: its characters, and a space if there are any.
 pub fn push_status(sheet: &mut Sheet, side: Side, status: &[u8])
     ensures { Adds sheet.old (before sheet.old.layout.medium side (codes "status")
         ++ status_digits status.now) sheet.new }
 {
     push_before(sheet, side, "status");
-    push_digits(sheet, status);
-}
-
-/// Adds the characters of a status, and a space.
-fn push_digits(sheet: &mut Sheet, status: &[u8])
-    ensures { Adds sheet.old (status_digits status.now) sheet.new }
-{
-    if status.is_empty() {
-        return;
+    if !status.is_empty() {
+        sheet.push_hex(status);
+        sheet.push_str(" ");
     }
-    sheet.push_hex(status);
-    sheet.push_str(" ");
 }

@@ -1,4 +1,4 @@
-//! Tells what comes of a trace: the boxes of TPDUs in turn, the words between them, and the counts.
+//! Writes an explanation: the boxes of TPDUs in turn, notes between them, and the counts.
 
 ghost use Rattle.std.specs.Prelude.{◌≡◌, ◌∷◌, ◌++◌, List, [], false, not, IfOk, OnOk};
 ghost use Rattle.std.specs.String.{string_bytes};
@@ -32,35 +32,35 @@ use crate::write::tpdu_box::tell_box;
 use std::alloc::{AllocError, Global};
 use t0_core::End;
 
-/// What is told of a trace: what is written, or kept, and what links and counts its TPDUs.
+/// Writes or keeps the box of each TPDU, links each to earlier ones, and counts them.
 #[derive(Drop)]
 pub struct Teller {
     alloc: Global,
-    /// What is not shown.
+    /// What is hidden.
     pub mask: Mask,
-    /// The line of which is told.
+    /// The current line.
     line: u64,
-    /// The line in which the TPDU under way began.
+    /// The line where the current TPDU began.
     began: u64,
-    /// The last line of which characters that are of no TPDU and no part were told.
+    /// The last line whose characters were shown as before a header.
     strays: u64,
-    /// Whether an answer to reset, a line `reset` or a whole TPDU has come.
+    /// Whether an answer to reset, a line `reset` or a whole TPDU was read.
     pub is_led: bool,
     story: Story,
     /// The times of the lines.
     clock: Clock,
-    /// The first command of a log that is told as no TPDU: its line, and why.
+    /// The first unexpected command or answer of a log: its line, and why.
     pub first_bad: Option<(u64, PairFault)>,
-    /// What is counted.
+    /// The counts.
     pub counts: Counts,
     /// The TPDUs that a comparison keeps.
     pub keeping: Keeping,
-    /// What is written.
+    /// The output.
     pub output: Output,
 }
 
 impl Teller {
-    /// Nothing has been told.
+    /// A teller before the first line.
     pub fn new(alloc: Global, layout: Layout, mask: Mask) -> Teller
         ensures writes { result.keeping.is_on ≡ false }
         ensures mask { result.mask ≡ mask }
@@ -89,7 +89,7 @@ impl Teller {
         }
     }
 
-    /// The next line is this one, and has this time, which is empty if it has none.
+    /// Begins this line, with its time. The time is empty if the line has none.
     pub fn pass(&mut self, line: u64, time: &[u8]) -> Result<(), AllocError>
         ensures { StaysWritten self.old self.new }
     {
@@ -97,8 +97,8 @@ impl Teller {
         self.clock.pass(time)
     }
 
-    /// Takes a character of this line, with which `rest` of it begins, if it is of an opening, and
-    /// tells of the parts that end; it answers whether it is none of the dialogue.
+    /// Takes a character if it belongs to an opening, and writes the parts that end. `rest` is the
+    /// line from that character. Returns whether the dialogue does not contain the character.
     pub fn open(
         &mut self,
         preface: &mut Preface,
@@ -124,7 +124,7 @@ impl Teller {
         Ok(true)
     }
 
-    /// Notes the time, and tells what comes before a character that is this.
+    /// Notes the time, and writes what ends before a character of this role.
     fn tell_before(&mut self, role: Role, preface: &Preface, rest: &[u8])
         ensures { StaysWritten self.old self.new }
     {
@@ -137,7 +137,7 @@ impl Teller {
         }
     }
 
-    /// Takes the first character behind a reset of which no line says, as `open` takes it.
+    /// Takes the first character after a reset without a line `reset`, as `open` does.
     pub fn answer_again(
         &mut self,
         preface: &mut Preface,
@@ -149,12 +149,12 @@ impl Teller {
             (opening_of preface.new ≡ opens unopened (role_of unopened from byte) byte) }
         ensures boxes { OnOk result (AddsBoxes [] self.old self.new) }
     {
-        self.tell_reset("reset, though no line says so, as the card answers");
+        self.tell_reset("reset, as the card's answer shows (no line says so)");
         preface.reset();
         self.open(preface, from, byte, rest)
     }
 
-    /// Tells of a reset, and of the chain that it drops.
+    /// Writes the note of a reset, and whether it drops a chain.
     fn tell_reset(&mut self, words: &str)
         ensures { StaysWritten self.old self.new }
     {
@@ -167,8 +167,8 @@ impl Teller {
         self.output.page.note();
     }
 
-    /// Hears a character of the dialogue in this line, and tells of the TPDU that ends with it or
-    /// before it; it answers whether a dialogue goes on with it.
+    /// Hears a character of the dialogue, and writes the TPDU that ends with it or before it.
+    /// Returns whether a dialogue continues with it.
     pub fn hear(&mut self, listener: &mut Listener, from: End, byte: u8) -> Result<bool, AllocError>
         ensures { (events : List Event) (before : List Report) →
             HasNoted events before listener.old → IfOk result (λ continues.
@@ -186,7 +186,7 @@ impl Teller {
         }
     }
 
-    /// Notes that a TPDU begins in the line, if one does.
+    /// Notes that a TPDU begins in the line, if so.
     pub fn begin_if(&mut self, begins: bool)
         ensures { StaysWritten self.old self.new }
     {
@@ -196,7 +196,7 @@ impl Teller {
         }
     }
 
-    /// Tells of a TPDU that has ended, and notes whether the next has begun in this line.
+    /// Writes a TPDU that ended, and notes whether the next began in this line.
     fn tell_whole(&mut self, tpdu: &Tpdu, begins: bool) -> Result<(), AllocError>
         ensures { OnOk result (AddsBoxes (report_of tpdu.now ∷ []) self.old self.new) }
     {
@@ -206,7 +206,7 @@ impl Teller {
         self.output.outcome()
     }
 
-    /// Tells of a TPDU, which is counted, and what it is among those before it.
+    /// Counts a TPDU, links it to earlier ones, and writes it.
     fn tell_one(&mut self, tpdu: &Tpdu) -> Result<(), AllocError>
         ensures { OnOk result (AddsBoxes (report_of tpdu.now ∷ []) self.old self.new) }
     {
@@ -215,53 +215,36 @@ impl Teller {
         self.tell(tpdu, links)
     }
 
-    /// Tells of a TPDU, or keeps it with its box.
+    /// Writes the box of a TPDU, or keeps the TPDU with its box.
     fn tell(&mut self, tpdu: &Tpdu, links: Links) -> Result<(), AllocError>
         requires asker { HasAsker tpdu.now.header.items links }
         ensures { OnOk result (AddsBox links.number self.old.began (report_of tpdu.now)
             (account_of self.old) (account_of self.new)) }
     {
         if self.keeping.is_on {
-            let kept = self.kept_of(
-                tpdu,
-                links,
-                Output::new(self.alloc, self.output.sheet.layout()),
-            )?;
+            let empty = Output::new(self.alloc, self.output.sheet.layout());
+            let kept = self.kept_of(tpdu, links, empty)?;
             return self.keeping.all.push(kept).map_err(AllocError::from);
         }
-        let began = self.began;
-        tell_box(
-            tpdu,
-            links,
-            began,
-            &self.clock,
-            &self.story,
-            &self.mask,
-            &mut self.output,
-        );
+        let (clock, story, mask) = (&self.clock, &self.story, &self.mask);
+        let output = &mut self.output;
+        tell_box(tpdu, links, self.began, clock, story, mask, output);
         Ok(())
     }
 
-    /// A TPDU with what is told of it as the only thing that is written.
+    /// A TPDU with its box alone.
     fn kept_of(&self, tpdu: &Tpdu, links: Links, empty: Output) -> Result<Kept, AllocError>
         requires asker { HasAsker tpdu.now.header.items links }
     {
         let mut output = empty;
-        tell_box(
-            tpdu,
-            links,
-            self.began,
-            &self.clock,
-            &self.story,
-            &self.mask,
-            &mut output,
-        );
+        let (clock, story, mask) = (&self.clock, &self.story, &self.mask);
+        tell_box(tpdu, links, self.began, clock, story, mask, &mut output);
         let text = output.into_text()?;
         let tpdu = tpdu.copied()?;
         Ok(Kept { tpdu, text })
     }
 
-    /// Tells what was under way, if anything was, and drops it.
+    /// Writes the TPDU that is cut off, if there is one.
     fn cut_off(&mut self, listener: &mut Listener) -> Result<(), AllocError>
         ensures noted { (events : List Event) (before : List Report) →
             HasNoted events before listener.old → HasNoted (events ++ Reset ∷ [])
@@ -276,7 +259,7 @@ impl Teller {
         self.tell_one(&part)
     }
 
-    /// Tells of a reset, with what it cuts off.
+    /// Writes what a reset cuts off, and the reset.
     pub fn reset(
         &mut self,
         preface: &mut Preface,
@@ -297,7 +280,7 @@ impl Teller {
         self.output.outcome()
     }
 
-    /// Tells the part of an opening that is under way.
+    /// Writes the part of an opening that is in progress.
     fn tell_part(&mut self, preface: &Preface)
         ensures { StaysWritten self.old self.new }
     {
@@ -305,7 +288,7 @@ impl Teller {
         tell_part(stage, preface, &self.mask, &mut self.output.page);
     }
 
-    /// Tells of a character with which no dialogue goes on, behind what it cuts off.
+    /// Writes what an unexpected byte cuts off, and the box of that byte.
     pub fn complain(
         &mut self,
         complaint: Complaint,
@@ -319,7 +302,7 @@ impl Teller {
         self.output.outcome()
     }
 
-    /// Tells a line that is none of characters.
+    /// Writes a line without characters.
     pub fn note(&mut self, note: &[u8]) -> Result<(), AllocError>
         ensures { OnOk result (AddsBoxes [] self.old self.new) }
     {
@@ -327,7 +310,7 @@ impl Teller {
         self.output.outcome()
     }
 
-    /// Tells what came of this line of a log, or of its end.
+    /// Writes what this line of a log completes, or the end of the log.
     pub fn tell_logged(&mut self, logged: &[Logged], line: &[u8]) -> Result<(), AllocError> {
         for one in logged {
             match one {
@@ -342,7 +325,7 @@ impl Teller {
         self.output.outcome()
     }
 
-    /// Tells one thing that came of a line of a log, and is no command with its answer.
+    /// Writes something of a log other than a command.
     fn tell_other(&mut self, one: &Logged, line: &[u8]) {
         match one {
             Logged::Begins => {
@@ -365,12 +348,12 @@ impl Teller {
         }
     }
 
-    /// Tells bytes that are of no TPDU, behind what they are.
+    /// Writes bytes outside of TPDUs, after words for them.
     fn tell_bytes(&mut self, what: &str, bytes: &[u8]) {
         tell_bytes(what, bytes, &self.mask, &mut self.output.page);
     }
 
-    /// Tells a command with its answer, or without one: as a TPDU, or why it is none that it reads.
+    /// Writes a command with its answer, if any: as a TPDU, or as a protocol error.
     fn pair(&mut self, command: &[u8], answer: Option<&[u8]>) -> Result<(), AllocError> {
         let outcome = match answer {
             Some(bytes) => tpdu_of_pair(self.alloc, command, bytes),
@@ -383,7 +366,7 @@ impl Teller {
         }
     }
 
-    /// Tells of a TPDU of a log, and whether the log has its answer.
+    /// Writes a TPDU of a log, and notes whether the log has its answer.
     fn tell_pair(&mut self, tpdu: &Tpdu, is_answered: bool) -> Result<(), AllocError> {
         self.tell_one(tpdu)?;
         if !is_answered {
@@ -392,7 +375,7 @@ impl Teller {
         Ok(())
     }
 
-    /// Tells a command with its answer, or without one, that are no TPDU for this reason.
+    /// Writes a command with its answer, if any, that is not a TPDU for this reason.
     fn tell_bad(
         &mut self,
         why: PairFault,
@@ -408,7 +391,7 @@ impl Teller {
         Ok(())
     }
 
-    /// Tells what is under way where the trace ends, and the last block.
+    /// Writes what the end of the trace cuts off, and the last block.
     pub fn end(&mut self, preface: &Preface, listener: &mut Listener) -> Result<(), AllocError>
         ensures { OnOk result
             (AddsBoxes (ended_by (report_of listener.old.under_way)) self.old self.new) }

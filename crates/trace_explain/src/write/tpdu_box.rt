@@ -1,4 +1,4 @@
-//! What is told of a TPDU, row by row.
+//! The box of a TPDU, row by row.
 
 ghost use Rattle.std.specs.Prelude.{◌≡◌, ◌∷◌, ℕ, List, [], false};
 ghost use Rattle.trace_explain.specs.Boxes.{HasAsker, Puts, PutsBox, PutsDataOf, PutsDataRow, PutsStatus, PutsWhole, ShowsData, side_of, status_side};
@@ -19,13 +19,14 @@ use crate::write::ascii::push_digits;
 use crate::write::layout::{Anchor, Head, Kind, Side};
 use crate::write::output::Output;
 use crate::write::page::Page;
-use crate::write::row::behind;
+use crate::write::row::{marks, push_data_row, push_lines_row};
 use crate::write::sheet::Sheet;
 use crate::write::shown::{push_header, push_line, push_number, push_status};
 use crate::write::tree_row::push_tree;
 use t0_core::Direction;
 
-/// Adds the box of a TPDU that began in this line, of which this is known among those before it.
+/// Adds the box of a TPDU. `began` is the line where it began; `links` and `story` link it to
+/// earlier TPDUs.
 pub fn tell_box(
     tpdu: &Tpdu,
     links: Links,
@@ -57,7 +58,7 @@ pub fn tell_box(
     tell_end(links, Origin::of_whole(tpdu, links), all, mask, output);
 }
 
-/// Adds the title of a TPDU's box, with the name that SELECT has.
+/// Adds the title of the box. `name` is the name or path of SELECT.
 fn tell_title(
     outline: &Outline,
     name: &[u8],
@@ -85,7 +86,7 @@ fn tell_title(
     push_line(&mut output.sheet, began);
 }
 
-/// How a TPDU went: by its status, where it came whole.
+/// The kind of the box, by the status.
 fn kind_of(outline: &Outline) -> Kind {
     let (Some(status), Some((header, _))) = (outline.status, outline.header) else {
         return Kind::CutOff;
@@ -97,16 +98,19 @@ fn kind_of(outline: &Outline) -> Kind {
     }
 }
 
-/// Adds the rows of when a TPDU began, and of a chain that it drops.
+/// Adds the rows of the time, and of a chain that the command drops.
 fn tell_time(links: Links, clock: &Clock, output: &mut Output)
     ensures { Joins output.old.sheet output.new.sheet }
 {
     clock.push_begin(&mut output.page.lines);
     output.page.row(Side::Nobody, "time");
-    if links.drops_before {
-        output.page.line_row("before", "the chain is dropped\n");
-    }
+    output.page.line_row("before", dropped(links.drops_before));
     output.join();
+}
+
+/// The text of the row of a dropped chain, if it is.
+fn dropped(drops: bool) -> &'static str {
+    if drops { "the chain is dropped\n" } else { "" }
 }
 
 /// Adds the row of the procedure bytes.
@@ -118,7 +122,7 @@ fn tell_procedure(outline: &Outline, output: &mut Output)
     output.join();
 }
 
-/// Adds the row of the data: as a tree where they may be objects, and are some.
+/// Adds the row of the data: as a tree if they may be objects and are some.
 fn tell_data(tpdu: &Tpdu, links: Links, mask: &Mask, output: &mut Output)
     requires asker { HasAsker tpdu.now.header.items links }
     ensures { PutsDataOf mask.now tpdu.now.way tpdu.now.header.items tpdu.now.moved.items
@@ -131,18 +135,12 @@ fn tell_data(tpdu: &Tpdu, links: Links, mask: &Mask, output: &mut Output)
         return;
     };
     let may_be_objects = way == Direction::FromCard || may_be_objects(tpdu, links);
-    let side = side_of(way);
-    tell_row(
-        mask.shown(origin),
-        side,
-        may_be_objects,
-        tpdu.moved.as_slice(),
-        mask,
-        output,
-    );
+    let (shown, side) = (mask.shown(origin), side_of(way));
+    let bytes = tpdu.moved.as_slice();
+    tell_row(shown, side, may_be_objects, bytes, mask, output);
 }
 
-/// Which end says what goes this way.
+/// The end that sends data this way.
 fn side_of(way: Direction) -> Side
     ensures { result ≡ side_of way }
 {
@@ -152,7 +150,7 @@ fn side_of(way: Direction) -> Side
     }
 }
 
-/// Adds the row of data, as far as they are shown.
+/// Adds a row of data, as far as they are shown.
 fn tell_row(
     shown: Shown,
     side: Side,
@@ -166,11 +164,12 @@ fn tell_row(
 {
     output.page.lines.clear();
     push_shown(&mut output.page.lines, shown, may_be_objects, bytes, mask);
-    output.data_row(side);
+    push_data_row(&mut output.sheet, side, &output.page.lines);
+    output.page.lines.clear();
 }
 
-/// Adds the lines of data, as far as they are shown: as a tree where they may be objects and are
-/// some, and else as digits, with text beside them.
+/// Adds the lines of data, as far as they are shown: as a tree if they may be objects and are some,
+/// otherwise as digits with text beside them.
 fn push_shown(lines: &mut Sheet, shown: Shown, may_be_objects: bool, bytes: &[u8], mask: &Mask)
     ensures { PutsLines (ShowsData shown mask.now.tags.items may_be_objects bytes.now)
         lines.old lines.new }
@@ -190,22 +189,20 @@ fn push_shown(lines: &mut Sheet, shown: Shown, may_be_objects: bool, bytes: &[u8
     }
 }
 
-/// Adds the line of data that are not shown.
+/// Adds the line for hidden data.
 fn push_hidden(lines: &mut Sheet)
     ensures { PutsLines (λ all. all ≡ hidden ∷ []) lines.old lines.new }
 {
     lines.push_str("\n**");
 }
 
-/// Adds the rows of what a command APDU has behind its data, and of the data that came in answer to
-/// it.
+/// Adds the rows of Le after the data of a command APDU, and of the data that the card returned.
 fn tell_answer(tpdu: &Tpdu, links: Links, mask: &Mask, output: &mut Output)
     ensures { Joins output.old.sheet output.new.sheet }
 {
-    if tpdu.way.is_none() {
-        return;
-    }
-    tell_le(tpdu.le, output);
+    phrases::push_most(&mut output.page.lines, tpdu.le);
+    output.page.row(Side::Terminal, "Le");
+    output.join();
     let bytes = tpdu.answer.as_slice();
     if let Some(origin) = Origin::of_answer(tpdu, links)
         && !bytes.is_empty()
@@ -214,18 +211,7 @@ fn tell_answer(tpdu: &Tpdu, links: Links, mask: &Mask, output: &mut Output)
     }
 }
 
-/// Adds the row of Le behind the data of a command APDU, if it has one.
-fn tell_le(le: Option<u8>, output: &mut Output)
-    ensures { Joins output.old.sheet output.new.sheet }
-{
-    if let Some(le) = le {
-        phrases::push_most(&mut output.page.lines, le);
-        output.page.row(Side::Terminal, "Le");
-    }
-    output.join();
-}
-
-/// Adds the row of the status, or that the TPDU was cut off.
+/// Adds the row of the status, or of the cut.
 fn tell_status(outline: &Outline, side: Side, status: &[u8], output: &mut Output)
     ensures { PutsStatus side status.now output.old.sheet output.new.sheet }
 {
@@ -234,10 +220,10 @@ fn tell_status(outline: &Outline, side: Side, status: &[u8], output: &mut Output
     push_status_words(outline, &mut output.page);
     output.page.push_rest(status.len());
     output.join();
-    output.sheet.push_str(behind(medium, side));
+    output.sheet.push_str(marks(medium, side).1);
 }
 
-/// Which end says the status: nobody says one that is cut off.
+/// The end that sends the status: neither if it is cut off.
 fn status_side(tpdu: &Tpdu) -> Side
     ensures { result ≡ status_side tpdu.now.header.items tpdu.now.status.items }
 {
@@ -248,7 +234,7 @@ fn status_side(tpdu: &Tpdu) -> Side
     }
 }
 
-/// Adds what a status means, or how far a TPDU came that was cut off.
+/// Adds the meaning of the status, or where the TPDU is cut off.
 fn push_status_words(outline: &Outline, page: &mut Page) {
     let (Some(status), Some((header, _))) = (outline.status, outline.header) else {
         phrases::push_cut_off(&mut page.lines, outline);
@@ -257,27 +243,18 @@ fn push_status_words(outline: &Outline, page: &mut Page) {
     push_meaning(&mut page.lines, header, status);
 }
 
-/// Adds the rows of a chain that is dropped, and of what has come together, and ends the box.
+/// Adds the rows of a dropped chain, and of data that are shown together, and ends the box.
 fn tell_end(links: Links, origin: Option<Origin>, all: &[u8], mask: &Mask, output: &mut Output)
     ensures { Joins output.old.sheet output.new.sheet }
 {
-    tell_after(links, output);
+    output.page.line_row("after", dropped(links.drops_after));
+    output.join();
     tell_together(links.whole, origin, all, mask, output);
     output.page.close();
     output.join();
 }
 
-/// Adds the row of a chain that a TPDU drops.
-fn tell_after(links: Links, output: &mut Output)
-    ensures { Joins output.old.sheet output.new.sheet }
-{
-    if links.drops_after {
-        output.page.line_row("after", "the chain is dropped\n");
-    }
-    output.join();
-}
-
-/// Adds the row of what has come together, if anything has.
+/// Adds the row of data that are shown together, if there are any.
 fn tell_together(
     whole: Whole,
     origin: Option<Origin>,
@@ -294,7 +271,7 @@ fn tell_together(
     }
 }
 
-/// Adds the row of what has come together, behind its size.
+/// Adds the row of data that are shown together, after their size.
 fn tell_whole(whole: Whole, shown: Shown, bytes: &[u8], mask: &Mask, output: &mut Output)
     ensures { PutsWhole whole shown mask.now.tags.items bytes.now output.old.sheet
         output.new.sheet }
@@ -302,11 +279,17 @@ fn tell_whole(whole: Whole, shown: Shown, bytes: &[u8], mask: &Mask, output: &mu
     output.page.lines.clear();
     phrases::push_whole(&mut output.page.lines, whole, bytes.len() as u64);
     push_shown(&mut output.page.lines, shown, true, bytes, mask);
-    output.lines_row(Side::Nobody, "together");
+    push_lines_row(
+        &mut output.sheet,
+        Side::Nobody,
+        "together",
+        &output.page.lines,
+    );
+    output.page.lines.clear();
 }
 
-/// Whether the data of the terminal may be objects: not where they are a piece of a chain, a name
-/// or a path, or reference data.
+/// Whether the data of the terminal may be objects. They may not if they are a piece of a chain, a
+/// name or a path, or reference data.
 fn may_be_objects(tpdu: &Tpdu, links: Links) -> bool {
     let is_whole = matches!(
         links.link,

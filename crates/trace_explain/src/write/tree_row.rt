@@ -1,4 +1,4 @@
-//! The lines of data that are a list of objects, as a tree.
+//! The lines of a list of objects, as a tree.
 
 ghost use Rattle.std.specs.Prelude.{◌≡◌, ◌<◌, ◌∷◌};
 ghost use Rattle.trace_explain.specs.Sheets.{Adds, PutsAny, PutsValue};
@@ -6,20 +6,18 @@ ghost use Rattle.trace_explain.specs.Trees.{AreTree, IsTree, indent, object, val
 
 use crate::describe::mask::Mask;
 use crate::write::ascii::{cut, is_text, push_content, push_lines};
-use crate::write::row::push_spaces;
 use crate::write::sheet::Sheet;
 use tlv_core::{Objects, Tag};
 
-/// How many bytes of a value stand in a line: with a tag of three bytes and at level 16 they come
-/// to the columns of a line.
+/// The number of bytes of a value in a line. With a tag of three bytes at level 16 they fill it.
 const VALUE_BYTES: usize = 24;
 
-/// The same of a value that is text.
+/// The same for a value with text beside it.
 const VALUE_TEXT: usize = 15;
 
-/// Adds a line for each object of data that may be objects and are some, two spaces further in for
-/// each level below the first, and more lines for a long value, but for values that are not shown.
-/// It answers whether there are any.
+/// Adds a line for each object of data that may be objects and are some, and more lines for a long
+/// value. Each level is two spaces further in. Hidden values are `**`. Returns whether there are
+/// objects.
 pub fn push_tree(lines: &mut Sheet, may_be_objects: bool, bytes: &[u8], mask: &Mask) -> bool
     ensures { PutsAny (IsTree mask.now.tags.items may_be_objects bytes.now) result
         lines.old lines.new }
@@ -33,7 +31,7 @@ pub fn push_tree(lines: &mut Sheet, may_be_objects: bool, bytes: &[u8], mask: &M
     }
 }
 
-/// Adds the lines of objects; it answers whether there are any.
+/// Adds the lines of objects. Returns whether there are any.
 fn push_objects(lines: &mut Sheet, objects: Objects<'_>, mask: &Mask) -> bool
     ensures { PutsAny (AreTree mask.now.tags.items objects.entry.bytes objects.entry.level) result
         lines.old lines.new }
@@ -56,23 +54,23 @@ fn push_objects(lines: &mut Sheet, objects: Objects<'_>, mask: &Mask) -> bool
     some
 }
 
-/// Begins the line of an object.
+/// Adds the start of the line of an object: its tag.
 fn push_object(lines: &mut Sheet, level: u8, tag: Tag)
     ensures { Adds lines.old (10 ∷ object level tag) lines.new }
 {
     lines.push_str("\n");
-    push_spaces(lines, indent(level));
+    lines.push_spaces(indent(level));
     lines.push_hex(tag.bytes());
 }
 
-/// How many spaces stand before an object of this level.
+/// The number of spaces before an object of this level.
 fn indent(level: u8) -> usize
     ensures { result ≡ indent level }
 {
     usize::from(level.saturating_sub(1)) * 2
 }
 
-/// Adds the value of an object behind its tag, `-` where it is empty, in as many lines as it takes.
+/// Adds the value of an object after its tag, in several lines if it is long. `-` if it is empty.
 fn push_value(lines: &mut Sheet, level: u8, value: &[u8])
     ensures { PutsValue level value.now lines.old lines.new }
 {
@@ -88,7 +86,7 @@ fn push_value(lines: &mut Sheet, level: u8, value: &[u8])
     push_lines(lines, indent(level) + 5, width, is_text, rest);
 }
 
-/// How many bytes of a value stand in a line, which are text or not.
+/// The number of bytes of a value in a line, with or without text.
 fn value_width(is_text: bool) -> usize
     ensures value { result ≡ value_width is_text }
     ensures some { 0 < result }

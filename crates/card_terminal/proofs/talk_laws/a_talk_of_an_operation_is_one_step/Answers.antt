@@ -5,6 +5,5 @@ use Rattle.card_terminal.specs.Talk.{talk_dialogues}
 
 pub returns : goal.returns
 returns c = λ old new plans operation exchanges answer idle cuts talk runs.
-    let one = talk_answers old new operation exchanges answer idle talk (goes_by_runs old new
-    (talk_dialogues exchanges) plans cuts runs) in
-    (one.after, one.answers, one.same, one.idle)
+    talk_answers old new operation exchanges answer idle talk
+    (goes_by_runs old new (talk_dialogues exchanges) plans cuts runs)

@@ -41,8 +41,7 @@ returns-clause-explained g c = λ kept chars.
       position_of a,
       shown_as P (WritesReports c.args.layout c.args.mask before after) h
           (λ reports l h. writes_reports (out_with front h.1) reports l c.args.layout c.args.mask
-          before mid
-          after a b refl refl refl h.2 c.in_ok-write_output.ensures.written h.3 h.0
+          before mid after a b refl h.2 c.in_ok-write_output.ensures.written h.3 h.0
           c.in_ok-end.ensures.adds
           (sym c.write_output.ensures.out.is_cut ∙ c.in_ok-is_whole.ensures.whole)
           (ap (λ (s : Position). s.reading.of_tpdus) c.in_ok-end.ensures.position)),

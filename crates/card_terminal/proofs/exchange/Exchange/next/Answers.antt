@@ -1,7 +1,4 @@
-use Rattle.std.proofs.Common.{subst}
-use Rattle.card_terminal.specs.ExchangeSide.{ExchangeOf}
-use Rattle.card_terminal.specs.ExchangeSteps.{IsTurn}
-use Rattle.card_terminal.specs.OwnedExchange.{of_parts}
+use Rattle.std.proofs.Common.{sym}
 use Rattle.card_terminal.proofs.OwnedLemmas.{turned}
 use Rattle.card_terminal.proofs.TurnLemmas.{over_by_turn}
 use Rattle.card_terminal.proofs.exchange.Exchange.next.Goals as goal
@@ -12,9 +9,6 @@ returns-clause-over g c = λ status done.
 
 pub returns-clause-turn : goal.returns-clause-turn
 returns-clause-turn g c =
-    let e = c.self.inside in
-    let P : ExchangeOf → Type 0 = λ ex. IsTurn ex c.next.result
-    (of_parts c.next.new.self e.gather e.attempt e.wanted e.stalled) in
-    subst P c.self.view_is (turned _ c.next.result c.next.new.self c.self.invariant
+    rw (sym c.self.view_is) (turned _ c.next.result c.next.new.self c.self.invariant
     c.if-self.false c.next.ensures.turn c.next.ensures.after c.next.ensures.keeps
     c.next.ensures.stays c.next.ensures.goes_on)

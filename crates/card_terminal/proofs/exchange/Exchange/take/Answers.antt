@@ -1,16 +1,10 @@
-use Rattle.std.proofs.Common.{subst}
-use Rattle.card_terminal.specs.ExchangeSide.{ExchangeOf}
-use Rattle.card_terminal.specs.ExchangeSteps.{IsTaking}
-use Rattle.card_terminal.specs.OwnedExchange.{of_parts}
+use Rattle.std.proofs.Common.{sym}
 use Rattle.card_terminal.proofs.exchange.Exchange.take.Goals as goal
 
 pub returns-clause-taking : goal.returns-clause-taking
 returns-clause-taking g c =
     let made = c.taken_by in
-    let new = of_parts made.new.end made.new.gather made.new.attempt c.self.inside.wanted
-    made.new.stalled in
-    let P : ExchangeOf → Type 0 = λ ex. IsTaking ex c.args.byte made.result new in
-    subst P c.self.view_is (record {
+    rw (sym c.self.view_is) (record {
       fault = made.ensures.fault;
       bounds = made.ensures.bounds;
       limit = made.ensures.limit;

@@ -54,12 +54,3 @@ returns-clause-handed c =
     let same : length c.loop-at.bytes ≡ length c.args.bytes.now = search in
     handed_all c.args.end.now c.loop-at.end c.args.stalled c.args.bytes.now c.loop-at.bytes
     c.loop-at.at beyond within same c.loop-at.invariant
-
-pub returns-clause-kept : goal.returns-clause-kept
-returns-clause-kept c = c.loop-at.invariant.kept
-
-pub returns-clause-over : goal.returns-clause-over
-returns-clause-over c = c.loop-at.invariant.over
-
-pub returns-clause-data : goal.returns-clause-data
-returns-clause-data c = c.loop-at.invariant.only

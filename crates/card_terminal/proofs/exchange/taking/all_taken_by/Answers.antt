@@ -7,9 +7,6 @@ use Rattle.card_terminal.proofs.exchange.taking.all_taken_by.Goals as goal
 pub loop-at-init : goal.loop-at-init
 loop-at-init g c = none_yet _ c.args.bytes.now c.requires
 
-pub taken_by-requires : goal.taken_by-requires
-taken_by-requires g c = c.loop-at.invariant.kept
-
 pub loop-at-preserved : goal.loop-at-preserved
 loop-at-preserved g c =
     let step : IsTaking (of_parts c.loop-at.end c.loop-at.gather c.loop-at.attempt c.args.wanted
@@ -56,18 +53,6 @@ pub returns-in-Err-clause-data : goal.returns-in-Err-clause-data
 returns-in-Err-clause-data g c = λ content only.
     c.taken_by.ensures.data content (c.loop-at.invariant.only content only)
 
-pub returns-in-Err-clause-limit : goal.returns-in-Err-clause-limit
-returns-in-Err-clause-limit g c = c.taken_by.ensures.limit ∙ c.loop-at.invariant.limit
-
-pub returns-clause-limit : goal.returns-clause-limit
-returns-clause-limit g c = c.loop-at.invariant.limit
-
-pub returns-clause-kept : goal.returns-clause-kept
-returns-clause-kept g c = c.loop-at.invariant.kept
-
 pub returns-clause-taking : goal.returns-clause-taking
 returns-clause-taking g c = taken_all _ _ c.args.bytes.now c.loop-at.at c.loop-at-test.false
     c.loop-at.auto.at-end c.loop-at.invariant
-
-pub returns-clause-data : goal.returns-clause-data
-returns-clause-data g c = c.loop-at.invariant.only

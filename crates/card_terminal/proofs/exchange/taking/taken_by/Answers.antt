@@ -6,7 +6,7 @@ use Rattle.t0_core.specs.Room.{Room}
 use Rattle.t0_core.specs.HostSide.{Hosting}
 use Rattle.t0_core.specs.HostLaws.{going, too_long}
 use Rattle.card_terminal.specs.ExchangeSide.{so_far}
-use Rattle.card_terminal.proofs.EndLemmas.{at_end, follows_as, asks_next, ends_over, ends_stalled, same_status}
+use Rattle.card_terminal.proofs.EndLemmas.{at_end, follows_as, asks_next, ends_over, ends_stalled}
 use Rattle.card_terminal.proofs.ExchangeLemmas.{goes_further}
 use Rattle.card_terminal.specs.OwnedExchange.{of_parts}
 use Rattle.std.proofs.lemmas.Result.{err_from_is_err_and}
@@ -63,13 +63,9 @@ pub returns-in-Asks-clause-ends : goal.returns-in-Asks-clause-ends
 returns-in-Asks-clause-ends g c = λ command units first front d seen ends.
     let done = c.in_ok-take.ensures.done front d seen.stands ends in
     let end = at_end command _ units first front c.args.byte d seen ends in
-    let status = same_status c.in-Some.status d.status ((c.in-Some.ensures d.status).1 done.0) in
-    let room = ap (λ (r : Room). length r.bytes) done.1 in
-    let number = ap length c.bytes-gathered.ensures.value ∙ room in
-    let follows = follows_as command _ units first front d seen end _ _ c.in-Some.status _
-    c.in-Asks.ensures.value number c.less.ensures status in
-    asks_next command _ units first front d seen end c.asking.result
-    c.take.new.gather c.in-Asks.next c.in-Asks.count done.1 follows
+    let follows = follows_as end _ c.take.new.gather _ c.in-Some.status _ c.in-Asks.ensures.value
+    c.bytes-gathered.ensures.value done.1 c.less.ensures ((c.in-Some.ensures d.status).1 done.0) in
+    asks_next end c.asking.result c.take.new.gather c.in-Asks.next c.in-Asks.count done.1 follows
     (record {
       header_is = c.asking.ensures.header;
       from_card = c.asking.ensures.data.0;
@@ -87,12 +83,9 @@ pub returns-in-Stalls-clause-ends : goal.returns-in-Stalls-clause-ends
 returns-in-Stalls-clause-ends g c = λ command units first front d seen ends.
     let done = c.in_ok-take.ensures.done front d seen.stands ends in
     let end = at_end command _ units first front c.args.byte d seen ends in
-    let status = same_status c.in-Some.status d.status ((c.in-Some.ensures d.status).1 done.0) in
-    let room = ap (λ (r : Room). length r.bytes) done.1 in
-    let number = ap length c.bytes-gathered.ensures.value ∙ room in
-    let follows = follows_as command _ units first front d seen end _ _ c.in-Some.status _
-    c.in-Stalls.ensures.value number c.less.ensures status in
-    (refl, ends_stalled command _ units first front d seen end follows)
+    let follows = follows_as end _ c.take.new.gather _ c.in-Some.status _ c.in-Stalls.ensures.value
+    c.bytes-gathered.ensures.value done.1 c.less.ensures ((c.in-Some.ensures d.status).1 done.0) in
+    (refl, ends_stalled end follows)
 
 pub returns-in-Ends-clause-goes_on : goal.returns-in-Ends-clause-goes_on
 returns-in-Ends-clause-goes_on g c = λ command units first front new seen goes.
@@ -104,13 +97,9 @@ pub returns-in-Ends-clause-ends : goal.returns-in-Ends-clause-ends
 returns-in-Ends-clause-ends g c = λ command units first front d seen ends.
     let done = c.in_ok-take.ensures.done front d seen.stands ends in
     let end = at_end command _ units first front c.args.byte d seen ends in
-    let status = same_status c.in-Some.status d.status ((c.in-Some.ensures d.status).1 done.0) in
-    let room = ap (λ (r : Room). length r.bytes) done.1 in
-    let number = ap length c.bytes-gathered.ensures.value ∙ room in
-    let follows = follows_as command _ units first front d seen end _ _ c.in-Some.status _
-    c.in-Ends.ensures.value number c.less.ensures status in
-    ends_over command _ units first front d seen end c.take.new.self c.take.new.gather done.1
-    follows done.0
+    let follows = follows_as end _ c.take.new.gather _ c.in-Some.status _ c.in-Ends.ensures.value
+    c.bytes-gathered.ensures.value done.1 c.less.ensures ((c.in-Some.ensures d.status).1 done.0) in
+    ends_over end c.take.new.self c.take.new.gather done.1 follows done.0
 
 pub returns-in_default-clause-came : goal.returns-in_default-clause-came
 returns-in_default-clause-came g c = λ command units first front seen.

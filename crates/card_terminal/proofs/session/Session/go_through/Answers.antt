@@ -38,25 +38,8 @@ invariant_of-self g c =
     (c.converse.ensures command (agreed, way, c.requires.room)) in
     over.at_rest
 
-pub returns-clause-over : goal.returns-clause-over
-returns-clause-over g c = λ command agreed way.
-    let card = g.C.TpduCard in
-    let now = g.W.Watch.hearing c.args.watch.now in
-    let plans = c.args.plans.now in
-    let first = card.standing c.self.inside.end.card in
-    let over = when_ok c.converse.result c.unwrap.result _ _ c.unwrap.ensures
-    (c.converse.ensures command (agreed, way, c.requires.room)) in (
-      over.units,
-      over_then command c.converse.new.exchange c.next.new.self over.units over.status
-          c.in-Done.status over.terminal
-          (c.in-Done.ensures.turn.stays (λ byte. done_is_no_character c.in-Done.status byte))
-          c.in-Done.ensures.turn.turn_is,
-      gone_from card.Does (point first plans.rest now) _ _ _
-          (ap (λ x. point (card.standing x) plans.rest now) c.self.view_is) over.gone,
-    )
-
-pub returns-clause-sound : goal.returns-clause-sound
-returns-clause-sound g c =
+pub returns : goal.returns
+returns g c =
     let card = g.C.TpduCard in
     let m = g.met.C.DataCard.means in
     let now = g.W.Watch.hearing c.args.watch.now in
@@ -65,14 +48,22 @@ returns-clause-sound g c =
     let (command, agreed, way) = c.requires.begun in
     let over = when_ok c.converse.result c.unwrap.result _ _ c.unwrap.ensures
     (c.converse.ensures command (agreed, way, c.requires.room)) in
-    subst IsCardState (m.1 c.converse.new.end.card)
-    (stays_sound card.Does card.after_reset m.0 m.2 (point first plans.rest now) _ _
-    (sound_at m.0 g.C.DataCard.state card.standing m.1 c.self.inside.end.card c.args.self.now
-    c.self.view_is c.requires.sound) over.gone)
-
-pub returns-clause-room : goal.returns-clause-room
-returns-clause-room g c =
-    let (command, agreed, way) = c.requires.begun in
-    let over = when_ok c.converse.result c.unwrap.result _ _ c.unwrap.ensures
-    (c.converse.ensures command (agreed, way, c.requires.room)) in
-    c.next.ensures.turn.limit ∙ over.room
+    record {
+      over = λ named is_agreed begun.
+          let its = when_ok c.converse.result c.unwrap.result _ _ c.unwrap.ensures
+          (c.converse.ensures named (is_agreed, begun, c.requires.room)) in (
+            its.units,
+            over_then named c.converse.new.exchange c.next.new.self its.units its.status
+                c.in-Done.status its.terminal
+                (c.in-Done.ensures.turn.stays
+                (λ byte. done_is_no_character c.in-Done.status byte))
+                c.in-Done.ensures.turn.turn_is,
+            gone_from card.Does (point first plans.rest now) _ _ _
+                (ap (λ x. point (card.standing x) plans.rest now) c.self.view_is) its.gone,
+          );
+      sound = subst IsCardState (m.1 c.converse.new.end.card)
+          (stays_sound card.Does card.after_reset m.0 m.2 (point first plans.rest now) _ _
+          (sound_at m.0 g.C.DataCard.state card.standing m.1 c.self.inside.end.card
+          c.args.self.now c.self.view_is c.requires.sound) over.gone);
+      room = c.next.ensures.turn.limit ∙ over.room;
+    }

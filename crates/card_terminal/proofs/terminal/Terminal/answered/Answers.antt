@@ -16,7 +16,7 @@ returns-clause-answering g c = elim c.match-self.branch [
       answering_as _ _ c.args.bytes.now c.args.status _ _ _ _
       (sym w.in-Some.is ∙ held c.self.view_is) w.result-is
       (ap (λ (i : Inside g.row.A.Denot). i.operation) w.self-inside-is)
-      (answering w.in-Some.operation w.answered.new.self c.args.bytes.now c.args.status
-      w.answered.result w.answered.ensures.answering.0 settled
-      w.answered.ensures.answering.1 w.answered.ensures.answering.2)
+      (answering w.in-Some.operation w.answered.new.self w.answered.ensures.answering.0 settled
+      w.answered.ensures.answering.2 c.args.bytes.now c.args.status w.answered.result
+      w.answered.ensures.answering.1)
 ]

@@ -14,7 +14,6 @@ returns-clause-taking g c = elim c.match-self.branch [
       c.self.invariant.settled w.in-Some.is in
       taking_as _ _ c.args.byte _ _ _ _ (sym w.in-Some.is ∙ held c.self.view_is) w.result-is
       (ap (λ (i : Inside g.row.A.Denot). i.operation) w.self-inside-is)
-      (takes w.in-Some.operation w.take.new.self c.args.byte w.take.result
-      w.take.ensures.taking.0 settled w.take.ensures.taking.1
-      w.take.ensures.taking.2)
+      (takes w.in-Some.operation w.take.new.self w.take.ensures.taking.0 settled
+      w.take.ensures.taking.2 c.args.byte w.take.result w.take.ensures.taking.1)
 ]

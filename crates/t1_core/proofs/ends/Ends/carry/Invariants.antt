@@ -1,16 +1,13 @@
-use Rattle.std.proofs.Common.{◌-◌, length}
-use Rattle.t1_core.specs.TerminalSide.{begins}
-use Rattle.t1_core.proofs.Carrying.{InCourse, most_at}
+use Rattle.t1_core.specs.Carried.{HasCarried, Past, with_command}
+use Rattle.t1_core.proofs.Endless.{receptions_left}
 use Rattle.t1_core.proofs.ends.Ends.carry.Given as goal
 
 -- the exchanges since the command began led to both ends
 abbrev pub invariant-exchanges : goal.invariant-exchanges
-invariant-exchanges g l =
-    InCourse g.C.Applet l.command (g.L.Line.passed l.fn.line) (g.L.Line.passed l.line)
-    l.fn.self l.self
+invariant-exchanges g l = (past : Past g.C.Applet.State)
+    → HasCarried g.C.Applet past (g.L.Line.passed l.fn.line) l.fn.self
+    → HasCarried g.C.Applet (with_command past l.command l.self.terminal) (g.L.Line.passed l.line)
+    l.self
 
--- a bound on the exchanges left
 abbrev pub decreases-exchanges : goal.decreases-exchanges
-decreases-exchanges g l =
-    most_at (begins l.command l.fn.self.terminal) l.fn.self.card.at
-    - (length (g.L.Line.passed l.line) - length (g.L.Line.passed l.fn.line))
+decreases-exchanges g l = receptions_left l.self.terminal

@@ -1,29 +1,24 @@
 use Rattle.std.proofs.Common.{[], None, refl, sym, subst, ap, ◌∙◌}
 use Rattle.t0_core.specs.Front.{fresh}
-use Rattle.card_terminal.specs.ExchangeSide.{ExchangeOf, UnderWay}
-use Rattle.card_terminal.specs.ExchangeHistory.{ComesTo, to_front}
+use Rattle.card_terminal.specs.ExchangeHistory.{to_front}
 use Rattle.card_terminal.specs.OwnedExchange.{ExchangeMarkOf, over_data, IsSound}
 use Rattle.card_terminal.proofs.exchange.exchange_mark.ExchangeMark.again.Goals as goal
 
 pub returns-clause-led : goal.returns-clause-led
 returns-clause-led g c =
     let content = c.args.command.content in
-    let again = ap (λ (m : ExchangeMarkOf). over_data m content) c.drop.view_is
-    ∙ c.of.ensures.again content c.begin.ensures.data in
-    let P : ExchangeOf → Type 0 = λ ex. ComesTo c.args.command [] ex in
-    subst P (sym again) (to_front [] None fresh c.begin.ensures.begins refl)
+    rw (ap (λ (m : ExchangeMarkOf). over_data m content) c.drop.view_is
+    ∙ c.of.ensures.again content c.begin.ensures.data)
+    (to_front [] None fresh c.begin.ensures.begins refl)
 
 pub returns-clause-begins : goal.returns-clause-begins
 returns-clause-begins g c =
     let content = c.args.command.content in
-    let again = ap (λ (m : ExchangeMarkOf). over_data m content) c.drop.view_is
-    ∙ c.of.ensures.again content c.begin.ensures.data in
-    let P : ExchangeOf → Type 0 = λ ex. UnderWay c.args.command ex [] None fresh in
-    subst P (sym again) c.begin.ensures.begins
+    rw (ap (λ (m : ExchangeMarkOf). over_data m content) c.drop.view_is
+    ∙ c.of.ensures.again content c.begin.ensures.data) c.begin.ensures.begins
 
 pub returns-clause-sound : goal.returns-clause-sound
 returns-clause-sound g c =
     let content = c.args.command.content in
-    let again = ap (λ (m : ExchangeMarkOf). over_data m content) c.drop.view_is
-    ∙ c.of.ensures.again content c.begin.ensures.data in
-    subst IsSound (sym again) c.of.ensures.sound
+    subst IsSound (sym (ap (λ (m : ExchangeMarkOf). over_data m content) c.drop.view_is
+    ∙ c.of.ensures.again content c.begin.ensures.data)) c.of.ensures.sound

@@ -36,10 +36,8 @@ returns-clause-answering g c =
       led = c.answered-taken.ensures.led;
       given = c.answered-taken.ensures.given;
     } in
-    let Q : ExchangeOf → Type 0 =
-    λ ex. IsAnswering ex c.args.bytes.now c.args.status taken new in
-    let R : ExchangeOf → Type 0 =
-    λ ex. IsAnswering (over_data c.args.self.now content) c.args.bytes.now c.args.status taken ex in
-    let again = ap (λ (m : ExchangeMarkOf). over_data m content) c.drop.view_is
-    ∙ c.of.ensures.again content only in
-    subst R (sym again) (subst Q begun step)
+    rw (
+      ap (λ (m : ExchangeMarkOf). over_data m content) c.drop.view_is
+          ∙ c.of.ensures.again content only,
+      sym begun,
+    ) step

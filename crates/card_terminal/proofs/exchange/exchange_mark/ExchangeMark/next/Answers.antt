@@ -20,8 +20,4 @@ returns-clause-turn g c =
     c.next-turn.ensures.goes_on in
     let only = subst (λ (h : Hosting). HasOnly content h) (sym c.next-turn.ensures.after)
     (end_has_only _ _ _ c.at-end.ensures) in
-    let P : Hosting → Type 0 = λ h. IsTurn (over_data c.args.self.now content) turn
-    (of_parts h i.gather i.attempt i.wanted i.stalled) in
-    let Q : ExchangeOf → Type 0 = λ ex. IsTurn ex turn
-    (of_parts c.next-turn.new.self i.gather i.attempt i.wanted i.stalled) in
-    subst P (sym (c.mark-self-inside.ensures.again content only)) (subst Q begun step)
+    rw (c.mark-self-inside.ensures.again content only, sym begun) step

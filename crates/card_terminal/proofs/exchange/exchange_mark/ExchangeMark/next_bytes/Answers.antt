@@ -17,12 +17,7 @@ returns-clause-handed g c =
     let made = c.handed_by-handed in
     let step = made.ensures.handed i.gather i.attempt i.wanted sound.1 in
     let only = made.ensures.data content (end_has_only _ _ _ c.at-end.ensures) in
-    let P : Hosting → Type 0 = λ h. IsHandingOut IsTurn (over_data c.args.self.now content)
-    c.args.bytes.now made.new.bytes made.result
-    (of_parts h i.gather i.attempt i.wanted i.stalled) in
-    let Q : ExchangeOf → Type 0 = λ ex. IsHandingOut IsTurn ex c.args.bytes.now made.new.bytes
-    made.result (of_parts made.new.end i.gather i.attempt i.wanted i.stalled) in
-    subst P (sym (c.mark-self-inside.ensures.again content only)) (subst Q begun step)
+    rw (c.mark-self-inside.ensures.again content only, sym begun) step
 
 pub returns-clause-over : goal.returns-clause-over
 returns-clause-over g c = λ status done.

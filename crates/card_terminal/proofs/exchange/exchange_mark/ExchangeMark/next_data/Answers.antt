@@ -25,8 +25,4 @@ returns-clause-turn g c = λ byte is.
     (is ∙ ap Some (same_sent byte b same))) in
     let only = subst (λ (h : Hosting). HasOnly content h) (sym sends.1)
     (end_has_only _ _ _ c.at-end.ensures) in
-    let P : Hosting → Type 0 = λ h. IsTurn (over_data c.args.self.now content) (Sends byte)
-    (of_parts h i.gather i.attempt i.wanted i.stalled) in
-    let Q : ExchangeOf → Type 0 = λ old. IsTurn old (Sends byte)
-    (of_parts c.next_data.new.self i.gather i.attempt i.wanted i.stalled) in
-    subst P (sym (c.mark-self-inside.ensures.again content only)) (subst Q begun step)
+    rw (c.mark-self-inside.ensures.again content only, sym begun) step

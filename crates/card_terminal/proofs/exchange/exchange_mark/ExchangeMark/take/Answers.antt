@@ -39,8 +39,4 @@ returns-clause-taking g c =
       ends = made.ensures.ends;
       led = made.ensures.led;
     } in
-    let P : Hosting → Type 0 =
-    λ h. IsTaking (over_data c.args.self.now content) c.args.byte made.result
-    (of_parts h made.new.gather made.new.attempt i.wanted made.new.stalled) in
-    let Q : ExchangeOf → Type 0 = λ ex. IsTaking ex c.args.byte made.result new in
-    subst P (sym (c.mark-self-inside.ensures.again content only)) (subst Q begun step)
+    rw (c.mark-self-inside.ensures.again content only, sym begun) step

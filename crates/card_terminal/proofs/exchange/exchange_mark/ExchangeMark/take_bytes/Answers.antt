@@ -25,10 +25,4 @@ returns-clause-taking g c =
     let begun = same_parts i.end i.gather i.attempt i.wanted i.stalled content _ _ c.at-end.ensures
     (ap (λ (m : ExchangeMarkOf). over_data m content) c.self.view_is) in
     let only = made.ensures.data content (end_has_only _ _ _ c.at-end.ensures) in
-    let new = of_parts made.new.end made.new.gather made.new.attempt i.wanted made.new.stalled in
-    let P : Hosting → Type 0 = λ h. IsTakingAll IsTaking (over_data c.args.self.now content)
-    c.args.bytes.now made.result
-    (of_parts h made.new.gather made.new.attempt i.wanted made.new.stalled) in
-    let Q : ExchangeOf → Type 0 = λ ex. IsTakingAll IsTaking ex c.args.bytes.now made.result new in
-    subst P (sym (c.mark-self-inside.ensures.again content only))
-    (subst Q begun made.ensures.taking)
+    rw (c.mark-self-inside.ensures.again content only, sym begun) made.ensures.taking

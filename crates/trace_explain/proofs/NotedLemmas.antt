@@ -189,7 +189,7 @@ alone events reports l n = record {
   events_are = refl;
   are_overheard = tt;
   is_front = n.is_front;
-  is_at = n.is_at;
+  stands = n.is_at;
 }
 
 -- what a tap has heard is noted behind what was
@@ -217,15 +217,15 @@ noted_on : (events more : List Event) (reports later : List Report) (old new : L
     (now : HasHeard (passed (front_characters n.front) ++ more) new.tap)
     → ReportItems (n.items ++ now.items) later → ReportsFront (report_of new.under_way) now.front
     → HasNoted (events ++ more) later new
-noted_on events more reports later old new n now reports under_way = record {
+noted_on events more reports later old new n now are under_way = record {
   items = n.items ++ now.items;
   front = now.front;
   events_are = events_on events more (front_characters n.front) n.items now.items
       (front_characters now.front) n.events_are now.events_are;
   are_noted = noted_items n.items now.items n.are_noted now.are_overheard;
   is_front = now.is_front;
-  is_at = now.is_at;
-  are_reported = reports;
+  is_at = now.stands;
+  are_reported = are;
   under_way = under_way;
 }
 

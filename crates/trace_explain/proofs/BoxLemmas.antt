@@ -93,18 +93,14 @@ boxed mask number line t header status s a b c d e f g h i header_is status_is s
     let T : List ℕ → Type 0 = λ x. Adds g (status_row g.layout.medium side x words) h in
     let first : List (List ℕ) = number_text number ∷ line_text a.layout.medium line ∷ [] in
     let to_c : Puts first a c = puts_both first [] a b c title (puts_words b c time) in
-    let front : List (List ℕ) = number_text number ∷ line_text a.layout.medium line
-    ∷ header_row a.layout.medium t.header ∷ [] in
-    let to_d : Puts front a d = puts_next first (λ m. header_row m t.header ∷ []) a c d to_c
+    let to_d = puts_next first (λ m. header_row m t.header ∷ []) a c d to_c
     (puts_one (header_row c.layout.medium t.header) c d (subst H header_is head)) in
-    let to_e : Puts front a e = puts_both front [] a d e to_d (puts_words d e procedure) in
-    let most : List (List ℕ) = number_text number ∷ line_text a.layout.medium line
-    ∷ header_row a.layout.medium t.header ∷ text ∷ [] in
-    let to_f : Puts most a f = puts_both front (text ∷ []) a e f to_e (puts_one text e f adds) in
-    let to_g : Puts most a g = puts_both most [] a f g to_f (puts_words f g answer) in
+    let to_e = puts_both _ [] a d e to_d (puts_words d e procedure) in
+    let to_f = puts_both _ (text ∷ []) a e f to_e (puts_one text e f adds) in
+    let to_g = puts_both _ [] a f g to_f (puts_words f g answer) in
     let all : List (List ℕ) = number_text number ∷ line_text a.layout.medium line
     ∷ header_row a.layout.medium t.header ∷ text ∷ row a.layout.medium ∷ [] in
-    let to_h : Puts all a h = puts_next most (λ m. row m ∷ []) a g h to_g
+    let to_h = puts_next _ (λ m. row m ∷ []) a g h to_g
     (puts_one (row g.layout.medium) g h (subst T status_is (subst S s_is ends))) in
     let P : Medium → Type 0 = λ m. DataText m mask t.way t.header t.moved text in (
       all,

@@ -1,4 +1,4 @@
-//! Why the program ends with status 1, with the text of each reason.
+//! Why the program ends with status 1, with the texts of these faults.
 
 ghost use Rattle.trace_explain.specs.Trace.{IsOfWriting};
 
@@ -10,55 +10,55 @@ use std::alloc::AllocError;
 use std::io;
 use thiserror::Error;
 
-/// Why the program ends with status 1. The lines before the fault were explained.
+/// Why the program ends with status 1. Lines are counted from 1, places in a line from 0.
 #[derive(Debug, Drop, Error)]
 pub enum ExplainFault {
-    /// The digits of a line can't be read. Lines are counted from 1, here and below.
+    /// Characters of a line are not digits of bytes. The lines before it were explained.
     #[error("line {line}: bad hex")]
     BadHex {
         line: u64,
     },
-    /// The sign of a line has another form than those before.
+    /// The sign of a line has another form than this one of the lines before, which were explained.
     #[error("line {line}: a sign of another form than {form}")]
     OtherForm {
         line: u64,
         form: Form,
     },
-    /// A line has digits and no sign, and no line before has a sign.
+    /// A line has digits without a sign, and no line before has a sign.
     #[error("line {line}: no sign says which end sent these digits, and no line before has one: \
         `--unsigned` reads such lines")]
     NoSign {
         line: u64,
     },
-    /// A line begins with a sign, although lines have none.
+    /// A line begins with a sign, and `--unsigned` expects none. The lines before it were
+    /// explained.
     #[error("line {line}: a sign, and with `--unsigned` lines have none")]
     Signed {
         line: u64,
     },
-    /// It is unknown which end sent a character of a line without sign. The place of the character
-    /// in its line is counted from 0.
+    /// In a trace without signs the sender of a character is unknown. What precedes it was
+    /// explained.
     #[error("line {line}, character {}: {why}", .place.saturating_add(1))]
     NoTurn {
         line: u64,
         place: usize,
         why: TurnFault,
     },
-    /// A line has more than `LINE_LIMIT` bytes.
+    /// A line exceeds the limit.
     #[error("line {line}: line too long")]
     LineTooLong {
         line: u64,
     },
-    /// No dialogue continues with a byte.
+    /// No dialogue continues with a character.
     #[error("{0}")]
     NoDialogue(Complaint),
-    /// There are such bytes, and the program continued after them.
+    /// The explanation continued after such characters; this is the first.
     #[error("{first} (protocol errors: {complaints})")]
     Resumed {
         complaints: u64,
         first: Complaint,
     },
-    /// There are commands or answers of a log that are not shown as a TPDU, and the program
-    /// continued after them. The first began in this line.
+    /// Commands of a log are not TPDUs. The explanation continued; the first began in this line.
     #[error("line {line}: unexpected command or answer: {why} \
         (protocol errors: {complaints})")]
     BadPairs {
@@ -66,19 +66,20 @@ pub enum ExplainFault {
         line: u64,
         why: PairFault,
     },
-    /// The trace ended, and no line has a character of either end.
+    /// The trace has ended, and no line has a character of either end.
     #[error("no characters heard")]
     NoCharacters,
-    /// The reader failed.
+    /// The reader failed. What it read before was explained.
     #[error("read fault")]
     Read,
-    /// The writer failed. It is unknown how much it has written.
+    /// The writer failed. How much it took is unknown.
     #[error("write fault")]
     Write,
-    /// Nobody reads the output any more, as after `| head`. The program ends with status 0.
+    /// Nobody reads the output any more, as with `| head`. This ends the program, and is not its
+    /// fault.
     #[error("closed output")]
     Closed,
-    /// The trace has more than `TRACE_LIMIT` bytes.
+    /// The trace exceeds the limit. What it contained before was explained.
     #[error("input too long")]
     InputTooLong,
     /// Memory ran out.

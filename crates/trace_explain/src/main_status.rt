@@ -35,30 +35,16 @@ pub fn main_status<D: Files, R: Read, W: Write, F: Write>(
 ) -> u8
     ensures status { result ≤ 2 }
 {
-    match parsed(alloc, words) {
-        Ok(request) => carried_out(alloc, request, files, input, output, faults),
-        Err(error) => answered(&error, output, faults),
-    }
-}
-
-/// Does what the command line asks for, and returns the status.
-fn carried_out<D: Files, R: Read, W: Write, F: Write>(
-    alloc: Global,
-    request: Request<'_>,
-    files: &D,
-    input: &mut R,
-    output: &mut W,
-    faults: &mut F,
-) -> u8
-    ensures status { result ≤ 2 }
-{
     let Request {
         layout,
         mask,
         resumes,
         reading,
         compared,
-    } = request;
+    } = match parsed(alloc, words) {
+        Ok(request) => request,
+        Err(error) => return answered(&error, output, faults),
+    };
     match compared {
         Some(paths) => {
             match diff_files(alloc, mask, resumes, reading, files, paths, output) {

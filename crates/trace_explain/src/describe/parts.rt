@@ -77,37 +77,30 @@ fn push_object(text: &mut Sheet, header: Header) {
 /// Adds what SELECT selects. P1 says what its data are, and bits 2-1 of P2 which of several files
 /// (ISO/IEC 7816-4, 7.1.1).
 fn push_selected(text: &mut Sheet, header: Header, name: &[u8]) {
-    let (what, unnamed) = match header.p1 {
-        0x00 => ("file ", "file"),
-        0x01 => ("child DF ", "child DF"),
-        0x02 => ("EF ", "EF"),
-        0x03 => ("parent DF ", "parent DF"),
-        0x04 => ("", "by identifier"),
-        0x08 => ("by path from the MF ", "by path from the MF"),
-        0x09 => (
-            "by path from the current DF ",
-            "by path from the current DF",
-        ),
+    let what = match header.p1 {
+        0x00 => "file",
+        0x01 => "child DF",
+        0x02 => "EF",
+        0x03 => "parent DF",
+        0x04 => "by identifier",
+        0x08 => "by path from the MF",
+        0x09 => "by path from the current DF",
         _ => return push_parameters(text, header),
     };
-    text.push(' ');
-    match name.len() {
-        0 => text.push_str(unnamed),
-        1..=LONGEST_NAME => {
-            text.push_str(what);
-            text.push_hex(name);
-        }
-        _ => {
-            text.push_str(unnamed);
-            text.push_str(", a long one");
-        }
+    let is_named = (1..=LONGEST_NAME).contains(&name.len());
+    if !is_named || header.p1 != 0x04 {
+        write!(text, " {what}");
     }
-    text.push_str(match header.p2 & 0x03 {
-        0 => "",
-        1 => ", the last one",
-        2 => ", the next one",
-        _ => ", the previous one",
-    });
+    if is_named {
+        text.push(' ');
+        text.push_hex(name);
+    } else if !name.is_empty() {
+        text.push_str(", a long one");
+    }
+    let which = header.p2 & 0x03;
+    if which != 0 {
+        text.push_str(occurrence(which));
+    }
 }
 
 /// Adds where the bytes are. P1-P2 are the offset, or P1 contains a short file identifier and P2 is

@@ -258,13 +258,8 @@ fn push_wrapped(out: &mut Sheet, words: &str, begins: usize, wrap: &str) -> usiz
 
 /// The number of decimal digits of a number.
 fn digits(number: u64) -> usize {
-    let mut rest = number;
-    let mut count: usize = 1;
-    for _place in 0..20 {
-        if rest >= 10 {
-            rest /= 10;
-            count = count.saturating_add(1);
-        }
+    match number.checked_ilog10() {
+        Some(power) => (power as usize).saturating_add(1),
+        None => 1,
     }
-    count
 }

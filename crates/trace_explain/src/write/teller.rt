@@ -327,30 +327,22 @@ impl Teller {
 
     /// Writes something of a log other than a command.
     fn tell_other(&mut self, one: &Logged, line: &[u8]) {
-        match one {
+        let (what, bytes) = match one {
             Logged::Begins => {
                 self.clock.count();
-                self.begin_if(true);
+                return self.begin_if(true);
             }
             Logged::Stray(bytes) => {
                 self.story.lose_some();
-                self.tell_bytes("before a command, from the card:\n", bytes.as_slice());
+                ("before a command, from the card:\n", bytes)
             }
-            Logged::Part(End::Terminal, bytes) => {
-                self.tell_bytes("a part of a command:\n", bytes.as_slice());
-            }
-            Logged::Part(End::Card, bytes) => {
-                self.tell_bytes("a part of an answer:\n", bytes.as_slice());
-            }
-            Logged::Reset => self.tell_reset("reset"),
-            Logged::Note => tell_note(line, &self.mask, &mut self.output.page),
-            _ => {}
-        }
-    }
-
-    /// Writes bytes outside of TPDUs, after words for them.
-    fn tell_bytes(&mut self, what: &str, bytes: &[u8]) {
-        tell_bytes(what, bytes, &self.mask, &mut self.output.page);
+            Logged::Part(End::Terminal, bytes) => ("a part of a command:\n", bytes),
+            Logged::Part(End::Card, bytes) => ("a part of an answer:\n", bytes),
+            Logged::Reset => return self.tell_reset("reset"),
+            Logged::Note => return tell_note(line, &self.mask, &mut self.output.page),
+            _ => return,
+        };
+        tell_bytes(what, bytes.as_slice(), &self.mask, &mut self.output.page);
     }
 
     /// Writes a command with its answer, if any: as a TPDU, or as a protocol error.

@@ -8,7 +8,7 @@ use Rattle.trace_explain.specs.Trace.{lines_from}
 use Rattle.trace_explain.specs.UnderWay.{HasReceived}
 use Rattle.trace_explain.proofs.explain.explain_chunks.Given as goal
 
--- so much has come, whatever follows it is explained or still to come, and this much is written out
+-- this much was read; what follows is explained or still to come; and the writer got this much
 abbrev pub invariant-reading : goal.invariant-reading
 invariant-reading g l = (read : List ℕ)
     × Consumes (g.R.Read.remaining l.initial.reader) (g.R.Read.remaining l.reader) read

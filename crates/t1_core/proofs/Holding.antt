@@ -94,8 +94,6 @@ module _ (m : Meaning) (before commands : List (List ℕ)) where
 
   one_response : (k : Kept) (s : Spot) → length (responding k s) ≤ 1
   one_response k (Opens rest asks) = omega arith
-  one_response k (Behind asks collected rest answering) = omega arith
-  one_response k (Taken collected b bytes) = omega arith
   one_response k _ = omega arith
 
   -- the outcome in a fault is true
@@ -127,8 +125,8 @@ module _ (m : Meaning) (before commands : List (List ℕ)) where
       (again : ℕ → Place) → AddsUp k.done k.todo k.answers (sending k s) (responding k s)
       → ((i : ℕ) → HoldsAt (again i))
       → HoldsAt (uses cause n (world_at m before out k s tries extensions) again)
-  uses_hold cause zero out k s tries extensions again e h = gives_up cause k s (terminal_at out k s tries extensions)
-      (card_at m before k s) e refl refl
+  uses_hold cause zero out k s tries extensions again e h =
+      gives_up cause k s (terminal_at out k s tries extensions) (card_at m before k s) e refl refl
   uses_hold cause (suc n) out k s tries extensions again e h = h n
 
   starts_hold : (k : Kept) (rest : List ℕ) (n : ℕ) (size : Option ℕ)
@@ -305,7 +303,8 @@ module _ (m : Meaning) (before commands : List (List ℕ)) where
       → IsAtMostOnce m before commands (run m fates (world_of m before p))
   runs_once [] p h = once_at p h
   runs_once (x ∷ xs) p h =
-      subst (λ w. IsAtMostOnce m before commands (run m xs w)) (sym (is_step m before x.down x.up p))
+      subst (λ w. IsAtMostOnce m before commands (run m xs w))
+      (sym (is_step m before x.down x.up p))
       (runs_once xs (step m before x.down x.up p) (step_holds x.down x.up p h))
 
 -- both ends after a reset: S(IFS request) precedes the first command

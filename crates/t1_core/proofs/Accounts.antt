@@ -94,90 +94,6 @@ module _ (s : Settings) where
   due_moves : (number due : Bool) → cond (same number number) (same due (other due)) false ≡ false
   due_moves number due = rw (same_self number, same_other_2 due) refl
 
-  spends : (p : Phase) (t : Terminal) (a : Account) (out : Out) (n : ℕ) → t.tries ≡ n → Waits p
-      → Within t → Active 0 t a → Stays (on p t) (spend n (on p t) out) (fruitless a)
-  spends p t a out zero e w within h =
-      let x = h.0 in (
-        all_stay t.number t.due,
-        record { within = within; in_phase = tries_reason (fruitless a) (omega (arith, x, e)) },
-      )
-  spends p t a out (suc n) e w within h =
-      let x = h.0 in let y = within.1 in (
-        all_stay t.number t.due,
-        record {
-          within = (within.0, omega (arith, y, e), within.2, within.3, within.4);
-          in_phase = waiting p (record t { phase = p; tries = n; out = out }) (fruitless a) w
-              (omega (arith, x, e), h.1, h.2, h.3);
-        },
-      )
-
-  spent : (p : Phase) (t : Terminal) (a : Account) (out : Out) → Waits p → Within t
-      → Active 0 t a → Stays (on p t) (spend t.tries (on p t) out) (fruitless a)
-  spent p t a out w within h = spends p t a out t.tries refl w within h
-
-  either : (b : Option Block) (t x y : Terminal) (a : Account) (c : Bool)
-      → Next b t x a → Next b t y a → Next b t (cond c x y) a
-  either b t x y a true p q = p
-  either b t x y a false p q = q
-
-  -- a field of the response
-  field_counts : (t : Terminal) (a : Account) (more : Bool) (f : List ℕ) → Within t → Active 0 t a
-      → (stays t (gathers more t f) ≡ false)
-      × Stands (gathers more t f) (record a { fruitless = 0; arrived = a.arrived + length f })
-  field_counts t a more f within h =
-      Of (nat_lt t.settings.limit (length t.got + length f)) more refl where
-        now : Account
-        now = record a { fruitless = 0; arrived = a.arrived + length f }
-
-        grants_le : a.grants ≤ s.extensions
-        grants_le = let x = h.1 in omega (arith, x)
-
-        fits : nat_lt t.settings.limit (length t.got + length f) ≡ false
-            → length (t.got ++ f) ≤ s.limit
-        fits e =
-            let same = ap (λ x. x.limit) within.0 in
-            let n = length-append t.got f in
-            grind (arith, e, same, n)
-
-        Of : (v more : Bool) → nat_lt t.settings.limit (length t.got + length f) ≡ v
-            → (stays t (gathers more t f) ≡ false) × Stands (gathers more t f) now
-        Of true more e =
-            let same = ap (λ x. x.limit) within.0 in
-            let arrived = h.2 in
-            rw e (
-              due_moves t.number t.due,
-              record {
-                within = within;
-                in_phase = long_reason now (omega arith) grants_le
-                    (grind (arith, e, same, arrived));
-              },
-            )
-        Of false true e =
-            let same = ap (λ x. x.tries) within.0 in
-            let arrived = h.2 in
-            let n = length-append t.got f in
-            let fit = fits e in
-            rw e (
-              due_moves t.number t.due,
-              record {
-                within = (within.0, omega (arith, same), within.2, fit, within.4);
-                in_phase = (omega (arith, same), h.1, omega (arith, arrived, n), h.3);
-              },
-            )
-        Of false false e =
-            let arrived = h.2 in
-            let none = h.3 in
-            let n = length-append t.got f in
-            let fit = fits e in
-            rw e (
-              due_moves t.number t.due,
-              record {
-                within = (within.0, within.1, within.2, fit, within.4);
-                in_phase = no_reason now (omega arith) grants_le (omega (arith, fit, arrived, n))
-                    (omega (arith, none));
-              },
-            )
-
   -- N(S) does not matter here
   renumbered : (t : Terminal) (a : Account) (number : Bool) → Stands t a
       → Stands (record t { number = number }) a
@@ -186,144 +102,208 @@ module _ (s : Settings) where
     again Opening x = x
     again _ x = x
 
-  answered_next : (t : Terminal) (a : Account) (n more : Bool) (rest f : List ℕ) → Within t
-      → Active 0 t a
-      → Next (Some (I n more f)) (on Sending t) (answered rest (on Sending t) more f) a
-  answered_next t a n more [] f within h = (
-    false,
-    number_moves t.number t.due _,
-    renumbered (gathers more (on Sending t) f) _ (other t.number)
-        (field_counts (on Sending t) a more f within h).1,
-  )
-  answered_next t a n more (b ∷ bytes) f within h =
-      let x = spent Sending t a Asks tt within h in (true, x.0, x.1)
+  requests_count : (p : Phase) (control : Control) (a : Account) → Waits p
+      → without_step p (Some (Request control)) a
+      ≡ without_step Sending (Some (Request control)) a
+  requests_count Opening (Wtx multiple) a w = refl
+  requests_count Receiving (Wtx multiple) a w = refl
+  requests_count Aborting control a w = absurd w
+  requests_count Over control a w = absurd w
+  requests_count (GivenUp cause) control a w = absurd w
+  requests_count _ control a w = refl
 
-  acknowledged_next : (t : Terminal) (a : Account) (n : Bool) (rest : List ℕ) → Within t
-      → Active 0 t a → Next (Some (R n)) (on Sending t) (acknowledged rest (on Sending t)) a
-  acknowledged_next t a n [] within h =
-      let x = spent Sending t a Asks tt within h in (true, x.0, x.1)
-  acknowledged_next t a n (b ∷ bytes) within h =
-      let same = ap (λ x. x.tries) within.0 in
-      let arrived = h.2 in (
-        false,
-        number_moves t.number t.due _,
-        record {
-          within = (within.0, omega (arith, same), within.2, within.3, within.4);
-          in_phase = (omega (arith, same), h.1, omega (arith, arrived), h.3);
-        },
-      )
+  module _ (t : Terminal) (a : Account) (within : Within t) (h : Active 0 t a) where
+    spends : (p : Phase) (out : Out) (n : ℕ) → t.tries ≡ n → Waits p
+        → Stays (on p t) (spend n (on p t) out) (fruitless a)
+    spends p out zero e w =
+        let x = h.0 in (
+          all_stay t.number t.due,
+          record { within = within; in_phase = tries_reason (fruitless a) (omega (arith, x, e)) },
+        )
+    spends p out (suc n) e w =
+        let x = h.0 in let y = within.1 in (
+          all_stay t.number t.due,
+          record {
+            within = (within.0, omega (arith, y, e), within.2, within.3, within.4);
+            in_phase = waiting p (record t { phase = p; tries = n; out = out }) (fruitless a) w
+                (omega (arith, x, e), h.1, h.2, h.3);
+          },
+        )
 
-  -- a request of the card
-  extended : (p : Phase) (t : Terminal) (a : Account) (size : ℕ) (control : Control) (n : ℕ)
-      → Waits p → t.extensions ≡ n → is_size size ≡ true → Within t → Active 0 t a
-      → Stays (on p t) (extend n (record t { phase = p; size = size }) control)
-      (record a { grants = a.grants + 1 })
-  extended p t a size control zero w e is within h =
-      let x = h.0 in let y = h.1 in (
-        all_stay t.number t.due,
-        record {
-          within = (within.0, within.1, within.2, within.3, is);
-          in_phase = extensions_reason (record a { grants = a.grants + 1 }) (omega (arith, x))
-              (omega (arith, y, e));
-        },
-      )
-  extended p t a size control (suc n) w e is within h =
-      let y = h.1 in let z = within.2 in (
-        all_stay t.number t.due,
-        record {
-          within = (within.0, within.1, omega (arith, z, e), within.3, is);
-          in_phase = waiting p
-              (record t { phase = p; size = size; extensions = n; out = Grants control })
-              (record a { grants = a.grants + 1 }) w (h.0, omega (arith, y, e), h.2, h.3);
-        },
-      )
+    -- a fruitless reception
+    spent : (b : Option Block) (p : Phase) (out : Out) → Waits p
+        → without_step p b a ≡ fruitless a → Next b (on p t) (spend t.tries (on p t) out) a
+    spent b p out w is =
+        let x = spends p out t.tries refl w in
+        (true, x.0, subst (Stands (spend t.tries (on p t) out)) (sym is) x.1)
 
-  resized : (p : Phase) (t : Terminal) (a : Account) (size : ℕ) (v : Bool) → Waits p
-      → is_size size ≡ v → Within t → Active 0 t a
-      → Stays (on p t)
-      (cond v (extend t.extensions (record t { phase = p; size = size }) (Ifs size))
-      (spend t.tries (on p t) Asks))
-      (cond v (record a { grants = a.grants + 1 }) (fruitless a))
-  resized p t a size true w e within h =
-      extended p t a size (Ifs size) t.extensions w refl e within h
-  resized p t a size false w e within h = spent p t a Asks w within h
+    either : (b : Option Block) (p : Phase) (x y : Terminal) (c : Bool) → Next b (on p t) x a
+        → Next b (on p t) y a → Next b (on p t) (cond c x y) a
+    either b p x y true first second = first
+    either b p x y false first second = second
 
-  aborting : (p : Phase) (t : Terminal) (a : Account) → Within t → Active 0 t a
-      → Stays (on p t) (on Aborting t) (record a { aborts = a.aborts + 1 })
-  aborting p t a within h =
-      let x = h.3 in (
-        all_stay t.number t.due,
-        record {
-          within = within;
-          in_phase = (h.0, h.1, h.2, omega (arith, x));
-        },
-      )
+    -- a field of the response
+    field_counts : (p : Phase) (more : Bool) (f : List ℕ)
+        → (stays (on p t) (gathers more (on p t) f) ≡ false) × Stands (gathers more (on p t) f)
+        (record a { fruitless = 0; arrived = a.arrived + length f })
+    field_counts p more f = Of (nat_lt t.settings.limit (length t.got + length f)) more refl where
+      now : Account
+      now = record a { fruitless = 0; arrived = a.arrived + length f }
 
-  asked_stays : (p : Phase) (t : Terminal) (a : Account) (control : Control) → Waits p → Within t
-      → Active 0 t a
-      → Stays (on p t) (asked control (on p t)) (without_step Sending (Some (Request control)) a)
-  asked_stays p t a (Wtx multiple) w within h =
-      extended p t a t.size (Wtx multiple) t.extensions w refl within.4 within h
-  asked_stays p t a (Ifs size) w within h = resized p t a size (is_size size) w refl within h
-  asked_stays p t a Abort w within h = aborting p t a within h
-  asked_stays p t a Resynch w within h = spent p t a Asks w within h
+      grants_le : a.grants ≤ s.extensions
+      grants_le = let x = h.1 in omega (arith, x)
 
-  asked_same : (p : Phase) (control : Control) (a : Account) → Waits p
-      → without_step Sending (Some (Request control)) a
-      ≡ without_step p (Some (Request control)) a
-  asked_same Opening (Wtx multiple) a w = refl
-  asked_same Receiving (Wtx multiple) a w = refl
-  asked_same Aborting control a w = absurd w
-  asked_same Over control a w = absurd w
-  asked_same (GivenUp cause) control a w = absurd w
-  asked_same _ control a w = refl
+      fits : nat_lt t.settings.limit (length t.got + length f) ≡ false
+          → length (t.got ++ f) ≤ s.limit
+      fits e =
+          let same = ap (λ x. x.limit) within.0 in
+          let n = length-append t.got f in
+          grind (arith, e, same, n)
 
-  asked_next : (p : Phase) (t : Terminal) (a : Account) (control : Control) → Waits p → Within t
-      → Active 0 t a → Next (Some (Request control)) (on p t) (asked control (on p t)) a
-  asked_next p t a control w within h =
-      let x = asked_stays p t a control w within h in
-      (true, x.0, subst (Stands (asked control (on p t))) (asked_same p control a w) x.1)
+      Of : (v more : Bool) → nat_lt t.settings.limit (length t.got + length f) ≡ v
+          → (stays (on p t) (gathers more (on p t) f) ≡ false)
+          × Stands (gathers more (on p t) f) now
+      Of true more e =
+          let same = ap (λ x. x.limit) within.0 in
+          let arrived = h.2 in
+          rw e (
+            due_moves t.number t.due,
+            record {
+              within = within;
+              in_phase = long_reason now (omega arith) grants_le (grind (arith, e, same, arrived));
+            },
+          )
+      Of false true e =
+          let same = ap (λ x. x.tries) within.0 in
+          let arrived = h.2 in
+          let n = length-append t.got f in
+          let fit = fits e in
+          rw e (
+            due_moves t.number t.due,
+            record {
+              within = (within.0, omega (arith, same), within.2, fit, within.4);
+              in_phase = (omega (arith, same), h.1, omega (arith, arrived, n), h.3);
+            },
+          )
+      Of false false e =
+          let arrived = h.2 in
+          let none = h.3 in
+          let n = length-append t.got f in
+          let fit = fits e in
+          rw e (
+            due_moves t.number t.due,
+            record {
+              within = (within.0, within.1, within.2, fit, within.4);
+              in_phase = no_reason now (omega arith) grants_le (omega (arith, fit, arrived, n))
+                  (omega (arith, none));
+            },
+          )
 
-  -- the response to S(IFS request)
-  opened : (t : Terminal) (a : Account) (v : Bool) → Within t → Active 0 t a
-      → Stays (on Opening t) (cond v (record t { phase = Sending; opened = true; out = Own })
-      (spend t.tries (on Opening t) Asks)) (cond v a (fruitless a))
-  opened t a true within h =
-      (all_stay t.number t.due, record { within = within; in_phase = h })
-  opened t a false within h = spent Opening t a Asks tt within h
+    answered_next : (n more : Bool) (rest f : List ℕ)
+        → Next (Some (I n more f)) (on Sending t) (answered rest (on Sending t) more f) a
+    answered_next n more [] f = (
+      false,
+      number_moves t.number t.due _,
+      renumbered (gathers more (on Sending t) f) _ (other t.number)
+          (field_counts Sending more f).1,
+    )
+    answered_next n more (b ∷ bytes) f = spent _ Sending Asks tt refl
 
-  opening_next : (t : Terminal) (a : Account) (b : Option Block) → Within t → Active 0 t a
-      → Next b (on Opening t) (takes (on Opening t) b) a
-  opening_next t a (Some (Request control)) within h = asked_next Opening t a control tt within h
-  opening_next t a (Some (Response (Ifs size))) within h =
-      let x = opened t a (size == longest) within h in (true, x.0, x.1)
-  opening_next t a _ within h =
-      let x = spent Opening t a Asks tt within h in (true, x.0, x.1)
+    acknowledged_next : (n : Bool) (rest : List ℕ)
+        → Next (Some (R n)) (on Sending t) (acknowledged rest (on Sending t)) a
+    acknowledged_next n [] = spent _ Sending Asks tt refl
+    acknowledged_next n (b ∷ bytes) =
+        let same = ap (λ x. x.tries) within.0 in
+        let arrived = h.2 in (
+          false,
+          number_moves t.number t.due _,
+          record {
+            within = (within.0, omega (arith, same), within.2, within.3, within.4);
+            in_phase = (omega (arith, same), h.1, omega (arith, arrived), h.3);
+          },
+        )
 
-  sending_next : (t : Terminal) (a : Account) (b : Option Block) → Within t → Active 0 t a
-      → Next b (on Sending t) (takes (on Sending t) b) a
-  sending_next t a (Some (I n more f)) within h =
-      let x = spent Sending t a Asks tt within h in
-      either _ (on Sending t) _ _ a (same n t.due) (answered_next t a n more t.rest f within h)
-      (true, x.0, x.1)
-  sending_next t a (Some (R n)) within h =
-      let x = spent Sending t a Own tt within h in
-      either _ (on Sending t) _ _ a (same n t.number) (true, x.0, x.1)
-      (acknowledged_next t a n t.rest within h)
-  sending_next t a (Some (Request control)) within h = asked_next Sending t a control tt within h
-  sending_next t a _ within h =
-      let x = spent Sending t a Asks tt within h in (true, x.0, x.1)
+    -- a request of the card
+    extended : (p : Phase) (size : ℕ) (control : Control) (n : ℕ) → Waits p → t.extensions ≡ n
+        → is_size size ≡ true
+        → Stays (on p t) (extend n (record t { phase = p; size = size }) control)
+        (record a { grants = a.grants + 1 })
+    extended p size control zero w e is =
+        let x = h.0 in let y = h.1 in (
+          all_stay t.number t.due,
+          record {
+            within = (within.0, within.1, within.2, within.3, is);
+            in_phase = extensions_reason (record a { grants = a.grants + 1 }) (omega (arith, x))
+                (omega (arith, y, e));
+          },
+        )
+    extended p size control (suc n) w e is =
+        let y = h.1 in let z = within.2 in (
+          all_stay t.number t.due,
+          record {
+            within = (within.0, within.1, omega (arith, z, e), within.3, is);
+            in_phase = waiting p
+                (record t { phase = p; size = size; extensions = n; out = Grants control })
+                (record a { grants = a.grants + 1 }) w (h.0, omega (arith, y, e), h.2, h.3);
+          },
+        )
 
-  receiving_next : (t : Terminal) (a : Account) (b : Option Block) → Within t → Active 0 t a
-      → Next b (on Receiving t) (takes (on Receiving t) b) a
-  receiving_next t a (Some (I n more f)) within h =
-      let x = spent Receiving t a Asks tt within h in
-      let y = field_counts (on Receiving t) a more f within h in
-      either _ (on Receiving t) _ _ a (same n t.due) (false, y.0, y.1) (true, x.0, x.1)
-  receiving_next t a (Some (Request control)) within h =
-      asked_next Receiving t a control tt within h
-  receiving_next t a _ within h =
-      let x = spent Receiving t a Asks tt within h in (true, x.0, x.1)
+    resized : (p : Phase) (size : ℕ) (v : Bool) → Waits p → is_size size ≡ v
+        → Stays (on p t)
+        (cond v (extend t.extensions (record t { phase = p; size = size }) (Ifs size))
+        (spend t.tries (on p t) Asks))
+        (cond v (record a { grants = a.grants + 1 }) (fruitless a))
+    resized p size true w e = extended p size (Ifs size) t.extensions w refl e
+    resized p size false w e = spends p Asks t.tries refl w
+
+    asked_stays : (p : Phase) (control : Control) → Waits p
+        → Stays (on p t) (asked control (on p t)) (without_step Sending (Some (Request control)) a)
+    asked_stays p (Wtx multiple) w = extended p t.size (Wtx multiple) t.extensions w refl within.4
+    asked_stays p (Ifs size) w = resized p size (is_size size) w refl
+    asked_stays p Abort w =
+        let x = h.3 in (
+          all_stay t.number t.due,
+          record { within = within; in_phase = (h.0, h.1, h.2, omega (arith, x)) },
+        )
+    asked_stays p Resynch w = spends p Asks t.tries refl w
+
+    asked_next : (p : Phase) (control : Control) → Waits p
+        → Next (Some (Request control)) (on p t) (asked control (on p t)) a
+    asked_next p control w =
+        let x = asked_stays p control w in
+        let same = sym (requests_count p control a w) in
+        (true, x.0, subst (Stands (asked control (on p t))) same x.1)
+
+    -- the response to S(IFS request)
+    opened : (size : ℕ) (v : Bool) → (size == longest) ≡ v
+        → Next (Some (Response (Ifs size))) (on Opening t)
+        (cond v (record t { phase = Sending; opened = true; out = Own })
+        (spend t.tries (on Opening t) Asks)) a
+    opened size true e =
+        (true, all_stay t.number t.due, rw e (record { within = within; in_phase = h }))
+    opened size false e = spent _ Opening Asks tt (ap (λ v. cond v a (fruitless a)) e)
+
+    opening_next : (b : Option Block) → Next b (on Opening t) (takes (on Opening t) b) a
+    opening_next (Some (Request control)) = asked_next Opening control tt
+    opening_next (Some (Response (Ifs size))) = opened size (size == longest) refl
+    opening_next b = spent b Opening Asks tt refl
+
+    sending_next : (b : Option Block) → Next b (on Sending t) (takes (on Sending t) b) a
+    sending_next (Some (I n more f)) =
+        either _ Sending _ _ (same n t.due) (answered_next n more t.rest f)
+        (spent _ Sending Asks tt refl)
+    sending_next (Some (R n)) =
+        either _ Sending _ _ (same n t.number) (spent _ Sending Own tt refl)
+        (acknowledged_next n t.rest)
+    sending_next (Some (Request control)) = asked_next Sending control tt
+    sending_next b = spent b Sending Asks tt refl
+
+    receiving_next : (b : Option Block) → Next b (on Receiving t) (takes (on Receiving t) b) a
+    receiving_next (Some (I n more f)) =
+        let y = field_counts Receiving more f in
+        either _ Receiving _ _ (same n t.due) (false, y.0, y.1) (spent _ Receiving Asks tt refl)
+    receiving_next (Some (Request control)) = asked_next Receiving control tt
+    receiving_next b = spent b Receiving Asks tt refl
 
   aborted_next : (t : Terminal) (a : Account) (b : Option Block) → Within t → Active 1 t a
       → Next b (on Aborting t) (on (GivenUp Aborted) t) a
@@ -345,11 +325,11 @@ module _ (s : Settings) where
   reception : (p : Phase) (t : Terminal) (a : Account) (b : Option Block) → Stands (on p t) a
       → Stands (takes (on p t) b) (counts (on p t) b a)
   reception Opening t a b h =
-      by_next b (on Opening t) _ a (opening_next t a b h.within h.in_phase)
+      by_next b (on Opening t) _ a (opening_next t a h.within h.in_phase b)
   reception Sending t a b h =
-      by_next b (on Sending t) _ a (sending_next t a b h.within h.in_phase)
+      by_next b (on Sending t) _ a (sending_next t a h.within h.in_phase b)
   reception Receiving t a b h =
-      by_next b (on Receiving t) _ a (receiving_next t a b h.within h.in_phase)
+      by_next b (on Receiving t) _ a (receiving_next t a h.within h.in_phase b)
   reception Aborting t a b h =
       by_next b (on Aborting t) _ a (aborted_next t a b h.within h.in_phase)
   reception Over t a b h = h

@@ -14,7 +14,7 @@ use Rattle.t1_core.specs.CardSide.{Meaning}
 use Rattle.t1_core.specs.TerminalSide.{has_stopped}
 use Rattle.t1_core.specs.Mild.{bad_of, bad, Stays, IsMild, Enough, IsSize, count_of}
 use Rattle.t1_core.specs.World.{World, run, start}
-use Rattle.t1_core.proofs.Places.{Kept, Spot, Place, Going, Opens, Behind, Taken, Waits, Grows, Between, Sent, Given_up, Finished, asking, response_in, uses, proceeds, starts, out_at, world_of, runs, heard, misses, grants, comes, comes_next, numbered, is_long, IsHeard, is_heard, grows, garbled, garbled_by, step, is_step}
+use Rattle.t1_core.proofs.Places.{Kept, Spot, Place, Going, Opens, Behind, Taken, Waits, Grows, Between, Sent, Given_up, Finished, asking, response_in, uses, proceeds, starts, out_at, world_of, runs, heard, misses, comes, comes_next, numbered, is_long, IsHeard, is_heard, grows, garbled, garbled_by, step, is_step}
 use Rattle.t1_core.proofs.Holding.{first, first_is, moves}
 use Rattle.t1_core.proofs.Bits.{other_is_not}
 
@@ -98,17 +98,12 @@ module _ (m : Meaning) (before : List (List ℕ)) (f : ℕ) where
         fits = q.fits;
       }
 
-  uses_calm : (cause : Cause) (n left : ℕ) (w : World) (again : ℕ → Place) → 1 ≤ n
-      → ((i : ℕ) → i + 1 ≡ n → CalmAt left (again i)) → CalmAt left (uses cause n w again)
-  uses_calm cause zero left w again some h = absurd (omega (arith, some))
-  uses_calm cause (suc n) left w again some h = h n (omega arith)
-
-  -- N(S) and N(R) stay the same
-  uses_stays : (cause : Cause) (n : ℕ) (w : World) (again : ℕ → Place) (old : Bool × Bool)
-      → (w.terminal.number, w.terminal.due) ≡ old → ((i : ℕ) → numbers (again i) ≡ old)
-      → numbers (uses cause n w again) ≡ old
-  uses_stays cause zero w again old e h = e
-  uses_stays cause (suc n) w again old e h = h n
+  -- one of `n` tries or extensions is used
+  uses_goes : (cause : Cause) (n left : ℕ) (w : World) (again : ℕ → Place) (old : Bool × Bool)
+      → 1 ≤ n → ((i : ℕ) → i + 1 ≡ n → Goes left old (again i))
+      → Goes left old (uses cause n w again)
+  uses_goes cause zero left w again old some h = absurd (omega (arith, some))
+  uses_goes cause (suc n) left w again old some h = h n (omega arith)
 
   -- after one failure more the terminal may have asked again, with a try less
   asked : (k : Kept) (s : Spot) (left tries now extensions : ℕ) → tries ≤ now + 1
@@ -144,11 +139,9 @@ module _ (m : Meaning) (before : List (List ℕ)) (f : ℕ) where
       → Calm (left + 1) k s tries extensions
       → Goes left (k.number, k.due) (misses m before out k s tries extensions)
   missed out k s left tries extensions h =
-      let q = h.0.tries_left in inl (
-        uses_stays TriesSpent tries _ _ _ refl (λ i. refl),
-        uses_calm TriesSpent tries left _ _ (omega (arith, q))
-            (λ i e. asked k s left tries i extensions (omega (arith, e)) h),
-      )
+      let q = h.0.tries_left in
+      uses_goes TriesSpent tries left _ _ _ (omega (arith, q))
+      (λ i e. inl (refl, asked k s left tries i extensions (omega (arith, e)) h))
 
   starts_calm : (k : Kept) (rest : List ℕ) (n : ℕ) (size : Option ℕ) (tries extensions left : ℕ)
       → Quiet left tries (2 * left + 0) k.settings (k.last ++ rest)
@@ -193,23 +186,15 @@ module _ (m : Meaning) (before : List (List ℕ)) (f : ℕ) where
 
   -- the card's block arrives
 
-  granted : (out : Out) (k : Kept) (s next : Spot) (left tries extensions : ℕ) → 1 ≤ extensions
-      → ((i : ℕ) → i + 1 ≡ extensions → Calm left k next tries i)
-      → Goes left (k.number, k.due) (grants m before out k s next tries extensions)
-  granted out k s next left tries extensions some h = inl (
-    uses_stays ExtensionsSpent extensions _ _ _ refl (λ i. refl),
-    uses_calm ExtensionsSpent extensions left _ _ some h,
-  )
-
-  grows_goes : (v : Bool) (out : Out) (k : Kept) (rest : List ℕ) (size : ℕ) (was : Bool)
+  grows_goes : (v : Bool) (out : Out) (k : Kept) (rest : List ℕ) (size : ℕ) (granted : Bool)
       (left tries extensions : ℕ)
       → is_size size ≡ v → Calm left k (Grows rest size false) tries extensions
-      → Goes left (k.number, k.due) (grows m before v out k rest size was tries extensions)
-  grows_goes true out k rest size was left tries extensions e h =
+      → Goes left (k.number, k.due) (grows m before v out k rest size granted tries extensions)
+  grows_goes true out k rest size granted left tries extensions e h =
       let x = h.1.0 in
-      granted out (record k { size = size }) (Grows rest size was) (Grows rest size true) left tries
-      extensions (omega (arith, x)) (λ i is. (h.0, (omega (arith, x, is), e)))
-  grows_goes false out k rest size was left tries extensions e h = absurd (let s = h.1.1 in cc)
+      uses_goes ExtensionsSpent extensions left _ _ _ (omega (arith, x))
+      (λ i is. inl (refl, (h.0, (omega (arith, x, is), e))))
+  grows_goes false out k rest size granted left tries extensions e h = absurd (let s = h.1.1 in cc)
 
   proceeds_calm : (k : Kept) (todo : List (List ℕ)) (w : World) → Enough m f k.settings
       → CalmAt f (proceeds k todo w)
@@ -259,21 +244,21 @@ module _ (m : Meaning) (before : List (List ℕ)) (f : ℕ) where
       → Goes left (k.number, k.due) (comes m before out k s tries extensions)
   comes_goes out k (Opens rest asks) left tries extensions a h = inl (refl, h)
   comes_goes out k (Behind asks collected rest answering) left tries extensions a h =
-      let q = h.0.tries_left in inl (
-        uses_stays TriesSpent tries _ _ _ refl (λ i. refl),
-        uses_calm TriesSpent tries left _ _ (omega (arith, q))
-            (λ i e. (quiet i (2 * left + 0) [] h.0 (omega (arith, e, q)) h.0.fits, h.1)),
-      )
+      let q = h.0.tries_left in
+      uses_goes TriesSpent tries left _ _ _ (omega (arith, q)) (λ i e. inl (
+        refl,
+        (quiet i (2 * left + 0) [] h.0 (omega (arith, e, q)) h.0.fits, h.1),
+      ))
   comes_goes out k (Taken collected b bytes) left tries extensions a h = inr (
     λ e. other_is_not k.number (ap (λ x. x.0) e),
     (afresh k.settings [] h.0.enough (omega arith), h.1),
   )
-  comes_goes out k (Waits rest n size was) left tries extensions a h =
+  comes_goes out k (Waits rest n size granted) left tries extensions a h =
       let x = h.1.0 in
-      granted out k (Waits rest n size was) (Waits rest n size true) left tries extensions
-      (omega (arith, x)) (λ i is. (h.0, (omega (arith, x, is), h.1.1)))
-  comes_goes out k (Grows rest size was) left tries extensions a h =
-      grows_goes (is_size size) out k rest size was left tries extensions refl h
+      uses_goes ExtensionsSpent extensions left _ _ _ (omega (arith, x))
+      (λ i is. inl (refl, (h.0, (omega (arith, x, is), h.1.1))))
+  comes_goes out k (Grows rest size granted) left tries extensions a h =
+      grows_goes (is_size size) out k rest size granted left tries extensions refl h
   comes_goes out k (Between got b bytes) left tries extensions a h = absurd a
   comes_goes out k (Sent first got rest) left tries extensions a h =
       next_goes (is_long k got) out (numbered first k) k.number got rest left tries extensions refl

@@ -1,5 +1,6 @@
 -- Steps of the card's end with a command carried out, and after memory ran out.
-use Rattle.std.proofs.Common.{◌≡◌, refl, sym, ap, subst, ◌∙◌, ℕ, ◌<◌, false, List, [], ◌∷◌, ◌++◌, length, take, drop, Some}
+use Rattle.std.proofs.Common.{◌≡◌, sym, ap, subst, ◌∙◌, ℕ, ◌<◌, false, List, [], ◌∷◌, ◌++◌, length, take, drop, Some}
+use Rattle.std.proofs.Math.Seq.{take-append_seam}
 use Rattle.std.specs.Prelude.{Result, Ok, Err, OnErr}
 use Rattle.t1_core.specs.declared.applet.Applet.{Ghosts}
 use Rattle.t1_core.specs.declared.applet.Requests.{Requests}
@@ -44,10 +45,6 @@ module _ {C : Type 0} (a : Ghosts C) (old mid new : EndOf C) (reply : Reply) whe
             ∙ moves (ran ++ d.command ∷ []),
       )
 
-take_front : (xs ys : List ℕ) → take (length xs) (xs ++ ys) ≡ xs
-take_front [] ys = refl
-take_front (x ∷ xs) ys = ap (λ l. x ∷ l) (take_front xs ys)
-
 module _ {C : Type 0} (a : Ghosts C) (old mid new : EndOf C) (before : ℕ) (f : List ℕ)
     (same : mid.card ≡ old.card)
     (is : mid.at ≡ record (forgets old.at) { collected = old.at.collected ++ f })
@@ -67,7 +64,7 @@ module _ {C : Type 0} (a : Ghosts C) (old mid new : EndOf C) (before : ℕ) (f :
           collected = take n (old.at.collected ++ f);
         }) many
         ∙ ap (λ (l : List ℕ). record (forgets old.at) { collected = l })
-        (take_front old.at.collected f),
+        (take-append_seam old.at.collected f),
   )
 
   pub forgets_field : {X E : Type 0} (r : Result X E) → OnErr r Cut

@@ -1,5 +1,5 @@
 -- Commands one after another; each begins after the answer to the previous one.
-use Rattle.std.proofs.Common.{◌≡◌, refl, sym, ap, subst, ◌∙◌, ℕ, ◌+◌, ◌<◌, ◌≤◌, Bool, true, false, List, [], ◌∷◌, ◌++◌, length, map, take, drop, get_or, Option, Some, None, append_assoc, append-nil, length-append, arith, ◌⊎◌, inl, inr}
+use Rattle.std.proofs.Common.{◌≡◌, refl, sym, ap, subst, ◌∙◌, ℕ, ◌+◌, ◌<◌, ◌≤◌, Bool, true, false, List, [], ◌∷◌, ◌++◌, length, map, take, drop, get_or, Option, Some, None, append_assoc, append-nil, length-append, arith, inl, inr}
 use Rattle.std.proofs.lemmas.Bool.{cases_lt}
 use Rattle.std.proofs.lemmas.List.{length-map, map-append, take-append-drop, take_more}
 use Rattle.std.proofs.Math.ListN.{drop_of_length-le}
@@ -17,10 +17,10 @@ use Rattle.t1_core.specs.Block.{Block}
 use Rattle.t1_core.specs.CardSide.{Card, Did, Meaning, card_after, card_meets}
 use Rattle.t1_core.specs.Carried.{EndsOf, HasCarried, Past, adds, answers_in, at_rest, more, nothing_yet, with_command, world_now}
 use Rattle.t1_core.specs.Conversing.{Conversed}
-use Rattle.t1_core.specs.Doing.{Agrees, IsOfSome, after, commands_of, meaning_of, ran_with, responses_of}
+use Rattle.t1_core.specs.Doing.{Agrees, IsOfSome, after, commands_of, meaning_of, ran_with}
 use Rattle.t1_core.specs.Passing.{Passes, PassesWith}
 use Rattle.t1_core.specs.TerminalSide.{Terminal, begins, first_phase, fresh, is_ready, has_stopped, fault_in, fault_of, outcome_of, sends, sends_in, takes}
-use Rattle.t1_core.specs.World.{World, IsAtMostOnce, IsFrontOf, IsTrue, all_blocks, arrives, exchange, exchanged, most_exchanges, next_command, responses, run, settle, size_after, start}
+use Rattle.t1_core.specs.World.{World, IsAtMostOnce, IsFrontOf, IsRight, IsTrue, all_blocks, arrives, exchange, exchanged, most_exchanges, responses, run, settle, size_after, start}
 use Rattle.t1_core.proofs.Calm.{never_given_up}
 use Rattle.t1_core.proofs.Endless.{Takes, takes_spends}
 use Rattle.t1_core.proofs.Holding.{at_most_once}
@@ -32,6 +32,22 @@ use Rattle.t1_core.proofs.Measure.{stops}
 pub is_over : (p : Phase) → is_ready p ≡ true → p ≡ Over
 is_over Over e = refl
 is_over _ e = absurd (cc)
+
+over_by : (p : Phase) (t : Terminal) → has_stopped p ≡ true → fault_in p t ≡ None → p ≡ Over
+over_by Over t stopped none = refl
+over_by _ t stopped none = absurd (cc)
+
+told_by : (p : Phase) (t : Terminal) (f : Fault) → fault_in p t ≡ Some f
+    → (cause : Cause) × (p ≡ GivenUp cause) × (f.outcome ≡ outcome_of t)
+told_by (GivenUp cause) t f is =
+    let so : f ≡ record { cause = cause; outcome = outcome_of t } = cc in
+    (cause, refl, ap (λ (g : Fault). g.outcome) so)
+told_by _ t f is = absurd (cc)
+
+no_fault : (p : Phase) (t : Terminal) → ((cause : Cause) → p ≡ GivenUp cause → ⊥)
+    → fault_in p t ≡ None
+no_fault (GivenUp cause) t never = absurd (never cause refl)
+no_fault _ t never = refl
 
 pub none_yet : (p : Phase) (got : List ℕ) (answers : List (List ℕ)) → is_ready p ≡ false
     → answers_in p got answers ≡ answers
@@ -264,19 +280,8 @@ module _ {C : Type 0} (a : Ghosts C) where
           by : (p : Phase) → (is_ready p ≡ true → rest ≡ [])
               → adds p rest (at_rest e.terminal (after e.card (commands_of h.did)) past.answers)
               ≡ end
-          by Over none =
-              let t = e.terminal in let d = after e.card (commands_of h.did) in
-              ap (λ cs. next_command cs (at_rest t d past.answers)) (none refl)
-              ∙ ap (λ cs. world_with t d cs past.answers) (sym (none refl))
+          by Over none = rw (none refl) refl
           by _ none = refl
-
-      which : (e.terminal.phase ≡ Over) ⊎ ((cause : Cause) × (e.terminal.phase ≡ GivenUp cause))
-      which = by e.terminal.phase stop where
-        by : (p : Phase) → has_stopped p ≡ true
-            → (p ≡ Over) ⊎ ((cause : Cause) × (p ≡ GivenUp cause))
-        by Over e = inl refl
-        by (GivenUp cause) e = inr (cause, refl)
-        by _ e = absurd (cc)
 
       pub conversed : Conversed a past.settings past.first (a.standing e.card.card) all past.answers
           (fault_of e.terminal) past.passed now
@@ -286,35 +291,26 @@ module _ {C : Type 0} (a : Ghosts C) where
           let once : IsAtMostOnce own [] all end = subst (λ v. IsAtMostOnce own [] all v) end_is
           (at_most_once own past.settings [] all h.fates) in
           let same : ran ≡ once.ran = once.ran_is in
-          let responses_so : responses own.does [] once.ran ≡ responses_of h.did =
-          ap (λ r. responses own.does [] r) (sym same) ∙ responses_are own [] h.did agrees in
-          let fault : (cause : Cause) → t.phase ≡ GivenUp cause
-          → fault_of t ≡ Some (record { cause = cause; outcome = outcome_of t }) =
-          λ cause is. ap (λ p. fault_in p t) is in
+          let right : IsRight own.does [] all ran past.answers =
+          subst (λ r. IsRight own.does [] all r past.answers) (sym same) once.right in
+          let responses_so = responses_are own [] h.did agrees in
           record {
             did = h.did;
             does = h.does;
-            carried_out = subst (λ r. IsFrontOf r all) (sym same) once.right.carried_out;
-            answered = subst (λ rs. IsFrontOf past.answers rs) responses_so once.right.answered;
+            carried_out = right.carried_out;
+            answered = subst (λ rs. IsFrontOf past.answers rs) responses_so right.answered;
             all_but_one =
-                let n : length ran ≡ length h.did = length-map h.did (λ (d : Did). d.command) in
-                let le = once.right.all_but_one in
-                omega (arith, n, le, ap length same);
-            told = λ f is. elim which [
-              | inl over ↦ absurd (let n = sym (ap (λ p. fault_in p t) over) ∙ is in cc)
-              | inr given ↦
-                  let so : f ≡ record { cause = given.0; outcome = outcome_of t } =
-                  let two = sym is ∙ fault given.0 given.1 in cc in
-                  subst (λ r. IsTrue f.outcome r past.answers) (sym same)
-                  (subst (λ (g : Fault). IsTrue g.outcome once.ran past.answers) (sym so)
-                  (once.told given.0 given.1))
-            ];
-            finished = λ is. elim which [
-              | inl over ↦
-                  let done = once.finished over in
-                  (same ∙ done.0, done.1 ∙ responses_so)
-              | inr given ↦ absurd (let n = sym is ∙ fault given.0 given.1 in cc)
-            ];
+                let n = length-map h.did (λ (d : Did). d.command) in
+                let le = right.all_but_one in
+                omega (arith, n, le);
+            told = λ f is.
+                let (cause, given, outcome) = told_by t.phase t f is in
+                subst (λ o. IsTrue o ran past.answers) (sym outcome)
+                (subst (λ r. IsTrue (outcome_of t) r past.answers) (sym same)
+                (once.told cause given));
+            finished = λ is.
+                let done = once.finished (over_by t.phase t stop is) in
+                (same ∙ done.0, done.1 ∙ ap (responses own.does []) (sym same) ∙ responses_so);
             fates = h.fates;
             passed = h.passed;
             few =
@@ -322,12 +318,10 @@ module _ {C : Type 0} (a : Ghosts C) where
                 let most = most_more past.settings own past.commands rest in
                 subst (λ cs. length h.fates ≤ most_exchanges past.settings own [] cs) whole
                 (omega (arith, le, most));
-            survived = λ f enough mild. elim which [
-              | inl over ↦ ap (λ p. fault_in p t) over
-              | inr given ↦
-                  absurd (never_given_up own f past.settings [] all h.fates given.0 enough mild
-                  (ap (λ v. v.terminal.phase) end_is ∙ given.1))
-            ];
+            survived = λ f enough mild.
+                no_fault t.phase t (λ cause given.
+                never_given_up own f past.settings [] all h.fates cause enough mild
+                (ap (λ v. v.terminal.phase) end_is ∙ given));
           }
 
   -- ---- a list of commands

@@ -1,5 +1,5 @@
 -- A terminal stops, whatever any peer sends.
-use Rattle.std.proofs.Common.{◌≡◌, refl, ap, subst, ℕ, zero, suc, ◌+◌, ◌*◌, ◌≤◌, ◌<◌, Bool, true, false, List, [], ◌∷◌, length, length-append, length-drop, nat_lt, Option, Some, None, cond, ◌==◌, arith, ◌⊎◌, inl, inr}
+use Rattle.std.proofs.Common.{◌≡◌, refl, sym, ap, subst, ℕ, zero, suc, ◌+◌, ◌*◌, ◌≤◌, ◌<◌, Bool, true, false, List, [], ◌∷◌, length, length-append, length-drop, nat_lt, Option, Some, None, cond, ◌==◌, arith, ◌⊎◌, inl, inr}
 use Rattle.t1_core.specs.declared.control.Control.{Control}
 use Rattle.t1_core.specs.declared.control.Control.TheVariants.{Resynch, Ifs, Abort, Wtx}
 use Rattle.t1_core.specs.declared.terminal.Out.{Out}
@@ -118,49 +118,42 @@ module _ (t : Terminal) (sized : 0 < t.size) where
   asked_spends Abort some = ((refl, sized), inr (omega (arith, some)))
   asked_spends Resynch some = spends Asks
 
-  opens_spends : (control : Control) → t.phase ≡ Opening → Takes t (opens control t)
-  opens_spends (Ifs size) e =
-      either _ _ (size == longest)
-      (let two : room t.phase ≡ 2 = ap room e in ((refl, sized), inr (omega (arith, two))))
-      (spends Asks)
-  opens_spends _ e = spends Asks
+  opens_spends : (control : Control) → room t.phase ≡ 2 → Takes t (opens control t)
+  opens_spends (Ifs size) two =
+      either _ _ (size == longest) ((refl, sized), inr (omega (arith, two))) (spends Asks)
+  opens_spends _ two = spends Asks
 
-  opening_spends : (b : Block) → t.phase ≡ Opening → Takes t (takes_opening b t)
-  opening_spends (Request control) e =
-      asked_spends control (let two : room t.phase ≡ 2 = ap room e in omega (arith, two))
-  opening_spends (Response control) e = opens_spends control e
-  opening_spends _ e = spends Asks
+  opening_spends : (b : Block) → room t.phase ≡ 2 → Takes t (takes_opening b t)
+  opening_spends (Request control) two = asked_spends control (omega (arith, two))
+  opening_spends (Response control) two = opens_spends control two
+  opening_spends _ two = spends Asks
 
-  sending_spends : (b : Block) → is_filled b ≡ true → t.phase ≡ Sending
+  sending_spends : (b : Block) → is_filled b ≡ true → 1 ≤ room t.phase
       → Takes t (takes_sending b t)
-  sending_spends (I n more f) filled e =
-      either _ _ (same n t.due)
-      (answered_spends n more t.rest f filled
-      (let one : room t.phase ≡ 1 = ap room e in omega (arith, one))) (spends Asks)
-  sending_spends (R n) filled e =
+  sending_spends (I n more f) filled some =
+      either _ _ (same n t.due) (answered_spends n more t.rest f filled some) (spends Asks)
+  sending_spends (R n) filled some =
       either _ _ (same n t.number) (spends Own) (acknowledged_spends t.rest refl)
-  sending_spends (Request control) filled e =
-      asked_spends control (let one : room t.phase ≡ 1 = ap room e in omega (arith, one))
-  sending_spends _ filled e = spends Asks
+  sending_spends (Request control) filled some = asked_spends control some
+  sending_spends _ filled some = spends Asks
 
-  receiving_spends : (b : Block) → is_filled b ≡ true → t.phase ≡ Receiving
+  receiving_spends : (b : Block) → is_filled b ≡ true → 1 ≤ room t.phase
       → Takes t (takes_receiving b t)
-  receiving_spends (I n more f) filled e =
-      either _ _ (same n t.due)
-      (gathers_spends n more f filled
-      (let one : room t.phase ≡ 1 = ap room e in omega (arith, one))) (spends Asks)
-  receiving_spends (Request control) filled e =
-      asked_spends control (let one : room t.phase ≡ 1 = ap room e in omega (arith, one))
-  receiving_spends _ filled e = spends Asks
+  receiving_spends (I n more f) filled some =
+      either _ _ (same n t.due) (gathers_spends n more f filled some) (spends Asks)
+  receiving_spends (Request control) filled some = asked_spends control some
+  receiving_spends _ filled some = spends Asks
 
   pub takes_spends : (b : Option Block) (p : Phase) → are_filled b ≡ true → t.phase ≡ p
       → Takes t (takes_in p b t)
   takes_spends b Aborting filled e = ((refl, sized), inl refl)
   takes_spends b Over filled e = ((refl, sized), inl (ap has_stopped e))
   takes_spends b (GivenUp cause) filled e = ((refl, sized), inl (ap has_stopped e))
-  takes_spends (Some b) Opening filled e = opening_spends b e
-  takes_spends (Some b) Sending filled e = sending_spends b filled e
-  takes_spends (Some b) Receiving filled e = receiving_spends b filled e
+  takes_spends (Some b) Opening filled e = opening_spends b (ap room e)
+  takes_spends (Some b) Sending filled e =
+      sending_spends b filled (subst (λ p. 1 ≤ room p) (sym e) (omega arith))
+  takes_spends (Some b) Receiving filled e =
+      receiving_spends b filled (subst (λ p. 1 ≤ room p) (sym e) (omega arith))
   takes_spends None _ filled e = spends Asks
 
 stays_stopped : (t : Terminal) (b : Option Block) (p : Phase) → t.phase ≡ p → has_stopped p ≡ true

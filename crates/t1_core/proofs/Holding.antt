@@ -94,8 +94,6 @@ module _ (m : Meaning) (before commands : List (List ℕ)) where
 
   one_response : (k : Kept) (s : Spot) → length (responding k s) ≤ 1
   one_response k (Opens rest asks) = omega arith
-  one_response k (Behind asks collected rest answering) = omega arith
-  one_response k (Taken collected b bytes) = omega arith
   one_response k _ = omega arith
 
   -- the outcome in a fault is true

@@ -1,7 +1,9 @@
 -- A dialogue as pairs of commands and responses, which the card has carried out.
-use Rattle.std.proofs.Common.{◌≡◌, refl, sym, ap, subst, ◌∙◌, ℕ, suc, ◌+◌, ◌*◌, ◌≤◌, ◌==◌, Bool, true, false, List, [], ◌∷◌, ◌++◌, length, Option, Some, None, length-append, arith, ◌⊎◌, inl, inr}
+use Rattle.std.proofs.Common.{◌≡◌, refl, sym, ap, subst, ◌∙◌, ℕ, suc, ◌+◌, ◌*◌, ◌≤◌, ◌==◌, Bool, true, false, List, [], ◌∷◌, ◌++◌, length, take, slice_index, Option, Some, None, length-append, arith, ◌⊎◌, inl, inr}
 use Rattle.std.specs.Prelude.{IfSome, if◌then◌else◌}
 use Rattle.std.specs.List.{AllByRecursion}
+use Rattle.std.proofs.lemmas.List.{append_cancel_left}
+use Rattle.std.proofs.Math.Seq.{take-append_seam}
 use Rattle.apdu_core.specs.declared.header.Header.{Header}
 use Rattle.apdu_core.specs.CommandBytes.{Command, command_bytes}
 use Rattle.apdu_core.specs.StatusWord.{IsStatusWord}
@@ -29,23 +31,8 @@ use Rattle.t1_terminal.specs.Operated.{AreSent, IsLeft, IsSent, commands_in, mos
 
 -- ---- lists
 
-split_end : (xs ys : List ℕ) (a b c d : ℕ) → xs ++ a ∷ b ∷ [] ≡ ys ++ c ∷ d ∷ []
-    → (xs ≡ ys) × (a ≡ c) × (b ≡ d)
-split_end [] [] a b c d e =
-    let f : a ≡ c = cc in let g : b ≡ d = cc in (refl, f, g)
-split_end [] (y ∷ ys) a b c d e =
-    absurd (omega (arith, ap length e, length-append ys (c ∷ d ∷ [])))
-split_end (x ∷ xs) [] a b c d e =
-    absurd (omega (arith, ap length e, length-append xs (a ∷ b ∷ [])))
-split_end (x ∷ xs) (y ∷ ys) a b c d e =
-    let head : x ≡ y = cc in
-    let tail : xs ++ a ∷ b ∷ [] ≡ ys ++ c ∷ d ∷ [] = cc in
-    let rest = split_end xs ys a b c d tail in
-    (ap (λ z. z ∷ xs) head ∙ ap (λ zs. y ∷ zs) rest.0, rest.1, rest.2)
-
 pub last_same : {A : Type 0} (xs : List A) (a b : A) → xs ++ a ∷ [] ≡ xs ++ b ∷ [] → a ≡ b
-last_same [] a b e = cc
-last_same (x ∷ xs) a b e = let tail : xs ++ a ∷ [] ≡ xs ++ b ∷ [] = cc in last_same xs a b tail
+last_same xs a b e = let last = append_cancel_left xs (a ∷ []) (b ∷ []) e in cc
 
 pub turns_apart : {State : Type 0} (One : State → Pair → State → Type 0) (old new : State)
     (xs ys : List Pair) → InTurn One old (xs ++ ys) new
@@ -63,20 +50,25 @@ sent_both (x ∷ xs) ys (one, first) second = (one, sent_both xs ys first second
 
 pub same_pair : (p q : Pair) → p.command ≡ q.command → response_bytes p ≡ response_bytes q → p ≡ q
 same_pair p q same bytes =
-    let (content, first, second) = split_end p.content q.content p.status.0 p.status.1 q.status.0
-    q.status.1 bytes in
-    ap (λ (c : Command). record { command = c; content = p.content; status = p.status }) same
-    ∙ ap (λ (bs : List ℕ). record { command = q.command; content = bs; status = p.status }) content
-    ∙ ap (λ (a : ℕ). record {
-      command = q.command;
-      content = q.content;
-      status = (a, p.status.1);
-    }) first
-    ∙ ap (λ (b : ℕ). record {
-      command = q.command;
-      content = q.content;
-      status = (q.status.0, b);
-    }) second
+    let n : length p.content ≡ length q.content =
+    omega (
+      arith,
+      ap length bytes,
+      length-append p.content (status_bytes p.status),
+      length-append q.content (status_bytes q.status),
+    ) in
+    let content : p.content ≡ q.content =
+    sym (take-append_seam p.content (status_bytes p.status))
+    ∙ ap (take (length p.content)) bytes ∙ ap (λ k. take k (response_bytes q)) n
+    ∙ take-append_seam q.content (status_bytes q.status) in
+    let status : status_bytes p.status ≡ status_bytes q.status =
+    append_cancel_left q.content _ _
+    (ap (λ (bs : List ℕ). bs ++ status_bytes p.status) (sym content) ∙ bytes) in
+    let pair : Command → List ℕ → List ℕ → Pair = λ c bs sw.
+    record { command = c; content = bs; status = (slice_index sw 0, slice_index sw 1) } in
+    ap (λ c. pair c p.content (status_bytes p.status)) same
+    ∙ ap (λ bs. pair q.command bs (status_bytes p.status)) content
+    ∙ ap (pair q.command q.content) status
 
 module _ {State : Type 0} (Own : State → ℕ → Tpdu → State → Type 0) where
   -- what the card has done with a command

@@ -1,7 +1,7 @@
 -- The loop over the operations.
-use Rattle.std.proofs.Common.{◌≡◌, refl, sym, ap, subst, ◌∙◌, ℕ, zero, suc, ◌+◌, ◌≤◌, true, List, [], ◌∷◌, ◌++◌, length, map, take, drop, Option, Some, None, append_assoc, arith, ◌⊎◌, inl, inr}
+use Rattle.std.proofs.Common.{◌≡◌, refl, sym, ap, subst, ◌∙◌, ℕ, ◌+◌, ◌≤◌, true, List, [], ◌∷◌, ◌++◌, length, map, take, drop, Option, Some, None, append_assoc, arith, ◌⊎◌, inl, inr}
 use Rattle.std.specs.List.{flat_map}
-use Rattle.std.proofs.lemmas.List.{length-map}
+use Rattle.std.proofs.lemmas.List.{drop-map, length-map}
 use Rattle.apdu_core.specs.CommandBytes.{Command, command_bytes}
 use Rattle.t0_core.specs.DialogueLaws.{flat_map_last}
 use Rattle.t0_core.specs.Meaning.{Tpdu}
@@ -28,11 +28,6 @@ use Rattle.t1_core.specs.World.{IsFrontOf, IsTrue}
 use Rattle.t1_terminal.specs.Operated.{GivesUp, HasRun, HasTaken, IsLeft, Start, Takes, commands_in, past_of, response_bytes, responses_in, told_of}
 use Rattle.t1_terminal.proofs.LineLemmas.{IsMore, all_short, enough, gave_up, left_by, not_after, not_before, ready_stops, stops, turns_apart}
 use Rattle.t1_terminal.proofs.OperateLemmas.{Dialogues, applet, so_far}
-
-drop_map : {A B : Type 0} (f : A → B) (n : ℕ) (xs : List A) → drop n (map f xs) ≡ map f (drop n xs)
-drop_map f zero xs = refl
-drop_map f (suc n) [] = refl
-drop_map f (suc n) (x ∷ xs) = drop_map f n xs
 
 -- the same by the states of the cards themselves
 pub of_cards : {C X State : Type 0} (Own : State → ℕ → Tpdu → State → Type 0)
@@ -225,7 +220,7 @@ module _ {X State : Type 0} (Own : State → ℕ → Tpdu → State → Type 0) 
                 let is : fault ≡ f = cc in (
                   operation_of op,
                   map operation_of (drop (n + 1) ops),
-                  ap (λ k. drop k (map operation_of ops)) at ∙ drop_map operation_of n ops
+                  ap (λ k. drop k (map operation_of ops)) at ∙ drop-map operation_of n ops
                       ∙ ap (map operation_of) next,
                   subst (λ o. IsLeft o mid (operation_of op) (state_of last))
                       (sym (ap (λ (x : Fault). x.outcome) (sym is ∙ g.fault_is))) left,

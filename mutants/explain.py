@@ -233,10 +233,10 @@ def lines_of(words):
 
 
 def form_of(words):
-    """Returns the place of the named form, or `-` without one."""
+    """Returns a character for the place of the named form, from `0` on, or `-` without one."""
     if "--form" not in words:
         return "-"
-    return str(FORMS.index(words[words.index("--form") + 1]))
+    return chr(ord("0") + FORMS.index(words[words.index("--form") + 1]))
 
 
 def run_all(crate, folder):

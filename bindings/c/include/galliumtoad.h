@@ -115,7 +115,7 @@ enum {
     GT_NO_APP = -22,        /* there is no application to hold the data object */
     GT_VALUE_TOO_LONG = -23, /* the value exceeds the limit on a value */
     GT_NOT_OBJECTS = -24,   /* the tag is that of a template, and the value is not a list of
-                             * objects; the template is at level 1, so its value may have 15 */
+                             * objects, or has more than 15 levels */
     GT_TABLE_FULL = -25,    /* the tag is new, and the application has as many data objects as it
                              * may */
 
@@ -143,8 +143,8 @@ enum {
     /* of whole TPDUs and commands */
     GT_NOT_DUE = -60,       /* no TPDU or command is about to begin */
     GT_NO_STATUS = -61,     /* the answer does not end in a status word */
-    GT_NOT_ASKED = -62,     /* data came back, and the TPDU or command asks for none: it sends data,
-                             * or is the header alone */
+    GT_NOT_ASKED = -62,     /* data came back, and none may: the TPDU sends data or is the header
+                             * alone, or the command has no Le */
     GT_TOO_MANY = -63,      /* more data came back than the TPDU or command asks for */
     GT_NO_TPDU = -64,       /* the bytes are not a whole TPDU */
     GT_WANTS_DATA = -65,    /* the card takes data, and the TPDU has none: deadlock */
@@ -607,12 +607,12 @@ GT_MUST_CHECK int32_t gt_objects(const uint8_t *bytes, size_t n, gt_object *obje
  * object->length bytes from bytes + object->value on. Neither `object` nor `place` may be NULL.
  *
  * - GT_OK: it is there. Nothing else changes `object`.
- * - GT_NOT_FOUND: the bytes are a list of objects, and it contains no such object, or the path has
- *   no steps.
  * - GT_ARGUMENT: a step is not a tag of one to three bytes, whatever the bytes are.
  * - GT_TAG_CUT to GT_TOO_DEEP: the bytes are not a list of objects, wherever the path leads. This
  *   is their first fault, and `place` gets its place as in `gt_objects`. Nothing else changes
- *   `place`. */
+ *   `place`.
+ * - GT_NOT_FOUND: the bytes are a list of objects, and it contains no such object, or the path has
+ *   no steps. */
 GT_MUST_CHECK int32_t gt_find(const uint8_t *bytes, size_t n, const uint32_t *path, size_t steps,
                               gt_object *object, size_t *place) {
     static const uint32_t none[1] = { 0 };
@@ -632,8 +632,8 @@ GT_MUST_CHECK int gt_is_object(const uint8_t *bytes, size_t n, uint32_t tag) {
     return gt_find(bytes, n, &tag, 1, &object, &place) == GT_OK && object.size == n;
 }
 
-/* Writes the tag, and the length of a value in its shortest form, as an object begins: 2 to 6 bytes
- * at the front of `head`. `len` gets their number.
+/* Writes how an object begins, at the front of `head`: its tag, and the length of its value in the
+ * shortest form, 2 to 6 bytes. `len` gets their number.
  *
  * - GT_OK.
  * - GT_ARGUMENT: no tag of one to three bytes has this number. */
@@ -898,6 +898,10 @@ GT_FUNCTION void gt_exchange_free(gt_exchange *e) {
  * caller carries its characters, or its whole TPDUs, to a card and back. `gt_terminal_select`,
  * `_get`, `_put` and `_send` start one. `gt_terminal_next` says when it has ended.
  * `gt_terminal_answer` gives its answer, the status and the data of its last command.
+ *
+ * No chain may be pending at the card when an operation starts. One may be after a fault: a put
+ * under the same tag would continue it, and the card refuses any other with 6883. So reset the card
+ * after a fault.
  *
  * A terminal keeps the memory of an operation for the next: room for a response, and a copy of the
  * data that go to the card. The next takes more only for more data than any before.
@@ -1518,7 +1522,9 @@ GT_FUNCTION void gt_card_free(gt_card *c) {
  * - 00 C0 00 00 Le: GET RESPONSE. An exchange sends it by itself.
  *
  * After all except 9000 and 61XX no value is stored, what was selected stays selected, and a chain
- * is dropped. So is a response that waits, unless GET RESPONSE itself gets 6CXX.
+ * is dropped. So is a response that waits, unless GET RESPONSE itself gets 6CXX. If more than one
+ * holds, the answer is the first of 6883, 6E00, 6D00, 6884, 6A86, 6985, 6982, 6A88, 6700, 6CXX. The
+ * others come after the data.
  *
  * - 9000: it is done, and all data were received.
  * - 61XX: it is done, and XX more bytes can be had with GET RESPONSE (00: 256). GET DATA with an Le

@@ -188,8 +188,8 @@ pub struct Atr<'a> {
     pub waiting_integer: Option<u8>,
     /// The waiting time of T=0 in clock cycles: WI * 960 * Fi.
     pub waiting_time: Option<u32>,
-    /// IFSC of T=1, the most bytes in the field of a block to the card, 1 to 254: the first TA for
-    /// T=1 from TA3 on, or 32.
+    /// IFSC of T=1, the most bytes in the field of a block to the card, 1 to 254. It is the first
+    /// TA for T=1 from TA3 on, or 32.
     pub ifsc: Option<u8>,
     /// The error detection code of T=1: by the first TC for T=1 from TC3 on, or LRC.
     pub edc: Option<Edc>,

@@ -139,8 +139,8 @@ impl CardBuilder {
     /// - [`Error::Argument`]: GET DATA can't name the tag.
     /// - [`Error::NoApp`]: there is no application yet.
     /// - [`Error::ValueTooLong`]: the value exceeds [`VALUE_LIMIT`].
-    /// - [`Error::NotObjects`]: the tag is that of a template (bit 6 of its first byte is set), and
-    ///   the value is not a list of objects, or has more than 15 levels.
+    /// - [`Error::NotObjects`]: the tag is that of a template, and the value is not a list of
+    ///   objects, or has more than 15 levels. Bit 6 of a template's first tag byte is set.
     /// - [`Error::TableFull`]: the tag is new, and the application has [`ENTRIES_LIMIT`].
     /// - [`Error::Memory`]: it ran out.
     pub fn object(&mut self, tag: u32, value: &[u8]) -> Result<(), Error> {

@@ -102,8 +102,8 @@ codes! {
         NotDue = -60, "nothing due";
         /// The answer does not end in a status word.
         NoStatus = -61, "no status";
-        /// Data came back, and the TPDU or command asks for none: it sends data, or is the header
-        /// alone.
+        /// Data came back, and none may: the TPDU sends data or is the header alone, or the
+        /// command has no Le.
         NotAsked = -62, "data not asked for";
         /// More data came back than the TPDU or command asks for.
         TooMany = -63, "more data than asked for";

@@ -38,7 +38,9 @@ impl fmt::Debug for Turn {
 /// An `Err` is about the call, a status about the card: a put that the card refuses is `Ok` with a
 /// status such as `6982`. After all except `9000` and `61XX` no value is stored, what was selected
 /// stays selected, and a chain is dropped. So is a response that waits, unless GET RESPONSE itself
-/// gets `6CXX`. A [`Card`](crate::Card) answers:
+/// gets `6CXX`. If more than one holds, the answer is the first of `6883`, `6E00`, `6D00`, `6884`,
+/// `6A86`, `6985`, `6982`, `6A88`, `6700`, `6CXX`. The others come after the data. A
+/// [`Card`](crate::Card) answers:
 ///
 /// | Status | Why |
 /// |---|---|
@@ -177,7 +179,7 @@ impl Exchange {
     }
 
     /// Starts the exchange of a command whose response may have `limit` data bytes, 0 to
-    /// [`RESPONSE_LIMIT`]: it takes no more memory for it, and one byte more is [`Error::TooLong`].
+    /// [`RESPONSE_LIMIT`]. It takes no more memory for it, and one byte more is [`Error::TooLong`].
     ///
     /// # Errors
     ///

@@ -102,8 +102,8 @@ impl<'a> Object<'a> {
     }
 }
 
-/// All objects of all levels of a list, in the order of their first bytes: a template comes before
-/// the objects in it (EMV Book 3, Annex B). Padding, `00` before, between and after objects, is
+/// All objects of all levels of a list, in the order of their first bytes (EMV Book 3, Annex B). A
+/// template comes before the objects in it. Padding, `00` before, between and after objects, is
 /// skipped.
 ///
 /// ```

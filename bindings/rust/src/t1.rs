@@ -175,7 +175,7 @@ impl T1 {
         done(unsafe { raw::galliumtoad_t1_begin(self.0.at(), command.as_ptr(), command.len()) })
     }
 
-    /// Copies the block to send now to the front of `room`, or returns `None` if no command is in
+    /// Copies the block to send now to the front of `room`. Returns `None` if no command is in
     /// progress: the last one has its response, or none has started. Each further call gives the
     /// same block, until [`receive`](T1::receive) has taken a whole block or a call of
     /// [`missed`](T1::missed).
@@ -223,9 +223,9 @@ impl T1 {
         Ok(Received { taken, is_whole })
     }
 
-    /// Reports that no valid block of the card came: none began within BWT times
-    /// [`Block::waits`], one stopped for longer than CWT, or a character had a wrong parity. This
-    /// is a fruitless reception. The received part of the block is dropped.
+    /// Reports that no valid block of the card came. Either none began within BWT times
+    /// [`Block::waits`], or one stopped for longer than CWT, or a character had a wrong parity.
+    /// This is a fruitless reception. The received part of the block is dropped.
     ///
     /// # Errors
     ///

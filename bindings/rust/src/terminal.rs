@@ -39,6 +39,10 @@ impl fmt::Debug for Operation<'_> {
 /// [`answer`](Terminal::answer).
 /// [`run`](Terminal::run) does all of that with a [`Transport`](crate::Transport).
 ///
+/// No chain may be pending at the card when an operation begins. One may be after a fault: a put
+/// under the same tag would continue it, and the card refuses any other with `6883`. So reset the
+/// card after a fault.
+///
 /// The memory of an operation, room for a response and a copy of the data that go to the card, is
 /// kept for the next. It keeps sent and received bytes, secrets included, until a later operation
 /// overwrites them, or [`reset`](Terminal::reset) or a drop wipes and frees it.
@@ -73,7 +77,7 @@ impl Terminal {
     }
 
     /// Makes a terminal that has begun no operation. The response to a command may have `limit`
-    /// data bytes, 0 to [`RESPONSE_LIMIT`]: no operation takes more memory for it, and one byte
+    /// data bytes, 0 to [`RESPONSE_LIMIT`]. No operation takes more memory for it, and one byte
     /// more is [`Error::TooLong`].
     ///
     /// # Errors
@@ -150,8 +154,8 @@ impl Terminal {
         done(unsafe { raw::galliumtoad_terminal_take(self.0.at(), byte) })
     }
 
-    /// Returns the next whole TPDU. `None` if one of its characters was sent, if no operation has
-    /// begun, or if the operation has ended, has failed or goes by whole commands.
+    /// Returns the next whole TPDU. `None` if one of its characters was sent, or if no operation
+    /// has begun. `None` too if it has ended, has failed or goes by whole commands.
     #[must_use]
     pub fn tpdu(&self) -> Option<Tpdu> {
         whole::tpdu(&self.0, raw::galliumtoad_terminal_tpdu)

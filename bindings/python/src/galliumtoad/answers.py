@@ -62,8 +62,9 @@ def _object(found: Any, data: bytes) -> Object:
 def objects(data: Bytes) -> list[Object]:
     """Returns all objects of a list, a template before the objects in it (EMV Book 3, Annex B).
 
-    Padding, 00 before, between and after objects, is skipped. Raises `ObjectsError` if the bytes
-    are not a list, with the first fault and the place of the innermost object at fault.
+    Padding, 00 before, between and after objects, is skipped. The call takes 40 bytes of memory for
+    each byte. Raises `ObjectsError` if the bytes are not a list, with the first fault and the place
+    of the innermost object at fault.
 
     >>> import galliumtoad
     >>> [(hex(it.tag), it.level, it.value.hex()) for it in
@@ -134,9 +135,9 @@ class Atr:
     gives 0.
 
     `protocols` is a tuple, in the order offered. `historical` has the historical bytes. `t1` has
-    the values for T=1, by the first TA, TB and TC for T=1 from TA3, TB3 and TC3 on: `ifsc`, `edc`
-    and the times. Raises `AtrError` with the place of the first fault if the bytes are not an
-    answer to reset.
+    the values for T=1: `ifsc`, `edc` and the times. They are by the first TA, TB and TC for T=1
+    from TA3, TB3 and TC3 on. Raises `AtrError` with the place of the first fault if the bytes are
+    not an answer to reset.
 
     >>> from galliumtoad import Atr
     >>> Atr(bytes.fromhex("3B0214"))

@@ -111,7 +111,7 @@ class Card(Holder):
         - CallError, GT_STATE: characters of a TPDU have passed; nothing has changed.
         - TransportError, GT_NO_TPDU: the bytes are not a TPDU; nothing has changed.
         - TransportError, GT_WANTS_DATA or GT_SENDS_DATA: the TPDU lacks data that the card takes,
-          or asks for none of those that it sends; the card is reset, and the plan is used up.
+          or asks for none of those that it sends. The card is reset, and the plan is used up.
         - OutOfMemory: memory ran out; nothing has changed.
         """
         return self._copied("tpdu", *readable(tpdu), room=lib.GT_ANSWER_LIMIT)
@@ -175,8 +175,8 @@ class Session(Holder):
         no data.
 
         Errors, after which nothing was sent:
-        - CallError, GT_ARGUMENT: an identifier not of 5 to 16 bytes, a tag that no command can
-          name, or a command whose data the card takes the other way.
+        - CallError, GT_ARGUMENT: an identifier not of 5 to 16 bytes, or a tag that no command can
+          name. Or the data of a `Send` move the other way at the card.
         - CallError, GT_BUSY: a chain of `Send` is pending. `Send` never gets it.
         - CommandError: the bytes of `Send` are not a command.
         - TypeError: it is not an operation.

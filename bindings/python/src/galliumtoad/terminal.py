@@ -191,6 +191,9 @@ class Terminal(Machine, Lasting):
 
     Raises `CallError`, GT_ARGUMENT, or `ValueError` for another limit.
 
+    No chain may be pending at the card when an operation begins. One may be after a fault: a put
+    under the same tag would continue it. So reset the card after a fault.
+
     >>> from galliumtoad import Card, Get, Select, Terminal
     >>> aid = bytes.fromhex("A0000000031010")
     >>> with Card({aid: {0x5F20: b"JOE"}}) as card, Terminal() as terminal:

@@ -32,7 +32,8 @@ _HELP = "In a script `@{column}` is a column's text, `{column}` its digits: put 
 class Batch:
     """What all readers share: the script, the rows, and the journal's file.
 
-    Raises `ValueError` or `OSError` if a row can't be carried out.
+    Raises `ValueError` if the table or the script is invalid, or a row can't be carried out, and
+    `OSError` if a file can't be read.
     """
 
     def __init__(self, words: argparse.Namespace) -> None:
@@ -64,7 +65,7 @@ def carry_out(batch: Batch, journal: Journal, number: int, reader: Transport) ->
     - done: each status was 9000, and each value reads back as sent.
     - unused: it stopped before the first put or send.
     - failed: the card refused an operation, or stored another value.
-    - unsure: the card did not answer.
+    - unsure: the reader failed, or the card's answer did not fit.
     """
     terminal, has_written = Terminal(), False
     try:

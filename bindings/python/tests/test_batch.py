@@ -235,13 +235,15 @@ def test_two_runs_at_one_reader(tmp_path):
 
 
 def test_readers_with_long_names(tmp_path):
-    room = Room(tmp_path, 4, readers=0)
+    room = Room(tmp_path, 6, readers=0)
+    # slow enough for both readers to be served at once
+    room.environment["SLOW"] = "0.1"
     for end in (" 00 00", " 01 00"):
         reader = tmp_path / f"{'R' * 100}{os.getpid()}{end}"
         reader.mkdir()
         (reader / "card").write_text("0")
     status, out, error = room.run("--reader= 00 00", "--reader= 01 00")
-    assert (status, error) == (0, "") and out.endswith("4 of 4 rows done, 0 to decide\n")
+    assert (status, error) == (0, "") and out.endswith("6 of 6 rows done, 0 to decide\n")
 
 
 def test_each_card_that_does_not_answer_is_named(tmp_path):

@@ -303,6 +303,8 @@ def tables():
         ("# a name\nobject 5F20 41\n", "line 2: no app\n"),
         ("atr 3B00\natr 3B00\n" + APP, "line 2: bad argument\n"),
         (APP + "atr 3B1095\nobject 50 41\natr 3B00\n", "line 5: bad argument\n"),
+        (APP + "object 50 41\0 42\n", "line 3: bad argument\n"),
+        (APP + "object 50 41\0 42", "line 3: bad argument\n"),
         ("atr 3B80018F\n", none + "wrong check byte, at byte 4\n"),
         ("atr 5500\n", none + "no TS, at byte 1\n"),
         ("atr 3B6500\n", none + "answer to reset cut, at byte 4\n"),
@@ -313,8 +315,10 @@ def tables():
         ("atr 3B909F1000\n", neither),
     ):
         with tempfile.TemporaryDirectory() as folder:
-            program = Program("serial_card", ["--pty", table(folder, text)])
-            look(program, program.end(), "", fault, 1)
+            path = table(folder, text)
+            program = Program("serial_card", ["--pty", path])
+            place = f"{path}: " if fault.startswith("line") else ""
+            look(program, program.end(), "", place + fault, 1)
 
 
 def warns():
@@ -339,7 +343,7 @@ def warns():
 
 
 def closed_descriptors():
-    """Text for a closed descriptor does not reach the terminal."""
+    """Text for a closed descriptor does not reach the terminal. A lost trace is a fault."""
     line = Line()
     try:
         program = Program("serial_card", ["-v", "--no-echo", line.name, TABLE], before="exec 1>&-")
@@ -348,8 +352,20 @@ def closed_descriptors():
         other.take_nothing(0.1)
     finally:
         line.close()
-    look(program, program.end(), "", GONE, 1)
+    look(program, program.end(), "", "write fault\n", 1)
     program = Program("serial_card", ["--pty", TABLE], before="exec 1>&-")
+    look(program, program.end(), "", "write fault\n", 1)
+
+
+def full_device():
+    """If its trace can't be written, a card prints that after the dialogue, and ends."""
+    line = Line()
+    try:
+        with open("/dev/full", "wb") as full:
+            program = Program("serial_card", ["-v", "--no-echo", line.name, TABLE], stdout=full)
+        play(Other(line, echo=False), "< 3B00 " + ASK_WORDS, card=False)
+    finally:
+        line.close()
     look(program, program.end(), "", "write fault\n", 1)
 
 
@@ -369,9 +385,11 @@ def words():
         program = Program("serial_card", given)
         look(program, program.end(), "", f"error: {why}\n{USAGE}", 2)
     for given, fault in (
-        (["/nowhere/tty", TABLE], "the tty cannot be opened: No such file or directory\n"),
-        (["/dev/null", TABLE], "it is not a tty\n"),
-        (["--pty", "/nowhere/table"], "the table cannot be read\n"),
+        (["/nowhere/tty", TABLE],
+         "the tty cannot be opened: '/nowhere/tty': No such file or directory\n"),
+        (["/dev/null", TABLE], "'/dev/null' is not a tty\n"),
+        (["--pty", "/nowhere/table"], "/nowhere/table: No such file or directory\n"),
+        (["--pty", "/"], "/: Is a directory\n"),
     ):
         program = Program("serial_card", given)
         look(program, program.end(), "", fault, 1)
@@ -395,5 +413,5 @@ def tests():
     yield from ((case.title, lambda case=case: run(case)) for case in all_cases())
     for test in (wrong_echo, is_slow, puts_back, opening_is_the_reset, quick_reopening,
                  mute_and_reopened, gives_the_echo, is_not_read, mute_until_reset, tables, warns,
-                 closed_descriptors, words, helps):
+                 closed_descriptors, full_device, words, helps):
         yield (f"card: {test.__name__}", test)

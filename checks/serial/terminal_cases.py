@@ -707,7 +707,10 @@ def words():
     for given, why in (
         ([], "no tty was provided"),
         (["-f", "y", "x", *GET], "operations are either words or in FILE"),
+        (["-f", "y", "-f", "z", "x"], "'-f' cannot be used multiple times"),
         (["--walk", "x", *GET], "'--walk' is not an option"),
+        (["-" * 61, "x", *GET], f"'{'-' * 60}..' is not an option"),
+        (["--\x1b[2J", "x", *GET], "'--?[2J' is not an option"),
         (["--pty", "x", *GET], "'--pty' is not an option"),
         (["--baud"], "'--baud' needs a value"),
         (["--baud", "1199", "x", *GET], "'--baud' takes a number from 1200 to 1000000"),
@@ -728,8 +731,9 @@ def words():
         program = Program("gt_serial", given)
         look(program, program.end(), "", f"error: {why}\n{USAGE}", 2)
     for given, fault in (
-        (["/nowhere/tty", *GET], "the tty cannot be opened: No such file or directory\n"),
-        (["/dev/null", *GET], "it is not a tty\n"),
+        (["/nowhere/tty", *GET],
+         "the tty cannot be opened: '/nowhere/tty': No such file or directory\n"),
+        (["/dev/null", *GET], "'/dev/null' is not a tty\n"),
         (["-f", "/nowhere/file", "/dev/null"],
          "read fault: '/nowhere/file': No such file or directory\n"),
     ):

@@ -9,6 +9,7 @@
 #include "serial_t1.h"
 #include "table.h"
 
+#include <errno.h>
 #include <string.h>
 
 enum { ALL_WELL = 0, FAULT = 1, BAD_WORDS = 2 };
@@ -402,6 +403,8 @@ static int serve(struct port *port, struct table *table, const gt_atr *says,
     while ((fault = await_reset(&socket, what)) == NULL) {
         what = talk(&socket);
         line_note_text(&line, NULL);
+        if (ferror(stdout))
+            return tell("write fault");
     }
     return tell(fault);
 }
@@ -465,13 +468,15 @@ static int run(const struct serial_options *options)
 {
     struct table table = TABLE_INIT;
     gt_atr says;
-    FILE *file = fopen(options->words[options->count - 1], "r");
-    const char *fault;
+    const char *name = options->words[options->count - 1], *fault;
+    FILE *file = fopen(name, "r");
     int32_t code;
     int result;
-    if (file == NULL)
-        return tell("the table cannot be read");
-    code = table_read(file, NULL, &table);
+    if (file == NULL) {
+        fprintf(stderr, "%s: %s\n", name, strerror(errno));
+        return FAULT;
+    }
+    code = table_read(file, name, &table);
     fclose(file);
     if (code != GT_OK)
         return FAULT;

@@ -6,8 +6,8 @@
  * check for NULL, call the library, and return texts. The caller's part:
  *
  * - A pointer with a count is that many elements, all readable and, without const, writable. It may
- *   be NULL if the count is 0. No other pointer may be NULL: if one is, the call returns GT_NULL
- *   and does nothing. Pointers are aligned as their types require.
+ *   be NULL if the count is 0. If any other pointer is NULL, the call returns GT_NULL and does
+ *   nothing. Pointers are aligned as their types require.
  * - The memory that the arguments of one call point to does not overlap, unless all of it is const
  *   or the comment of the function allows it.
  * - A handle (gt_exchange, gt_terminal, gt_t1, gt_card, gt_session) is all zero before its first
@@ -24,8 +24,8 @@
  *
  * Every function returns a code of the list below, except those of texts, of the version,
  * gt_is_object and the .._free ones. 0 or above is success, below 0 is a fault: compare with < 0,
- * not with != 0. The numbers are fixed. A function's comment names all faults that it may return,
- * except three:
+ * not with != 0. gt_pps_agreed and gt_session_idle return 1 or 0 if they succeed. The numbers are
+ * fixed. A function's comment names all faults that it may return, except three:
  *
  * - GT_NULL: see above.
  * - GT_EMPTY: the handle holds nothing. Each function with a handle returns it, unless its comment
@@ -93,8 +93,8 @@ enum {
     GT_OK = 0,              /* success; of a turn (.._next, .._turn): the end listens */
     GT_SENDS = 1,           /* of a turn: a character to send; of .._send_bytes: the buffer is
                              * full; at T=1: the received block is whole, or dropped */
-    GT_DONE = 2,            /* of an exchange's turn: it has ended, and has an answer; at T=1:
-                             * there is no block to send */
+    GT_DONE = 2,            /* of a turn of an exchange or a terminal: it has ended, and has an
+                             * answer; at T=1: there is no block to send */
 
     GT_NULL = -1,           /* a pointer is NULL */
     GT_EMPTY = -2,          /* the handle holds nothing */
@@ -105,8 +105,8 @@ enum {
                              * gt_objects, which fills it as far as it goes */
     GT_BUSY = -7,           /* a chain is pending at the card */
     GT_NOT_FOUND = -8,      /* what was asked for is not there */
-    GT_FAILED = -9,         /* of an exchange's turn: it has failed for good; at T=1: the end
-                             * gave up */
+    GT_FAILED = -9,         /* of a turn of an exchange or a terminal: it has failed for good; at
+                             * T=1: the end gave up */
     GT_PLANS = -10,         /* GT_PLANS_LIMIT plans wait already */
 
     /* of a card under construction */
@@ -115,21 +115,23 @@ enum {
     GT_NO_APP = -22,        /* there is no application to hold the data object */
     GT_VALUE_TOO_LONG = -23, /* the value exceeds the limit on a value */
     GT_NOT_OBJECTS = -24,   /* the tag is that of a template, and the value is not a list of
-                             * objects; its objects are at level 2, so it may have 15 levels */
-    GT_TABLE_FULL = -25,    /* the application has as many data objects as it may */
+                             * objects, or has more than 15 levels */
+    GT_TABLE_FULL = -25,    /* the tag is new, and the application has as many data objects as it
+                             * may */
 
     /* of the line */
     GT_NOT_LISTENING = -30, /* the end has characters to send */
     GT_BAD_PROCEDURE = -31, /* unexpected byte: neither a procedure byte nor a first status byte */
     GT_TOO_LONG = -32,      /* the response exceeds its limit: 16,384 bytes, or fewer */
-    GT_STALLED = -33,       /* a GET RESPONSE brought nothing, and the card announces more */
+    GT_STALLED = -33,       /* a GET RESPONSE of the exchange's own brought nothing, and the card
+                             * announces more */
     GT_AFTER_END = -34,     /* the exchange has ended or failed, or no operation has started */
 
     /* of objects */
     GT_TAG_CUT = -40,       /* the list ends inside a tag */
-    GT_TAG_FORM = -41,      /* no tag starts here */
-    GT_LENGTH_CUT = -42,    /* the list ends inside a length */
-    GT_LENGTH_FORM = -43,   /* no length follows the tag */
+    GT_TAG_FORM = -41,      /* no tag of one to three bytes starts here */
+    GT_LENGTH_CUT = -42,    /* the list ends inside a length, or before it */
+    GT_LENGTH_FORM = -43,   /* the length starts with 80, or with a byte above 82 */
     GT_VALUE_CUT = -44,     /* the value passes the end of the list */
     GT_TOO_DEEP = -45,      /* the list is a level below the deepest one, 16 */
 
@@ -141,7 +143,8 @@ enum {
     /* of whole TPDUs and commands */
     GT_NOT_DUE = -60,       /* no TPDU or command is about to begin */
     GT_NO_STATUS = -61,     /* the answer does not end in a status word */
-    GT_NOT_ASKED = -62,     /* data came back, and the TPDU or command asks for none */
+    GT_NOT_ASKED = -62,     /* data came back, and none may: the TPDU sends data or is the header
+                             * alone, or the command has no Le */
     GT_TOO_MANY = -63,      /* more data came back than the TPDU or command asks for */
     GT_NO_TPDU = -64,       /* the bytes are not a whole TPDU */
     GT_WANTS_DATA = -65,    /* the card takes data, and the TPDU has none: deadlock */
@@ -149,25 +152,29 @@ enum {
 
     /* of an answer to reset */
     GT_ATR_NO_TS = -70,     /* the first byte is neither 3B nor 3F */
-    GT_ATR_CUT = -71,       /* the bytes end before a character that is announced */
-    GT_ATR_TOO_LONG = -72,  /* there are 33 bytes, the most, and another is announced, or is TCK */
+    GT_ATR_CUT = -71,       /* there are fewer than 33 bytes, and they end before a character that
+                             * is announced */
+    GT_ATR_TOO_LONG = -72,  /* there are 33 bytes or more, and the answer would have more than 33,
+                             * the most, with TCK */
     GT_ATR_ORDER = -73,     /* the T that this TD names is below the one before it, or 15 in TD1 */
-    GT_ATR_SURPLUS = -74,   /* characters follow the end */
+    GT_ATR_SURPLUS = -74,   /* bytes follow TCK, or at least two follow the end without TCK */
     GT_ATR_CHECK_MISSING = -75, /* TCK is missing, which a T other than 0 requires */
     GT_ATR_CHECK_NOT_DUE = -76, /* one byte follows the end, and TCK is not expected */
     GT_ATR_CHECK_WRONG = -77, /* TCK doesn't make the exclusive-or of all characters after TS 00 */
 
     /* of a PPS response */
     GT_PPS_NO_PPSS = -80,   /* the first byte is not FF */
-    GT_PPS_CUT = -81,       /* the bytes end before an expected character */
+    GT_PPS_CUT = -81,       /* there are no bytes, or they end before an expected character */
     GT_PPS_RESERVED = -82,  /* bit 8 of PPS0 is 1, which is reserved */
     GT_PPS_SURPLUS = -83,   /* characters follow PCK */
     GT_PPS_CHECK_WRONG = -84, /* PCK doesn't make the exclusive-or of all characters 00 */
 
     /* why a terminal's end at T=1 gave up; GT_TOO_LONG is another cause */
-    GT_TRIES_SPENT = -90,   /* too many receptions in a row brought no step forward */
-    GT_EXTENSIONS_SPENT = -91, /* the card asked for more time or another IFSC too often */
-    GT_ABORTED = -92        /* the card ended the chain in progress: S(ABORT request) */
+    GT_TRIES_SPENT = -90,   /* more than `tries` receptions were fruitless since the last progress:
+                             * see `gt_t1_new` */
+    GT_EXTENSIONS_SPENT = -91, /* the card sent more than `extensions` S(WTX request) and S(IFS
+                             * request) in one command */
+    GT_ABORTED = -92        /* the card sent S(ABORT request), and the end has answered it */
 };
 
 /* Returns what a code means, in a few words: a string that stays valid. For a number that is no
@@ -309,8 +316,8 @@ enum { GT_CLASS_A = 1, GT_CLASS_B = 2, GT_CLASS_C = 4 };
 enum { GT_LRC = 1, GT_CRC = 2 };
 
 /* What is known of a command if a terminal's end at T=1 gave up. The card has not carried it out,
- * since its last block never went out; or it may have; or it has, and sent a part of its
- * response. */
+ * since its last block was never sent (0). It may have (1). It has, and a part of the response
+ * arrived (2). */
 enum { GT_NOT_CARRIED_OUT = 0, GT_UNKNOWN = 1, GT_IN_PART = 2 };
 
 /* The form of historical bytes, by the first of them (ISO/IEC 7816-4, 12.1.1). */
@@ -323,11 +330,12 @@ enum {
     GT_HISTORY_OWN = 5          /* any other: the maker's own form */
 };
 
-/* What an answer to reset says of T=1, by the first TA, TB and TC for T=1. For a missing one the
- * standard's default holds (ISO/IEC 7816-3, clause 11). */
+/* What an answer to reset says of T=1, by the first TA, TB and TC for T=1 from TA3, TB3 and TC3 on.
+ * For a missing one the standard's default holds: IFSC 32, BWI 4, CWI 13, LRC (ISO/IEC 7816-3,
+ * clause 11). */
 typedef struct {
-    uint8_t ifsc;               /* IFSC, 1 to 254: the longest field of a block that the card takes;
-                                 * 0: reserved */
+    uint8_t ifsc;               /* IFSC, 1 to 254: the most bytes in the field of a block to the
+                                 * card; 0: reserved */
     uint8_t edc;                /* the error detection code, by the number of its bytes: GT_LRC
                                  * or GT_CRC; 0: reserved */
     uint8_t bwi;                /* BWI, 0 to 9; 0 with bwt_etu 0: reserved */
@@ -358,16 +366,19 @@ typedef struct {
     uint8_t di;                 /* Di; 0: reserved */
     uint8_t extra_guard_time;   /* N: TC1, or 0 */
     uint8_t waiting_integer;    /* WI of T=0: TC2, or 10; 0: reserved */
-    uint8_t specific;           /* 1 in specific mode; else 0, and the next three are 0 */
+    uint8_t specific;           /* 1 in specific mode, by TA2; else 0, and the next three are 0 */
     uint8_t specific_t;         /* the protocol of the card after its answer, at once */
     uint8_t can_change;         /* 1 if the card can change to negotiable mode, else 0 */
     uint8_t implicit;           /* 1 if Fi and Di are implicit, and not those of TA1, else 0 */
-    uint8_t clock_stop;         /* GT_STOP_NONE .. GT_STOP_EITHER: where the clock may stop */
-    uint8_t classes;            /* the sum of the classes that the card takes: GT_CLASS_A (5 V),
-                                 * GT_CLASS_B (3 V) and GT_CLASS_C (1.8 V); 0: reserved */
+    uint8_t clock_stop;         /* where the clock may stop, by the first TA for T=15: GT_STOP_NONE
+                                 * .. GT_STOP_EITHER; GT_STOP_NONE without it */
+    uint8_t classes;            /* the sum of the classes that the card takes, by the same TA:
+                                 * GT_CLASS_A (5 V), GT_CLASS_B (3 V) and GT_CLASS_C (1.8 V);
+                                 * GT_CLASS_A without it; 0: reserved */
     uint16_t fi;                /* Fi; 0: reserved */
     uint16_t max_khz;           /* the highest clock frequency in kHz; 0 with Fi */
-    uint16_t guard_etu;         /* the guard time to the card in any protocol but T=1, in etu .. */
+    uint16_t guard_etu;         /* the least from one character to the card to the next, in etu, in
+                                 * any protocol but T=1 .. */
     uint16_t guard_etu_t1;      /* .. and in T=1 .. */
     uint16_t guard_indicated;   /* .. and in each as many times Fi/Di clock cycles, by TA1, more */
     uint32_t waiting_time;      /* of T=0 in clock cycles, WI * 960 * Fi; 0 with WI or Fi */
@@ -577,11 +588,12 @@ static inline int32_t gt_pass_(int32_t (*carry_out)(gt_card *, const uint8_t *, 
  * and returns GT_OK; `objects` may then be NULL. `count` and `place` may not. The call takes some
  * KB of stack for 16 levels.
  *
- * - GT_OK: all of them are in `objects`, from its front, or room is 0.
+ * - GT_OK: all of them are in `objects`, from its front, or room is 0. `count` is set here too.
  * - GT_BUFFER: there are more than `room`; `count` is their number, and the first `room` of them
  *   are in `objects`.
  * - GT_TAG_CUT to GT_TOO_DEEP: the bytes are not a list of objects. This is their first fault, and
- *   `place` gets the place of the innermost object at fault. Nothing else changes `place`. */
+ *   `place` gets the place of the innermost object at fault. Nothing else changes `place`, and
+ *   `count` is unchanged. */
 GT_MUST_CHECK int32_t gt_objects(const uint8_t *bytes, size_t n, gt_object *objects, size_t room,
                                  size_t *count, size_t *place) {
     gt_object none;
@@ -595,12 +607,12 @@ GT_MUST_CHECK int32_t gt_objects(const uint8_t *bytes, size_t n, gt_object *obje
  * object->length bytes from bytes + object->value on. Neither `object` nor `place` may be NULL.
  *
  * - GT_OK: it is there. Nothing else changes `object`.
- * - GT_NOT_FOUND: the bytes are a list of objects without such an object, or the path has no
- *   steps.
  * - GT_ARGUMENT: a step is not a tag of one to three bytes, whatever the bytes are.
  * - GT_TAG_CUT to GT_TOO_DEEP: the bytes are not a list of objects, wherever the path leads. This
  *   is their first fault, and `place` gets its place as in `gt_objects`. Nothing else changes
- *   `place`. */
+ *   `place`.
+ * - GT_NOT_FOUND: the bytes are a list of objects, and it contains no such object, or the path has
+ *   no steps. */
 GT_MUST_CHECK int32_t gt_find(const uint8_t *bytes, size_t n, const uint32_t *path, size_t steps,
                               gt_object *object, size_t *place) {
     static const uint32_t none[1] = { 0 };
@@ -609,19 +621,19 @@ GT_MUST_CHECK int32_t gt_find(const uint8_t *bytes, size_t n, const uint32_t *pa
 }
 
 /* Returns whether the bytes are one object with this tag: its tag, length and value, with no
- * padding and nothing else. The data of an answer to GET DATA are one. Some cards answer 9000 with
- * the value alone.
+ * padding and nothing else. A template counts only if its value is a list of objects. The data of
+ * an answer to GET DATA are one object. Some cards answer 9000 with the value alone.
  *
  * - 1: they are.
- * - 0: they are not, or `n` is 0, or `bytes` is NULL. */
+ * - 0: they are not, `tag` is not a tag of one to three bytes, `n` is 0, or `bytes` is NULL. */
 GT_MUST_CHECK int gt_is_object(const uint8_t *bytes, size_t n, uint32_t tag) {
     gt_object object;
     size_t place;
     return gt_find(bytes, n, &tag, 1, &object, &place) == GT_OK && object.size == n;
 }
 
-/* Writes the tag, and the length in its shortest form, as an object begins: 2 to 6 bytes at the
- * front of `head`. `len` gets their number.
+/* Writes how an object begins, at the front of `head`: its tag, and the length of its value in the
+ * shortest form, 2 to 6 bytes. `len` gets their number.
  *
  * - GT_OK.
  * - GT_ARGUMENT: no tag of one to three bytes has this number. */
@@ -637,10 +649,11 @@ GT_MUST_CHECK int32_t gt_head(uint32_t tag, uint16_t length, uint8_t head[6], si
 /* Reads an answer to reset: `bytes` is all of it and no more. In the inverse convention the bytes
  * are as they are meant: TS is 3F.
  *
- * - GT_OK: nothing else changes `atr`.
+ * - GT_OK: `atr` is set. Nothing else changes `atr`.
  * - GT_ATR_NO_TS to GT_ATR_CHECK_WRONG: the bytes are not an answer to reset. This is their first
  *   fault from the left; a wrong check byte comes last. `place` gets the place of the first byte at
- *   fault, from 0 for TS, or the number of bytes if one is missing. Nothing else changes `place`.
+ *   fault, from 0 for TS. It gets the number of bytes if one is missing, and 33 with
+ *   GT_ATR_TOO_LONG. Nothing else changes `place`.
  *
  * While the result is GT_ATR_CUT or GT_ATR_CHECK_MISSING, read one more byte: there are never more
  * than GT_ATR_LIMIT. */
@@ -671,7 +684,7 @@ GT_MUST_CHECK int32_t gt_pps_request(uint8_t t, uint16_t pps1, uint16_t pps2, ui
  *
  * - 1: it does.
  * - 0: it does not. Reset the card, or give it up.
- * - GT_ARGUMENT: `request` is not a PPS request.
+ * - GT_ARGUMENT: `request` is not a PPS request, whatever `response` is.
  * - GT_PPS_NO_PPSS to GT_PPS_CHECK_WRONG: `response` is not a PPS response. This is its first fault
  *   from the left; a wrong PCK comes last. */
 GT_MUST_CHECK int32_t gt_pps_agreed(const uint8_t *request, size_t n, const uint8_t *response,
@@ -713,9 +726,12 @@ GT_MUST_CHECK int gt_version_fits(void) {
  * card.
  *
  * - GT_OK: it has started, and sends first.
- * - GT_STATE: the handle holds an exchange.
- * - GT_TOO_SHORT, GT_BAD_LENGTH, GT_INVALID_INS: the bytes are not a command.
- * - GT_MEMORY. Never GT_EMPTY. */
+ * - GT_STATE: the handle holds an exchange, which stays as it was.
+ * - GT_TOO_SHORT, GT_BAD_LENGTH, GT_INVALID_INS: the bytes are not a command. The handle still
+ *   holds nothing.
+ * - GT_MEMORY: the handle still holds nothing.
+ *
+ * It never returns GT_EMPTY. */
 GT_MUST_CHECK int32_t gt_exchange_start(gt_exchange *e, const uint8_t *command, size_t n) {
     if (!e || (!command && n)) return GT_NULL;
     return galliumtoad_exchange_start(e, gt_bytes_(command), n);
@@ -724,7 +740,8 @@ GT_MUST_CHECK int32_t gt_exchange_start(gt_exchange *e, const uint8_t *command, 
 /* As `gt_exchange_start`, for a response of at most `limit` bytes, 0 to GT_RESPONSE_LIMIT. The
  * exchange takes no more memory for it. The first byte beyond is GT_TOO_LONG.
  *
- * - GT_ARGUMENT, before GT_MEMORY: `limit` is above GT_RESPONSE_LIMIT.
+ * - GT_ARGUMENT, before GT_MEMORY: `limit` is above GT_RESPONSE_LIMIT. The handle still holds
+ *   nothing.
  * - The others as above. */
 GT_MUST_CHECK int32_t gt_exchange_start_within(gt_exchange *e, const uint8_t *command, size_t n,
                                                size_t limit) {
@@ -745,7 +762,8 @@ GT_MUST_CHECK int32_t gt_exchange_next(gt_exchange *e, uint8_t *byte) {
     return galliumtoad_exchange_next(e, byte);
 }
 
-/* Takes a character of the card.
+/* Takes a character of the card. If it completes a status, the next TPDU begins, or the exchange
+ * has ended.
  *
  * - GT_OK: it is taken.
  * - GT_BAD_PROCEDURE, GT_TOO_LONG, GT_STALLED: with it the exchange has failed for good.
@@ -763,7 +781,7 @@ GT_MUST_CHECK int32_t gt_exchange_take(gt_exchange *e, uint8_t byte) {
  * gets their number, which may be 0. The rest of `bytes` is unchanged.
  *
  * - GT_SENDS: `bytes` is full, with `room` characters, and there may be more: call again. With room
- *   0 it is always this, whatever the exchange does next.
+ *   0 it is always this, whatever the exchange does next, except at the other level.
  * - GT_OK: after them it waits for a character of the card.
  * - GT_DONE: after them the exchange has ended.
  * - GT_FAILED: it has failed for good. `n` is set here too. */
@@ -823,10 +841,11 @@ GT_MUST_CHECK int32_t gt_exchange_tpdu(gt_exchange *e, uint8_t tpdu[GT_TPDU_LIMI
 /* Takes the answer to that TPDU. The exchange continues as after the characters of any TPDU that
  * brings these data and this status: another TPDU follows, or it has ended.
  *
- * - GT_OK.
- * - GT_NO_STATUS: the last two bytes are not a status word (6X except 60, or 9X, and any byte).
- * - GT_NOT_DUE: see `gt_exchange_tpdu`.
- * - GT_NOT_ASKED, GT_TOO_MANY: more data came back than may.
+ * - GT_OK: it is taken.
+ * - GT_NO_STATUS: there are fewer than two bytes, or the last two are not a status word (6X except
+ *   60, or 9X, and any byte). Nothing has changed.
+ * - GT_NOT_DUE: see `gt_exchange_tpdu`. Nothing has changed.
+ * - GT_NOT_ASKED, GT_TOO_MANY: more data came back than may. Nothing has changed.
  * - GT_TOO_LONG, GT_STALLED: the exchange has failed for good. */
 GT_MUST_CHECK int32_t gt_exchange_answered(gt_exchange *e, const uint8_t *answer, size_t n) {
     if (!e || (!answer && n)) return GT_NULL;
@@ -837,8 +856,9 @@ GT_MUST_CHECK int32_t gt_exchange_answered(gt_exchange *e, const uint8_t *answer
  * T=1 or without contacts. The first is the exchange's own command, with its Le. GET RESPONSE
  * follows 61XX. After 6CXX the terminal sends a command of case 2 once more.
  *
- * The first character sent, or the first answer taken, sets the level: characters and TPDUs, or
- * commands. From then on calls of the other level return GT_STATE, and change nothing.
+ * The first character sent, or the first answer that is taken or fails the exchange, sets the
+ * level: characters and TPDUs, or commands. From then on calls of the other level return GT_STATE,
+ * and change nothing.
  *
  * Copies the command to send now to the front of `apdu`. `n` gets its length, 4 to GT_APDU_LIMIT
  * bytes, and `most` how many bytes of data may come back, 0 to 256.
@@ -855,9 +875,10 @@ GT_MUST_CHECK int32_t gt_exchange_apdu(gt_exchange *e, uint8_t apdu[GT_APDU_LIMI
 /* Takes the response to that command: data, and then SW1 SW2. Another command follows, or the
  * exchange has ended.
  *
- * - GT_OK.
+ * - GT_OK: it is taken.
+ * - GT_MEMORY: see `gt_exchange_apdu`. Nothing has changed.
  * - GT_NO_STATUS: see `gt_exchange_answered`. Nothing has changed.
- * - GT_NOT_DUE, GT_MEMORY: see `gt_exchange_apdu`. Nothing has changed.
+ * - GT_NOT_DUE: see `gt_exchange_apdu`. Nothing has changed.
  * - GT_NOT_ASKED, GT_TOO_MANY: more data came back than may. Nothing has changed.
  * - GT_TOO_LONG, GT_STALLED: the exchange has failed for good. */
 GT_MUST_CHECK int32_t gt_exchange_responded(gt_exchange *e, const uint8_t *response, size_t n) {
@@ -878,6 +899,10 @@ GT_FUNCTION void gt_exchange_free(gt_exchange *e) {
  * `_get`, `_put` and `_send` start one. `gt_terminal_next` says when it has ended.
  * `gt_terminal_answer` gives its answer, the status and the data of its last command.
  *
+ * No chain may be pending at the card when an operation starts. One may be after a fault: a put
+ * under the same tag would continue it, and the card refuses any other with 6883. So reset the card
+ * after a fault.
+ *
  * A terminal keeps the memory of an operation for the next: room for a response, and a copy of the
  * data that go to the card. The next takes more only for more data than any before.
  * `gt_terminal_reset` and `gt_terminal_free` free it. */
@@ -885,8 +910,10 @@ GT_FUNCTION void gt_exchange_free(gt_exchange *e) {
 /* Makes a terminal that has started no operation, in a handle that holds nothing.
  *
  * - GT_OK.
- * - GT_STATE: the handle holds one.
- * - GT_MEMORY. Never GT_EMPTY. */
+ * - GT_STATE: the handle holds a terminal, which stays as it was.
+ * - GT_MEMORY: the handle still holds nothing.
+ *
+ * It never returns GT_EMPTY. */
 GT_MUST_CHECK int32_t gt_terminal_new(gt_terminal *t) {
     if (!t) return GT_NULL;
     return galliumtoad_terminal_new(t);
@@ -895,7 +922,8 @@ GT_MUST_CHECK int32_t gt_terminal_new(gt_terminal *t) {
 /* As `gt_terminal_new`, for responses of at most `limit` bytes to a command, 0 to
  * GT_RESPONSE_LIMIT. No operation takes more memory for one. The first byte beyond is GT_TOO_LONG.
  *
- * - GT_ARGUMENT, before GT_MEMORY: `limit` is above GT_RESPONSE_LIMIT.
+ * - GT_ARGUMENT, before GT_MEMORY: `limit` is above GT_RESPONSE_LIMIT. The handle still holds
+ *   nothing.
  * - The others as above. */
 GT_MUST_CHECK int32_t gt_terminal_new_within(gt_terminal *t, size_t limit) {
     if (!t) return GT_NULL;
@@ -909,11 +937,11 @@ GT_FUNCTION int32_t gt_terminal_reset(gt_terminal *t) {
     return galliumtoad_terminal_reset(t);
 }
 
-/* Starts the selection of an application by its identifier. By characters and TPDUs an operation
- * takes all its memory here, beside what an earlier one has left.
+/* Starts the selection of an application by its identifier, and drops the last answer. By
+ * characters and TPDUs an operation takes all its memory here, beside what an earlier one has left.
  *
  * - GT_OK: it has started, and sends first.
- * - GT_STATE: an operation is in progress. Nothing has changed.
+ * - GT_STATE: an operation is in progress: it has neither ended nor failed. Nothing has changed.
  * - GT_ARGUMENT: the identifier does not have 5 to 16 bytes. Nothing has changed.
  * - GT_MEMORY: nothing has changed. */
 GT_MUST_CHECK int32_t gt_terminal_select(gt_terminal *t, const uint8_t *aid, size_t n) {
@@ -921,25 +949,26 @@ GT_MUST_CHECK int32_t gt_terminal_select(gt_terminal *t, const uint8_t *aid, siz
     return galliumtoad_terminal_select(t, gt_bytes_(aid), n);
 }
 
-/* Starts the reading of a data object. Results as above, except GT_ARGUMENT: GET DATA can't name
- * the tag (see `gt_card_object`). */
+/* Starts the reading of a data object. The answer's data are its tag, length and value. Results as
+ * above, except GT_ARGUMENT: GET DATA can't name the tag (see `gt_card_object`). */
 GT_MUST_CHECK int32_t gt_terminal_get(gt_terminal *t, uint32_t tag) {
     if (!t) return GT_NULL;
     return galliumtoad_terminal_get(t, tag);
 }
 
-/* Starts the storing of a value, which is copied. It is sent in pieces of up to 255 bytes, up to
- * the first one that gets another status than 9000. Results as above, except GT_ARGUMENT: PUT DATA
- * can't name the tag. */
+/* Starts the storing of a value of any length, which is copied. It is sent in pieces of up to 255
+ * bytes, up to the first one that gets another status than 9000. Results as above, except
+ * GT_ARGUMENT: PUT DATA can't name the tag. */
 GT_MUST_CHECK int32_t gt_terminal_put(gt_terminal *t, uint32_t tag, const uint8_t *value,
                                       size_t n) {
     if (!t || (!value && n)) return GT_NULL;
     return galliumtoad_terminal_put(t, tag, gt_bytes_(value), n);
 }
 
-/* Starts the exchange of any one command (as `gt_exchange_start` takes it), which is copied.
+/* Starts the exchange of any one command (as `gt_exchange_start` takes it), which is copied. The
+ * last answer is dropped.
  *
- * - GT_OK.
+ * - GT_OK: it has started, and sends first.
  * - GT_STATE: an operation is in progress. Nothing has changed.
  * - GT_TOO_SHORT, GT_BAD_LENGTH, GT_INVALID_INS: the bytes are not a command. Nothing has changed.
  * - GT_MEMORY: nothing has changed. */
@@ -955,8 +984,9 @@ GT_MUST_CHECK int32_t gt_terminal_next(gt_terminal *t, uint8_t *byte) {
     return galliumtoad_terminal_next(t, byte);
 }
 
-/* Takes a character of the card, as `gt_exchange_take`: GT_BAD_PROCEDURE, GT_TOO_LONG and
- * GT_STALLED end the operation. GT_AFTER_END: it has ended or failed, or none has started. */
+/* Takes a character of the card, as `gt_exchange_take`. After GT_BAD_PROCEDURE, GT_TOO_LONG and
+ * GT_STALLED the operation has failed for good, and the next may start: reset the card first.
+ * GT_AFTER_END: it has ended or failed, or none has started. Nothing has changed. */
 GT_MUST_CHECK int32_t gt_terminal_take(gt_terminal *t, uint8_t byte) {
     if (!t) return GT_NULL;
     return galliumtoad_terminal_take(t, byte);
@@ -972,8 +1002,8 @@ GT_MUST_CHECK int32_t gt_terminal_send_bytes(gt_terminal *t, uint8_t *bytes, siz
     return galliumtoad_terminal_send_bytes(t, bytes ? bytes : &none, room, n);
 }
 
-/* Takes characters of the card, as `gt_exchange_receive_bytes`: GT_BAD_PROCEDURE, GT_TOO_LONG and
- * GT_STALLED end the operation. GT_AFTER_END: it has ended or failed, or none has started. */
+/* Takes characters of the card, as `gt_exchange_receive_bytes`, from one command of the operation
+ * to the next. The faults are those of `gt_terminal_take`. */
 GT_MUST_CHECK int32_t gt_terminal_receive_bytes(gt_terminal *t, const uint8_t *bytes, size_t n,
                                                 size_t *taken) {
     if (!t || (!bytes && n) || !taken) return GT_NULL;
@@ -988,7 +1018,8 @@ GT_MUST_CHECK int32_t gt_terminal_tpdu(gt_terminal *t, uint8_t tpdu[GT_TPDU_LIMI
     return galliumtoad_terminal_tpdu(t, tpdu, GT_TPDU_LIMIT, n, most);
 }
 
-/* Takes the answer to that TPDU, as `gt_exchange_answered`. */
+/* Takes the answer to that TPDU, as `gt_exchange_answered`. After GT_TOO_LONG and GT_STALLED the
+ * operation has failed for good. GT_NOT_DUE: also if no operation has started. */
 GT_MUST_CHECK int32_t gt_terminal_answered(gt_terminal *t, const uint8_t *answer, size_t n) {
     if (!t || (!answer && n)) return GT_NULL;
     return galliumtoad_terminal_answered(t, gt_bytes_(answer), n);
@@ -1002,14 +1033,16 @@ GT_MUST_CHECK int32_t gt_terminal_apdu(gt_terminal *t, uint8_t apdu[GT_APDU_LIMI
     return galliumtoad_terminal_apdu(t, apdu, GT_APDU_LIMIT, n, most);
 }
 
-/* Takes the response to that command, as `gt_exchange_responded`. */
+/* Takes the response to that command, as `gt_exchange_responded`. After GT_TOO_LONG and GT_STALLED
+ * the operation has failed for good. GT_STATE: also if no operation has started. */
 GT_MUST_CHECK int32_t gt_terminal_responded(gt_terminal *t, const uint8_t *response, size_t n) {
     if (!t || (!response && n)) return GT_NULL;
     return galliumtoad_terminal_responded(t, gt_bytes_(response), n);
 }
 
-/* Copies the answer of an operation that has ended, as `gt_exchange_answer`, also again, until the
- * next operation starts, or a reset. GT_STATE: no operation has ended. */
+/* Copies the answer of an operation that has ended, as `gt_exchange_answer`: the status and the
+ * data of its last command. It gives the same until the next operation starts, or a reset.
+ * GT_STATE: no operation has started, or the last one is in progress or has failed. */
 GT_MUST_CHECK int32_t gt_terminal_answer(gt_terminal *t, uint16_t *status,
                                          uint8_t *data, size_t room, size_t *len) {
     uint8_t none = 0;
@@ -1044,30 +1077,35 @@ GT_FUNCTION void gt_terminal_free(gt_terminal *t) {
  * times `waits` after the last one sent, each further one within CWT. The next block goes BGT after
  * the last of them at the earliest.
  *
- * Before the first command the end sends S(IFS request) with 254. It keeps NAD 00, gives up after
- * `tries`, and never sends S(RESYNCH request): reset card and end instead (profile). */
+ * Before the first command the end sends S(IFS request) with 254. It keeps NAD 00, and never sends
+ * S(RESYNCH request): if it gives up, reset card and end (profile). */
 
 /* Makes an end, as after a reset of the card, in a handle that holds nothing. `edc` and `ifsc` are
- * those of `gt_atr.t1`; only LRC is supported. The end survives `tries` receptions in a row that
- * bring no step forward, and gives up at one more. It grants `extensions` requests of the card in
- * one command. It takes responses of at most `limit` bytes, status included. GT_T1_TRIES,
+ * those of `gt_atr.t1`; only LRC is supported (profile).
+ *
+ * The end survives `tries` fruitless receptions since the last progress, and gives up at one more.
+ * Fruitless are a time-out, an invalid block, and a block that brings no progress. A request of the
+ * card that the end grants is not counted. It grants `extensions` S(WTX request) and S(IFS request)
+ * in one command. It takes responses of at most `limit` bytes, status included. GT_T1_TRIES,
  * GT_T1_EXTENSIONS and GT_ANSWER_LIMIT suit short commands.
  *
  * - GT_OK.
- * - GT_STATE: the handle holds an end.
- * - GT_ARGUMENT: `edc` is not GT_LRC, or `ifsc` is 0 or 255.
- * - GT_MEMORY. Never GT_EMPTY. */
+ * - GT_STATE: the handle holds an end, which stays as it was.
+ * - GT_ARGUMENT: `edc` is not GT_LRC, or `ifsc` is 0 or 255. The handle still holds nothing.
+ * - GT_MEMORY: the handle still holds nothing.
+ *
+ * It never returns GT_EMPTY. */
 GT_MUST_CHECK int32_t gt_t1_new(gt_t1 *t, uint8_t edc, uint8_t ifsc, uint8_t tries,
                                 uint8_t extensions, size_t limit) {
     if (!t) return GT_NULL;
     return galliumtoad_t1_new(t, edc, ifsc, tries, extensions, limit);
 }
 
-/* Starts a command, which is copied.
+/* Starts a command of any length, which is copied, and drops the last response.
  *
  * - GT_OK.
- * - GT_STATE: a command is in progress, or the end gave up.
- * - GT_MEMORY. */
+ * - GT_STATE: a command is in progress, or the end gave up. Nothing has changed.
+ * - GT_MEMORY: nothing has changed. */
 GT_MUST_CHECK int32_t gt_t1_begin(gt_t1 *t, const uint8_t *apdu, size_t n) {
     if (!t || (!apdu && n)) return GT_NULL;
     return galliumtoad_t1_begin(t, gt_bytes_(apdu), n);
@@ -1075,12 +1113,12 @@ GT_MUST_CHECK int32_t gt_t1_begin(gt_t1 *t, const uint8_t *apdu, size_t n) {
 
 /* Copies the block to send now to `bytes`. `n` gets its length, 4 to GT_BLOCK_LIMIT. `waits` gets
  * how many times BWT the card has for its answer: 1, or as many as it asked for. Each further call
- * gives the same block, until one of the next two calls.
+ * gives the same block, until `gt_t1_receive_bytes` returns GT_SENDS, or a call of `gt_t1_missed`.
  *
  * - GT_OK.
  * - GT_DONE: no command is in progress. The last one has its response, or none has started.
- * - GT_FAILED: the end gave up.
- * - GT_MEMORY.
+ * - GT_FAILED: the end gave up: see `gt_t1_fault`.
+ * - GT_MEMORY: nothing has changed: call again.
  * - GT_BUFFER: `room` is less than the block; `n` and `waits` are the block's, `bytes` is
  *   unchanged. */
 GT_MUST_CHECK int32_t gt_t1_send_bytes(gt_t1 *t, uint8_t *bytes, size_t room, size_t *n,
@@ -1094,8 +1132,10 @@ GT_MUST_CHECK int32_t gt_t1_send_bytes(gt_t1 *t, uint8_t *bytes, size_t room, si
  * part of the block: drop it, and what else comes before the next block is sent.
  *
  * - GT_OK: all are taken, and the block continues.
- * - GT_SENDS: the block is whole, valid or not. `gt_t1_send_bytes` has the next one, or ends.
- * - GT_STATE: no block is awaited, since no command is in progress or the end gave up.
+ * - GT_SENDS: the block is whole. `gt_t1_send_bytes` has the next one, or ends. An invalid block is
+ *   a fruitless reception.
+ * - GT_STATE: no block is awaited, since no command is in progress or the end gave up. `taken` is
+ *   unchanged.
  * - GT_MEMORY: `taken` bytes are kept. Call again with the rest, or none, or call
  *   `gt_t1_missed`. */
 GT_MUST_CHECK int32_t gt_t1_receive_bytes(gt_t1 *t, const uint8_t *bytes, size_t n,
@@ -1105,7 +1145,8 @@ GT_MUST_CHECK int32_t gt_t1_receive_bytes(gt_t1 *t, const uint8_t *bytes, size_t
 }
 
 /* Reports that no valid block of the card came: none began in time, one stopped for longer than
- * CWT, or a character had a wrong parity. The received part of the block is dropped.
+ * CWT, or a character had a wrong parity. This is a fruitless reception. The received part of the
+ * block is dropped.
  *
  * - GT_OK: `gt_t1_send_bytes` has the next block, or the end gave up.
  * - GT_STATE: no block is awaited. */
@@ -1115,9 +1156,10 @@ GT_MUST_CHECK int32_t gt_t1_missed(gt_t1 *t) {
 }
 
 /* Copies the response to the last command: data, and then SW1 SW2, at the front of `response`.
- * `len` gets its length. Hand it to `gt_terminal_responded`, which checks its form.
+ * `len` gets its length. Hand it to `gt_terminal_responded`, which checks its form. It stays until
+ * the next `gt_t1_begin` or `gt_t1_reset`.
  *
- * - GT_OK.
+ * - GT_OK. Before the first command `len` is 0.
  * - GT_STATE: a command is in progress, or the end gave up.
  * - GT_BUFFER: `room` is less than the response; `len` is its length, `response` is unchanged. */
 GT_MUST_CHECK int32_t gt_t1_response(gt_t1 *t, uint8_t *response, size_t room, size_t *len) {
@@ -1137,8 +1179,9 @@ GT_MUST_CHECK int32_t gt_t1_fault(gt_t1 *t, int32_t *cause, int32_t *outcome) {
     return galliumtoad_t1_fault(t, cause, outcome);
 }
 
-/* Makes the end as it was after `gt_t1_new`, at any time, when the card was reset. It drops the
- * command in progress and the last response. Returns GT_OK. */
+/* Makes the end as it was after `gt_t1_new`, with the same settings, at any time. Call it when the
+ * card was reset. It drops the command in progress, the last response and the fault. Returns
+ * GT_OK. */
 GT_FUNCTION int32_t gt_t1_reset(gt_t1 *t) {
     if (!t) return GT_NULL;
     return galliumtoad_t1_reset(t);
@@ -1164,15 +1207,17 @@ GT_FUNCTION void gt_t1_free(gt_t1 *t) {
 /* Starts a card without applications, in a handle that holds nothing.
  *
  * - GT_OK.
- * - GT_STATE: the handle holds a card.
- * - GT_MEMORY. Never GT_EMPTY. */
+ * - GT_STATE: the handle holds a card, which stays as it was.
+ * - GT_MEMORY: the handle still holds nothing.
+ *
+ * It never returns GT_EMPTY. */
 GT_MUST_CHECK int32_t gt_card_new(gt_card *c) {
     if (!c) return GT_NULL;
     return galliumtoad_card_new(c);
 }
 
 /* Adds an application, with an identifier of 5 to 16 bytes and no data objects, to a card under
- * construction.
+ * construction. After a fault the card is as before.
  *
  * - GT_OK.
  * - GT_STATE: the card is finished.
@@ -1187,7 +1232,7 @@ GT_MUST_CHECK int32_t gt_card_app(gt_card *c, const uint8_t *aid, size_t n) {
 
 /* Adds a data object to the last application of a card under construction. If it has one under this
  * tag, the new value replaces the old. With `locked` other than 0 no command changes it; the last
- * call for a tag counts.
+ * call for a tag counts. After a fault the card is as before.
  *
  * - GT_OK.
  * - GT_STATE: the card is finished.
@@ -1195,8 +1240,9 @@ GT_MUST_CHECK int32_t gt_card_app(gt_card *c, const uint8_t *aid, size_t n) {
  *   not all ones. It can name two bytes: 5F, 7F, 9F, BF, DF or FF, and then 01 to 7F.
  * - GT_NO_APP: there is no application yet.
  * - GT_VALUE_TOO_LONG: `n` is above 8,192.
- * - GT_NOT_OBJECTS: the tag is that of a template, and the value is not a list of objects. Bit 6 of
- *   a template's first tag byte is set, as in 70 and FF01, and not in 5F20 and DF01.
+ * - GT_NOT_OBJECTS: the tag is that of a template, and the value is not a list of objects, or has
+ *   more than 15 levels. Bit 6 of a template's first tag byte is set, as in 70 and FF01, and not in
+ *   5F20 and DF01.
  * - GT_TABLE_FULL: the tag is new, and the application has 64.
  * - GT_MEMORY. */
 GT_MUST_CHECK int32_t gt_card_object(gt_card *c, uint32_t tag, const uint8_t *value, size_t n,
@@ -1218,8 +1264,8 @@ GT_MUST_CHECK int32_t gt_card_finish(gt_card *c) {
 /* Takes a character of the terminal.
  *
  * - GT_OK.
- * - GT_STATE: the card is not finished yet.
- * - GT_NOT_LISTENING: it has characters to send. */
+ * - GT_STATE: the card is not finished yet, or speaks T=1. Nothing has changed.
+ * - GT_NOT_LISTENING: it has characters to send. Nothing has changed. */
 GT_MUST_CHECK int32_t gt_card_take(gt_card *c, uint8_t byte) {
     if (!c) return GT_NULL;
     return galliumtoad_card_take(c, byte);
@@ -1227,9 +1273,9 @@ GT_MUST_CHECK int32_t gt_card_take(gt_card *c, uint8_t byte) {
 
 /* Returns what the card does now.
  *
- * - GT_SENDS: `byte` gets a character for the terminal.
+ * - GT_SENDS: `byte` gets a character for the terminal. Send it now.
  * - GT_OK: the card waits for a character of the terminal, for `gt_card_take`.
- * - GT_STATE: it is not finished yet.
+ * - GT_STATE: it is not finished yet, or speaks T=1.
  *
  * Only GT_SENDS changes `byte` and the card. A put is stored when the second status byte has been
  * handed out, not before. */
@@ -1246,7 +1292,7 @@ GT_MUST_CHECK int32_t gt_card_turn(gt_card *c, uint8_t *byte) {
  * - GT_OK: after them the card waits for a character of the terminal; `n` may be 0.
  * - GT_SENDS: `bytes` is full, with `room` characters, and there may be more: call again. With room
  *   0 it is always this.
- * - GT_STATE: the card is not finished yet. `bytes` and `n` are unchanged. */
+ * - GT_STATE: the card is not finished yet, or speaks T=1. `bytes` and `n` are unchanged. */
 GT_MUST_CHECK int32_t gt_card_send_bytes(gt_card *c, uint8_t *bytes, size_t room, size_t *n) {
     uint8_t none = 0;
     if (!c || (!bytes && room) || !n) return GT_NULL;
@@ -1259,15 +1305,15 @@ GT_MUST_CHECK int32_t gt_card_send_bytes(gt_card *c, uint8_t *bytes, size_t room
  * - GT_OK: all were taken, also if `n` is 0.
  * - GT_NOT_LISTENING: after those taken the card has characters to send. `taken` is set, and the
  *   others were not looked at.
- * - GT_STATE: the card is not finished yet. `taken` is unchanged. */
+ * - GT_STATE: the card is not finished yet, or speaks T=1. `taken` is unchanged. */
 GT_MUST_CHECK int32_t gt_card_receive_bytes(gt_card *c, const uint8_t *bytes, size_t n,
                                             size_t *taken) {
     if (!c || (!bytes && n) || !taken) return GT_NULL;
     return galliumtoad_card_receive_bytes(c, gt_bytes_(bytes), n, taken);
 }
 
-/* Resets the card, at any time: a TPDU in progress is dropped, nothing is selected or pending, and
- * it waits for a header, at T=0. Data objects and plans stay.
+/* Resets the card, at any time: a TPDU or a block in progress is dropped, and nothing is selected
+ * or pending. The card waits for a header, at T=0. Data objects and the plans that wait stay.
  *
  * - GT_OK.
  * - GT_STATE: it is not finished yet. */
@@ -1284,14 +1330,14 @@ GT_FUNCTION int32_t gt_card_reset(gt_card *c) {
  * those of a longer table of objects.
  *
  * - GT_OK: it was carried out, with any status.
- * - GT_STATE: the card is not finished yet, or characters of a TPDU have passed. Nothing has
- *   changed.
- * - GT_NO_TPDU: nothing has changed.
+ * - GT_STATE: the card is not finished yet, speaks T=1, or characters of a TPDU have passed.
+ *   Nothing has changed.
+ * - GT_NO_TPDU: the bytes are not a whole TPDU. Nothing has changed.
  * - GT_BUFFER: `room` is less than the TPDU may bring: 2 if it has data or four bytes, else 2 and
  *   P3 (00: 256). Nothing has changed.
  * - GT_MEMORY: nothing has changed.
- * - GT_WANTS_DATA, GT_SENDS_DATA: both ends would deadlock, so the card was reset. The plan is
- *   taken, and `answer` and `len` are unchanged. */
+ * - GT_WANTS_DATA, GT_SENDS_DATA: both ends would deadlock, so the card was reset. The plan is used
+ *   up, as with GT_OK, and `answer` and `len` are unchanged. */
 GT_MUST_CHECK int32_t gt_card_tpdu(gt_card *c, const uint8_t *tpdu, size_t n,
                                    uint8_t *answer, size_t room, size_t *len) {
     return gt_pass_(galliumtoad_card_tpdu, c, tpdu, n, answer, room, len);
@@ -1315,10 +1361,11 @@ GT_MUST_CHECK int32_t gt_card_tpdu(gt_card *c, const uint8_t *tpdu, size_t n,
  * Results:
  *
  * - GT_OK: the card has answered, with any status.
- * - GT_STATE: the card is not finished yet, or characters of a TPDU have passed. Nothing has
- *   changed.
+ * - GT_STATE: the card is not finished yet, speaks T=1, or characters of a TPDU have passed.
+ *   Nothing has changed.
  * - GT_TOO_SHORT, GT_INVALID_INS: the bytes are not a command. Nothing has changed.
- * - GT_BUFFER: `room` is less than 2 and Le (00: 256; without Le 2). Nothing has changed.
+ * - GT_BUFFER: `room` is less than 2 and Le (00: 256), or than 2 if there is no Le or the lengths
+ *   fit no case. Nothing has changed.
  * - GT_MEMORY: nothing has changed. */
 GT_MUST_CHECK int32_t gt_card_apdu(gt_card *c, const uint8_t *apdu, size_t n,
                                    uint8_t *response, size_t room, size_t *len) {
@@ -1344,10 +1391,11 @@ GT_MUST_CHECK int32_t gt_card_apdu(gt_card *c, const uint8_t *apdu, size_t n,
  * terminal, and sends no request. The response to other bytes than a short command is 6700, and to
  * an invalid INS 6D00 (profile).
  *
- * The card speaks T=1 up to gt_card_reset. Until then the other calls that send or receive return
- * GT_STATE, and those that show its content work as before.
+ * The card speaks T=1 up to gt_card_reset. Until then gt_card_plan, gt_session_start and the other
+ * calls that send or receive return GT_STATE. Those that show its content work as before.
  *
- * Begins T=1, as after a reset.
+ * Begins T=1: the end of the line is as after a reset, and has no block to send. What is selected
+ * or pending stays, and so do the plans, for T=0 after the next reset.
  *
  * - GT_OK.
  * - GT_STATE: the card is not finished yet, a TPDU is in progress, or it speaks T=1. Nothing
@@ -1363,7 +1411,7 @@ GT_MUST_CHECK int32_t gt_card_t1_begin(gt_card *c) {
  * - GT_OK.
  * - GT_DONE: there is no block, because the terminal sent none or memory ran out at its last one.
  * - GT_STATE: the card does not speak T=1.
- * - GT_MEMORY.
+ * - GT_MEMORY: call again.
  * - GT_BUFFER: `room` is less than the block. `n` is its length.
  *
  * `bytes` changes only with GT_OK, `n` with GT_OK and GT_BUFFER. The card never changes. */
@@ -1380,8 +1428,8 @@ GT_MUST_CHECK int32_t gt_card_t1_send_bytes(gt_card *c, uint8_t *bytes, size_t r
  * - GT_OK: all are taken, and the block is not whole yet.
  * - GT_SENDS: the block is whole, valid or not, and `gt_card_t1_send_bytes` has the answer.
  * - GT_STATE: the card does not speak T=1. Nothing changes.
- * - GT_MEMORY: the block is dropped, no command is carried out, and there is no answer. The
- *   terminal asks again. */
+ * - GT_MEMORY: the block is dropped, no command is carried out, and there is no answer. `taken` is
+ *   set. The terminal asks again. */
 GT_MUST_CHECK int32_t gt_card_t1_receive_bytes(gt_card *c, const uint8_t *bytes, size_t n,
                                                size_t *taken) {
     if (!c || (!bytes && n) || !taken) return GT_NULL;
@@ -1411,10 +1459,10 @@ GT_MUST_CHECK int32_t gt_card_t1_missed(gt_card *c) {
  * the card answers as with "" and 256.
  *
  * - GT_OK.
- * - GT_STATE: the card is not finished yet.
- * - GT_ARGUMENT: another letter, or another cut.
- * - GT_PLANS: GT_PLANS_LIMIT plans wait already.
- * - GT_MEMORY. */
+ * - GT_STATE: the card is not finished yet, or speaks T=1. Nothing has changed.
+ * - GT_ARGUMENT: another letter, or another cut. Nothing has changed.
+ * - GT_PLANS: GT_PLANS_LIMIT plans wait already. Nothing has changed.
+ * - GT_MEMORY: nothing has changed. */
 GT_MUST_CHECK int32_t gt_card_plan(gt_card *c, const char *steps, uint16_t cut) {
     size_t n = 0;
     if (!c || !steps) return GT_NULL;
@@ -1474,7 +1522,9 @@ GT_FUNCTION void gt_card_free(gt_card *c) {
  * - 00 C0 00 00 Le: GET RESPONSE. An exchange sends it by itself.
  *
  * After all except 9000 and 61XX no value is stored, what was selected stays selected, and a chain
- * is dropped.
+ * is dropped. So is a response that waits, unless GET RESPONSE itself gets 6CXX. If more than one
+ * holds, the answer is the first of 6883, 6E00, 6D00, 6884, 6A86, 6985, 6982, 6A88, 6700, 6CXX. The
+ * others come after the data.
  *
  * - 9000: it is done, and all data were received.
  * - 61XX: it is done, and XX more bytes can be had with GET RESPONSE (00: 256). GET DATA with an Le
@@ -1510,15 +1560,17 @@ GT_FUNCTION void gt_card_free(gt_card *c) {
  * listens yet: see `gt_session_listen`.
  *
  * - GT_OK.
- * - GT_STATE: `s` holds a session, or the card is not finished yet.
- * - GT_EMPTY: `c` holds nothing. */
+ * - GT_STATE: `s` holds a session, or the card is not finished yet or speaks T=1. Both handles stay
+ *   as they were.
+ * - GT_EMPTY: `c` holds nothing. Both handles stay as they were. */
 GT_MUST_CHECK int32_t gt_session_start(gt_session *s, gt_card *c) {
     if (!s || !c) return GT_NULL;
     return galliumtoad_session_start(s, c);
 }
 
 /* Returns whether an operation can start: 1, or 0 while a chain that `gt_session_send` started is
- * pending at the card. Compare with == 1: GT_EMPTY is not 0 either. */
+ * pending at the card. Its last piece, a refused command or `gt_session_reset` ends it. Compare
+ * with == 1: GT_EMPTY is not 0 either. */
 GT_MUST_CHECK int32_t gt_session_idle(gt_session *s) {
     if (!s) return GT_NULL;
     return galliumtoad_session_idle(s);
@@ -1548,7 +1600,8 @@ GT_MUST_CHECK int32_t gt_session_plan(gt_session *s, const char *steps, uint16_t
 /* Selects an application by its identifier of 5 to 16 bytes (SELECT). `status` gets the card's
  * status word (0x9000), `len` the number of data bytes, and `data` these: the template 6F with the
  * identifier, at most 20 bytes. Any status is an answer, also 0x6A82 (no such application), after
- * which the application before it stays selected.
+ * which the application before it stays selected. If nothing is sent, plans and the last answer
+ * stay.
  *
  * - GT_OK: it was carried out.
  * - GT_BUFFER: it was carried out, and `room` is less than the data. `status` and `len` are the
@@ -1581,12 +1634,12 @@ GT_MUST_CHECK int32_t gt_session_get(gt_session *s, uint32_t tag, uint16_t *stat
 
 /* Stores a value under a tag of the selected application (PUT DATA), in a chain of commands of up
  * to 255 bytes each. `status` gets the card's answer: 0x9000, or why the value is not stored, as
- * 0x6982 (locked) or 0x6700 (above 8,192 bytes). There are no data.
+ * 0x6982 (locked) or 0x6700 (above 8,192 bytes). There are no data, and no chain is pending then.
  *
  * - GT_OK: it was carried out.
  * - GT_ARGUMENT: PUT DATA can't name the tag (see `gt_card_object`). Nothing was sent.
- * - GT_MEMORY: nothing was sent.
- * - GT_BUSY: a chain is pending. Nothing was sent. */
+ * - GT_BUSY: a chain is pending. Nothing was sent.
+ * - GT_MEMORY: nothing was sent. */
 GT_MUST_CHECK int32_t gt_session_put(gt_session *s, uint32_t tag, const uint8_t *value, size_t n,
                                      uint16_t *status) {
     uint8_t none = 0;
@@ -1619,9 +1672,12 @@ GT_MUST_CHECK int32_t gt_session_send(gt_session *s, const uint8_t *command, siz
     return galliumtoad_session_answer(s, status, data ? data : &none, room, len);
 }
 
-/* Copies the answer of the last operation that was carried out, again. A reset keeps it.
+/* Copies the answer of the last operation that was carried out, or of the last command of
+ * `gt_session_send`, again. It stays until the next one, also over a reset.
  *
- * - GT_OK, GT_BUFFER: as in `gt_session_select`.
+ * - GT_OK: all of it.
+ * - GT_BUFFER: `room` is less than the data. `status` and `len` are the answer's, `data` is
+ *   unchanged.
  * - GT_NOT_FOUND: there was none. */
 GT_MUST_CHECK int32_t gt_session_answer(gt_session *s, uint16_t *status,
                                         uint8_t *data, size_t room, size_t *len) {
@@ -1645,7 +1701,7 @@ GT_MUST_CHECK int32_t gt_session_listen(gt_session *s) {
  *
  * - GT_OK: all of them are in `line`. Nothing else changes `line`.
  * - GT_STATE: nobody listens (`gt_session_listen`).
- * - GT_MEMORY: memory ran out in the operation, so not all were noted.
+ * - GT_MEMORY: memory ran out in the operation, so not all were noted. `count` is unchanged.
  * - GT_BUFFER: `room` is less than their number; `count` is that. */
 GT_MUST_CHECK int32_t gt_session_heard(gt_session *s, gt_character *line, size_t room,
                                        size_t *count) {
@@ -1685,12 +1741,12 @@ GT_MUST_CHECK int32_t gt_session_entry_at(gt_session *s, size_t app, size_t entr
 }
 
 /* Ends a session, and moves its card, reset, into a card's handle that holds nothing. The session's
- * handle then holds nothing. Nothing is selected: a next session selects again. Plans that are left
- * are dropped.
+ * handle then holds nothing. Nothing is selected: a next session selects again. Data objects stay.
+ * Plans that are left, the last answer and the noted characters are dropped.
  *
  * - GT_OK.
- * - GT_STATE: `c` holds a card.
- * - GT_EMPTY: `s` holds nothing. */
+ * - GT_STATE: `c` holds a card. Both handles stay as they were.
+ * - GT_EMPTY: `s` holds nothing. Both handles stay as they were. */
 GT_MUST_CHECK int32_t gt_session_end(gt_session *s, gt_card *c) {
     if (!s || !c) return GT_NULL;
     return galliumtoad_session_end(s, c);

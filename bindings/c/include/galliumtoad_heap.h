@@ -2,11 +2,13 @@
  * contains a set of them over malloc and free. A program that defines all three is linked with its
  * own.
  *
- * - gt_taken has `some` false, and any `at` except NULL, if memory ran out.
+ * - rattle_alloc takes a new block, and rattle_dealloc frees one. In gt_taken `some` is true, and
+ *   `at` is the block. If memory ran out `some` is false, and `at` is anything except NULL.
  * - A block is aligned to `align`, a power of two up to 16, and has `size` bytes, at least one.
- * - rattle_realloc makes a block one of `size` bytes, more or fewer than it has; it may move.
- *   `kept` is the number of bytes in use at its front: at most as many as it has, and at most
- *   `size`. It copies these, and need copy no others. If memory runs out the block stays unchanged.
+ * - rattle_realloc makes a block one of `size` bytes, more or fewer than it has; it may move, and
+ *   then frees the old block. `kept` is the number of bytes in use at its front: at most as many as
+ *   it has, and at most `size`. It copies these, and need copy no others. If memory runs out the
+ *   block stays unchanged.
  * - None of them is called from within another. None may call the library, throw or longjmp: the
  *   library has no unwind tables, and the call in progress would be lost.
  * - They are hidden: a shared library that is linked with the archive keeps its three to itself,

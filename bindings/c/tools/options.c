@@ -1,26 +1,18 @@
 #include "options.h"
 #include "operation.h"
+#include "text.h"
 
-#include <stdio.h>
 #include <stdlib.h>
 #include <string.h>
-
-/* Returns the text on an argument, with as much of it as fits. */
-static const char *say(const char *before, const char *word, const char *behind)
-{
-    static char told[160];
-    snprintf(told, sizeof told, "%s'%s'%s", before, word, behind);
-    return told;
-}
 
 /* Takes the word that belongs to an option: the next one. */
 static const char *take_value(const char **value, const char *option, int argc,
                               char *const *argv, int *at)
 {
     if (*value != NULL)
-        return say("", option, " cannot be used multiple times");
+        return text_quoted("", option, " cannot be used multiple times");
     if (*at + 1 >= argc)
-        return say("a value is required for ", option, " but none was supplied");
+        return text_quoted("a value is required for ", option, " but none was supplied");
     *value = argv[++*at];
     return NULL;
 }
@@ -75,7 +67,7 @@ static const char *read_option(struct options *options, int argc, char *const *a
     else if (strcmp(word, "-V") == 0 || strcmp(word, "--version") == 0)
         options->tells_version = true;
     else
-        return say("unexpected argument ", word, " found");
+        return text_quoted("unexpected argument ", word, " found");
     return NULL;
 }
 

@@ -81,7 +81,8 @@ static bool script_of_words(struct script *script, char *const *words, size_t co
 /* The whole file, with a NUL after it; NULL if it can't be read or is too long. */
 static char *read_all(FILE *file, const char *name, size_t *n, struct script_refusal *refusal)
 {
-    char *text = malloc(SCRIPT_SIZE_LIMIT + 1);
+    /* one byte more than a script has shows that it is too long */
+    char *text = malloc(SCRIPT_SIZE_LIMIT + 2);
     const char *why = NULL;
     if (text == NULL) {
         refuse(refusal, gt_text(GT_MEMORY));
@@ -91,7 +92,7 @@ static char *read_all(FILE *file, const char *name, size_t *n, struct script_ref
     if (ferror(file))
         why = text_fault("read fault", name, strerror(errno));
     else if (*n > SCRIPT_SIZE_LIMIT)
-        why = "input too long";
+        why = text_quoted("input too long: ", name, "");
     if (why != NULL) {
         refuse(refusal, why);
         free(text);
@@ -146,7 +147,7 @@ static bool script_of_file(struct script *script, FILE *file, const char *name,
     is_well = add_lines(script, text, n, refusal);
     free(text);
     if (is_well && script->count == 0)
-        is_well = refuse(refusal, "no operation in FILE");
+        is_well = refuse(refusal, text_quoted("no operation in ", name, ""));
     if (!is_well) {
         script_free(script);
         refusal->is_of_words = false;

@@ -1,11 +1,9 @@
 #include "serial_options.h"
+#include "text.h"
 
 #include <limits.h>
 #include <stdlib.h>
 #include <string.h>
-
-/* the text on a refused argument, with as much of it as fits */
-static char told[160];
 
 /* The words to read. */
 struct words {
@@ -13,10 +11,10 @@ struct words {
     char *const *argv;
 };
 
+/* The text on a refused word; `why` begins with a space. */
 static const char *refuse(const char *word, const char *why)
 {
-    snprintf(told, sizeof told, "'%s' %s", word, why);
-    return told;
+    return text_quoted("", word, why);
 }
 
 /* Takes the word after an option; NULL if there is no word. */
@@ -29,6 +27,7 @@ static const char *next_word(struct words *words)
 static const char *read_number(const char *option, const char *word, unsigned long least,
                                unsigned long most, unsigned long *number)
 {
+    static char told[80];
     const size_t n = strspn(word, "0123456789");
     const unsigned long found = n > 0 && n < 10 && word[n] == '\0' ? strtoul(word, NULL, 10)
                                                                     : ULONG_MAX;
@@ -51,7 +50,7 @@ static const char *read_signal(const char *word, const enum port_signal *signals
             return NULL;
         }
         if (*signals == PORT_NONE)
-            return refuse(word, "is not a line for '--reset'");
+            return refuse(word, " is not a line for '--reset'");
     }
 }
 
@@ -59,7 +58,7 @@ static const char *read_state(const char *word, bool *is_on)
 {
     *is_on = strcmp(word, "on") == 0;
     return *is_on || strcmp(word, "off") == 0 ? NULL
-                                              : refuse(word, "is neither 'on' nor 'off'");
+                                              : refuse(word, " is neither 'on' nor 'off'");
 }
 
 static const char *read_protocol(const char *word, int *protocol)
@@ -73,7 +72,7 @@ static const char *read_protocol(const char *word, int *protocol)
 static const char *read_plan(struct serial_options *options, const char *word)
 {
     if (options->plan_count == SERIAL_PLANS_LIMIT)
-        return refuse("--plan", "is used too often");
+        return refuse("--plan", " is used too often");
     options->plans[options->plan_count++] = word;
     return NULL;
 }
@@ -83,7 +82,7 @@ static const char *read_with_word(struct serial_options *options, const enum por
                                   const char *option, const char *word)
 {
     if (word == NULL)
-        return refuse(option, "needs a value");
+        return refuse(option, " needs a value");
     if (strcmp(option, "--baud") == 0)
         return read_number(option, word, 1200, 1000000, &options->baud);
     if (strcmp(option, "--slack") == 0)
@@ -98,6 +97,8 @@ static const char *read_with_word(struct serial_options *options, const enum por
         return read_plan(options, word);
     if (strcmp(option, "--protocol") == 0)
         return read_protocol(word, &options->protocol);
+    if (options->file != NULL)
+        return refuse(option, " cannot be used multiple times");
     options->file = word;
     return NULL;
 }
@@ -155,7 +156,7 @@ const char *serial_options_read(struct serial_options *options, const struct ser
     for (; words.at < argc && argv[words.at][0] == '-' && fault == NULL; words.at++) {
         const char *option = argv[words.at];
         if (!is_among(option, names->options))
-            fault = refuse(option, "is not an option");
+            fault = refuse(option, " is not an option");
         else if (!read_alone(options, option))
             fault = read_with_word(options, names->signals, option, next_word(&words));
     }

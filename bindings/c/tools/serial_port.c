@@ -2,6 +2,7 @@
 #define _DEFAULT_SOURCE
 
 #include "serial_port.h"
+#include "text.h"
 
 #include <asm/termbits.h>
 #include <errno.h>
@@ -206,9 +207,9 @@ const char *port_open(struct port *port, const char *name, unsigned long baud)
     memset(port, 0, sizeof *port);
     port->fd = open(name, O_RDWR | O_NOCTTY | O_NONBLOCK);
     if (port->fd < 0)
-        return tell_error("the tty cannot be opened");
+        return text_fault("the tty cannot be opened", name, strerror(errno));
     port->is_pseudo = is_pseudo(port->fd);
-    fault = isatty(port->fd) ? lock(port) : "it is not a tty";
+    fault = isatty(port->fd) ? lock(port) : text_quoted("", name, " is not a tty");
     if (fault == NULL && ioctl(port->fd, TCGETS2, &before) != 0)
         fault = tell_error("the tty does not return its settings");
     if (fault == NULL) {

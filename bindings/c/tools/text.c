@@ -49,16 +49,24 @@ const char *text_hex_fault(const char *digits)
     return n % 2 == 0 ? NULL : "an odd number of digits";
 }
 
-const char *text_fault(const char *what, const char *word, const char *why)
+const char *text_quoted(const char *before, const char *word, const char *behind)
 {
     static char told[320];
-    const size_t start = strlen(what) + 3;
+    const size_t start = strlen(before) + 1;
     const char *more = strlen(word) > 60 ? ".." : "";
     size_t i;
-    snprintf(told, sizeof told, "%s: '%.60s%s': %s", what, word, more, why);
+    snprintf(told, sizeof told, "%s'%.60s%s'%s", before, word, more, behind);
     for (i = start; told[i] != '\0'; i++) {
         if ((unsigned char)told[i] < ' ' || told[i] == 0x7F)
             told[i] = '?';
     }
     return told;
+}
+
+const char *text_fault(const char *what, const char *word, const char *why)
+{
+    char before[40], behind[200];
+    snprintf(before, sizeof before, "%s: ", what);
+    snprintf(behind, sizeof behind, ": %s", why);
+    return text_quoted(before, word, behind);
 }

@@ -21,8 +21,11 @@ void text_hex_bytes(const char *digits, uint8_t *out);
 /* Why a text is no such digits; NULL if it is. */
 const char *text_hex_fault(const char *digits);
 
-/* `WHAT: 'WORD': WHY`, with the first 60 bytes of the word, and `?` for each character in it that
- * would control a terminal. The text stays until the next call. */
+/* `BEFORE'WORD'BEHIND`, with the first 60 bytes of the word, and `?` for each character in it that
+ * would control a terminal. The text stays until the next call of this function or the next. */
+const char *text_quoted(const char *before, const char *word, const char *behind);
+
+/* The same of a fault: `WHAT: 'WORD': WHY`. */
 const char *text_fault(const char *what, const char *word, const char *why);
 
 #endif

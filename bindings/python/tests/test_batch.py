@@ -2,6 +2,7 @@
 random, have a full disk or a cut journal, run twice at once, or meet cards of another profile."""
 
 import fcntl
+import hashlib
 import json
 import os
 import random
@@ -12,6 +13,7 @@ import time
 from pathlib import Path
 
 import pytest
+from galliumtoad import Card
 from galliumtoad.journal import Journal
 
 STANDIN = Path(__file__).resolve().parent / "standin"
@@ -156,6 +158,43 @@ def test_a_row_is_on_disk_before_its_cards_first_byte(tmp_path, monkeypatch):
     assert steps[-1] == "on disk"
 
 
+def test_no_other_program_has_the_card_and_it_is_reset_at_the_end(tmp_path, monkeypatch):
+    monkeypatch.syspath_prepend(str(STANDIN))
+    monkeypatch.setenv("STANDIN", str(tmp_path))
+    room, asked = Room(tmp_path, 1), []
+    from galliumtoad import batch
+    from smartcard import scard
+    from smartcard.pcsc.PCSCCardConnection import PCSCCardConnection as Connection
+
+    connect = Connection.connect
+    monkeypatch.setattr(Connection, "connect", lambda it, *how: (asked.append(how), connect(it))[1])
+    monkeypatch.chdir(tmp_path)
+    given = batch.parsed(["script", "--rows=rows.csv", "--journal=journal"])
+    batch.serve(batch.Batch(given), room.names[0])
+    assert asked == [(None, scard.SCARD_SHARE_EXCLUSIVE, scard.SCARD_RESET_CARD)]
+
+
+@pytest.mark.parametrize(("tag", "outcome"), [("5F20", "done"), ("50", "failed")])
+def test_a_get_returns_its_object(tmp_path, monkeypatch, tag, outcome):
+    monkeypatch.syspath_prepend(str(STANDIN))
+    monkeypatch.setenv("STANDIN", str(tmp_path))
+    room = Room(tmp_path, 1)
+    from galliumtoad import batch
+
+    room.write("script", f"select A0000000031010\nput 5F20 @{{name}}\nget {tag}\n")
+    monkeypatch.chdir(tmp_path)
+    given = batch.parsed(["script", "--rows=rows.csv", "--journal=journal"])
+    card = Card({bytes.fromhex("A0000000031010"): {0x50: b"VISA"}})
+
+    def reader(tpdu):
+        """Returns the value of 50 alone, without its tag and length."""
+        answer = card.tpdu(tpdu)
+        return answer[2:] if answer.startswith(b"\x50\x04") else answer
+
+    why = "" if outcome == "done" else f"line 3: the answer is not the object {tag}"
+    assert batch.carry_out(batch.Batch(given), None, 1, reader) == (outcome, why)
+
+
 def test_a_row_in_progress_is_not_to_be_decided(tmp_path):
     room = Room(tmp_path, 2)
     room.run("--status")
@@ -193,6 +232,32 @@ def test_two_runs_at_one_reader(tmp_path):
     assert error == f"{room.names[0]}: another run serves this reader\n"
     assert out.endswith(" of 3 rows done, 0 to decide\n") and "row" not in out.split(" of 3 ")[0]
     assert ended(first)[0].endswith("3 of 3 rows done, 0 to decide\n")
+
+
+def test_readers_with_long_names(tmp_path):
+    room = Room(tmp_path, 6, readers=0)
+    # slow enough for both readers to be served at once
+    room.environment["SLOW"] = "0.1"
+    for end in (" 00 00", " 01 00"):
+        reader = tmp_path / f"{'R' * 100}{os.getpid()}{end}"
+        reader.mkdir()
+        (reader / "card").write_text("0")
+    status, out, error = room.run("--reader= 00 00", "--reader= 01 00")
+    assert (status, error) == (0, "") and out.endswith("6 of 6 rows done, 0 to decide\n")
+
+
+def test_each_card_that_does_not_answer_is_named(tmp_path):
+    room = Room(tmp_path, 2)
+    room.environment["MUTE"] = "0 2 3"
+    name, mute = room.names[0], "the card does not answer to reset"
+    assert room.run()[1].splitlines() == [
+        f"{name}: {mute}",
+        f"{name}: row 1 done",
+        f"{name}: {mute}",
+        f"{name}: {mute}",
+        f"{name}: row 2 done",
+        "2 of 2 rows done, 0 to decide",
+    ]
 
 
 def test_readers_end_with_their_program(tmp_path):
@@ -363,6 +428,24 @@ def test_a_journal_of_another_table_is_refused(tmp_path):
     assert room.run()[0] == 0
     room.write("script", SCRIPT + "get 50\n")
     assert room.run()[2].endswith("journal is the journal of another table or script\n")
+
+
+def test_a_table_may_be_a_pipe(tmp_path):
+    room = Room(tmp_path, 1)
+    text = (tmp_path / "rows.csv").read_text()
+    how = {"cwd": tmp_path, "env": room.environment, "text": True, "capture_output": True}
+    program = room.words("--rows=/dev/stdin", *room.readers)
+    assert subprocess.run(program, input=text, **how).returncode == 0
+    sums = (hashlib.sha256(it.encode()).hexdigest() for it in (text, SCRIPT))
+    assert room.journal()[0] == "# rows {} script {}".format(*sums)
+    run = subprocess.run(program, input=text.replace("1", "2"), **how)
+    assert run.stderr == "galliumtoad.batch: journal is the journal of another table or script\n"
+
+
+def test_only_its_owner_reads_a_journal(tmp_path):
+    room = Room(tmp_path, 1)
+    room.run("--status")
+    assert (tmp_path / "journal").stat().st_mode & 0o777 == 0o600
 
 
 def test_another_file_is_no_journal_and_stays(tmp_path):

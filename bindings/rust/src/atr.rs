@@ -16,8 +16,8 @@ pub const PROTOCOLS_LIMIT: usize = 15;
 #[derive(Clone, Copy, Debug, PartialEq, Eq, Hash)]
 #[non_exhaustive]
 pub struct AtrError {
-    /// The place of the first byte at fault, from 0 for TS. If a byte is missing, it is how many
-    /// bytes there are.
+    /// The place of the first byte at fault, from 0 for TS. If a byte is missing, it is the number
+    /// of bytes; with [`AtrReason::TooLong`] it is 33.
     pub place: usize,
     /// What is wrong there.
     pub reason: AtrReason,
@@ -28,15 +28,16 @@ codes! {
     AtrReason {
         /// The first byte is neither `3B` nor `3F`.
         NoTs = -70, "no TS";
-        /// The bytes end before a character that is announced.
+        /// There are fewer than 33 bytes, and they end before a character that is announced. One
+        /// more byte may mend this.
         Cut = -71, "answer to reset cut";
-        /// There are 33 bytes, the most, and another is announced, or is TCK.
+        /// There are 33 bytes or more, and the answer would have more than 33, the most, with TCK.
         TooLong = -72, "answer to reset too long";
         /// The T that this TD names is below the one before it, or is 15 in TD1.
         OutOfOrder = -73, "T out of order";
-        /// Characters follow the end.
+        /// Bytes follow TCK, or at least two follow the end without TCK.
         Surplus = -74, "characters after the answer to reset";
-        /// TCK is missing, which a T other than 0 requires.
+        /// TCK is missing, which a T other than 0 requires. One more byte may mend this.
         CheckMissing = -75, "check byte missing";
         /// One byte follows the end, and TCK is not expected.
         CheckNotDue = -76, "check byte not due";
@@ -124,7 +125,7 @@ pub enum Category {
 #[derive(Clone, Copy, Debug, PartialEq, Eq, Hash)]
 #[non_exhaustive]
 pub struct GuardTime {
-    /// The elementary time units, as they are in use.
+    /// The elementary time units, at the current rate.
     pub etu: u16,
     /// And this many times Fi/Di clock cycles, by Fi and Di of TA1.
     pub indicated: u16,
@@ -144,14 +145,15 @@ pub enum Edc {
 #[derive(Clone, Copy, Debug, PartialEq, Eq, Hash)]
 #[non_exhaustive]
 pub struct BlockWaitingTime {
-    /// The elementary time units, as they are in use.
+    /// The elementary time units, at the current rate: 11.
     pub etu: u16,
-    /// The clock cycles in addition.
+    /// The clock cycles in addition: 2^BWI * 960 * 372.
     pub cycles: u64,
 }
 
-/// What an answer to reset says, by its characters or, where they are not there, by the standard's
-/// defaults (8.2 and 8.3; clause 11 for T=1). What a reserved code says is `None`.
+/// What an answer to reset says. For a missing character the standard's default holds (8.2 and 8.3;
+/// clause 11 for T=1). A reserved code gives `None`. The values for T=1 are by the first TA, TB and
+/// TC for T=1 from TA3, TB3 and TC3 on.
 ///
 /// ```
 /// use galliumtoad::{Atr, AtrReason};
@@ -186,14 +188,14 @@ pub struct Atr<'a> {
     pub waiting_integer: Option<u8>,
     /// The waiting time of T=0 in clock cycles: WI * 960 * Fi.
     pub waiting_time: Option<u32>,
-    /// IFSC of T=1, the longest field of a block that the card takes, 1 to 254: the first TA for
-    /// T=1, or 32.
+    /// IFSC of T=1, the most bytes in the field of a block to the card, 1 to 254. It is the first
+    /// TA for T=1 from TA3 on, or 32.
     pub ifsc: Option<u8>,
-    /// The error detection code of T=1.
+    /// The error detection code of T=1: by the first TC for T=1 from TC3 on, or LRC.
     pub edc: Option<Edc>,
-    /// BWI of T=1, 0 to 9.
+    /// BWI of T=1, 0 to 9: by the first TB for T=1 from TB3 on, or 4.
     pub block_waiting_integer: Option<u8>,
-    /// CWI of T=1, 0 to 15.
+    /// CWI of T=1, 0 to 15: by the same TB, or 13.
     pub character_waiting_integer: u8,
     /// CWT of T=1 in etu, 11 + 2^CWI: the most from one character of a block to the next.
     pub character_waiting_time: u16,
@@ -202,11 +204,11 @@ pub struct Atr<'a> {
     /// BGT of T=1 in etu, 22: the least from the last character of a block to the first of one the
     /// other way.
     pub block_guard_time: u16,
-    /// The mode, by TA2.
+    /// The mode, by TA2; negotiable without it.
     pub mode: Mode,
-    /// Whether the clock may stop: not, if nothing follows T=15.
+    /// Whether the clock may stop, by the first TA for T=15; it may not without it.
     pub clock_stop: ClockStop,
-    /// The classes of voltage: A alone, if nothing follows T=15.
+    /// The classes of voltage, by the first TA for T=15; A alone without it.
     pub classes: Option<Classes>,
     /// The historical bytes, at most 15.
     pub historical: &'a [u8],
@@ -274,14 +276,15 @@ impl<'a> Atr<'a> {
         }
     }
 
-    /// T of each protocol in the order offered, each once: T=0 alone if the answer names none.
+    /// Returns T of each protocol in the order offered, each once: T=0 alone if the answer names
+    /// none. T=15 is not a protocol.
     #[must_use]
     pub fn protocols(&self) -> &[u8] {
         &self.protocols[..self.protocol_count]
     }
 
-    /// The guard time of this protocol. N = 255 is the least that it has, which is 11 etu in T=1
-    /// and 12 in any other.
+    /// Returns the guard time of this protocol: 12 etu and N. N counts etu, or Fi/Di clock cycles
+    /// if T=15 is named. N = 255 means the least of the protocol: 11 etu in T=1, 12 in any other.
     #[must_use]
     pub fn guard_time(&self, protocol: u8) -> GuardTime {
         let [etu, etu_t1, indicated] = self.guard;

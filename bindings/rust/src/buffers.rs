@@ -12,7 +12,7 @@ use std::fmt;
 #[derive(Clone, Copy, Debug, PartialEq, Eq, Hash)]
 #[non_exhaustive]
 pub struct Sent {
-    /// The number of characters at the front of the buffer. The rest of it is as it was.
+    /// The number of characters at the front of the buffer. The rest of it is unchanged.
     pub count: usize,
     /// Why there are no more.
     pub stop: Stop,
@@ -55,17 +55,22 @@ impl Exchange {
     ///
     /// # Errors
     ///
-    /// - [`Error::Failed`]: the exchange has failed for good, and nothing is handed out.
+    /// - [`Error::Failed`]: the exchange has failed for good. Nothing is handed out.
+    /// - [`Error::State`]: it goes by whole commands. Nothing is handed out.
     #[inline]
     pub fn send_bytes(&mut self, room: &mut [u8]) -> Result<Sent, Error> {
         send(&self.0, raw::galliumtoad_exchange_send_bytes, room)
     }
 
-    /// Takes characters of the card, as [`take`](Exchange::take) one at a time.
+    /// Takes characters of the card, as [`take`](Exchange::take) one at a time, up to the first
+    /// fault.
     ///
     /// # Errors
     ///
-    /// - [`ReceiveError`]: the first fault of a character, which does what it does there.
+    /// - [`ReceiveError`]: the first fault of a character, with the state that [`take`] leaves.
+    ///   Those before it are taken.
+    ///
+    /// [`take`]: Exchange::take
     #[inline]
     pub fn receive_bytes(&mut self, bytes: &[u8]) -> Result<(), ReceiveError> {
         receive(&self.0, raw::galliumtoad_exchange_receive_bytes, bytes)
@@ -102,18 +107,23 @@ impl Terminal {
     ///
     /// # Errors
     ///
-    /// - [`Error::State`]: no operation has begun. Nothing is handed out.
+    /// - [`Error::State`]: no operation has begun, or it goes by whole commands. Nothing is handed
+    ///   out.
     /// - [`Error::Failed`]: it has failed for good. Nothing is handed out.
     #[inline]
     pub fn send_bytes(&mut self, room: &mut [u8]) -> Result<Sent, Error> {
         send(&self.0, raw::galliumtoad_terminal_send_bytes, room)
     }
 
-    /// Takes characters of the card, as [`take`](Terminal::take) one at a time.
+    /// Takes characters of the card, as [`take`](Terminal::take) one at a time, up to the first
+    /// fault.
     ///
     /// # Errors
     ///
-    /// - [`ReceiveError`]: the first fault of a character, which does what it does there.
+    /// - [`ReceiveError`]: the first fault of a character, with the state that [`take`] leaves.
+    ///   Those before it are taken.
+    ///
+    /// [`take`]: Terminal::take
     #[inline]
     pub fn receive_bytes(&mut self, bytes: &[u8]) -> Result<(), ReceiveError> {
         receive(&self.0, raw::galliumtoad_terminal_receive_bytes, bytes)
@@ -137,7 +147,7 @@ impl Card {
     /// # Errors
     ///
     /// - [`Error::NotListening`], in a [`ReceiveError`]: the card has characters to send after
-    ///   those that it has taken.
+    ///   those that it has taken. The others were not looked at.
     #[inline]
     pub fn receive_bytes(&mut self, bytes: &[u8]) -> Result<(), ReceiveError> {
         receive(&self.0 .0, raw::galliumtoad_card_receive_bytes, bytes)

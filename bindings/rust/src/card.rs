@@ -47,13 +47,16 @@ impl fmt::Debug for Entry {
     }
 }
 
-/// Builds a card: each application gets its objects before the next one is added.
+/// Builds a card of up to [`APPS_LIMIT`] applications, each with up to [`ENTRIES_LIMIT`] data
+/// objects. Each application gets its objects before the next one is added.
 #[derive(Debug)]
 pub struct CardBuilder(Owned);
 
 /// A card of data objects at the line: SELECT, GET DATA, PUT DATA and GET RESPONSE over T=0.
 ///
-/// It keeps what a terminal has sent until later bytes overwrite it. A drop wipes and frees all.
+/// It keeps each value until another is stored under its tag, and the bytes of a TPDU until its
+/// second status byte. It keeps those of a chain until it is stored, refused or dropped. A drop
+/// wipes and frees all.
 ///
 /// ```
 /// use galliumtoad::{CardBuilder, Exchange, Turn};
@@ -96,11 +99,11 @@ impl Drop for Owned {
 }
 
 impl CardBuilder {
-    /// A card without applications.
+    /// Makes a builder without applications.
     ///
     /// # Errors
     ///
-    /// - [`Error::Memory`]: it ran out.
+    /// - [`Error::Memory`]: it ran out. There is no builder.
     pub fn new() -> Result<CardBuilder, Error> {
         let builder = CardBuilder(Owned(Handle::empty()));
         // SAFETY: a handle that holds nothing.
@@ -108,28 +111,38 @@ impl CardBuilder {
         Ok(builder)
     }
 
-    /// Adds an application, with an identifier of 5 to 16 bytes.
+    /// Adds an application without data objects, with an identifier of 5 to 16 bytes.
     ///
     /// # Errors
     ///
-    /// After each of these nothing has changed.
+    /// The first that holds; after each of these nothing has changed.
     ///
     /// - [`Error::Argument`]: the identifier has another length.
-    /// - [`Error::AppTwice`], [`Error::TooManyApps`], [`Error::Memory`].
+    /// - [`Error::AppTwice`]: an earlier application has it.
+    /// - [`Error::TooManyApps`]: there are [`APPS_LIMIT`].
+    /// - [`Error::Memory`]: it ran out.
     pub fn app(&mut self, aid: &[u8]) -> Result<(), Error> {
         // SAFETY: a card's handle; a slice with its length.
         done(unsafe { raw::galliumtoad_card_app(self.0 .0.at(), aid.as_ptr(), aid.len()) })
     }
 
-    /// Adds a data object to the last application, or gives one that it has a new value.
+    /// Adds a data object to the last application. If it has one under this tag, the new value
+    /// replaces the old, and the object is no longer locked.
+    ///
+    /// GET DATA can name a tag of one byte, `40` to `FE` with bits 5 to 1 not all ones. It can name
+    /// one of two bytes: `5F`, `7F`, `9F`, `BF`, `DF` or `FF`, and then `01` to `7F`.
     ///
     /// # Errors
     ///
-    /// After each of these nothing has changed.
+    /// The first that holds; after each of these nothing has changed.
     ///
     /// - [`Error::Argument`]: GET DATA can't name the tag.
-    /// - [`Error::NoApp`], [`Error::ValueTooLong`], [`Error::NotObjects`], [`Error::TableFull`],
-    ///   [`Error::Memory`].
+    /// - [`Error::NoApp`]: there is no application yet.
+    /// - [`Error::ValueTooLong`]: the value exceeds [`VALUE_LIMIT`].
+    /// - [`Error::NotObjects`]: the tag is that of a template, and the value is not a list of
+    ///   objects, or has more than 15 levels. Bit 6 of a template's first tag byte is set.
+    /// - [`Error::TableFull`]: the tag is new, and the application has [`ENTRIES_LIMIT`].
+    /// - [`Error::Memory`]: it ran out.
     pub fn object(&mut self, tag: u32, value: &[u8]) -> Result<(), Error> {
         self.add(tag, value, false)
     }
@@ -150,11 +163,11 @@ impl CardBuilder {
         })
     }
 
-    /// Returns the card: nothing is selected, and it listens.
+    /// Returns the card: nothing is selected, and it listens for a header.
     ///
     /// # Errors
     ///
-    /// - [`Error::Memory`]: it ran out. The builder is dropped.
+    /// - [`Error::Memory`]: it ran out. The builder is dropped, with all that it has.
     pub fn finish(self) -> Result<Card, Error> {
         // SAFETY: a card's handle.
         told(unsafe { raw::galliumtoad_card_finish(self.0 .0.at()) })?;
@@ -174,8 +187,9 @@ impl Card {
         done(unsafe { raw::galliumtoad_card_take(self.0 .0.at(), byte) })
     }
 
-    /// What the card does now: it hands out a character, or listens. A put is stored when the
-    /// second status byte has been handed out, not before.
+    /// Returns what the card does now: [`Turn::Sends`] a character, or [`Turn::Listens`]. A
+    /// character that it returns counts as sent. A put is stored when the second status byte has
+    /// been handed out, not before.
     ///
     /// # Errors
     ///
@@ -186,7 +200,7 @@ impl Card {
     }
 
     /// Resets the card, at any time: a TPDU in progress is dropped, and nothing is selected or
-    /// pending. Data objects and plans stay.
+    /// pending. Data objects and the plans that wait stay.
     ///
     /// # Errors
     ///
@@ -219,18 +233,19 @@ impl Card {
         })
     }
 
-    /// The identifier of the selected application.
+    /// Returns the identifier of the selected application, or `None` if none is selected.
     #[must_use]
     pub fn selected(&self) -> Option<Vec<u8>> {
         Tables(&self.0 .0, &OF_CARD).selected()
     }
 
-    /// The identifiers of the applications, in order.
+    /// Returns the identifiers of the applications, in the order of building.
     pub fn apps(&self) -> impl Iterator<Item = Vec<u8>> + '_ {
         Tables(&self.0 .0, &OF_CARD).apps()
     }
 
-    /// The data objects of the application at this place, from 0, in order of first storing.
+    /// Returns the data objects of the application at this place, from 0, in order of first
+    /// storing. It yields nothing if `app` is past the last.
     pub fn entries(&self, app: usize) -> impl Iterator<Item = Entry> + '_ {
         Tables(&self.0 .0, &OF_CARD).entries(app)
     }

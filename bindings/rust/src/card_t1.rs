@@ -5,8 +5,10 @@ use crate::error::{done, told, Error};
 use crate::raw;
 use crate::t1::{Received, BLOCK_LIMIT};
 
-/// A card's end of a line at T=1. It answers each block of a terminal with one block. The caller
-/// keeps the times of the line, which are in [`Atr`](crate::Atr).
+/// A card's end of a line at T=1. It answers each block of a terminal with one block, and carries
+/// out each command as [`Card::apdu`]. The response to other bytes than a short command is `6700`,
+/// and to an invalid INS `6D00` (profile). The caller keeps the times of the line, which are in
+/// [`Atr`](crate::Atr).
 ///
 /// ```
 /// use galliumtoad::{CardBuilder, CardT1, Edc, Error, T1Limits, BLOCK_LIMIT, T1};
@@ -34,7 +36,7 @@ use crate::t1::{Received, BLOCK_LIMIT};
 pub struct CardT1(Card);
 
 impl CardT1 {
-    /// Resets the card, and begins T=1.
+    /// Resets the card, and begins T=1. Data objects and plans stay; T=1 uses no plans.
     ///
     /// # Errors
     ///
@@ -50,7 +52,8 @@ impl CardT1 {
     ///
     /// # Errors
     ///
-    /// - [`Error::Memory`]: memory ran out. The block is dropped, and no command is carried out.
+    /// - [`Error::Memory`]: memory ran out. The block is dropped, no command is carried out, and
+    ///   there is no answer. The terminal asks again.
     pub fn receive(&mut self, bytes: &[u8]) -> Result<Received, Error> {
         let (at, n) = (self.0 .0 .0.at(), bytes.len());
         let mut taken = 0;
@@ -63,7 +66,8 @@ impl CardT1 {
     }
 
     /// Reports that a block of the terminal stopped for longer than CWT, or that a character had a
-    /// wrong parity. The bytes of the block are dropped.
+    /// wrong parity. The bytes of the block are dropped, and [`block_into`](CardT1::block_into) has
+    /// the answer.
     ///
     /// # Errors
     ///
@@ -73,8 +77,9 @@ impl CardT1 {
         done(unsafe { raw::galliumtoad_card_t1_missed(self.0 .0 .0.at()) })
     }
 
-    /// Copies the block to send now to the front of `room`, and returns its length. Returns `None`
-    /// if the terminal sent no block, or if memory ran out at its last one.
+    /// Copies the block to send now to the front of `room`, and returns its length, 4 to
+    /// [`BLOCK_LIMIT`]. Returns `None` if the terminal sent no block, or if memory ran out at its
+    /// last one. Each further call gives the same block, until the next one of the terminal.
     ///
     /// # Errors
     ///
@@ -101,13 +106,13 @@ impl CardT1 {
         done(unsafe { raw::galliumtoad_card_t1_begin(self.0 .0 .0.at()) })
     }
 
-    /// Returns the card, to look at its objects.
+    /// Returns the card, to look at its objects and what is selected.
     #[must_use]
     pub fn card(&self) -> &Card {
         &self.0
     }
 
-    /// Resets the card, ends T=1, and returns the card.
+    /// Resets the card, ends T=1, and returns the card, at T=0. Data objects and plans stay.
     ///
     /// # Errors
     ///

@@ -50,20 +50,21 @@ pub(crate) use codes;
 codes! {
     /// Why a call was refused. Each fault has the number that `galliumtoad.h` gives it.
     Error {
-        /// The value is in no state for this call: an operation is in progress, or none has begun,
-        /// or characters of a TPDU have passed.
+        /// The state of the value does not allow this call: an operation is in progress, none has
+        /// begun, or there is no answer. Or it goes by the other level, characters of a TPDU have
+        /// passed, or nobody listens.
         State = -3, "not in this state";
         /// Memory ran out.
         Memory = -4, "out of memory";
         /// An argument is out of its range.
         Argument = -5, "bad argument";
-        /// The caller's buffer is too short, and is as it was.
+        /// The caller's buffer is too short, and is unchanged.
         Buffer = -6, "buffer too short";
         /// A chain is pending at the card.
         Busy = -7, "a chain is pending";
-        /// There is nothing of this kind.
+        /// There is no answer yet.
         NotFound = -8, "not found";
-        /// The exchange has failed for good.
+        /// The exchange or operation has failed for good, or the end at T=1 gave up.
         Failed = -9, "failed";
         /// As many plans wait as may, [`PLANS_LIMIT`](crate::PLANS_LIMIT).
         Plans = -10, "too many plans";
@@ -75,9 +76,11 @@ codes! {
         NoApp = -22, "no app";
         /// The value exceeds [`VALUE_LIMIT`](crate::VALUE_LIMIT).
         ValueTooLong = -23, "value too long";
-        /// The tag is that of a template, and the value is not a list of objects.
+        /// The tag is that of a template, and the value is not a list of objects, or has more than
+        /// 15 levels.
         NotObjects = -24, "not objects";
-        /// The application has as many data objects as it may.
+        /// The tag is new, and the application has [`ENTRIES_LIMIT`](crate::ENTRIES_LIMIT) data
+        /// objects.
         TableFull = -25, "table full";
         /// The end has characters to send.
         NotListening = -30, "not listening";
@@ -85,7 +88,7 @@ codes! {
         BadProcedure = -31, "bad procedure byte";
         /// The response exceeds its limit: 16,384 bytes, or fewer.
         TooLong = -32, "response too long";
-        /// A GET RESPONSE brought nothing, and the card announces more.
+        /// A GET RESPONSE of the exchange's own brought nothing, and the card announces more.
         Stalled = -33, "stalled";
         /// The exchange has ended or failed, or no operation has begun.
         AfterEnd = -34, "after the end";
@@ -99,7 +102,8 @@ codes! {
         NotDue = -60, "nothing due";
         /// The answer does not end in a status word.
         NoStatus = -61, "no status";
-        /// Data came back, and the TPDU or command asks for none.
+        /// Data came back, and none may: the TPDU sends data or is the header alone, or the
+        /// command has no Le.
         NotAsked = -62, "data not asked for";
         /// More data came back than the TPDU or command asks for.
         TooMany = -63, "more data than asked for";

@@ -17,7 +17,7 @@ pub enum Turn {
     Sends(u8),
     /// It waits for a character of the other end.
     Listens,
-    /// An exchange has ended, and has its answer.
+    /// An exchange or an operation has ended, and has its answer.
     Done,
 }
 
@@ -37,7 +37,10 @@ impl fmt::Debug for Turn {
 ///
 /// An `Err` is about the call, a status about the card: a put that the card refuses is `Ok` with a
 /// status such as `6982`. After all except `9000` and `61XX` no value is stored, what was selected
-/// stays selected, and a chain is dropped. A [`Card`](crate::Card) answers:
+/// stays selected, and a chain is dropped. So is a response that waits, unless GET RESPONSE itself
+/// gets `6CXX`. If more than one holds, the answer is the first of `6883`, `6E00`, `6D00`, `6884`,
+/// `6A86`, `6985`, `6982`, `6A88`, `6700`, `6CXX`. The others come after the data. A
+/// [`Card`](crate::Card) answers:
 ///
 /// | Status | Why |
 /// |---|---|
@@ -65,8 +68,9 @@ pub struct Answer {
 }
 
 impl Answer {
-    /// The data as one object with this tag, and nothing else: the answer to a get of that tag.
-    /// `None` if they are not: then the card has sent something else, as the value alone.
+    /// Returns the data as one object with this tag, and nothing else: the answer to a get of that
+    /// tag. `None` if they are not, or if `tag` is not a tag: then the card has sent something
+    /// else, as the value alone.
     #[must_use]
     pub fn object(&self, tag: u32) -> Option<Object<'_>> {
         let object = find(&self.data, &[tag]).ok().flatten()?;
@@ -85,7 +89,7 @@ impl fmt::Debug for Answer {
 #[non_exhaustive]
 pub struct Copied {
     pub status: Status,
-    /// The number of data bytes at the front of the buffer. The rest of it is as it was.
+    /// The number of data bytes at the front of the buffer. The rest of it is unchanged.
     pub count: usize,
 }
 
@@ -167,17 +171,20 @@ impl Exchange {
     ///
     /// - [`Error::TooShort`], [`Error::BadLength`], [`Error::InvalidIns`]: the bytes are not a
     ///   command.
-    /// - [`Error::Memory`]: it ran out. After each of these there is no exchange.
+    /// - [`Error::Memory`]: it ran out.
+    ///
+    /// After each of these there is no exchange.
     pub fn start(command: &[u8]) -> Result<Exchange, Error> {
         Exchange::start_within(command, RESPONSE_LIMIT)
     }
 
-    /// Starts the exchange of a command whose response may have `limit` bytes, 0 to
-    /// [`RESPONSE_LIMIT`]: it takes no more memory for it, and one byte more is [`Error::TooLong`].
+    /// Starts the exchange of a command whose response may have `limit` data bytes, 0 to
+    /// [`RESPONSE_LIMIT`]. It takes no more memory for it, and one byte more is [`Error::TooLong`].
     ///
     /// # Errors
     ///
-    /// - [`Error::Argument`]: the limit is above [`RESPONSE_LIMIT`]. There is no exchange.
+    /// - [`Error::Argument`], before [`Error::Memory`]: the limit is above [`RESPONSE_LIMIT`].
+    ///   There is no exchange.
     /// - Any other: as [`start`](Exchange::start).
     pub fn start_within(command: &[u8], limit: usize) -> Result<Exchange, Error> {
         let exchange = Exchange(Handle::empty());
@@ -193,18 +200,21 @@ impl Exchange {
         Ok(exchange)
     }
 
-    /// Returns what the terminal does now, with a character to send.
+    /// Returns what the terminal does now. A character that it returns counts as sent: the next
+    /// call returns the next one. Any other result changes nothing.
     ///
     /// # Errors
     ///
     /// - [`Error::Failed`]: the exchange has failed for good.
+    /// - [`Error::State`]: it goes by whole commands, see [`apdu_into`](Exchange::apdu_into).
     #[allow(clippy::should_implement_trait)] // no iterator: it may wait, and then continue
     #[inline]
     pub fn next(&mut self) -> Result<Turn, Error> {
         turn(&self.0, raw::galliumtoad_exchange_next)
     }
 
-    /// Takes a character of the card.
+    /// Takes a character of the card. If it completes a status, the next TPDU begins, or the
+    /// exchange has ended.
     ///
     /// # Errors
     ///
@@ -212,13 +222,15 @@ impl Exchange {
     ///   exchange has failed for good.
     /// - [`Error::NotListening`]: it has characters to send. Nothing has changed.
     /// - [`Error::AfterEnd`]: it has ended, or has failed. Nothing has changed.
+    /// - [`Error::State`]: it goes by whole commands. Nothing has changed.
     #[inline]
     pub fn take(&mut self, byte: u8) -> Result<(), Error> {
         // SAFETY: an exchange's handle.
         done(unsafe { raw::galliumtoad_exchange_take(self.0.at(), byte) })
     }
 
-    /// The answer, if the exchange is done.
+    /// Returns the answer, as often as it is asked for. `None` if the exchange is in progress or
+    /// has failed.
     #[must_use]
     pub fn answer(&self) -> Option<Answer> {
         answer(&self.0, raw::galliumtoad_exchange_answer).ok()
@@ -229,8 +241,8 @@ impl Exchange {
     ///
     /// # Errors
     ///
-    /// - [`Error::State`]: the exchange is not done. `room` is as it was, as after the next.
-    /// - [`Error::Buffer`]: there are more data than `room` has place for.
+    /// - [`Error::State`]: the exchange is in progress or has failed. `room` is unchanged.
+    /// - [`Error::Buffer`]: there are more data than `room` has place for. `room` is unchanged.
     pub fn answer_into(&self, room: &mut [u8]) -> Result<Copied, Error> {
         answer_into(&self.0, raw::galliumtoad_exchange_answer, room)
     }

@@ -13,9 +13,9 @@ codes! {
     Reason {
         /// The list ends inside a tag.
         TagCut = -40, "tag cut";
-        /// No tag starts here.
+        /// No tag of one to three bytes starts here.
         TagForm = -41, "tag form";
-        /// The list ends inside a length.
+        /// The list ends inside a length, or before it.
         LengthCut = -42, "length cut";
         /// A length starts with `80`, or with a byte above `82`.
         LengthForm = -43, "length form";
@@ -32,7 +32,7 @@ codes! {
 pub enum ObjectsError {
     /// Memory ran out.
     Memory,
-    /// A step of the path is not a tag of one to three bytes.
+    /// A step of the path is not a tag of one to three bytes. Only [`find`] returns this.
     NoTag,
     /// The bytes are not a list of objects. This is their first fault, from the left.
     #[non_exhaustive]
@@ -76,7 +76,7 @@ pub struct Object<'a> {
     pub is_constructed: bool,
     /// The place of the tag's first byte, counted in bytes from 0.
     pub place: usize,
-    /// The bytes of tag, length and value together, unchanged.
+    /// The number of bytes of tag, length and value together.
     pub size: usize,
     /// The value.
     pub value: &'a [u8],
@@ -102,7 +102,9 @@ impl<'a> Object<'a> {
     }
 }
 
-/// All objects of all levels of a list, in the order of their first bytes (EMV Book 3, Annex B).
+/// All objects of all levels of a list, in the order of their first bytes (EMV Book 3, Annex B). A
+/// template comes before the objects in it. Padding, `00` before, between and after objects, is
+/// skipped.
 ///
 /// ```
 /// use galliumtoad::Objects;
@@ -211,8 +213,8 @@ pub fn find<'a>(bytes: &'a [u8], path: &[u32]) -> Result<Option<Object<'a>>, Obj
     }
 }
 
-/// The tag, and the length in its shortest form, as an object begins: 2 to 6 bytes. `None` if no
-/// tag of one to three bytes has this number.
+/// Returns the tag, and the length of a value in its shortest form, as an object begins: 2 to 6
+/// bytes. `None` if no tag of one to three bytes has this number.
 #[must_use]
 pub fn head(tag: u32, length: u16) -> Option<Vec<u8>> {
     version::look();

@@ -43,7 +43,7 @@ codes! {
         Argument = -5, "bad argument";
         /// The first byte is not `FF`.
         NoPpss = -80, "no PPSS";
-        /// The bytes end before an expected character.
+        /// There are no bytes, or they end before an expected character.
         Cut = -81, "PPS cut";
         /// Bit 8 of PPS0 is 1, which is reserved.
         Reserved = -82, "PPS0 reserved";
@@ -57,7 +57,8 @@ codes! {
 impl error::Error for PpsError {}
 
 impl Pps {
-    /// The request's bytes, 3 to 6. `None` if T is above 15.
+    /// Returns the request's bytes, 3 to 6. `None` if T is above 15. The caller knows whether the
+    /// card offers this: one that doesn't may stay silent.
     #[must_use]
     pub fn request(&self) -> Option<Vec<u8>> {
         version::look();
@@ -87,8 +88,8 @@ impl Pps {
     ///
     /// # Errors
     ///
-    /// - [`PpsError::Argument`]: T is above 15.
-    /// - Any other: the bytes are not a response.
+    /// - [`PpsError::Argument`]: T is above 15, whatever the response is.
+    /// - Any other: the bytes are not a response. This is their first fault.
     pub fn agreed(&self, response: &[u8]) -> Result<bool, PpsError> {
         let request = self.request().ok_or(PpsError::Argument)?;
         // SAFETY: slices with their lengths, which are only read.

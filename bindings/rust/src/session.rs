@@ -17,9 +17,10 @@ pub enum End {
 
 /// A terminal and a card, joined by a line that delivers every character.
 ///
-/// An operation is carried out to its answer. [`Answer`] lists the statuses: a select answers
-/// `9000` or `6A82`, a get `9000`, `6985` or `6A88`, and a put `9000`, `6581`, `6700`, `6982`,
-/// `6985`, `6A80` or `6A84`.
+/// An operation is carried out to its answer, and none can start while a chain is pending that
+/// [`send`](Session::send) began. [`Answer`] lists the statuses: a select answers `9000` or `6A82`,
+/// a get `9000`, `6985` or `6A88`, and a put `9000`, `6581`, `6700`, `6982`, `6985`, `6A80` or
+/// `6A84`.
 ///
 /// ```
 /// use galliumtoad::{CardBuilder, Session};
@@ -41,7 +42,8 @@ pub enum End {
 pub struct Session(Handle);
 
 impl Session {
-    /// Takes a card, and resets it. This takes no memory. Nobody [listens](Session::listen) yet.
+    /// Takes a card, and resets it: nothing is selected. This takes no memory. Data objects stay,
+    /// plans of the card are dropped. Nobody [listens](Session::listen) yet.
     ///
     /// # Errors
     ///
@@ -54,7 +56,8 @@ impl Session {
         Ok(session)
     }
 
-    /// Whether an operation can start: no chain is pending.
+    /// Whether an operation can start: no chain is pending. The last piece of a chain, a refused
+    /// command or a [`reset`](Session::reset) ends it.
     ///
     /// # Errors
     ///
@@ -89,7 +92,8 @@ impl Session {
     ///
     /// # Errors
     ///
-    /// After each of these nothing was sent.
+    /// The first that holds. After each of these nothing was sent, and plans and the last answer
+    /// stay.
     ///
     /// - [`Error::Argument`]: the identifier has another length.
     /// - [`Error::Busy`]: a chain is pending.
@@ -100,11 +104,13 @@ impl Session {
         self.answer()
     }
 
-    /// Reads a data object: the data are its tag, length and value.
+    /// Reads a data object of the selected application: the data are its tag, length and value, at
+    /// most [`OBJECT_LIMIT`](crate::OBJECT_LIMIT) bytes.
     ///
     /// # Errors
     ///
-    /// - [`Error::Argument`]: GET DATA can't name the tag. Nothing was sent.
+    /// - [`Error::Argument`]: GET DATA can't name the tag, see
+    ///   [`CardBuilder::object`](crate::CardBuilder::object). Nothing was sent.
     /// - Any other: as [`Session::select`].
     pub fn get(&mut self, tag: u32) -> Result<Answer, Error> {
         // SAFETY: a session's handle.
@@ -112,7 +118,8 @@ impl Session {
         self.answer()
     }
 
-    /// Stores a value, in as many chained commands as it takes, and returns the card's status.
+    /// Stores a value of the selected application, in as many chained commands of up to 255 bytes
+    /// as it takes. Returns the card's status: `9000`, or why the value is not stored.
     ///
     /// # Errors
     ///
@@ -125,8 +132,8 @@ impl Session {
         Ok(self.answer_into(&mut [])?.status)
     }
 
-    /// Sends any one command. It may start or continue a chain. The answer has as much of the data
-    /// as its Le asks for, see [`Exchange`](crate::Exchange).
+    /// Sends any one command. It may start or continue a chain, and never gets [`Error::Busy`]. The
+    /// answer has as much of the data as its Le asks for, see [`Exchange`](crate::Exchange).
     ///
     /// # Errors
     ///
@@ -135,7 +142,8 @@ impl Session {
     /// - [`Error::TooShort`], [`Error::BadLength`], [`Error::InvalidIns`]: the bytes are not a
     ///   command.
     /// - [`Error::Argument`]: over T=0 both ends must know which way data move, and the card takes
-    ///   the command the other way.
+    ///   the command the other way. That is a SELECT or PUT DATA without data and with Le, and a
+    ///   GET DATA or GET RESPONSE of any other form.
     /// - [`Error::Memory`]: it ran out.
     pub fn send(&mut self, command: &[u8]) -> Result<Answer, Error> {
         // SAFETY: a session's handle; a slice with its length.
@@ -145,7 +153,8 @@ impl Session {
         self.answer()
     }
 
-    /// The last answer again.
+    /// Returns the last answer again. It stays until the next operation or command is carried out,
+    /// also over a [`reset`](Session::reset).
     ///
     /// # Errors
     ///
@@ -158,8 +167,8 @@ impl Session {
     ///
     /// # Errors
     ///
-    /// - [`Error::NotFound`]: there is no answer yet. `room` is as it was, as after the next.
-    /// - [`Error::Buffer`]: there are more data than `room` has place for.
+    /// - [`Error::NotFound`]: there is no answer yet. `room` is unchanged.
+    /// - [`Error::Buffer`]: there are more data than `room` has place for. `room` is unchanged.
     pub fn answer_into(&self, room: &mut [u8]) -> Result<Copied, Error> {
         exchange::answer_into(&self.0, raw::galliumtoad_session_answer, room)
     }
@@ -175,14 +184,14 @@ impl Session {
         done(unsafe { raw::galliumtoad_session_listen(self.0.at()) })
     }
 
-    /// The characters of the last operation that was carried out, each with the end that sent it;
-    /// one that was not carried out leaves them as they were. They are the caller's: this crate
-    /// wipes no copy of them.
+    /// Returns the characters of the last operation that was carried out, each with the end that
+    /// sent it. The list is empty before the first one after [`listen`](Session::listen). One that
+    /// was not carried out leaves it unchanged. It is the caller's: this crate wipes no copy of it.
     ///
     /// # Errors
     ///
     /// - [`Error::State`]: nobody [listens](Session::listen).
-    /// - [`Error::Memory`]: some were lost, since memory ran out.
+    /// - [`Error::Memory`]: memory ran out in the operation, so not all were noted.
     pub fn heard(&self) -> Result<Vec<(End, u8)>, Error> {
         let mut line = vec![raw::Character::default(); self.hear(&mut [])?];
         if !line.is_empty() {
@@ -221,23 +230,24 @@ impl Session {
         done(unsafe { raw::galliumtoad_session_reset(self.0.at()) })
     }
 
-    /// The identifier of the selected application, as [`Card::selected`].
+    /// Returns the identifier of the selected application, as [`Card::selected`].
     #[must_use]
     pub fn selected(&self) -> Option<Vec<u8>> {
         Tables(&self.0, &OF_SESSION).selected()
     }
 
-    /// The identifiers of the card's applications, as [`Card::apps`].
+    /// Returns the identifiers of the card's applications, as [`Card::apps`].
     pub fn apps(&self) -> impl Iterator<Item = Vec<u8>> + '_ {
         Tables(&self.0, &OF_SESSION).apps()
     }
 
-    /// The data objects of an application of the card, as [`Card::entries`].
+    /// Returns the data objects of an application of the card, as [`Card::entries`].
     pub fn entries(&self, app: usize) -> impl Iterator<Item = Entry> + '_ {
         Tables(&self.0, &OF_SESSION).entries(app)
     }
 
-    /// Gives the card back, reset: a next session selects again. Plans that are left are dropped.
+    /// Returns the card, reset: a next session selects again. Data objects stay. Plans that are
+    /// left, the last answer and the noted characters are dropped.
     ///
     /// # Errors
     ///

@@ -9,22 +9,23 @@ use std::{error, fmt};
 /// The most bytes of a block: NAD, PCB, LEN, 254 bytes and LRC.
 pub const BLOCK_LIMIT: usize = 258;
 
-/// Receptions in a row without a step forward that an end usually survives; EMV has 2.
+/// The default of [`T1Limits::tries`]; EMV has 2.
 pub const T1_TRIES: u8 = 4;
 
-/// Requests of the card that an end usually grants in one command.
+/// The default of [`T1Limits::extensions`].
 pub const T1_EXTENSIONS: u8 = 16;
 
 codes! {
     /// Why a terminal's end at T=1 gave up. Each has the number that `galliumtoad.h` gives it.
     Cause {
-        /// Too many receptions in a row brought no step forward.
+        /// More than [`T1Limits::tries`] receptions were fruitless since the last progress.
         TriesSpent = -90, "too many tries without a valid block";
-        /// The card asked for more time or another IFSC too often.
+        /// The card sent more than [`T1Limits::extensions`] S(WTX request) and S(IFS request) in
+        /// one command.
         ExtensionsSpent = -91, "too many requests from the card";
-        /// The card ended the chain in progress: S(ABORT request).
+        /// The card sent S(ABORT request), and the end has answered it.
         Aborted = -92, "aborted by the card";
-        /// The response is longer than the limit.
+        /// The response is longer than [`T1Limits::response`].
         TooLong = -32, "response too long";
     }
 }
@@ -32,11 +33,11 @@ codes! {
 /// What is known of a command if a terminal's end at T=1 gave up.
 #[derive(Clone, Copy, Debug, PartialEq, Eq, Hash)]
 pub enum Outcome {
-    /// The card has not carried it out: its last block never went out.
+    /// The card has not carried it out: its last block was never sent.
     NotCarriedOut,
     /// The card may have carried it out.
     Unknown,
-    /// The card has carried it out, and sent a part of its response.
+    /// The card has carried it out, and a part of the response arrived.
     InPart,
 }
 
@@ -64,11 +65,13 @@ impl error::Error for T1Fault {}
 /// The limits of a terminal's end at T=1.
 #[derive(Clone, Copy, Debug, PartialEq, Eq, Hash)]
 pub struct T1Limits {
-    /// Receptions in a row without a step forward that it survives: one more is a fault.
+    /// The fruitless receptions since the last progress that it survives: one more is a fault.
+    /// Fruitless are a time-out, an invalid block, and a block that brings no progress. A request
+    /// that the end grants is not counted.
     pub tries: u8,
-    /// Requests of the card that it grants in one command.
+    /// The S(WTX request) and S(IFS request) of the card that it grants in one command.
     pub extensions: u8,
-    /// The longest response that it takes, in bytes, the status among them.
+    /// The longest response that it takes, in bytes, the status included.
     pub response: usize,
 }
 
@@ -87,19 +90,21 @@ impl Default for T1Limits {
 #[derive(Clone, Copy, Debug, PartialEq, Eq, Hash)]
 #[non_exhaustive]
 pub struct Block {
-    /// How many bytes it has at the front of the buffer, 4 to [`BLOCK_LIMIT`].
+    /// The number of its bytes at the front of the buffer, 4 to [`BLOCK_LIMIT`].
     pub count: usize,
     /// How many times BWT the card has for its answer: 1, or as many as it asked for.
     pub waits: u8,
 }
 
-/// Bytes of a card's block that were taken.
+/// Bytes of a block that an end at T=1 has taken.
 #[derive(Clone, Copy, Debug, PartialEq, Eq, Hash)]
 #[non_exhaustive]
 pub struct Received {
-    /// Their number. The bytes after them are not part of the block: drop them.
+    /// Their number. The bytes after them are not part of the block: drop them, and all that
+    /// arrive before the next block is sent.
     pub taken: usize,
-    /// Whether the block is whole, valid or not: then [`T1::block_into`] has the next one.
+    /// Whether the block is whole, valid or not: then [`T1::block_into`] or
+    /// [`CardT1::block_into`](crate::CardT1::block_into) has the next one.
     pub is_whole: bool,
 }
 
@@ -134,9 +139,12 @@ pub struct Received {
 pub struct T1(Handle);
 
 impl T1 {
-    /// An end as after a reset of the card, whose answer to reset has this EDC and IFSC.
+    /// Makes an end as after a reset of the card, whose answer to reset has this EDC and IFSC. Only
+    /// LRC is supported (profile).
     ///
     /// # Errors
+    ///
+    /// There is no end after either.
     ///
     /// - [`Error::Argument`]: `edc` is not [`Edc::Lrc`], or `ifsc` is 0 or 255.
     /// - [`Error::Memory`]: it ran out.
@@ -154,7 +162,7 @@ impl T1 {
         Ok(t1)
     }
 
-    /// Starts a command, which is copied.
+    /// Starts a command of any length, which is copied, and drops the last response.
     ///
     /// # Errors
     ///
@@ -167,8 +175,10 @@ impl T1 {
         done(unsafe { raw::galliumtoad_t1_begin(self.0.at(), command.as_ptr(), command.len()) })
     }
 
-    /// Copies the block to send now to the front of `room`, or returns `None` if no command is in
-    /// progress. Each further call gives the same block, until one of the next two calls.
+    /// Copies the block to send now to the front of `room`. Returns `None` if no command is in
+    /// progress: the last one has its response, or none has started. Each further call gives the
+    /// same block, until [`receive`](T1::receive) has taken a whole block or a call of
+    /// [`missed`](T1::missed).
     ///
     /// # Errors
     ///
@@ -194,11 +204,13 @@ impl T1 {
         }
     }
 
-    /// Takes bytes of the card, up to the end of its block.
+    /// Takes bytes of the card, up to the end of its block. An invalid block is a fruitless
+    /// reception.
     ///
     /// # Errors
     ///
-    /// - [`Error::State`]: no block is awaited. Nothing has changed.
+    /// - [`Error::State`]: no block is awaited, since no command is in progress or the end gave up.
+    ///   Nothing has changed.
     /// - [`Error::Memory`]: it ran out. The bytes of the block are kept: call again with none, or
     ///   [`missed`](T1::missed).
     pub fn receive(&mut self, bytes: &[u8]) -> Result<Received, Error> {
@@ -211,8 +223,9 @@ impl T1 {
         Ok(Received { taken, is_whole })
     }
 
-    /// Reports that no valid block of the card came: none began within BWT, one stopped for longer
-    /// than CWT, or a character had a wrong parity.
+    /// Reports that no valid block of the card came. Either none began within BWT times
+    /// [`Block::waits`], or one stopped for longer than CWT, or a character had a wrong parity.
+    /// This is a fruitless reception. The received part of the block is dropped.
     ///
     /// # Errors
     ///
@@ -223,11 +236,12 @@ impl T1 {
     }
 
     /// Copies the response to the last command to the front of `room`: data, and then SW1 SW2.
-    /// Returns how many bytes it has.
+    /// Returns the number of its bytes, or 0 before the first command. The response stays until the
+    /// next [`begin`](T1::begin) or [`reset`](T1::reset).
     ///
     /// # Errors
     ///
-    /// After each of these nothing has changed, and `room` is as it was.
+    /// After each of these nothing has changed, and `room` is unchanged.
     ///
     /// - [`Error::State`]: a command is in progress, or the end gave up.
     /// - [`Error::Buffer`]: there are more bytes than `room` has place for.
@@ -240,7 +254,8 @@ impl T1 {
         Ok(count)
     }
 
-    /// Why the end gave up, if it did.
+    /// Returns why the end gave up, or `None` if it did not. From then on a command can start only
+    /// after [`reset`](T1::reset).
     #[must_use]
     pub fn fault(&self) -> Option<T1Fault> {
         let (mut cause, mut outcome) = (0, 0);
@@ -255,8 +270,8 @@ impl T1 {
         Some(T1Fault { cause, outcome })
     }
 
-    /// Makes the end as it was after [`new`](T1::new), at any time, when the card was reset. It
-    /// drops the command in progress, the last response and the fault.
+    /// Makes the end as it was after [`new`](T1::new), with the same limits, at any time. Call it
+    /// when the card was reset. It drops the command in progress, the last response and the fault.
     ///
     /// # Errors
     ///

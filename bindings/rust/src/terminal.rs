@@ -11,11 +11,13 @@ use std::fmt;
 pub enum Operation<'a> {
     /// Selects the application with this identifier, of 5 to 16 bytes.
     Select(&'a [u8]),
-    /// Reads a data object: the data are its tag, length and value.
+    /// Reads the data object with this tag: the data are its tag, length and value.
     Get(u32),
-    /// Stores a value under a tag, in as many chained commands as it takes.
+    /// Stores a value under a tag, in as many chained commands of up to 255 bytes as it takes. It
+    /// stops at the first status other than `9000`.
     Put(u32, &'a [u8]),
-    /// Sends any one command, and fetches its answer.
+    /// Sends any one command, and fetches as much of the data as its Le asks for: all with `00`,
+    /// see [`Exchange`](crate::Exchange).
     Send(&'a [u8]),
 }
 
@@ -36,6 +38,10 @@ impl fmt::Debug for Operation<'_> {
 /// commands go to the card and what comes back to the terminal, until it has an
 /// [`answer`](Terminal::answer).
 /// [`run`](Terminal::run) does all of that with a [`Transport`](crate::Transport).
+///
+/// No chain may be pending at the card when an operation begins. One may be after a fault: a put
+/// under the same tag would continue it, and the card refuses any other with `6883`. So reset the
+/// card after a fault.
 ///
 /// The memory of an operation, room for a response and a copy of the data that go to the card, is
 /// kept for the next. It keeps sent and received bytes, secrets included, until a later operation
@@ -61,7 +67,7 @@ impl fmt::Debug for Operation<'_> {
 pub struct Terminal(pub(crate) Handle);
 
 impl Terminal {
-    /// A terminal that has begun no operation.
+    /// Makes a terminal that has begun no operation.
     ///
     /// # Errors
     ///
@@ -70,11 +76,13 @@ impl Terminal {
         Terminal::new_within(RESPONSE_LIMIT)
     }
 
-    /// A terminal that has begun no operation. The response to a command may have `limit` bytes, 0
-    /// to [`RESPONSE_LIMIT`]: no operation takes more memory for it, and one
-    /// byte more is [`Error::TooLong`].
+    /// Makes a terminal that has begun no operation. The response to a command may have `limit`
+    /// data bytes, 0 to [`RESPONSE_LIMIT`]. No operation takes more memory for it, and one byte
+    /// more is [`Error::TooLong`].
     ///
     /// # Errors
+    ///
+    /// There is no terminal after either, and the first that holds counts.
     ///
     /// - [`Error::Argument`]: the limit is above that.
     /// - [`Error::Memory`]: it ran out.
@@ -85,15 +93,16 @@ impl Terminal {
         Ok(terminal)
     }
 
-    /// Begins an operation. All memory that it needs, beside what an earlier one has left, is taken
-    /// here.
+    /// Begins an operation, and drops the last answer. By characters and TPDUs all memory that it
+    /// needs, beside what an earlier one has left, is taken here.
     ///
     /// # Errors
     ///
-    /// After each of these nothing has changed.
+    /// After each of these nothing has changed, and the last answer stays.
     ///
-    /// - [`Error::State`]: one is in progress.
-    /// - [`Error::Argument`]: an identifier of another length, or a tag that no command can name.
+    /// - [`Error::State`]: one is in progress: it has neither ended nor failed.
+    /// - [`Error::Argument`]: an identifier not of 5 to 16 bytes, or a tag that no command can name
+    ///   (see [`CardBuilder::object`](crate::CardBuilder::object)).
     /// - [`Error::TooShort`], [`Error::BadLength`], [`Error::InvalidIns`]: the bytes are not a
     ///   command.
     /// - [`Error::Memory`]: it ran out.
@@ -118,11 +127,12 @@ impl Terminal {
         done(code)
     }
 
-    /// Returns what the terminal does now, with a character to send.
+    /// Returns what the terminal does now, as [`Exchange::next`](crate::Exchange::next), from one
+    /// command of the operation to the next.
     ///
     /// # Errors
     ///
-    /// - [`Error::State`]: no operation has begun.
+    /// - [`Error::State`]: no operation has begun, or it goes by whole commands.
     /// - [`Error::Failed`]: it has failed for good.
     #[allow(clippy::should_implement_trait)] // no iterator: it may wait, and then continue
     #[inline]
@@ -134,17 +144,18 @@ impl Terminal {
     ///
     /// # Errors
     ///
-    /// - [`Error::AfterEnd`]: no operation has begun, or it has ended or failed. Nothing
-    ///   has changed.
-    /// - Any other: as [`Exchange::take`](crate::Exchange::take).
+    /// - [`Error::AfterEnd`]: no operation has begun, or it has ended or failed. Nothing has
+    ///   changed.
+    /// - Any other: as [`Exchange::take`](crate::Exchange::take). After those that fail the
+    ///   operation for good the next may begin: reset the card first.
     #[inline]
     pub fn take(&mut self, byte: u8) -> Result<(), Error> {
         // SAFETY: a terminal's handle.
         done(unsafe { raw::galliumtoad_terminal_take(self.0.at(), byte) })
     }
 
-    /// The next whole TPDU, if none of its characters was sent. It is `None` too if no operation
-    /// has begun, or if the operation has ended or has failed.
+    /// Returns the next whole TPDU. `None` if one of its characters was sent, or if no operation
+    /// has begun. `None` too if it has ended, has failed or goes by whole commands.
     #[must_use]
     pub fn tpdu(&self) -> Option<Tpdu> {
         whole::tpdu(&self.0, raw::galliumtoad_terminal_tpdu)
@@ -159,8 +170,11 @@ impl Terminal {
     ///
     /// # Errors
     ///
-    /// - [`Error::NotDue`]: no TPDU is next, or no operation has begun. Nothing has changed.
-    /// - [`Error::NoStatus`], [`Error::NotAsked`], [`Error::TooMany`]: nothing has changed.
+    /// - [`Error::State`]: the operation goes by whole commands. Nothing has changed.
+    /// - [`Error::NoStatus`]: the bytes don't end in a status word. Nothing has changed.
+    /// - [`Error::NotDue`]: [`tpdu`](Terminal::tpdu) returns `None`. Nothing has changed.
+    /// - [`Error::NotAsked`], [`Error::TooMany`]: more data came back than may. Nothing has
+    ///   changed.
     /// - [`Error::TooLong`], [`Error::Stalled`]: the operation has failed for good.
     pub fn answered(&mut self, answer: &[u8]) -> Result<(), Error> {
         // SAFETY: a terminal's handle; a slice with its length.
@@ -174,9 +188,11 @@ impl Terminal {
     ///
     /// # Errors
     ///
-    /// - [`Error::State`]: the operation goes by characters and TPDUs, or none has begun. Nothing
-    ///   has changed.
-    /// - [`Error::Memory`]: it ran out. Nothing has changed.
+    /// After each of these nothing has changed.
+    ///
+    /// - [`Error::State`]: the operation goes by characters and TPDUs, or none has begun.
+    /// - [`Error::Memory`]: it ran out for this level, which takes its memory by the first of these
+    ///   calls.
     pub fn apdu_into(&self, room: &mut [u8; APDU_LIMIT]) -> Result<Option<Due>, Error> {
         whole::due_into(&self.0, raw::galliumtoad_terminal_apdu, room)
     }
@@ -185,7 +201,8 @@ impl Terminal {
     ///
     /// # Errors
     ///
-    /// As [`Exchange::responded`](crate::Exchange::responded).
+    /// As [`Exchange::responded`](crate::Exchange::responded), and [`Error::State`] if no operation
+    /// has begun.
     pub fn responded(&mut self, response: &[u8]) -> Result<(), Error> {
         // SAFETY: a terminal's handle; a slice with its length.
         done(unsafe {
@@ -193,7 +210,9 @@ impl Terminal {
         })
     }
 
-    /// The answer, if the operation is done.
+    /// Returns the status and the data of the operation's last command, until the next operation
+    /// begins or a [`reset`](Terminal::reset). `None` if no operation has begun, or if the last one
+    /// is in progress or has failed.
     #[must_use]
     pub fn answer(&self) -> Option<Answer> {
         exchange::answer(&self.0, raw::galliumtoad_terminal_answer).ok()
@@ -203,14 +222,15 @@ impl Terminal {
     ///
     /// # Errors
     ///
-    /// - [`Error::State`]: the operation is not done. `room` is as it was, as after the next.
-    /// - [`Error::Buffer`]: there are more data than `room` has place for.
+    /// - [`Error::State`]: [`answer`](Terminal::answer) returns `None`. `room` is unchanged.
+    /// - [`Error::Buffer`]: there are more data than `room` has place for. `room` is unchanged.
     pub fn answer_into(&self, room: &mut [u8]) -> Result<Copied, Error> {
         exchange::answer_into(&self.0, raw::galliumtoad_terminal_answer, room)
     }
 
     /// Drops the last operation, at any point of it, and its answer. Wipes and frees the memory
-    /// that was kept for the next operation, which may begin. The limit stays. Reset the card too.
+    /// that was kept for the next operation, which may begin. The limit stays. The card does not
+    /// notice: reset it too.
     ///
     /// # Errors
     ///

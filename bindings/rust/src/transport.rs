@@ -95,8 +95,8 @@ impl<E, F: FnMut(&[u8], &mut [u8]) -> Result<usize, E> + ?Sized> Transport for F
 #[derive(Clone, Copy, Debug, PartialEq, Eq, Hash)]
 #[non_exhaustive]
 pub enum RunError<E> {
-    /// The operation was not begun, or a reader's answer does not fit ([`Error::NoStatus`],
-    /// [`Error::NotAsked`], [`Error::TooMany`]), or the card has brought too much, or nothing that
+    /// The operation was not begun. Or a reader's answer does not fit ([`Error::NoStatus`],
+    /// [`Error::NotAsked`], [`Error::TooMany`]). Or the card has brought too much, or nothing that
     /// it announced ([`Error::TooLong`], [`Error::Stalled`]).
     Terminal(Error),
     /// The transport failed.
@@ -138,7 +138,8 @@ impl Drop for InProgress<'_> {
 
 impl Terminal {
     /// Carries out an operation over a transport, to the card's answer. Any status is an answer;
-    /// a put stops at the first other than `9000`.
+    /// a put stops at the first other than `9000`. The operation before it must have ended or
+    /// failed.
     ///
     /// # Errors
     ///

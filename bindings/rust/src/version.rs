@@ -3,7 +3,7 @@
 use crate::raw;
 use std::sync::Once;
 
-/// The version of the header that the library was built for, in the order major, minor, patch.
+/// Returns the version of the header that the library was built for: major, minor and patch number.
 #[must_use]
 pub fn version() -> (u32, u32, u32) {
     // SAFETY: nothing is handed over.

@@ -45,8 +45,8 @@ impl Drop for Tpdu {
 #[derive(Clone, Copy, Debug, PartialEq, Eq, Hash)]
 #[non_exhaustive]
 pub struct Due {
-    /// How many bytes it has at the front of the buffer, 4 to 260, or 261 for a command; the others
-    /// are as they were.
+    /// The number of its bytes at the front of the buffer, 4 to 260, or to 261 for a command. The
+    /// rest of the buffer is unchanged.
     pub count: usize,
     /// How many bytes of data may come back before the status, 0 to 256.
     pub most: usize,
@@ -81,8 +81,8 @@ pub(crate) fn tpdu(handle: &Handle, copies: Copies) -> Option<Tpdu> {
 }
 
 impl Exchange {
-    /// The next whole TPDU, if none of its characters was sent: for a reader that carries whole
-    /// TPDUs. It is `None` too if the exchange has ended or has failed.
+    /// Returns the next whole TPDU, for a reader that carries whole TPDUs. `None` if one of its
+    /// characters was sent, or if the exchange has ended, has failed or goes by whole commands.
     #[must_use]
     pub fn tpdu(&self) -> Option<Tpdu> {
         tpdu(&self.0, raw::galliumtoad_exchange_tpdu)
@@ -94,12 +94,15 @@ impl Exchange {
     }
 
     /// Takes the answer to that TPDU: data, and then SW1 SW2. The exchange continues as after the
-    /// characters of any TPDU that brings these.
+    /// characters of any TPDU that brings these: another TPDU follows, or it has ended.
     ///
     /// # Errors
     ///
-    /// - [`Error::NoStatus`], [`Error::NotDue`], [`Error::NotAsked`], [`Error::TooMany`]: nothing
-    ///   has changed.
+    /// - [`Error::State`]: the exchange goes by whole commands. Nothing has changed.
+    /// - [`Error::NoStatus`]: the bytes don't end in a status word. Nothing has changed.
+    /// - [`Error::NotDue`]: [`tpdu`](Exchange::tpdu) returns `None`. Nothing has changed.
+    /// - [`Error::NotAsked`], [`Error::TooMany`]: more data came back than may. Nothing has
+    ///   changed.
     /// - [`Error::TooLong`], [`Error::Stalled`]: the exchange has failed for good.
     pub fn answered(&mut self, answer: &[u8]) -> Result<(), Error> {
         // SAFETY: the handle is one of this crate, and the slice has its length.
@@ -112,23 +115,31 @@ impl Exchange {
     /// commands, see [`Level::Apdu`](crate::Level::Apdu). It is `None` if the exchange has ended or
     /// has failed.
     ///
-    /// The first character sent, or the first answer taken, sets the level. From then on calls of
-    /// the other level are [`Error::State`], or `None`, and nothing changes.
+    /// The first character sent, or the first answer that is taken or fails the exchange, sets the
+    /// level. From then on calls of the other level are [`Error::State`], or `None`, and nothing
+    /// changes.
     ///
     /// # Errors
     ///
-    /// - [`Error::State`]: the exchange goes by characters and TPDUs. Nothing has changed.
-    /// - [`Error::Memory`]: it ran out. Nothing has changed.
+    /// After each of these nothing has changed.
+    ///
+    /// - [`Error::State`]: the exchange goes by characters and TPDUs.
+    /// - [`Error::Memory`]: it ran out for this level, which takes its memory by the first of these
+    ///   calls.
     pub fn apdu_into(&self, room: &mut [u8; APDU_LIMIT]) -> Result<Option<Due>, Error> {
         due_into(&self.0, raw::galliumtoad_exchange_apdu, room)
     }
 
-    /// Takes the response to that command: data, and then SW1 SW2.
+    /// Takes the response to that command: data, and then SW1 SW2. Another command follows, or the
+    /// exchange has ended.
     ///
     /// # Errors
     ///
-    /// - [`Error::State`], [`Error::NotDue`], [`Error::Memory`], [`Error::NoStatus`],
-    ///   [`Error::NotAsked`], [`Error::TooMany`]: nothing has changed.
+    /// - [`Error::State`], [`Error::Memory`]: as [`apdu_into`](Exchange::apdu_into).
+    /// - [`Error::NoStatus`]: the bytes don't end in a status word. Nothing has changed.
+    /// - [`Error::NotDue`]: the exchange has ended or has failed. Nothing has changed.
+    /// - [`Error::NotAsked`], [`Error::TooMany`]: more data came back than may. Nothing has
+    ///   changed.
     /// - [`Error::TooLong`], [`Error::Stalled`]: the exchange has failed for good.
     pub fn responded(&mut self, response: &[u8]) -> Result<(), Error> {
         // SAFETY: an exchange's handle; a slice with its length.
@@ -150,22 +161,22 @@ impl Card {
     /// - [`Error::State`]: characters of a TPDU have passed. Nothing has changed.
     /// - [`Error::NoTpdu`]: the bytes are not a whole TPDU. Nothing has changed.
     /// - [`Error::Memory`]: it ran out. Nothing has changed.
-    /// - [`Error::WantsData`], [`Error::SendsData`]: neither end would continue, so the card was
-    ///   reset.
+    /// - [`Error::WantsData`], [`Error::SendsData`]: both ends would deadlock, so the card was
+    ///   reset. The plan is used up.
     pub fn tpdu(&mut self, tpdu: &[u8]) -> Result<Vec<u8>, Error> {
         let mut room = Wiped([0; ANSWER_LIMIT]);
         let count = self.tpdu_into(tpdu, &mut room.0)?;
         Ok(room.0[..count].to_vec())
     }
 
-    /// As [`tpdu`](Card::tpdu), with the answer at the front of `room`; returns how many bytes it
-    /// has, 2 to [`ANSWER_LIMIT`].
+    /// As [`tpdu`](Card::tpdu), with the answer at the front of `room`. Returns the number of its
+    /// bytes, 2 to [`ANSWER_LIMIT`].
     ///
     /// # Errors
     ///
     /// - [`Error::Buffer`]: `room` is less than 2 bytes, or than 2 and P3 (`00`: 256) for a TPDU of
     ///   five bytes. Nothing has changed.
-    /// - Any other: as [`tpdu`](Card::tpdu); `room` is as it was.
+    /// - Any other: as [`tpdu`](Card::tpdu); `room` is unchanged.
     pub fn tpdu_into(&mut self, tpdu: &[u8], room: &mut [u8]) -> Result<usize, Error> {
         self.carry_out(raw::galliumtoad_card_tpdu, tpdu, room)
     }
@@ -173,8 +184,9 @@ impl Card {
     /// Carries out a whole command, as a card at T=1 or without contacts does. The response is
     /// data, and then SW1 SW2. It is the caller's: this crate wipes no copy of it.
     ///
-    /// The command goes as TPDUs of the card, to a terminal that wants Le bytes (`00`: 256). What
-    /// is left waits, and `61XX` announces it. The card answers `6700`, and nothing changes, to an
+    /// The command goes as TPDUs of the card, to a terminal that wants Le bytes (`00`: 256). After
+    /// `6CXX` it goes once more, with XX. In case 4 GET RESPONSE fetches. What is left waits, and
+    /// `61XX` announces it. The card answers `6700`, and nothing changes, to an
     /// extended command and to other bytes with wrong lengths. So it does to SELECT and PUT DATA in
     /// case 2, and to GET DATA and GET RESPONSE in any other case. Plans are for TPDUs and
     /// characters alone.
@@ -192,13 +204,14 @@ impl Card {
         Ok(room.0[..count].to_vec())
     }
 
-    /// As [`apdu`](Card::apdu), with the response at the front of `room`; returns how many bytes it
-    /// has, 2 to [`ANSWER_LIMIT`].
+    /// As [`apdu`](Card::apdu), with the response at the front of `room`. Returns the number of its
+    /// bytes, 2 to [`ANSWER_LIMIT`].
     ///
     /// # Errors
     ///
-    /// - [`Error::Buffer`]: `room` is less than 2 bytes and Le (`00`: 256). Nothing has changed.
-    /// - Any other: as [`apdu`](Card::apdu); `room` is as it was.
+    /// - [`Error::Buffer`]: `room` is less than 2 bytes and Le (`00`: 256), or than 2 without Le.
+    ///   Nothing has changed.
+    /// - Any other: as [`apdu`](Card::apdu); `room` is unchanged.
     pub fn apdu_into(&mut self, command: &[u8], room: &mut [u8]) -> Result<usize, Error> {
         self.carry_out(raw::galliumtoad_card_apdu, command, room)
     }

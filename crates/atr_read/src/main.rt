@@ -37,6 +37,11 @@ fn main(rt: HostRuntime) -> ExitCode {
 }
 
 /// Parses the command line, which accepts only options for help and version.
+///
+/// # Errors
+/// - `DisplayHelp`, `DisplayVersion`: the words call for help or the version.
+/// - `OutOfMemory`: memory ran out.
+/// - Another kind: the words have a mistake.
 fn parsed(rt: &HostRuntime) -> Result<(), Error> {
     let alloc = rt.alloc();
     let words: Vec<String> = match env::args(rt) {
@@ -51,7 +56,8 @@ fn parsed(rt: &HostRuntime) -> Result<(), Error> {
     Ok(())
 }
 
-/// The exit status after help, version or a wrong option, which it prints.
+/// Prints what the error of `parsed` says, and returns the exit status. It is 0 after help and the
+/// version, on the output, or 1 if that fails. It is 2 after any other error, on standard error.
 fn answered(rt: &HostRuntime, error: &Error) -> u8 {
     match error.kind() {
         ErrorKind::DisplayHelp | ErrorKind::DisplayVersion => {
@@ -64,7 +70,12 @@ fn answered(rt: &HostRuntime, error: &Error) -> u8 {
     }
 }
 
-/// Prints the meaning of each line of the input. Returns whether all lines are answers to reset.
+/// Prints the meaning of each line of the input, and passes over blank ones. Returns whether all
+/// others are answers to reset.
+///
+/// # Errors
+/// - `io::Error`: the input can't be read, the output can't be written, or memory ran out. What the
+///   lines before print may be written.
 fn all_said(rt: &HostRuntime) -> io::Result<bool> {
     let mut output = io::writer(rt);
     let mut well = true;

@@ -5,7 +5,13 @@ use std::alloc::Global;
 use std::io;
 use std::io::Write;
 
-/// Prints what the answer in this text means. Returns whether the text is an answer to reset.
+/// Prints what the answer in this text means, or why it is not one. The text is hexadecimal digits,
+/// with or without spaces between them. Returns whether it is an answer to reset. If memory runs
+/// out for their bytes, prints `bad hex`, and returns `false`.
+///
+/// # Errors
+/// - `io::Error`: the output can't be written, or memory ran out for the digits. A part may be
+///   written.
 pub fn say<W: Write>(alloc: Global, text: &str, output: &mut W) -> io::Result<bool> {
     let mut digits = String::new(alloc);
     for word in text.split_ascii_whitespace() {
@@ -59,7 +65,8 @@ fn say_group<W: Write>(number: u32, group: Group, output: &mut W) -> io::Result<
     Ok(())
 }
 
-/// Prints the values of the interface bytes.
+/// Prints the values of the interface bytes: a reserved code as that, and those for T=1 only if the
+/// card offers T=1.
 fn say_values<W: Write>(answer: &Atr, output: &mut W) -> io::Result<()> {
     write!(output, "  protocols    ")?;
     for t in &answer.protocols() {
@@ -89,7 +96,7 @@ fn say_values<W: Write>(answer: &Atr, output: &mut W) -> io::Result<()> {
     say_supply(answer, output)
 }
 
-/// Prints the values for T=1.
+/// Prints the values for T=1: IFSC, the error detection code, CWT, BWT and BGT.
 fn say_blocks<W: Write>(answer: &Atr, output: &mut W) -> io::Result<()> {
     match answer.ifsc() {
         Ok(size) => writeln!(output, "  IFSC          {size}")?,

@@ -5,6 +5,6 @@ use apdu_terminal::ApduTerminal;
 #[derive(Drop)]
 pub struct ApduSide {
     pub terminal: ApduTerminal,
-    /// Whether the operation goes by whole commands: it has taken a response.
+    /// Whether the operation goes by whole commands: it has taken a response, or one has failed it.
     pub leads: bool,
 }

@@ -13,10 +13,11 @@ use atr_core::{
 /// The most protocols that an answer offers: T=0 to T=14.
 const MOST_PROTOCOLS: usize = 15;
 
-/// Reads an answer to reset, which is all of `bytes`.
+/// Reads an answer to reset, which is all of `bytes`, and writes what it says to `atr`.
 ///
 /// # Errors
-/// - a code of [`code::of_atr`]: the first fault. Only its place is written, to `place`.
+/// - a code of [`code::of_atr`]: the first fault from the left. Only its place is written, to
+///   `place`.
 #[unsafe(no_mangle)]
 pub extern "C" fn galliumtoad_atr_read(bytes: &[u8], atr: &mut AtrRecord, place: &mut usize) -> i32
     ensures { ReadsAtr bytes.now atr.old place.old result atr.new place.new }
@@ -33,7 +34,7 @@ pub extern "C" fn galliumtoad_atr_read(bytes: &[u8], atr: &mut AtrRecord, place:
     }
 }
 
-/// Returns what an answer of `size` bytes says.
+/// Returns what an answer of `size` bytes says. `size` must be the number of its characters.
 fn recorded(answer: &Atr, size: usize) -> AtrRecord
     requires answer { IsAnswer answer.now }
     requires size { length (characters answer.now) ≡ size }
@@ -149,7 +150,7 @@ fn convention_number(convention: Convention) -> u8
     }
 }
 
-/// Returns Fi and the highest clock frequency, or zeros.
+/// Returns Fi and the highest clock frequency in kHz, or zeros if the code is reserved.
 fn fi_parts(fi: Result<Fi, Rfu>) -> (u16, u16)
     ensures { result ≡ (fi_value fi, fi_max_khz fi) }
 {
@@ -185,7 +186,7 @@ fn clock_stop_number(stop: ClockStop) -> u8
     }
 }
 
-/// Returns the bits of classes.
+/// Returns the sum of 1 for class A, 2 for B and 4 for C, or 0 if the code is reserved.
 fn class_bits(classes: Result<Classes, Rfu>) -> u8
     ensures { result ≡ class_bits classes }
 {
@@ -195,7 +196,7 @@ fn class_bits(classes: Result<Classes, Rfu>) -> u8
     }
 }
 
-/// Returns the length of an error detection code in bytes, or 0.
+/// Returns the length of an error detection code in bytes, or 0 if the code is reserved.
 fn edc_size(edc: Result<Edc, Rfu>) -> u8
     ensures { result ≡ edc_size edc }
 {
@@ -206,7 +207,7 @@ fn edc_size(edc: Result<Edc, Rfu>) -> u8
     }
 }
 
-/// Returns the etu and the clock cycles of BWT, or zeros.
+/// Returns the etu and the clock cycles of BWT, or zeros if BWI is reserved.
 fn block_parts(time: Result<BlockWaitingTime, Rfu>) -> (u16, u64)
     ensures { result ≡ (bwt_etu time, bwt_cycles time) }
 {

@@ -17,26 +17,28 @@ pub struct AtrRecord {
     pub protocols: [u8; 15],
     /// 1 if the answer names T=15, otherwise 0.
     pub names_15: u8,
-    /// TA1, or `11`; and its Di, or 0 if its code is reserved.
+    /// TA1, or `11` if it is absent; and its Di, or 0 if its code is reserved.
     pub rate_code: u8,
     pub di: u8,
-    /// N.
+    /// N: TC1, or 0 if it is absent.
     pub extra_guard_time: u8,
-    /// WI, or 0 if it is reserved.
+    /// WI: TC2, or 10 if it is absent; 0 if it is reserved.
     pub waiting_integer: u8,
-    /// 1 in specific mode, otherwise 0; and its values, or zeros.
+    /// 1 in specific mode, otherwise 0. Then, or zeros: the protocol, 1 if the card can change to
+    /// negotiable mode, and 1 if Fi and Di are implicit.
     pub specific: u8,
     pub specific_t: u8,
     pub can_change: u8,
     pub implicit: u8,
-    /// The number for whether the clock may stop.
+    /// Where the clock may stop: 0 nowhere, 1 at low, 2 at high, 3 at either.
     pub clock_stop: u8,
     /// The sum of 1 for class A, 2 for B and 4 for C; 0 if their code is reserved.
     pub classes: u8,
     /// Fi and the highest clock frequency in kHz; zeros if their code is reserved.
     pub fi: u16,
     pub max_khz: u16,
-    /// The guard time in etu, of T=1 and of any other protocol, and the Fi/Di cycles to be added.
+    /// The guard time in etu, of any protocol but T=1 and then of T=1; and the multiple of Fi/Di
+    /// cycles to be added to each.
     pub guard_etu: u16,
     pub guard_etu_t1: u16,
     pub guard_indicated: u16,
@@ -46,18 +48,19 @@ pub struct AtrRecord {
     pub t1: BlockRecord,
 }
 
-/// What an answer to reset says about T=1 (ISO/IEC 7816-3, clause 11). C sees it as `gt_atr_t1`.
+/// What an answer to reset says about T=1 (ISO/IEC 7816-3, clause 11). It is by the first TA, TB
+/// and TC for T=1 from TA3, TB3 and TC3 on. C sees it as `gt_atr_t1`.
 #[repr(C)]
 #[derive(Clone, Copy)]
 pub struct BlockRecord {
-    /// IFSC, or 0 if it is reserved.
+    /// IFSC, the most bytes in the field of a block to the card, or 0 if it is reserved.
     pub ifsc: u8,
     /// The length of the error detection code in bytes: 1 for LRC, 2 for CRC; 0 if it is reserved.
     pub edc: u8,
     /// BWI, or 0 if it is reserved; and CWI.
     pub bwi: u8,
     pub cwi: u8,
-    /// CWT; the etu of BWT, or 0 if BWI is reserved; and BGT.
+    /// In etu: CWT; the etu of BWT, or 0 if BWI is reserved; and BGT.
     pub cwt_etu: u16,
     pub bwt_etu: u16,
     pub bgt_etu: u16,

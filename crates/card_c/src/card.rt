@@ -48,9 +48,9 @@ pub extern "C" fn galliumtoad_card_free(alloc: Global, card: &mut GtCard)
 /// Adds an application without data objects. `aid` is its identifier, of 5 to 16 bytes.
 ///
 /// # Errors
-/// The card stays as it was.
+/// The card stays as it was; the first that holds:
 /// - `STATE`: the card is built.
-/// - `ARGUMENT`: `aid` is no identifier.
+/// - `ARGUMENT`: `aid` does not have 5 to 16 bytes.
 /// - a code of [`code::of_builder`]: the builder refuses it.
 #[unsafe(no_mangle)]
 pub extern "C" fn galliumtoad_card_app(alloc: Global, card: &mut GtCard, aid: &[u8]) -> i32
@@ -74,12 +74,13 @@ fn add_app(side: &mut CardSide, aid: &[u8]) -> i32
     }
 }
 
-/// Adds a data object to the last application. If `locked`, no command changes it.
+/// Adds a data object to the last application, or replaces the one under this tag. If `locked`, no
+/// command changes it.
 ///
 /// # Errors
-/// The card stays as it was.
+/// The card stays as it was; the first that holds:
 /// - `STATE`: the card is built.
-/// - `ARGUMENT`: no tag of an object has this number.
+/// - `ARGUMENT`: GET DATA can name no tag with this number.
 /// - a code of [`code::of_builder`]: the builder refuses it.
 #[unsafe(no_mangle)]
 pub extern "C" fn galliumtoad_card_object(
@@ -115,7 +116,7 @@ fn add_object(side: &mut CardSide, number: u32, value: &[u8], locked: bool) -> i
     }
 }
 
-/// Ends the building of a card. It listens, with nothing selected.
+/// Ends the building of a card. It speaks T=0 and listens, with nothing selected, and has no plans.
 ///
 /// # Errors
 /// - `STATE`: the card is built already, and stays as it was.
@@ -174,7 +175,8 @@ fn take(side: &mut CardSide, byte: u8) -> i32
 }
 
 /// Writes the card's next character to `byte` and returns `SENDS`, or returns `OK` if the card
-/// listens.
+/// listens. The character counts as sent. The first one of an answer takes the next plan. Only
+/// `SENDS` changes anything.
 ///
 /// # Errors
 /// - `STATE`: the card is not built, speaks T=1 or is in a session. Nothing changes.
@@ -220,7 +222,8 @@ pub(crate) fn next_of(end: &mut CardEnd<ObjectCard>, plans: &mut PlanQueue) -> O
     Some(byte)
 }
 
-/// Resets the card, and drops the TPDU in progress. The card speaks T=0 then, and its plans stay.
+/// Resets the card: a TPDU or block in progress is dropped, and nothing is selected or pending. The
+/// card speaks T=0 then. Its data objects and the plans that wait stay.
 ///
 /// # Errors
 /// - `STATE`: the card is not built, or is in a session. It stays as it was.

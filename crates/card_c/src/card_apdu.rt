@@ -15,8 +15,16 @@ use object_card::ObjectCard;
 use std::alloc::Global;
 use t0_core::CardEnd;
 
-/// Carries out a whole command, and writes the response to `response`. The response is `6700`, and
-/// the card stays as it was, if the bytes fit no case or the command is not agreed with the card.
+/// Carries out a whole command, and writes the response: data, then the status. The response is
+/// `6700`, and the card stays as it was, if the bytes fit no case or the command is not agreed with
+/// the card. Plans stay as they were.
+///
+/// # Errors
+/// The card stays as it was, and nothing is written; the first that holds:
+/// - `STATE`: the card is not built, speaks T=1, is in a session, or has begun a TPDU.
+/// - the code of `TooShort` or `InvalidIns`: the bytes are not a command.
+/// - `BUFFER`: the array is shorter than 2 and Le, or than 2 without Le.
+/// - `MEMORY`: memory ran out.
 #[unsafe(no_mangle)]
 pub extern "C" fn galliumtoad_card_apdu(
     alloc: Global,
@@ -61,7 +69,7 @@ fn respond_to(
     }
 }
 
-/// Writes the response `6700`, wrong length.
+/// Writes the response `6700`, wrong length, or returns `BUFFER` if it does not fit.
 fn refuse(response: &mut [u8], len: &mut usize) -> i32
     ensures { RefusesLength response.old len.old result response.new len.new }
 {
@@ -72,7 +80,8 @@ fn refuse(response: &mut [u8], len: &mut usize) -> i32
     code::OK
 }
 
-/// Lets a card's end carry out a command, and writes its response.
+/// Lets a card's end, which has no TPDU in progress, carry out a command, and writes its response.
+/// After `BUFFER` and `MEMORY` nothing has changed.
 fn carry_out(
     alloc: Global,
     end: &mut CardEnd<ObjectCard>,

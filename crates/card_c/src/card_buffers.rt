@@ -13,7 +13,10 @@ use std::alloc::Global;
 use t0_core::{CardEnd, LineFault, PlanQueue};
 
 /// Writes the card's characters to `bytes` until it listens or `bytes` is full, and their number to
-/// `count`.
+/// `count`. Returns `SENDS` if `bytes` is full, as an empty array always is, and otherwise `OK`.
+///
+/// # Errors
+/// - `STATE`: the card is not built, speaks T=1 or is in a session. Nothing changes.
 #[unsafe(no_mangle)]
 pub extern "C" fn galliumtoad_card_send_bytes(
     alloc: Global,
@@ -63,6 +66,10 @@ fn hand_out(end: &mut CardEnd<ObjectCard>, plans: &mut PlanQueue, bytes: &mut [u
 }
 
 /// Takes characters of the terminal while the card listens, and writes their number to `count`.
+///
+/// # Errors
+/// - `STATE`: the card is not built, speaks T=1 or is in a session. Nothing changes.
+/// - the code of `NotListening`: the card has a character to send after those that it has taken.
 #[unsafe(no_mangle)]
 pub extern "C" fn galliumtoad_card_receive_bytes(
     alloc: Global,

@@ -18,7 +18,8 @@ use t1_core::spelling::write;
 use t1_core::{CardEnd, Receiver};
 use t1_terminal::DataApplet;
 
-/// Lets the card speak T=1, until its next reset.
+/// Lets the card speak T=1, until its next reset. It has no block to send yet. What is selected or
+/// pending stays, and so do the plans.
 ///
 /// # Errors
 /// - `STATE`: the card is not built, speaks T=1, is in a session, or has begun a TPDU. Nothing
@@ -59,7 +60,8 @@ fn fresh(alloc: Global, end: t0_core::CardEnd<ObjectCard>, plans: PlanQueue) -> 
     }
 }
 
-/// Lets a card at T=1 speak T=0 again.
+/// Lets a card at T=1 speak T=0 again: the block and the answer are dropped, the rest stays. Any
+/// other card is unchanged.
 pub(crate) fn leave(alloc: Global, side: &mut CardSide)
     ensures { side.new ≡ at_t0 side.old }
 {
@@ -72,8 +74,13 @@ pub(crate) fn leave(alloc: Global, side: &mut CardSide)
     *side = CardSide::Standing(end.into_applet().into_end(), plans);
 }
 
-/// Writes the next block to `bytes`, and its length to `count`. Returns `DONE` if there is no
-/// block to send.
+/// Writes the next block to `bytes`, and its length to `count`. Returns `DONE` if there is no block
+/// to send: the terminal has sent none, or memory ran out at its last one. The card is unchanged.
+///
+/// # Errors
+/// - `STATE`: the card does not speak T=1. Nothing is written.
+/// - `MEMORY`: memory ran out. Nothing is written.
+/// - `BUFFER`: the block does not fit. Only its length is written.
 #[unsafe(no_mangle)]
 pub extern "C" fn galliumtoad_card_t1_send_bytes(
     alloc: Global,
@@ -118,6 +125,13 @@ fn sent(alloc: Global, at: &CardT1Side, bytes: &mut [u8], count: &mut usize) -> 
 }
 
 /// Takes bytes of the terminal up to the end of its block, and writes their number to `count`.
+/// Returns `OK` while the block is not whole. Returns `SENDS` if it is, valid or not, and the card
+/// has its answer. A command is carried out with its last block.
+///
+/// # Errors
+/// - `STATE`: the card does not speak T=1. Nothing changes.
+/// - `MEMORY`: the block is dropped, no command is carried out, and there is no answer. `count` is
+///   written.
 #[unsafe(no_mangle)]
 pub extern "C" fn galliumtoad_card_t1_receive_bytes(
     alloc: Global,
@@ -168,8 +182,11 @@ fn heard(at: &mut CardT1Side, bytes: &[u8], count: &mut usize) -> i32
     answer
 }
 
-/// Reports that the terminal's block stopped, or that a character was damaged. The card then has a
-/// block to send.
+/// Reports that the terminal's block stopped, or that a character was damaged. The received part is
+/// dropped. Returns `SENDS`: the card has a block to send.
+///
+/// # Errors
+/// - `STATE`: the card does not speak T=1. Nothing changes.
 #[unsafe(no_mangle)]
 pub extern "C" fn galliumtoad_card_t1_missed(alloc: Global, card: &mut GtCard) -> i32
     ensures { OnHandle (OnLine Misses ⊤) (held_by card.old) result (held_by card.new) }

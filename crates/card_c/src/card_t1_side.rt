@@ -10,7 +10,7 @@ pub struct CardT1Side {
     pub end: CardEnd<DataApplet<ObjectCard>>,
     /// The received bytes of the terminal's block.
     pub block: Receiver,
-    /// The answer to its last block.
+    /// The answer to its last block. `None` before the first, and after memory ran out at one.
     pub reply: Option<Reply>,
     /// The plans that the card follows at T=0 after its next reset.
     pub plans: PlanQueue,

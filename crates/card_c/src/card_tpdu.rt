@@ -14,8 +14,17 @@ use object_card::ObjectCard;
 use std::alloc::Global;
 use t0_core::{CardEnd, Gather, PlanQueue, WholeTpdu};
 
-/// Carries out a whole TPDU under the card's next plan, and writes its answer. Nothing changes if
-/// the array is too small for the longest answer to it.
+/// Carries out a whole TPDU under the card's next plan, which is used up, and writes its answer:
+/// data, then the status.
+///
+/// # Errors
+/// The first that holds. Nothing is written, and except after the last nothing changes:
+/// - `STATE`: the card is not built, speaks T=1, is in a session, or has begun a TPDU.
+/// - `NO_TPDU`: the bytes are not a whole TPDU.
+/// - `BUFFER`: the array is too small for the longest answer to it.
+/// - `MEMORY`: memory ran out for the data of the answer.
+/// - the code of `WantsData` or `SendsData`: both ends would deadlock. The card is reset, and the
+///   plan is used up.
 #[unsafe(no_mangle)]
 pub extern "C" fn galliumtoad_card_tpdu(
     alloc: Global,
@@ -65,7 +74,8 @@ fn carry_out(
     }
 }
 
-/// Lets a card's end carry out a TPDU, and writes its answer.
+/// Lets a card's end, which has no TPDU in progress, carry out a whole TPDU, and writes its answer.
+/// The array must have room for the longest one.
 fn pass(
     end: &mut CardEnd<ObjectCard>,
     plans: &mut PlanQueue,

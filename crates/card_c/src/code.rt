@@ -16,11 +16,11 @@ use tlv_core::Reason;
 /// Success. Of a turn: the end listens.
 pub const OK: i32 = 0;
 
-/// The end sends a character, or the buffer is full. At T=1: the received block is whole, or
-/// dropped.
+/// Of a turn: the end sends a character. Of characters in a buffer: the buffer is full. At T=1: the
+/// received block is whole, or dropped.
 pub const SENDS: i32 = 1;
 
-/// The exchange has ended with an answer. At T=1: there is no block to send.
+/// The exchange or operation has ended with an answer. At T=1: there is no block to send.
 pub const DONE: i32 = 2;
 
 // -1 is `GT_NULL`, which only the header's functions return.
@@ -37,22 +37,22 @@ pub const MEMORY: i32 = -4;
 /// An argument is invalid.
 pub const ARGUMENT: i32 = -5;
 
-/// The buffer is too small for the bytes.
+/// The buffer is too small for the bytes. It is unchanged, except by `galliumtoad_objects`.
 pub const BUFFER: i32 = -6;
 
 /// A chain is pending at the card. No operation begins.
 pub const BUSY: i32 = -7;
 
-/// There is no such thing, such as an object, an answer or a fault.
+/// What the call asks for is not there, such as an object, an answer or a fault.
 pub const NOT_FOUND: i32 = -8;
 
-/// The exchange has failed for good. At T=1: the end gave up.
+/// The exchange or operation has failed for good. At T=1: the end gave up.
 pub const FAILED: i32 = -9;
 
 /// The most plans wait already.
 pub const PLANS: i32 = -10;
 
-/// No whole TPDU or command is next.
+/// No whole TPDU or command is next: it has begun, ended or failed, or there is no operation.
 pub const NOT_DUE: i32 = -60;
 
 /// The answer does not end in a status word.
@@ -61,7 +61,7 @@ pub const NO_STATUS: i32 = -61;
 /// The bytes are not a whole TPDU.
 pub const NO_TPDU: i32 = -64;
 
-/// Returns why a builder refuses.
+/// Returns why a builder refuses an application or a data object. The builder is unchanged.
 pub fn of_builder(fault: BuilderFault) -> i32
     ensures { result ≡ builder_code fault }
 {
@@ -108,7 +108,8 @@ pub fn of_taking(taken: Result<(), LineFault>) -> i32
     }
 }
 
-/// Returns why an end refuses a character. After -31 to -33 the exchange has failed for good.
+/// Returns why a terminal's end refuses a character. After -31 to -33 the exchange has failed for
+/// good; after -30 and -34 nothing has changed.
 pub fn of_line(fault: LineFault) -> i32
     ensures { result ≡ line_code fault }
 {
@@ -146,8 +147,8 @@ pub fn of_command(fault: ApduFault) -> i32
     }
 }
 
-/// Returns why a terminal refuses the answer to a whole TPDU. After -32 and -33 the exchange has
-/// failed for good.
+/// Returns why a terminal refuses the answer to a whole TPDU or command. After -32 and -33 the
+/// exchange has failed for good; after any other nothing has changed.
 pub fn of_answer(fault: AnswerFault) -> i32
     ensures { result ≡ answer_code fault }
 {
@@ -160,7 +161,8 @@ pub fn of_answer(fault: AnswerFault) -> i32
     }
 }
 
-/// Returns why a card's end refuses a whole TPDU.
+/// Returns why a card's end refuses a whole TPDU. After -65, -66 and -32 the card is reset; after
+/// any other nothing has changed.
 pub fn of_tpdu(fault: TpduFault) -> i32
     ensures { result ≡ tpdu_code fault }
 {
@@ -202,7 +204,7 @@ pub fn of_pps(fault: PpsFault) -> i32
     }
 }
 
-/// Returns why a command does not begin at T=1.
+/// Returns why a command does not begin at T=1. The end is unchanged.
 pub fn of_t1_begin(fault: BeginFault) -> i32
     ensures { result ≡ begin_code fault }
 {
@@ -224,7 +226,8 @@ pub fn of_t1_cause(cause: Cause) -> i32
     }
 }
 
-/// Returns what is known of the command then.
+/// Returns what is known of the command then. 0: the card has not carried it out. 1: that is
+/// unknown. 2: it has, and a part of the response arrived.
 pub fn of_t1_outcome(outcome: Outcome) -> i32
     ensures { result ≡ outcome_number outcome }
 {

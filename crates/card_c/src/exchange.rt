@@ -21,9 +21,11 @@ use card_terminal::{OwnedExchange, RESPONSE_LIMIT, StartFault};
 use std::alloc::Global;
 use t0_core::HostTurn;
 
-/// Begins the exchange of a command in an empty handle.
+/// Begins the exchange of a command in an empty handle. It goes neither by TPDUs nor by whole
+/// commands yet, and sends first.
 ///
 /// # Errors
+/// In this order:
 /// - `STATE`: the handle is live, and stays as it was.
 /// - a code of [`code::of_command`]: the bytes are not a command; the handle stays empty.
 /// - `MEMORY`: memory ran out; the handle stays empty.
@@ -42,7 +44,7 @@ pub extern "C" fn galliumtoad_exchange_start(
 /// Does the same for a response of at most `limit` bytes, from 0 to 16,384.
 ///
 /// # Errors
-/// Those of `galliumtoad_exchange_start`, and
+/// Those of `galliumtoad_exchange_start`, and before `MEMORY`
 /// - `ARGUMENT`: `limit` exceeds 16,384; the handle stays empty.
 #[unsafe(no_mangle)]
 pub extern "C" fn galliumtoad_exchange_start_within(
@@ -99,11 +101,12 @@ fn begun(alloc: Global, command: &[u8], limit: usize) -> Result<Box<ExchangeSide
     }
 }
 
-/// Returns what the terminal does next, and writes the character that it sends to `byte`.
+/// Returns what the terminal does next: `SENDS`, `OK` if it listens, or `DONE`. With `SENDS` the
+/// character is written to `byte`, and counts as sent. Nothing else changes `byte` or the exchange.
 ///
 /// # Errors
 /// - `STATE`: the exchange goes by whole commands. Nothing changes.
-/// - `FAILED`: the exchange has failed for good.
+/// - `FAILED`: the exchange has failed for good. Nothing changes.
 #[unsafe(no_mangle)]
 pub extern "C" fn galliumtoad_exchange_next(
     alloc: Global,
@@ -139,11 +142,11 @@ fn turned(side: &mut ExchangeSide, byte: &mut u8) -> i32
     code::of_turn(turn)
 }
 
-/// Takes a character of the card.
+/// Takes a character of the card. If it completes a status, the next TPDU begins, if one follows.
 ///
 /// # Errors
 /// - `STATE`: the exchange goes by whole commands. Nothing changes.
-/// - a code of [`code::of_line`]: the exchange refuses the character.
+/// - a code of [`code::of_line`]: the exchange refuses the character, or has ended or failed.
 #[unsafe(no_mangle)]
 pub extern "C" fn galliumtoad_exchange_take(
     alloc: Global,
@@ -169,8 +172,8 @@ fn taken(side: &mut ExchangeSide, byte: u8) -> i32
 /// Writes the status and the data of an exchange that has ended. The exchange keeps them.
 ///
 /// # Errors
-/// - `STATE`: it has no answer. Nothing changes.
-/// - `BUFFER`: the data do not fit. `status` and `len` are written.
+/// - `STATE`: it has no answer, since it is in progress or has failed. Nothing is written.
+/// - `BUFFER`: the data do not fit. Only `status` and `len` are written.
 #[unsafe(no_mangle)]
 pub extern "C" fn galliumtoad_exchange_answer(
     alloc: Global,

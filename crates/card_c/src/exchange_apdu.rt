@@ -13,7 +13,14 @@ use crate::whole_apdu::{opened, responded, responded_first, told};
 use card_terminal::{OwnedExchange, Unsent};
 use std::alloc::Global;
 
-/// Writes the next whole command, its length, and the most bytes of its response.
+/// Writes the next whole command, its length, and the most data bytes of its response, 0 to 256.
+///
+/// # Errors
+/// Nothing is written.
+/// - `STATE`: the exchange goes by TPDUs: a character of it was sent, or an answer was taken.
+/// - `MEMORY`: memory ran out for whole commands. The exchange is unchanged.
+/// - `NOT_DUE`: the exchange has ended or failed.
+/// - `BUFFER`: the command does not fit.
 #[unsafe(no_mangle)]
 pub extern "C" fn galliumtoad_exchange_apdu(
     alloc: Global,
@@ -50,7 +57,13 @@ fn due(side: &mut ExchangeSide, apdu: &mut [u8], len: &mut usize, most: &mut usi
     told(side.apdus.terminal.apdu(), apdu, len, most)
 }
 
-/// Takes the response to that command: data, then the status.
+/// Takes the response to that command: data, then the status. From the first one that is taken or
+/// fails the exchange, it goes by whole commands.
+///
+/// # Errors
+/// - `STATE`, `MEMORY`: those of `galliumtoad_exchange_apdu`.
+/// - `NO_STATUS`: the bytes end in no status. No response is taken.
+/// - a code of [`code::of_answer`]: the exchange refuses the response.
 #[unsafe(no_mangle)]
 pub extern "C" fn galliumtoad_exchange_responded(
     alloc: Global,
@@ -72,7 +85,7 @@ fn taken(side: &mut ExchangeSide, response: &[u8]) -> i32
     responded_first(&mut side.apdus, unsent_of(&side.exchange), response)
 }
 
-/// Returns what an exchange has to send, if nothing of it was sent.
+/// Returns what an exchange has to send. `None` if a character or an answer of it has passed.
 fn unsent_of(exchange: &OwnedExchange) -> Option<Unsent<'_>>
     ensures { IsUnsentOf exchange.now result }
 {

@@ -13,7 +13,12 @@ use crate::held_exchange::ExchangeHandle;
 use std::alloc::Global;
 
 /// Writes the terminal's characters to `bytes` until it stops sending or `bytes` is full, and their
-/// number to `count`.
+/// number to `count`. Returns `SENDS` if `bytes` is full, as an empty array is at once. Otherwise
+/// returns the code of its next turn.
+///
+/// # Errors
+/// - `STATE`: the exchange goes by whole commands. Nothing is written.
+/// - `FAILED`: the exchange has failed for good. `count` is written.
 #[unsafe(no_mangle)]
 pub extern "C" fn galliumtoad_exchange_send_bytes(
     alloc: Global,
@@ -50,7 +55,11 @@ fn sent(side: &mut ExchangeSide, bytes: &mut [u8], count: &mut usize) -> i32
     code::of_stop(handed.stop)
 }
 
-/// Takes characters of the card until one is a fault, and writes their number to `count`.
+/// Takes characters of the card until one is refused, and writes the number taken to `count`.
+///
+/// # Errors
+/// - `STATE`: the exchange goes by whole commands. Nothing is written.
+/// - a code of [`code::of_line`]: the exchange refuses the character at the place `count`.
 #[unsafe(no_mangle)]
 pub extern "C" fn galliumtoad_exchange_receive_bytes(
     alloc: Global,

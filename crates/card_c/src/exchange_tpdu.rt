@@ -14,7 +14,14 @@ use crate::held_exchange::ExchangeHandle;
 use crate::whole_tpdu::{answer_of, told};
 use std::alloc::Global;
 
-/// Writes the next whole TPDU, its length, and the most bytes of its answer.
+/// Writes the next whole TPDU, its length, and the most data bytes of its answer, 0 to 256. The
+/// exchange is unchanged.
+///
+/// # Errors
+/// Nothing is written.
+/// - `STATE`: the exchange goes by whole commands.
+/// - `NOT_DUE`: a character of the TPDU was sent, or the exchange has ended or failed.
+/// - `BUFFER`: the TPDU does not fit.
 #[unsafe(no_mangle)]
 pub extern "C" fn galliumtoad_exchange_tpdu(
     alloc: Global,
@@ -50,7 +57,12 @@ fn due(side: &ExchangeSide, tpdu: &mut [u8], len: &mut usize, most: &mut usize) 
     told(side.exchange.tpdu(), tpdu, len, most)
 }
 
-/// Takes the answer to that TPDU: data, then the status.
+/// Takes the answer to that TPDU: data, then the status. The next TPDU begins, if one follows.
+///
+/// # Errors
+/// - `STATE`: the exchange goes by whole commands. Nothing changes.
+/// - `NO_STATUS`: the bytes end in no status. Nothing changes.
+/// - a code of [`code::of_answer`]: the exchange refuses the answer.
 #[unsafe(no_mangle)]
 pub extern "C" fn galliumtoad_exchange_answered(
     alloc: Global,

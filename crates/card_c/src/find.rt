@@ -17,13 +17,13 @@ use tlv_core::{Objects, Tag, find_placed};
 const DEEPEST: usize = 16;
 
 /// Finds the first object, in the order of the bytes, whose tags from level 1 down to its own have
-/// these numbers.
+/// these numbers. It is written to `object`.
 ///
 /// # Errors
-/// Nothing else is written.
-/// - `ARGUMENT`: a step is the number of no tag.
-/// - a code of [`code::of_reason`]: the first fault of the bytes, with its place.
-/// - `NOT_FOUND`: there is no such object.
+/// `object` is unchanged; the first that holds:
+/// - `ARGUMENT`: a step is the number of no tag of one to three bytes.
+/// - a code of [`code::of_reason`]: the first fault of the bytes. Only its place is written.
+/// - `NOT_FOUND`: there is no such object, or the path is empty.
 #[unsafe(no_mangle)]
 pub extern "C" fn galliumtoad_find(
     bytes: &[u8],
@@ -80,7 +80,8 @@ fn find_on(bytes: &[u8], path: &[Tag], object: &mut ObjectRecord, place: &mut us
     }
 }
 
-/// Returns why no object is on a path that is longer than the deepest level.
+/// Returns why no object is on a path that is longer than the deepest level: the first fault, whose
+/// place is written, or `NOT_FOUND`.
 fn find_none(bytes: &[u8], place: &mut usize) -> i32
     ensures { ((reason : Reason) × IsFirstFault bytes.now 1 place.new reason
         × (result ≡ reason_code reason))

@@ -19,7 +19,7 @@ pub trait Handle {
     fn is_live(&self) -> bool
         ensures { result ≡ is_some (content self.now) };
 
-    /// Takes out what it holds, and leaves it empty.
+    /// Takes out what it holds, and leaves it empty. `None` if it is empty.
     fn take_out(&mut self, alloc: Global) -> Option<Box<Self::Content>>
         ensures empty { content self.new ≡ None }
         ensures value { option_map (λ held. held.value) result ≡ content self.old };

@@ -10,7 +10,8 @@ use crate::copied::copied;
 use crate::tag_number::tag_with;
 use tlv_core::head;
 
-/// Writes the tag with this number, and this length in its shortest spelling.
+/// Writes the tag with this number, and this length in its shortest spelling, 2 to 6 bytes, and
+/// their number to `len`.
 ///
 /// # Errors
 /// - `ARGUMENT`: no tag has this number. Nothing is written.

@@ -42,7 +42,8 @@ fn hear(alloc: Global, joined: &mut SessionSide)
     joined.heard = Listener::new(alloc, true);
 }
 
-/// Writes the characters of the last operation, each with its sender, and their number.
+/// Writes the characters of the last operation that was carried out, each with its sender, and
+/// their number. It is 0 before the first one after `galliumtoad_session_listen`.
 ///
 /// # Errors
 /// - `STATE`: the handle holds a card, not a session, or it does not record. Nothing is written.
@@ -95,7 +96,7 @@ fn tell_hearing(listener: &Listener, line: &mut [CharacterRecord], count: &mut u
     code::OK
 }
 
-/// Writes the characters to the front of the array.
+/// Writes the characters to the front of the array, which must have room for them.
 fn put_all(heard: &[(End, u8)], line: &mut [CharacterRecord])
     requires { length heard.now ≤ length line.old }
     ensures { line.new ≡ map character_record heard.now ++ drop (length heard.now) line.old }

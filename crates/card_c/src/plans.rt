@@ -12,7 +12,7 @@ use crate::session_side::SessionSide;
 use std::alloc::{AllocError, Global};
 use t0_core::Plan;
 
-/// Gives a card at T=0 one more plan, after those that wait.
+/// Gives a card at T=0 one more plan, after those that wait. Each TPDU takes the next one.
 ///
 /// # Errors
 /// The plans stay as they were.
@@ -45,7 +45,7 @@ fn queue_at_card(alloc: Global, side: &mut CardSide, steps: &[u8], cut: u16) -> 
     }
 }
 
-/// Gives a session one more plan for its next operation, after those that wait.
+/// Gives a session one more plan for a TPDU of its next operation, after those that wait.
 ///
 /// # Errors
 /// The plans stay as they were.

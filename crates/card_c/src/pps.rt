@@ -9,10 +9,11 @@ use atr_core::{Pps, agreed};
 /// The number for a missing character.
 const ABSENT: u16 = 256;
 
-/// Writes the request for this protocol with PPS1 to PPS3; 256 leaves one out.
+/// Writes the request for this protocol, 0 to 15, with PPS1 to PPS3, and its length, 3 to 6. Each
+/// is a byte, or 256, which leaves it out.
 ///
 /// # Errors
-/// - `ARGUMENT`: these numbers make no request. Nothing is written.
+/// - `ARGUMENT`: `t` is above 15, or one of the others above 256. Nothing is written.
 /// - `BUFFER`: the request does not fit. Only its length is written.
 #[unsafe(no_mangle)]
 pub extern "C" fn galliumtoad_pps_request(
@@ -48,11 +49,11 @@ fn given(number: u16) -> Option<u8>
     }
 }
 
-/// Returns 1 if the response accepts the request, and otherwise 0. A response may leave out
-/// characters of the request.
+/// Returns 1 if the response accepts the request, and otherwise 0. It does if it names the same
+/// protocol, and repeats or leaves out each of PPS1 to PPS3. One that it leaves out is not agreed.
 ///
 /// # Errors
-/// - `ARGUMENT`: `request` is not a PPS request.
+/// - `ARGUMENT`: `request` is not a PPS request, whatever `response` is.
 /// - a code of [`code::of_pps`]: `response` is not a PPS response.
 #[unsafe(no_mangle)]
 pub extern "C" fn galliumtoad_pps_agreed(request: &[u8], response: &[u8]) -> i32

@@ -21,12 +21,14 @@ use std::mem;
 use t0_core::{PlanQueue, Plans};
 use tlv_core::ObjectTag;
 
-/// Takes the card out of its handle, and begins a session with it. The card is reset.
+/// Takes the card out of its handle, and begins a session with it. The card is reset, its data
+/// objects stay, and its plans are dropped. Nothing is recorded yet.
 ///
 /// # Errors
-/// Both handles stay as they were.
-/// - `STATE`: `session` is live, or the card is not built, speaks T=1 or is in a session.
+/// Both handles stay as they were; the first that holds:
+/// - `STATE`: `session` is live.
 /// - `EMPTY`: `card` is empty.
+/// - `STATE`: the card is not built, speaks T=1 or is in a session.
 #[unsafe(no_mangle)]
 pub extern "C" fn galliumtoad_session_start(
     alloc: Global,
@@ -70,12 +72,14 @@ fn join(alloc: Global, side: &mut CardSide) -> bool
     true
 }
 
-/// Ends a session, and puts its card into `card`, as it stands after a reset.
+/// Ends a session, and puts its card, reset, into `card`. `session` is empty then. The card speaks
+/// T=0 and keeps its data objects. Plans, the last answer and the recorded characters are dropped.
 ///
 /// # Errors
-/// Both handles stay as they were.
-/// - `STATE`: `card` is live, or `session` holds a card, not a session.
+/// Both handles stay as they were; the first that holds:
+/// - `STATE`: `card` is live.
 /// - `EMPTY`: `session` is empty.
+/// - `STATE`: `session` holds a card, not a session.
 #[unsafe(no_mangle)]
 pub extern "C" fn galliumtoad_session_end(
     alloc: Global,
@@ -120,8 +124,8 @@ pub extern "C" fn galliumtoad_session_free(alloc: Global, session: &mut GtCard)
     drop(session.take_out(alloc));
 }
 
-/// Resets the card. The plans, the last answer and the recorded characters stay, and recording
-/// continues.
+/// Resets the card: nothing is selected or pending. Its data objects, the plans, the last answer
+/// and the recorded characters stay, and recording continues.
 ///
 /// # Errors
 /// - `STATE`: the handle holds a card, not a session. Nothing changes.
@@ -148,10 +152,11 @@ fn reset_session(joined: &mut SessionSide)
     joined.session.reset();
 }
 
-/// Carries out SELECT of the application with this identifier, of 5 to 16 bytes.
+/// Carries out SELECT of the application with this identifier, of 5 to 16 bytes. Its answer is the
+/// last answer then, with any status. The plans are used up, or dropped.
 ///
 /// # Errors
-/// The card and the last answer stay as they were.
+/// Nothing is sent, and the session stays as it was; the first that holds:
 /// - `STATE`: the handle holds a card, not a session.
 /// - `ARGUMENT`: `aid` is no identifier.
 /// - `BUSY`: a chain is pending.
@@ -176,7 +181,7 @@ fn select(alloc: Global, side: &mut CardSide, aid: &[u8]) -> i32
 }
 
 /// Carries out GET DATA of the object with this tag. Its errors are those of
-/// `galliumtoad_session_select`; `ARGUMENT` means that no tag of an object has this number.
+/// `galliumtoad_session_select`; `ARGUMENT` means that GET DATA can name no tag with this number.
 #[unsafe(no_mangle)]
 pub extern "C" fn galliumtoad_session_get(alloc: Global, session: &mut GtCard, tag: u32) -> i32
     ensures { OnHandle (Gets tag) (held_by session.old) result (held_by session.new) }
@@ -196,7 +201,8 @@ fn get(alloc: Global, side: &mut CardSide, number: u32) -> i32
     }
 }
 
-/// Carries out PUT DATA of this value. Its errors are those of `galliumtoad_session_get`.
+/// Carries out PUT DATA of a copy of this value, in pieces of at most 255 bytes. Its errors are
+/// those of `galliumtoad_session_get`.
 #[unsafe(no_mangle)]
 pub extern "C" fn galliumtoad_session_put(
     alloc: Global,
@@ -234,12 +240,13 @@ fn store(alloc: Global, joined: &mut SessionSide, tag: ObjectTag, value: &[u8]) 
     }
 }
 
-/// Writes the status and the data of the last operation. The session keeps them.
+/// Writes the status and the data of the last operation or command that was carried out. The
+/// session keeps them, also over a reset.
 ///
 /// # Errors
 /// - `STATE`: the handle holds a card, not a session. Nothing is written.
-/// - `NOT_FOUND`: there was no operation. Nothing is written.
-/// - `BUFFER`: the data do not fit. `status` and `len` are written.
+/// - `NOT_FOUND`: there was none. Nothing is written.
+/// - `BUFFER`: the data do not fit. Only `status` and `len` are written.
 #[unsafe(no_mangle)]
 pub extern "C" fn galliumtoad_session_answer(
     alloc: Global,
@@ -300,12 +307,12 @@ fn idle(side: &CardSide) -> i32
     if joined.session.is_idle() { 1 } else { 0 }
 }
 
-/// Carries out one operation.
+/// Carries out one operation, and drops the plans that are left.
 ///
 /// # Errors
-/// The card and the last answer stay as they were.
+/// Nothing is sent, and the session stays as it was; the first that holds:
 /// - `BUSY`: a chain is pending.
-/// - `MEMORY`: memory ran out.
+/// - `MEMORY`: memory ran out for the response.
 fn perform(alloc: Global, joined: &mut SessionSide, operation: Op) -> i32
     ensures { Performs (operation_of operation) joined.old result joined.new }
 {

@@ -19,7 +19,8 @@ pub struct SessionSide {
     pub heard: Listener,
 }
 
-/// Returns room for the response of an operation: that of the last answer, or else new memory.
+/// Returns room for the response of an operation: that of the last answer, which is dropped, or
+/// else new memory. If memory runs out, returns `AllocError`, and the last answer stays.
 pub fn room_for_next(alloc: Global, answer: &mut Option<HeldAnswer>) -> Result<Gather, AllocError>
     ensures room { IfOk result (λ room. room ≡ record { bytes = []; limit = response_limit }) }
     ensures stays { OnErr result (answer.new ≡ answer.old) }

@@ -16,10 +16,14 @@ use t1_core::{Edc, Receiver, Settings, TerminalEnd};
 const LRC: u8 = 1;
 
 /// Makes an end as after a reset, in an empty handle. `edc` is 1, which means LRC. `ifsc`, from 1
-/// to 254, is the longest field of a block to the card. `tries`, `extensions` and `limit` are those
-/// of `Settings` of `t1_core`.
+/// to 254, is the most bytes in the field of a block to the card.
+///
+/// The end survives `tries` fruitless receptions since the last progress, where a request that it
+/// grants is not counted. It grants `extensions` requests of the card per command, and takes
+/// responses of at most `limit` bytes. These three have any value.
 ///
 /// # Errors
+/// In this order:
 /// - `STATE`: the handle is live, and stays as it was.
 /// - `ARGUMENT`: `edc` or `ifsc` is out of its range; the handle stays empty.
 /// - `MEMORY`: memory ran out; the handle stays empty.
@@ -74,7 +78,7 @@ pub extern "C" fn galliumtoad_t1_free(alloc: Global, t1: &mut T1Handle)
     drop(t1.take_out(alloc));
 }
 
-/// Begins a command, and copies it.
+/// Begins a command of any length, copies it, and drops the last response.
 ///
 /// # Errors
 /// The end stays as it was.
@@ -97,10 +101,10 @@ fn begin(side: &mut T1Side, apdu: &[u8]) -> i32
 }
 
 /// Reports that no valid block of the card arrived: none began in time, one stopped, or a character
-/// was damaged.
+/// was damaged. This is a fruitless reception. The received part of the block is dropped.
 ///
 /// # Errors
-/// - `STATE`: no block is expected. Nothing changes.
+/// - `STATE`: no block is expected: no command is in progress, or the end gave up. Nothing changes.
 #[unsafe(no_mangle)]
 pub extern "C" fn galliumtoad_t1_missed(alloc: Global, t1: &mut T1Handle) -> i32
     ensures { OnHandle Misses (t1_in t1.old) result (t1_in t1.new) }
@@ -119,7 +123,8 @@ fn miss(side: &mut T1Side) -> i32
     code::OK
 }
 
-/// Makes the end as it was at first, with the same settings.
+/// Makes the end as it was at first, with the same settings, in any state. The command in progress,
+/// the last response, the fault and the received part of a block are dropped.
 #[unsafe(no_mangle)]
 pub extern "C" fn galliumtoad_t1_reset(alloc: Global, t1: &mut T1Handle) -> i32
     ensures { OnHandle Resets (t1_in t1.old) result (t1_in t1.new) }
@@ -132,7 +137,8 @@ pub extern "C" fn galliumtoad_t1_reset(alloc: Global, t1: &mut T1Handle) -> i32
     })
 }
 
-/// Writes the response to the last command.
+/// Writes the response to the last command: data, then the status. It has no bytes before the first
+/// command. The end keeps it until the next command begins or a reset.
 ///
 /// # Errors
 /// - `STATE`: a command is in progress, or the end gave up. Nothing is written.
@@ -165,7 +171,8 @@ fn told(side: &T1Side, response: &mut [u8], len: &mut usize) -> i32
     copied(side.end.response(), response, len)
 }
 
-/// Writes why the end gave up, and what is known of the command.
+/// Writes why the end gave up (`code::of_t1_cause`), and what is known of the command
+/// (`code::of_t1_outcome`). From then on a command begins only after a reset.
 ///
 /// # Errors
 /// - `NOT_FOUND`: it did not give up. Nothing is written.

@@ -16,13 +16,12 @@ use t1_core::{Block, Control};
 
 /// Writes the next block, its length, and the card's time for its answer, as a multiple of BWT.
 ///
-/// # Errors
-/// Nothing is written.
-/// - `FAILED`: the end gave up.
-/// - `MEMORY`: memory ran out.
+/// The end is unchanged. `DONE` means that there is no block: no command is in progress.
 ///
-/// `DONE` means that there is no block: no command is in progress. With `BUFFER` only the numbers
-/// are written.
+/// # Errors
+/// - `FAILED`: the end gave up. Nothing is written.
+/// - `MEMORY`: memory ran out. Nothing is written.
+/// - `BUFFER`: the block does not fit. Only the two numbers are written.
 #[unsafe(no_mangle)]
 pub extern "C" fn galliumtoad_t1_send_bytes(
     alloc: Global,
@@ -65,7 +64,8 @@ fn sent(alloc: Global, side: &T1Side, bytes: &mut [u8], count: &mut usize, waits
     }
 }
 
-/// Returns the card's time for its answer to a block, as a multiple of BWT.
+/// Returns the card's time for its answer to a block, as a multiple of BWT. It is that of an S(WTX
+/// response), where 0 counts as 1. For any other block it is 1.
 fn waits_for(block: Block<'_>) -> u8
     ensures { result ≡ waits_for (said block.entry) }
 {
@@ -75,11 +75,13 @@ fn waits_for(block: Block<'_>) -> u8
     }
 }
 
-/// Takes bytes of the card up to the end of its block, and writes their number to `count`.
+/// Takes bytes of the card up to the end of its block, and writes their number to `count`. Returns
+/// `OK` while the block is not whole, and `SENDS` if it is. An invalid block is a fruitless
+/// reception.
 ///
 /// # Errors
-/// - `STATE`: no block is expected. Nothing changes.
-/// - `MEMORY`: memory ran out; the end keeps the block, and the next call takes it.
+/// - `STATE`: no block is expected: no command is in progress, or the end gave up. Nothing changes.
+/// - `MEMORY`: memory ran out. `count` is written; the block stays, and the next call takes it.
 #[unsafe(no_mangle)]
 pub extern "C" fn galliumtoad_t1_receive_bytes(
     alloc: Global,

@@ -14,7 +14,13 @@ use crate::tag_number::number_of;
 use object_card::{Aid, ObjectCard};
 use std::alloc::Global;
 
-/// Writes the identifier of the selected application.
+/// Writes the identifier of the selected application, and its length. The handle holds a card in
+/// any state after its building, or a session.
+///
+/// # Errors
+/// - `STATE`: the card is not built. Nothing is written.
+/// - `NOT_FOUND`: none is selected. Nothing is written.
+/// - `BUFFER`: the identifier does not fit. Only its length is written.
 #[unsafe(no_mangle)]
 pub extern "C" fn galliumtoad_card_selected(
     alloc: Global,
@@ -46,7 +52,11 @@ fn selected(side: &CardSide, aid: &mut [u8], len: &mut usize) -> i32
     }
 }
 
-/// Writes the identifier of the application at this place, from 0.
+/// Writes the identifier of the application at this place, from 0 in the order of building, and its
+/// length.
+///
+/// # Errors
+/// Those of `galliumtoad_card_selected`; `NOT_FOUND` means that the place is past the last.
 #[unsafe(no_mangle)]
 pub extern "C" fn galliumtoad_card_app_at(
     alloc: Global,
@@ -88,8 +98,14 @@ fn tell(found: Option<Aid>, aid: &mut [u8], len: &mut usize) -> i32
     }
 }
 
-/// Writes the data object at a place of the application at a place, each from 0: its tag, whether
-/// it is locked, the length of its value, and the value if it fits.
+/// Writes the data object at a place of the application at a place, each from 0. It writes its tag,
+/// 1 if it is locked or 0, the length of its value, and the value. Objects are in the order of
+/// first storing.
+///
+/// # Errors
+/// - `STATE`: the card is not built. Nothing is written.
+/// - `NOT_FOUND`: a place is past the last. Nothing is written.
+/// - `BUFFER`: the value does not fit. Everything else is written.
 #[unsafe(no_mangle)]
 pub extern "C" fn galliumtoad_card_entry_at(
     alloc: Global,
@@ -160,7 +176,7 @@ fn tell_entry(
     copied(bytes, value, len)
 }
 
-/// Does the same for the card of a session.
+/// Does what `galliumtoad_card_selected` does, for the card of a session.
 #[unsafe(no_mangle)]
 pub extern "C" fn galliumtoad_session_selected(
     alloc: Global,
@@ -176,7 +192,7 @@ pub extern "C" fn galliumtoad_session_selected(
     galliumtoad_card_selected(alloc, session, aid, len)
 }
 
-/// Does the same for the card of a session.
+/// Does what `galliumtoad_card_app_at` does, for the card of a session.
 #[unsafe(no_mangle)]
 pub extern "C" fn galliumtoad_session_app_at(
     alloc: Global,
@@ -193,7 +209,7 @@ pub extern "C" fn galliumtoad_session_app_at(
     galliumtoad_card_app_at(alloc, session, place, aid, len)
 }
 
-/// Does the same for the card of a session.
+/// Does what `galliumtoad_card_entry_at` does, for the card of a session.
 #[unsafe(no_mangle)]
 pub extern "C" fn galliumtoad_session_entry_at(
     alloc: Global,

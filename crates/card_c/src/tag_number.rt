@@ -5,7 +5,7 @@ ghost use Rattle.card_c.specs.TagNumbers.{IsNumbered, IsTagNumber, tag_number};
 
 use tlv_core::{ObjectTag, Tag};
 
-/// Returns the tag with this number, if there is one.
+/// Returns the tag of one to three bytes with this number, if there is one.
 pub fn tag_with(number: u32) -> Option<Tag>
     ensures { MatchOption result ((tag : List ℕ) → ¬ IsTagNumber number tag)
         (λ tag. IsTagNumber number tag) }

@@ -29,7 +29,8 @@ use object_card::Aid;
 use std::alloc::Global;
 use t0_core::HostTurn;
 
-/// Makes a terminal that has begun no operation, in an empty handle.
+/// Makes a terminal that has begun no operation, in an empty handle, for responses of at most
+/// 16,384 bytes.
 ///
 /// # Errors
 /// - `STATE`: the handle is live, and stays as it was.
@@ -42,10 +43,10 @@ pub extern "C" fn galliumtoad_terminal_new(alloc: Global, terminal: &mut Termina
     make(alloc, terminal, RESPONSE_LIMIT)
 }
 
-/// Does the same for responses of at most `limit` bytes.
+/// Does the same for responses of at most `limit` bytes, from 0 to 16,384.
 ///
 /// # Errors
-/// Those of `galliumtoad_terminal_new`, and
+/// Those of `galliumtoad_terminal_new`, and before `MEMORY`
 /// - `ARGUMENT`: `limit` exceeds 16,384; the handle stays empty.
 #[unsafe(no_mangle)]
 pub extern "C" fn galliumtoad_terminal_new_within(
@@ -91,7 +92,8 @@ pub extern "C" fn galliumtoad_terminal_free(alloc: Global, terminal: &mut Termin
     drop(terminal.take_out(alloc));
 }
 
-/// Drops the operation in progress.
+/// Drops the last operation, in any state, with its answer, and frees its memory. The limit stays.
+/// It sends nothing to the card.
 #[unsafe(no_mangle)]
 pub extern "C" fn galliumtoad_terminal_reset(alloc: Global, terminal: &mut TerminalHandle) -> i32
     ensures { OnHandle Resets (terminal_in terminal.old) result (terminal_in terminal.new) }
@@ -104,11 +106,12 @@ pub extern "C" fn galliumtoad_terminal_reset(alloc: Global, terminal: &mut Termi
     })
 }
 
-/// Begins SELECT of the application with this identifier, of 5 to 16 bytes.
+/// Begins SELECT of the application with this identifier, of 5 to 16 bytes. The last answer is
+/// dropped. The operation goes neither by TPDUs nor by whole commands yet.
 ///
 /// # Errors
-/// The operation and the last answer stay as they were.
-/// - `STATE`: an operation is in progress.
+/// The operation and the last answer stay as they were; the first that holds:
+/// - `STATE`: an operation is in progress: it has neither ended nor failed.
 /// - `ARGUMENT`: `aid` is no identifier.
 /// - `MEMORY`: memory ran out.
 #[unsafe(no_mangle)]
@@ -140,7 +143,7 @@ fn select(terminal: &mut Terminal, aid: &[u8]) -> i32
 }
 
 /// Begins GET DATA of the object with this tag. Its errors are those of
-/// `galliumtoad_terminal_select`; `ARGUMENT` means that no tag of an object has this number.
+/// `galliumtoad_terminal_select`; `ARGUMENT` means that GET DATA can name no tag with this number.
 #[unsafe(no_mangle)]
 pub extern "C" fn galliumtoad_terminal_get(
     alloc: Global,
@@ -169,7 +172,9 @@ fn get(terminal: &mut Terminal, number: u32) -> i32
     }
 }
 
-/// Begins PUT DATA of this value. Its errors are those of `galliumtoad_terminal_get`.
+/// Begins PUT DATA of a copy of this value, of any length. It is sent in pieces of at most 255
+/// bytes, up to the first whose status is not `9000`. Its errors are those of
+/// `galliumtoad_terminal_get`.
 #[unsafe(no_mangle)]
 pub extern "C" fn galliumtoad_terminal_put(
     alloc: Global,
@@ -200,10 +205,10 @@ fn put(terminal: &mut Terminal, number: u32, value: &[u8]) -> i32
     }
 }
 
-/// Begins the exchange of any one command.
+/// Begins the exchange of any one command, with a copy of its data. The last answer is dropped.
 ///
 /// # Errors
-/// The operation and the last answer stay as they were.
+/// The operation and the last answer stay as they were; the first that holds:
 /// - `STATE`: an operation is in progress.
 /// - a code of [`code::of_command`]: the bytes are not a command.
 /// - `MEMORY`: memory ran out.
@@ -270,11 +275,12 @@ fn refused(terminal: &Terminal, fault: i32) -> i32
     }
 }
 
-/// Returns what the terminal does next, and writes the character that it sends to `byte`.
+/// Returns what the terminal does next: `SENDS`, `OK` if it listens, or `DONE`. With `SENDS` the
+/// character is written to `byte`, and counts as sent. Nothing else changes `byte` or the terminal.
 ///
 /// # Errors
 /// - `STATE`: no operation has begun, or it goes by whole commands. Nothing changes.
-/// - `FAILED`: the operation has failed for good.
+/// - `FAILED`: the operation has failed for good. Nothing changes.
 #[unsafe(no_mangle)]
 pub extern "C" fn galliumtoad_terminal_next(
     alloc: Global,
@@ -316,7 +322,8 @@ fn turned(side: &mut TerminalSide, byte: &mut u8) -> i32
 ///
 /// # Errors
 /// - `STATE`: the operation goes by whole commands. Nothing changes.
-/// - a code of [`code::of_line`]: the terminal refuses the character.
+/// - a code of [`code::of_line`]: the terminal refuses the character. It is that of `AfterEnd` if
+///   no operation has begun, or the last one has ended or failed.
 #[unsafe(no_mangle)]
 pub extern "C" fn galliumtoad_terminal_take(
     alloc: Global,
@@ -338,7 +345,15 @@ fn taken(side: &mut TerminalSide, byte: u8) -> i32
     code::of_taking(side.terminal.take(byte))
 }
 
-/// Writes the next whole TPDU, its length, and the most bytes of its answer.
+/// Writes the next whole TPDU, its length, and the most data bytes of its answer, 0 to 256. The
+/// terminal is unchanged.
+///
+/// # Errors
+/// Nothing is written.
+/// - `STATE`: the operation goes by whole commands.
+/// - `NOT_DUE`: no operation has begun, a character of the TPDU was sent, or the operation has
+///   ended or failed.
+/// - `BUFFER`: the TPDU does not fit.
 #[unsafe(no_mangle)]
 pub extern "C" fn galliumtoad_terminal_tpdu(
     alloc: Global,
@@ -374,7 +389,12 @@ fn due(side: &TerminalSide, tpdu: &mut [u8], len: &mut usize, most: &mut usize) 
     told(side.terminal.tpdu(), tpdu, len, most)
 }
 
-/// Takes the answer to that TPDU: data, then the status.
+/// Takes the answer to that TPDU: data, then the status. The next TPDU begins, if one follows.
+///
+/// # Errors
+/// - `STATE`: the operation goes by whole commands. Nothing changes.
+/// - `NO_STATUS`: the bytes end in no status. Nothing changes.
+/// - a code of [`code::of_answer`]: the terminal refuses the answer.
 #[unsafe(no_mangle)]
 pub extern "C" fn galliumtoad_terminal_answered(
     alloc: Global,
@@ -402,11 +422,12 @@ fn answered(side: &mut TerminalSide, answer: &[u8]) -> i32
     }
 }
 
-/// Writes the status and the data of an operation that has ended. The terminal keeps them.
+/// Writes the status and the data of the last command of an operation that has ended. The terminal
+/// keeps them until the next operation begins or a reset.
 ///
 /// # Errors
-/// - `STATE`: there is no answer. Nothing changes.
-/// - `BUFFER`: the data do not fit. `status` and `len` are written.
+/// - `STATE`: no operation has begun, or it is in progress or has failed. Nothing is written.
+/// - `BUFFER`: the data do not fit. Only `status` and `len` are written.
 #[unsafe(no_mangle)]
 pub extern "C" fn galliumtoad_terminal_answer(
     alloc: Global,

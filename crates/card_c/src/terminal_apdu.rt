@@ -14,7 +14,14 @@ use crate::terminal_side::TerminalSide;
 use crate::whole_apdu::{opened, responded, responded_first, told};
 use std::alloc::Global;
 
-/// Writes the next whole command, its length, and the most bytes of its response.
+/// Writes the next whole command, its length, and the most data bytes of its response, 0 to 256.
+///
+/// # Errors
+/// Nothing is written.
+/// - `STATE`: no operation has begun, or it goes by TPDUs: a character or an answer has passed.
+/// - `MEMORY`: memory ran out for whole commands. The operation is unchanged.
+/// - `NOT_DUE`: the operation has ended or failed.
+/// - `BUFFER`: the command does not fit.
 #[unsafe(no_mangle)]
 pub extern "C" fn galliumtoad_terminal_apdu(
     alloc: Global,
@@ -51,7 +58,13 @@ fn due(side: &mut TerminalSide, apdu: &mut [u8], len: &mut usize, most: &mut usi
     told(side.apdus.terminal.apdu(), apdu, len, most)
 }
 
-/// Takes the response to that command: data, then the status.
+/// Takes the response to that command: data, then the status. From the first one that is taken or
+/// fails the operation, it goes by whole commands.
+///
+/// # Errors
+/// - `STATE`, `MEMORY`: those of `galliumtoad_terminal_apdu`.
+/// - `NO_STATUS`: the bytes end in no status. No response is taken.
+/// - a code of [`code::of_answer`]: the terminal refuses the response.
 #[unsafe(no_mangle)]
 pub extern "C" fn galliumtoad_terminal_responded(
     alloc: Global,

@@ -13,7 +13,12 @@ use crate::terminal_side::TerminalSide;
 use std::alloc::Global;
 
 /// Writes the terminal's characters to `bytes` until it stops sending or `bytes` is full, and their
-/// number to `count`.
+/// number to `count`. Returns `SENDS` if `bytes` is full, as an empty array is at once. Otherwise
+/// returns the code of its next turn.
+///
+/// # Errors
+/// - `STATE`: no operation has begun, or it goes by whole commands. Nothing is written.
+/// - `FAILED`: the operation has failed for good. `count` is written.
 #[unsafe(no_mangle)]
 pub extern "C" fn galliumtoad_terminal_send_bytes(
     alloc: Global,
@@ -52,7 +57,11 @@ fn sent(side: &mut TerminalSide, bytes: &mut [u8], count: &mut usize) -> i32
     code::of_stop(handed.stop)
 }
 
-/// Takes characters of the card until one is a fault, and writes their number to `count`.
+/// Takes characters of the card until one is refused, and writes the number taken to `count`.
+///
+/// # Errors
+/// - `STATE`: the operation goes by whole commands. Nothing is written.
+/// - a code of [`code::of_line`]: the terminal refuses the character at the place `count`.
 #[unsafe(no_mangle)]
 pub extern "C" fn galliumtoad_terminal_receive_bytes(
     alloc: Global,

@@ -36,12 +36,12 @@ pub fn told(due: Option<Command<'_>>, apdu: &mut [u8], len: &mut usize, most: &m
     }
 }
 
-/// Takes a response: data, then the status. If that succeeds, or ends the operation, the operation
+/// Takes a response: data, then the status. If that succeeds, or fails the operation, the operation
 /// goes by whole commands from now on.
 ///
 /// # Errors
 /// - `NO_STATUS`: the bytes end in no status. Nothing changes.
-/// - a code of [`code::of_answer`].
+/// - a code of [`code::of_answer`]: the terminal refuses the response.
 pub fn responded(side: &mut ApduSide, response: &[u8]) -> i32
     ensures { TakesResponse response.now side.old result side.new }
 {
@@ -62,10 +62,12 @@ pub fn responded(side: &mut ApduSide, response: &[u8]) -> i32
     }
 }
 
-/// Takes the first response of an operation, which begins by whole commands.
+/// Takes the first response of an operation, which begins by whole commands. `unsent` is the
+/// operation, if nothing of it was sent.
 ///
 /// # Errors
-/// - `STATE`: nothing is unsent. Nothing changes.
+/// In this order:
+/// - `STATE`: `unsent` is `None`. Nothing changes.
 /// - `MEMORY`: memory ran out. Nothing changes.
 /// - a code of [`responded`]: `side.terminal` has begun the operation.
 pub fn responded_first(side: &mut ApduSide, unsent: Option<Unsent<'_>>, response: &[u8]) -> i32
@@ -80,7 +82,8 @@ pub fn responded_first(side: &mut ApduSide, unsent: Option<Unsent<'_>>, response
     }
 }
 
-/// Begins what is unsent by whole commands, and returns the code of the refusal, if any.
+/// Begins what is unsent by whole commands. Returns `None` if it has begun. Otherwise returns
+/// `STATE` if nothing is unsent, or `MEMORY` if memory ran out; then nothing changes.
 pub fn opened(side: &mut ApduSide, unsent: Option<Unsent<'_>>) -> Option<i32>
     ensures { IsOpened unsent.entry side.old result side.new }
 {
@@ -93,7 +96,11 @@ pub fn opened(side: &mut ApduSide, unsent: Option<Unsent<'_>>) -> Option<i32>
     }
 }
 
-/// Writes the answer of an operation that goes by whole commands, if there is one.
+/// Writes the answer of an operation that goes by whole commands.
+///
+/// # Errors
+/// - `STATE`: it is in progress or has failed. Nothing is written.
+/// - `BUFFER`: the data do not fit. Only `status` and `len` are written.
 pub fn ended(side: &ApduSide, status: &mut u16, content: &mut [u8], len: &mut usize) -> i32
     ensures { (answer : Option (StatusWord × List ℕ))
         × IsOperationAnswer side.now.terminal.operation answer

@@ -12,7 +12,8 @@ use t0_core::WholeTpdu;
 /// Writes the next TPDU, its length, and the most bytes of its answer.
 ///
 /// # Errors
-/// - `NOT_DUE`: there is no next TPDU. Nothing is written.
+/// Nothing is written.
+/// - `NOT_DUE`: there is no next TPDU.
 /// - `BUFFER`: it does not fit.
 pub fn told(due: Option<WholeTpdu<'_>>, tpdu: &mut [u8], len: &mut usize, most: &mut usize) -> i32
     ensures { TellsTpdu (option_map asked_of due.entry) tpdu.old len.old most.old
@@ -31,7 +32,8 @@ pub fn told(due: Option<WholeTpdu<'_>>, tpdu: &mut [u8], len: &mut usize, most: 
     }
 }
 
-/// Returns the data and the status of an answer, if it ends in a status.
+/// Returns the data and the status of an answer. `None` if it ends in no status, or has fewer than
+/// two bytes.
 pub fn answer_of(answer: &[u8]) -> Option<(&[u8], Status)>
     ensures { MatchOption result
         ((bytes : List ℕ) (status : StatusWord) → AreAnswer answer.now bytes status → ⊥)
@@ -46,7 +48,8 @@ pub fn answer_of(answer: &[u8]) -> Option<(&[u8], Status)>
     }
 }
 
-/// Writes data and a status to the front of an array, which has room for them.
+/// Writes data and a status to the front of an array, which must have room for them, and their
+/// number to `len`.
 pub fn hand_out(bytes: &[u8], status: Status, answer: &mut [u8], len: &mut usize)
     requires { length bytes.now + 2 ≤ length answer.old }
     ensures answer { answer.new ≡ bytes.now ++ status.0 ∷ status.1

@@ -100,8 +100,8 @@ impl<A: Allocator + Copy> Runner for BothEnds<A> {
 }
 
 impl<A: Allocator + Copy> BothEnds<A> {
-    /// Carries out an operation under the plans, and drops them. If a chain is pending, sends
-    /// nothing and returns `CardBusy`.
+    /// Carries out an operation under the plans, and returns its lines. If a chain is pending,
+    /// sends nothing, and returns `CardBusy`. In both cases the plans are dropped.
     ///
     /// # Errors
     /// - `AllocError`: memory ran out, also for what the recorder hears; the script ends.
@@ -124,7 +124,8 @@ impl<A: Allocator + Copy> BothEnds<A> {
         Ok(Printed::Lines(text))
     }
 
-    /// Sends one command under the plans, and drops them.
+    /// Sends one command under the plans, drops them, and returns its lines. The bytes must be a
+    /// command that is agreed with the card. It may begin or continue a chain.
     ///
     /// # Errors
     /// - `AllocError`: memory ran out, also for what the recorder hears; the script ends.

@@ -25,7 +25,7 @@ pub struct CardTable<A: Allocator + Copy> {
 }
 
 impl<A: Allocator + Copy> CardTable<A> {
-    /// An empty table.
+    /// Makes a table without applications, plans and answer to reset.
     pub fn new(alloc: A) -> CardTable<A>
         ensures { built result ≡ card_script.empty }
     {
@@ -36,9 +36,10 @@ impl<A: Allocator + Copy> CardTable<A> {
         }
     }
 
-    /// Adds what a table line says.
+    /// Adds what a table line says. A plan comes after those before it.
     ///
     /// # Errors
+    /// The script ends after either.
     /// - `Line`: the builder refuses it, or the answer to reset is invalid or the second one.
     /// - `OutOfMemory`: memory ran out.
     pub fn add(&mut self, part: CardPart<A>) -> Result<(), Refusal>
@@ -57,8 +58,8 @@ impl<A: Allocator + Copy> CardTable<A> {
     /// Stores the answer to reset with these characters.
     ///
     /// # Errors
-    /// - `BadAtr`: they are no answer to reset; the table is unchanged.
-    /// - `AtrTwice`: they are one, but the table already has one; the table is unchanged.
+    /// - `BadAtr`: they are no answer to reset; this is their first fault. The table is unchanged.
+    /// - `AtrTwice`: they are one, but the table already has one. The table is unchanged.
     fn answer(&mut self, answer: Bytes<A>) -> Result<(), Reason>
         ensures kept { OnOk result ((self.old.answer ≡ None) × AreOfAnswer answer
             × (self.new.answer ≡ Some answer)) }

@@ -15,7 +15,8 @@ pub enum Request<'a> {
     Play,
     /// Plays a script with the card alone.
     Card,
-    /// Prints the objects of these hexadecimal digits as a tree.
+    /// Prints the objects of these digits as a tree. It is not checked yet that they are
+    /// hexadecimal.
     Objects(&'a str),
 }
 
@@ -37,7 +38,7 @@ pub fn parsed<'a>(alloc: Global, words: &'a [String]) -> Result<Request<'a>, Err
     Ok(named(name, digits).unwrap())
 }
 
-/// What the subcommand with this name and these digits asks for; `None` for any other name.
+/// Returns what the subcommand with this name and these digits asks for; `None` for any other name.
 fn named<'a>(name: &str, digits: &'a str) -> Option<Request<'a>>
     ensures { option_map asked_by result ≡ request_named name.now digits.entry.now }
 {
@@ -49,7 +50,8 @@ fn named<'a>(name: &str, digits: &'a str) -> Option<Request<'a>>
     }
 }
 
-/// The program's command, with its version and three subcommands; one of these is required.
+/// Returns the program's command, with its version and three subcommands; one of these is required.
+/// If memory runs out, returns `AllocError`.
 fn command<'a>(alloc: Global) -> Result<Command<'a>, AllocError>
     ensures { IfOk result (λ command. app_of command ≡ program) }
 {
@@ -65,7 +67,7 @@ fn command<'a>(alloc: Global) -> Result<Command<'a>, AllocError>
         .subcommand(objects)
 }
 
-/// A subcommand that reads a script.
+/// Returns a subcommand that reads a script and takes no arguments.
 fn of_scripts<'a>(alloc: Global, name: &'a str, about: &'a str, script: &'a str) -> Command<'a>
     ensures app { app_of result ≡ new_app name.entry.now }
     ensures local { (out-Command result).has_globals ≡ false }
@@ -73,7 +75,7 @@ fn of_scripts<'a>(alloc: Global, name: &'a str, about: &'a str, script: &'a str)
     Command::new(alloc, name).about(about).after_help(script)
 }
 
-/// The subcommand that takes digits.
+/// Returns the subcommand that takes digits, one word. If memory runs out, returns `AllocError`.
 fn of_objects<'a>(alloc: Global) -> Result<Command<'a>, AllocError>
     ensures app { IfOk result (λ command. app_of command
         ≡ record { top = objects_shape; subs = [] }) }

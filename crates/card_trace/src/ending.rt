@@ -40,9 +40,9 @@ pub fn ending_after<F: Write>(outcome: &Result<(), ProgramFault>, faults: &mut F
     }
 }
 
-/// How the program ends if the parser returns an error. Help and the version go to `output`, with
-/// status 0. A mistake in the words goes to `faults`, with status 2. If memory ran out, or `output`
-/// fails, that fault goes to `faults`, with status 1.
+/// Returns how the program ends if the parser returns an error. Help and the version go to
+/// `output`, with status 0. A mistake in the words goes to `faults`, with status 2; `output` is
+/// unchanged. If memory ran out, or `output` fails, that fault goes to `faults`, with status 1.
 pub fn ending_unparsed<W: Write, F: Write>(error: &Error, output: &mut W, faults: &mut F) -> Ending
     ensures status { result.status ≤ 2 }
     ensures memory { kind_of error.now ≡ ErrorKind.OutOfMemory →

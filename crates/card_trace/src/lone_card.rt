@@ -103,8 +103,9 @@ impl<A: Allocator + Copy> Runner for LoneCard<A> {
 }
 
 impl<A: Allocator + Copy> LoneCard<A> {
-    /// The card takes these characters, up to the first that it refuses. It refuses each character
-    /// until it has handed out its whole answer to reset. Returns `NotListening` if it refused one.
+    /// Gives the card these characters, up to the first that it refuses; the rest is dropped. It
+    /// refuses each character until it has handed out its whole answer to reset. Returns
+    /// `NotListening` if it refused one, and otherwise `Nothing`.
     fn take(&mut self, characters: &[u8]) -> Printed<A>
         ensures { LeadsTo (λ old new. Takes old characters.now (printed_text result) new)
             self.old self.new }
@@ -118,8 +119,8 @@ impl<A: Allocator + Copy> LoneCard<A> {
         Printed::Nothing
     }
 
-    /// Returns the line of the next characters: those left of the answer to reset, and otherwise
-    /// those of the card's end. There are at most `most`, if given.
+    /// Returns the line of the next characters, at most `most`, if given. They are those left of
+    /// the answer to reset. After the last of these they are the card's end's, until it listens.
     ///
     /// # Errors
     /// - `AllocError`: memory ran out; the script ends.

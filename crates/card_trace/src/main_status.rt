@@ -19,10 +19,11 @@ use std::io::{Error, ErrorKind, Read, Write};
 /// Runs the program, and returns its exit status. The first word is the program's name.
 ///
 /// - 0: the subcommand succeeded, or the words call for help or the version, which is in `output`.
-/// - 1: a fault; its text is in `faults`, in one line.
-/// - 2: the words are refused; the message is in `faults`.
+/// - 1: a fault; its text is in `faults`, in one line. What is in `output` depends on the fault.
+/// - 2: the words are refused; the message is in `faults`, and `output` is unchanged.
 ///
-/// The status is the same if `faults` fails; `ended` also returns whether it did.
+/// `input` is read only if the words are accepted. The status is the same if `faults` fails;
+/// `ended` also returns whether it did.
 pub fn main_status<R: Read, W: Write, F: Write>(
     alloc: Global,
     words: &[String],
@@ -114,7 +115,7 @@ fn run<R: Read, W: Write>(
     Ok(())
 }
 
-/// The bytes that the digits spell, at least one.
+/// Returns the bytes that the digits spell, at least one.
 ///
 /// # Errors
 /// - `BadHex`: there are no digits, or they spell no bytes.
@@ -134,8 +135,8 @@ fn bytes_of(alloc: Global, digits: &str) -> Result<Vec<u8>, ProgramFault>
     }
 }
 
-/// How the program ends if it can't get its words. If memory ran out, prints that on `faults`, with
-/// status 1. Otherwise a word is not UTF-8: prints `NO_UTF_8`, with status 2.
+/// Returns how the program ends if it can't get its words. If memory ran out, prints that on
+/// `faults`, with status 1. Otherwise a word is not UTF-8: prints `NO_UTF_8`, with status 2.
 pub fn ending_without_words<F: Write>(error: &Error, faults: &mut F) -> Ending
     ensures memory { error_kind error.now ≡ ErrorKind.OutOfMemory → (result.status ≡ 1)
         × Prints result.is_printed (F.contents faults.old) (F.contents faults.new)

@@ -12,11 +12,11 @@ use std::alloc::Allocator;
 use std::io::Write;
 use tlv_core::Objects;
 
-/// Writes the objects that the bytes spell, a line for each, two spaces further in for each level
-/// below the first.
+/// Writes the objects that the bytes spell, a line for each: two spaces for each level below the
+/// first, and the tag. Unless it is a template the value follows, or `-` if it is empty.
 ///
 /// # Errors
-/// - `Tlv`: the bytes are no list of objects; this is their first fault, and nothing is written.
+/// - `Tlv`: the bytes are not a list of objects; this is their first fault, and nothing is written.
 /// - `OutOfMemory`: memory ran out; nothing is written.
 /// - `Write`: the writer failed; it is not known how much it took.
 pub fn print_objects<A: Allocator + Copy, W: Write>(

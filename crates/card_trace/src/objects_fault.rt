@@ -7,7 +7,7 @@ use tlv_core::TlvFault;
 /// Why objects were not printed.
 #[derive(Debug, Drop, PartialEq, Eq)]
 pub enum ObjectsFault {
-    /// The bytes are no list of objects; nothing was written.
+    /// The bytes are not a list of objects; this is their first fault. Nothing was written.
     Tlv(TlvFault),
     /// The writer failed; it is not known how much it took.
     Write,

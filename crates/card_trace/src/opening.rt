@@ -30,7 +30,7 @@ impl<A: Allocator> Model for Opening<A> {
 }
 
 impl<A: Allocator> Opening<A> {
-    /// This answer, with nothing handed out yet.
+    /// Makes an opening of this answer, with nothing handed out yet. `None` is an empty answer.
     pub fn of(answer: Option<Bytes<A>>) -> Opening<A>
         ensures { result ≡ at_first (characters_of answer) }
     {
@@ -54,14 +54,14 @@ impl<A: Allocator> Opening<A> {
         &self.all()[self.handed..]
     }
 
-    /// Whether the card has handed out the whole answer.
+    /// Returns whether the card has handed out the whole answer, as it has if that is empty.
     pub fn is_over(&self) -> bool
         ensures { IsTrue result ↔ (self.now.left ≡ []) }
     {
         self.left().is_empty()
     }
 
-    /// The next characters: all that are left, or the first `most` of them, if given.
+    /// Returns the next characters: all that are left, or the first `most` of them, if given.
     pub fn next_characters(&self, most: Option<u16>) -> &[u8]
         ensures { result.now ≡ up_to most self.now.left }
     {
@@ -72,7 +72,7 @@ impl<A: Allocator> Opening<A> {
         }
     }
 
-    /// Passes over the next characters, which have been handed out.
+    /// Passes over the characters that `next_characters` returns: they have been handed out.
     pub fn pass(&mut self, most: Option<u16>)
         ensures { self.new ≡ without most self.old }
     {
@@ -81,7 +81,7 @@ impl<A: Allocator> Opening<A> {
         self.handed = self.all().len().saturating_sub(still_left);
     }
 
-    /// The card is reset, so the whole answer is left again.
+    /// Makes the whole answer left again, since the card is reset.
     pub fn begin_anew(&mut self)
         ensures { self.new ≡ at_first self.old.all }
     {

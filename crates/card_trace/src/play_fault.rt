@@ -14,9 +14,10 @@ pub enum PlayFault {
     Read,
     /// The writer failed; it is not known how much it took.
     Write,
-    /// The script has more than `SCRIPT_LIMIT` bytes; nothing was written.
+    /// The script has more than `SCRIPT_LIMIT` bytes, or no end; nothing was written.
     InputTooLong,
-    /// Memory ran out; the lines up to some place were carried out, and their text was written.
+    /// Memory ran out. The lines up to some place, or none, were carried out, and their text was
+    /// written.
     OutOfMemory,
 }
 

@@ -27,12 +27,14 @@ pub enum Player<T, R> {
     Running(R),
 }
 
-/// Carries out a script, and writes what its lines print.
+/// Reads a whole script, carries out its lines in order, and writes what each prints.
 ///
 /// # Errors
-/// - `InputTooLong`: the script has more than `SCRIPT_LIMIT` bytes; nothing is written.
-/// - `Read`: the reader failed; nothing is written.
-/// - `Script`: the first line that is refused; what the lines before it print is written.
+/// - `InputTooLong`: the script has more than `SCRIPT_LIMIT` bytes; no line is carried out, and
+///   nothing is written.
+/// - `Read`: the reader failed; no line is carried out, and nothing is written.
+/// - `Script`: the first line that is refused, counted from 1; what the lines before it print is
+///   written.
 /// - `OutOfMemory`: memory ran out; what some lines from the first on print is written.
 /// - `Write`: the writer failed; it is not known how much it took.
 pub fn run_script<R: Runner, I: Read, W: Write>(
@@ -99,7 +101,7 @@ fn play<R: Runner, W: Write>(
     }
 }
 
-/// The section of the next line.
+/// Returns the section of the next line.
 fn section<R: Runner>(player: &Player<R::Table, R>) -> Section
     ensures { (state : State R.script) → IsAt R.script R.table_of R.StandsFor player.now state →
         result ≡ section_of R.script state }
@@ -113,7 +115,8 @@ fn section<R: Runner>(player: &Player<R::Table, R>) -> Section
 /// Adds a part to the table.
 ///
 /// # Errors
-/// - `Line`: the reason to refuse the part.
+/// The script ends after either.
+/// - `Line`: the reason to refuse the part; `LateTableLine` after a run line.
 /// - `OutOfMemory`: memory ran out.
 fn add<R: Runner>(
     player: Player<R::Table, R>,
@@ -138,7 +141,7 @@ fn add<R: Runner>(
     }
 }
 
-/// The card that runs; the first run line makes it from the table.
+/// Returns the card that runs; the first run line makes it from the table.
 ///
 /// # Errors
 /// - `AllocError`: memory ran out.

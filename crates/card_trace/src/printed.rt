@@ -9,18 +9,18 @@ use std::alloc::Allocator;
 pub enum Printed<A: Allocator> {
     /// Nothing.
     Nothing,
-    /// The card was reset.
+    /// `reset`: the card was reset.
     Reset,
-    /// A chain is pending at the card, so the operation did not begin.
+    /// `! card busy`: a chain is pending at the card, so the operation did not begin.
     CardBusy,
-    /// The card refused a character, since it sends next.
+    /// `! not listening`: the card refused a character, since it sends next.
     NotListening,
     /// The lines of an operation, of characters handed out, or of a table.
     Lines(Vec<u8, A>),
 }
 
 impl<A: Allocator> Printed<A> {
-    /// The text, in whole lines.
+    /// Returns the text, in whole lines.
     pub fn text(&self) -> &[u8]
         ensures { result.now ≡ printed_text self.now }
     {

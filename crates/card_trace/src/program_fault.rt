@@ -11,11 +11,12 @@ pub enum ProgramFault {
     Play(PlayFault),
     /// Objects were not printed.
     Objects(ObjectsFault),
-    /// The digits of `objects` are not HEX.
+    /// The digits of `objects` are not HEX, an even number of digits, at least two. Nothing was
+    /// written.
     BadHex,
-    /// The help or the version could not be written.
+    /// The help or the version could not be written; it is not known how much was.
     Write,
-    /// Memory ran out.
+    /// Memory ran out for the words of the command line or the digits. Nothing was written.
     OutOfMemory,
 }
 

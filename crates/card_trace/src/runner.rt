@@ -63,6 +63,7 @@ pub trait Runner: Drop {
     /// Adds a part to the table.
     ///
     /// # Errors
+    /// The script ends after either.
     /// - `Line`: the reason to refuse the part.
     /// - `OutOfMemory`: memory ran out.
     fn add(table: &mut Self::Table, part: Self::Part) -> Result<(), Refusal>
@@ -71,18 +72,18 @@ pub trait Runner: Drop {
         ensures refused { IfErr result (λ refusal.
             OnReason refusal (script.Refuses (table_of table.old) (part_of part))) };
 
-    /// Makes the card of a table.
+    /// Makes the card of a table, with nothing selected or pending.
     ///
     /// # Errors
-    /// - `AllocError`: memory ran out.
+    /// - `AllocError`: memory ran out; the script ends.
     fn of(alloc: Self::Alloc, table: Self::Table) -> Result<Self, AllocError>
         ensures { IfOk result (λ runner. (card : script.Card)
             × script.Begins (table_of table) card × StandsFor runner card) };
 
-    /// Carries out an act that a line can say, and returns what it prints.
+    /// Carries out an act, and returns what it prints. The act must be one that a line can say.
     ///
     /// # Errors
-    /// - `AllocError`: memory ran out.
+    /// - `AllocError`: memory ran out; the script ends.
     fn carry_out(
         &mut self,
         alloc: Self::Alloc,

@@ -18,8 +18,8 @@ use std::alloc::{AllocError, Allocator};
 use t0_core::End;
 use tlv_core::{ObjectTag, Objects};
 
-/// Returns the lines of an operation: each longest run of characters from one end, after `> ` or `<
-/// `; and the status and data, after `= `.
+/// Returns the lines of an operation. Each longest run of characters from one end is a line, after
+/// `> ` for the terminal or `< ` for the card. The last is the status and the data, after `= `.
 pub fn operation_text<A: Allocator + Copy, B: Allocator>(
     alloc: A,
     characters: &[(End, u8)],
@@ -125,7 +125,8 @@ fn push_spaced<A: Allocator + Copy>(
     push_hex(alloc, text, bytes)
 }
 
-/// Returns the lines of a card's applications, each with its entries.
+/// Returns the lines of a card's applications, each followed by those of its entries: tag, value or
+/// `-`, and `locked` if no command changes it.
 pub fn table_text<A: Allocator + Copy, B: Allocator>(
     alloc: A,
     card: &ObjectCard<B>,
@@ -204,7 +205,8 @@ fn push_mark<A: Allocator>(text: &mut Vec<u8, A>, locked: bool) -> Result<(), Al
     text.extend_from_slice(if locked { b" locked" } else { b"" })
 }
 
-/// Appends the lines of objects that are `below` levels below the first.
+/// Appends the lines of objects that are `below` levels below the first. The list must be at level
+/// `below` + 1.
 pub fn push_objects<A: Allocator + Copy>(
     alloc: A,
     text: &mut Vec<u8, A>,

@@ -278,17 +278,19 @@ static void tables(void)
 static void told_faults(void)
 {
     static const char *const wanted[] = {
-        "2.table: line 2: bad argument", "there.table: No such file or directory"
+        "2.table: line 2: bad argument", "there.table: No such file or directory",
+        ".: Is a directory"
     };
-    char name[] = "there.table", line[128] = "";
+    char name[] = "there.table", folder[] = ".", line[128] = "";
     size_t i;
     FILE *file = freopen("ifd.told", "w", stderr);
     CHECK(file != NULL, 1);
     CHECK(create(NONE, "app A000000003\nobject 50\n"), IFD_COMMUNICATION_ERROR);
     CHECK(IFDHCreateChannelByName(NONE, name), IFD_COMMUNICATION_ERROR);
+    CHECK(IFDHCreateChannelByName(NONE, folder), IFD_COMMUNICATION_ERROR);
     fclose(stderr);
     file = fopen("ifd.told", "r");
-    for (i = 0; i < 2; i++) {
+    for (i = 0; i < 3; i++) {
         CHECK(file != NULL && fgets(line, sizeof line, file) != NULL, 1);
         line[strcspn(line, "\n")] = '\0';
         CHECK(strcmp(line, wanted[i]), 0);

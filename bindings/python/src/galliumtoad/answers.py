@@ -20,12 +20,15 @@ class Status(int):
 
     @property
     def is_ok(self) -> bool:
-        """Whether it is 9000."""
+        """Whether it is 9000: the card has done all of it. 61XX is not: a response waits."""
         return self == 0x9000
 
     @property
     def text(self) -> str:
-        """What a card of this library means by it, in a few words; else `unknown status`."""
+        """What a card of this library means by it, in a few words; else `unknown status`.
+
+        Raises `ValueError` for a number below 0 or above 0xFFFF.
+        """
         number = within(int(self), 0, 0xFFFF, "a status")
         return str(ffi.string(lib.gt_status_text(number)).decode())
 
@@ -34,7 +37,12 @@ class Status(int):
 
 
 class Object(NamedTuple):
-    """A data object. `level` is 1 outside of any other. `place` is the index of its first byte."""
+    """A data object, whose `tag` is the number of its one to three bytes, as 0x5F20.
+
+    `level` is 1 outside of any other, and one more in each template. `is_constructed` is whether
+    the value is a list of objects. `place` is the index of its first byte. `encoded` is its tag,
+    length and value as they were.
+    """
 
     tag: int
     level: int
@@ -54,7 +62,9 @@ def _object(found: Any, data: bytes) -> Object:
 def objects(data: Bytes) -> list[Object]:
     """Returns all objects of a list, a template before the objects in it (EMV Book 3, Annex B).
 
-    Raises `ObjectsError` with the place of the first fault if the bytes are not a list.
+    Padding, 00 before, between and after objects, is skipped. The call takes 40 bytes of memory for
+    each byte. Raises `ObjectsError` if the bytes are not a list, with the first fault and the place
+    of the innermost object at fault.
 
     >>> import galliumtoad
     >>> [(hex(it.tag), it.level, it.value.hex()) for it in
@@ -70,7 +80,10 @@ def objects(data: Bytes) -> list[Object]:
 def find(data: Bytes, *path: int) -> Optional[Object]:
     """Returns the first object whose tags, from level 1 to its own, are this path, or None.
 
-    Raises `ObjectsError` as `objects`, and `CallError` if a step is not a tag.
+    Errors:
+    - CallError, GT_ARGUMENT: a step is not a tag, whatever the bytes are.
+    - ValueError: a step is below 0 or above 0xFFFFFF.
+    - ObjectsError: as `objects`, wherever the path leads.
 
     >>> import galliumtoad
     >>> galliumtoad.find(bytes.fromhex("6F0584034A4F45"), 0x6F, 0x84).value
@@ -83,9 +96,11 @@ def find(data: Bytes, *path: int) -> Optional[Object]:
 
 
 def head(tag: int, length: int) -> bytes:
-    """Returns how an object begins: its tag, and its length in the shortest form.
+    """Returns how an object begins: its tag, and the length of its value in the shortest form, 2 to
+    6 bytes.
 
-    Raises `CallError` if no tag has this number.
+    Raises `CallError` if no tag has this number, and `ValueError` for a tag above 0xFFFFFF or a
+    length above 65,535.
 
     >>> import galliumtoad
     >>> galliumtoad.head(0x5F20, 200).hex()
@@ -97,7 +112,7 @@ def head(tag: int, length: int) -> bytes:
 
 
 class Answer(NamedTuple):
-    """The status of a card, and its data.
+    """The status of a card, and its data. A status that refuses a command is an answer too.
 
     >>> from galliumtoad import Answer, Status
     >>> Answer(Status(0x9000), bytes.fromhex("5F20034A4F45")).object(0x5F20).value
@@ -108,18 +123,21 @@ class Answer(NamedTuple):
     data: bytes
 
     def object(self, tag: int) -> Optional[Object]:
-        """Returns the object if the data are exactly one, with this tag; else None."""
+        """Returns the object if the data are exactly one, with this tag; else None. Some cards
+        answer a get with the value alone."""
         is_it = lib.gt_is_object(*readable(self.data), tag_number(tag))
         return find(self.data, tag) if is_it else None
 
 
 class Atr:
     """What an answer to reset says (ISO/IEC 7816-3, clause 8): the fields of `gt_atr` in the
-    header, as attributes.
+    header, as attributes. For a missing character the standard's default holds. A reserved code
+    gives 0.
 
-    `protocols` is a tuple, in the order offered. `historical` has the historical bytes, `t1` the
-    values for T=1. Raises `AtrError` with the place of the first fault if the bytes are not an
-    answer to reset.
+    `protocols` is a tuple, in the order offered. `historical` has the historical bytes. `t1` has
+    the values for T=1: `ifsc`, `edc` and the times. They are by the first TA, TB and TC for T=1
+    from TA3, TB3 and TC3 on. Raises `AtrError` with the place of the first fault if the bytes are
+    not an answer to reset.
 
     >>> from galliumtoad import Atr
     >>> Atr(bytes.fromhex("3B0214"))
@@ -151,7 +169,9 @@ def _fields(record: Any) -> dict[str, Any]:
 class Pps:
     """A terminal's PPS request (ISO/IEC 7816-3, clause 9) for protocol `t`, 0 to 15.
 
-    `pps1` to `pps3` are numbers from 0 to 255, or None for a byte that is not sent.
+    `pps1` to `pps3` are numbers from 0 to 255, or None for a byte that is not sent. `pps1` has the
+    codes of Fi and Di, as TA1. Raises `ValueError` for any other number. `request` has the bytes to
+    send, 3 to 6.
 
     >>> from galliumtoad import Pps
     >>> pps = Pps(0, pps1=0x95)
@@ -171,6 +191,7 @@ class Pps:
 
         It does if it names the same protocol, and each of PPS1 to PPS3 is as requested or absent.
         The card does not accept an absent one: without PPS1, Fi is 372 and Di 1. It has accepted
-        all if the response equals `request`. Raises `PpsError` if the bytes are not a response.
+        all if the response equals `request`. If the result is False, reset the card or give it up.
+        Raises `PpsError` with the first fault if the bytes are not a response.
         """
         return checked(lib.gt_pps_agreed(*readable(self.request), *readable(response))) == 1

@@ -9,11 +9,9 @@ A row is in the journal, on disk, before its card's first byte.
 import argparse
 import contextlib
 import csv
-import hashlib
 import multiprocessing
 import socket
 import sys
-from pathlib import Path
 from typing import Any, Optional
 
 from smartcard import scard
@@ -32,39 +30,40 @@ _HELP = "In a script `@{column}` is a column's text, `{column}` its digits: put 
 class Batch:
     """What all readers share: the script, the rows, and the journal's file.
 
-    Raises `ValueError` or `OSError` if a row can't be carried out.
+    Raises `ValueError` if the table or the script is invalid, or a row can't be carried out, and
+    `OSError` if a file can't be read.
     """
 
     def __init__(self, words: argparse.Namespace) -> None:
-        with script.opened(words.rows) as rows, script.opened(words.script) as lines:
-            table = csv.DictReader(rows, strict=True)
-            try:
-                self.rows = list(table)
-            except csv.Error as error:
-                raise ValueError(f"{words.rows}:{table.reader.line_num}: {error}") from None
-            self.script = script.Script(words.script, lines, list(table.fieldnames or ()))
+        # Each file is read once: it may be a pipe.
+        (rows, sum_of_rows), (lines, sum_of_lines) = map(script.read, (words.rows, words.script))
+        table = csv.DictReader(rows, strict=True)
+        try:
+            self.rows = list(table)
+        except csv.Error as error:
+            raise ValueError(f"{words.rows}:{table.reader.line_num}: {error}") from None
+        self.script = script.Script(words.script, lines, list(table.fieldnames or ()))
         for number, row in enumerate(self.rows, 1):
             if None in row or None in row.values():
                 raise ValueError(f"{words.rows}: row {number} has too many columns, or too few")
             self.script.operations(number, row)
         if not self.rows:
             raise ValueError(f"{words.rows} has no row")
-        sums = (hashlib.sha256(Path(it).read_bytes()) for it in (words.rows, words.script))
-        heading = "# rows {} script {}".format(*(it.hexdigest() for it in sums))
+        heading = f"# rows {sum_of_rows} script {sum_of_lines}"
         self.id_tag, self.journal = words.id, (words.journal, heading, len(self.rows))
 
 
 class Refused(Exception):
-    """The card refused an operation, or stored another value."""
+    """The card refused an operation, returned another object, or stored another value."""
 
 
 def carry_out(batch: Batch, journal: Journal, number: int, reader: Transport) -> tuple[str, str]:
     """Carries out the script for a row. Returns how the row ended, and why.
 
-    - done: each status was 9000, and each value reads back as sent.
+    - done: each status was 9000, each get returned its object, and each value reads back as sent.
     - unused: it stopped before the first put or send.
-    - failed: the card refused an operation, or stored another value.
-    - unsure: the card did not answer.
+    - failed: the card refused an operation, returned another object, or stored another value.
+    - unsure: the reader failed, or the card's answer did not fit.
     """
     terminal, has_written = Terminal(), False
     try:
@@ -74,9 +73,11 @@ def carry_out(batch: Batch, journal: Journal, number: int, reader: Transport) ->
                     value = stored(terminal, reader, batch.id_tag)
                     journal.note(number, "card", value.hex().upper())
                 has_written = True
-            status = terminal.run(reader, operation).status
-            if not status.is_ok:
-                raise Refused(f"line {line}: {status:04X} {status.text}")
+            answer = terminal.run(reader, operation)
+            if not answer.status.is_ok:
+                raise Refused(f"line {line}: {answer.status:04X} {answer.status.text}")
+            if isinstance(operation, Get) and not answer.object(operation.tag):
+                raise Refused(f"line {line}: the answer is not the object {operation.tag:X}")
             if isinstance(operation, Put):
                 if stored(terminal, reader, operation.tag) != operation.value:
                     raise Refused(f"line {line}: {operation.tag:X} was not stored as sent")
@@ -132,11 +133,12 @@ def serve(batch: Batch, name: str, is_begun: bool = False) -> None:
     try:
         journal, mark = Journal(*batch.journal), socket.socket(socket.AF_UNIX)
         try:
-            mark.bind(f"\0galliumtoad.batch {name}")
+            # The name of a socket is short. A reader's name ends in its number.
+            mark.bind(b"\0galliumtoad.batch " + name.encode()[-80:])
         except OSError:
             raise OSError("another run serves this reader") from None
         context = told(scard.SCardEstablishContext(scard.SCARD_SCOPE_USER))
-        known, used, said = state_of(context, name, scard.SCARD_STATE_UNAWARE, 0), -1, ""
+        known, used, said = state_of(context, name, scard.SCARD_STATE_UNAWARE, 0), -1, (-1, "")
         if is_begun and known & scard.SCARD_STATE_PRESENT:
             used = known >> 16
             say(name, "remove the card that is in it")
@@ -153,9 +155,8 @@ def serve(batch: Batch, name: str, is_begun: bool = False) -> None:
                         card.disconnect()
                     continue
                 except SmartcardException as error:
-                    if str(error) != said:
+                    if said != (said := (known >> 16, str(error))):
                         say(name, error)
-                    said = str(error)
             known = state_of(context, name, known, 500)
     except (OSError, ValueError, KeyboardInterrupt) as error:
         sys.exit(f"{name}: {str(error) or 'interrupted'}")
@@ -168,8 +169,7 @@ def chosen(names: list[str]) -> list[str]:
     found = {name: [it for it in here if name in it] for name in names or [""]}
     for name, named in found.items():
         if len(named) != 1:
-            what = f"`{name}` names" if name else "name one of"
-            raise ValueError(f"{what} {len(named)} readers")
+            raise ValueError(f"{f'`{name}` names' if name else 'name one of'} {len(named)} readers")
     return sorted({named[0] for named in found.values()})
 
 

@@ -11,7 +11,8 @@ Tables = Mapping[bytes, Mapping[int, Bytes]]
 
 
 class Entry(NamedTuple):
-    """A data object of an application. No command changes a locked one."""
+    """A data object of an application: its tag as a number, and its value. No command changes a
+    locked one."""
 
     tag: int
     value: bytes
@@ -42,7 +43,7 @@ class Holder(Lasting):
     def entries(self, aid: Bytes) -> list[Entry]:
         """Returns the data objects of an application, in the order in which they were first stored.
 
-        Raises `KeyError` if the card does not hold the application.
+        Raises `KeyError` if the card has no application with exactly this identifier.
         """
         places = {it.hex(): place for place, it in enumerate(self.applications)}
         app, found = places[plain(aid).hex()], list[Entry]()
@@ -54,26 +55,38 @@ class Holder(Lasting):
         return found
 
     def plan(self, steps: str, cut: int = 256) -> None:
-        """Adds a plan: how the card answers one more TPDU.
+        """Adds a plan: how the card answers one more of the TPDUs to come, in turn.
 
         `steps` are its procedure bytes: `n` (NULL), `o` (one byte), `a` (all bytes). If no bytes
         are left, `o` and `a` are skipped. After the last letter all bytes that are left move.
-        `cut`, 1 to 256, is the most that a status 61XX announces.
+        `cut`, 1 to 256, is the most bytes that a status 61XX announces. Without a plan the card
+        answers as with "" and 256.
+
+        A session's next operation drops the plans that it leaves. Plans are not for `Card.apdu`.
 
         Errors, after which nothing has changed:
         - CallError, GT_ARGUMENT: another letter, or a cut of 0 or above 256.
         - ValueError: `cut` is below 0 or above 65,535, or `steps` is not ASCII.
-        - CallError, GT_PLANS: too many plans wait.
+        - CallError, GT_PLANS: 1,048,576 plans wait.
+        - OutOfMemory: memory ran out.
         """
         self._call("plan", str.encode(steps, "ascii"), within(cut, 0, 0xFFFF, "a cut"))
 
 
 class Card(Holder):
     """A card with these applications and their data objects. `locked` lists the pairs of identifier
-    and tag that no command changes.
+    and tag that no command changes. Nothing is selected.
 
     `tpdu` is a transport for a `Terminal`. A line passes characters by `receive_bytes` and
-    `send_bytes`. Raises `BuildError` or `CallError` for tables that a card can't have.
+    `send_bytes`.
+
+    A card holds up to 8 applications, each with up to 64 data objects of up to 8,192 bytes.
+    Errors, after which there is no card:
+    - CallError, GT_ARGUMENT: an identifier not of 5 to 16 bytes, or a tag that GET DATA can't name.
+    - BuildError: too many applications or objects, too long a value, or a template whose value is
+      not a list of objects.
+    - ValueError: a tag below 0 or above 0xFFFFFF.
+    - OutOfMemory: memory ran out.
 
     >>> from galliumtoad import Card
     >>> aid = bytes.fromhex("A0000000031010")
@@ -92,45 +105,57 @@ class Card(Holder):
         super().__init__("card", *calls, ("finish",))
 
     def tpdu(self, tpdu: Bytes) -> bytes:
-        """Carries out a whole TPDU, and returns the card's data and SW1 SW2.
+        """Carries out a whole TPDU under the next plan. Returns the card's data and SW1 SW2.
 
         Errors:
+        - CallError, GT_STATE: characters of a TPDU have passed; nothing has changed.
         - TransportError, GT_NO_TPDU: the bytes are not a TPDU; nothing has changed.
         - TransportError, GT_WANTS_DATA or GT_SENDS_DATA: the TPDU lacks data that the card takes,
-          or asks for none of those that it sends; the card is reset.
+          or asks for none of those that it sends. The card is reset, and the plan is used up.
+        - OutOfMemory: memory ran out; nothing has changed.
         """
         return self._copied("tpdu", *readable(tpdu), room=lib.GT_ANSWER_LIMIT)
 
     def apdu(self, command: Bytes) -> bytes:
         """Carries out a whole command, as a card at T=1, and returns the data and SW1 SW2.
 
-        Raises `CommandError` or `TransportError` if the bytes are not a command; nothing has
-        changed.
+        The card answers 6700, and nothing changes, to bytes whose lengths fit no case of a command.
+        It does so to SELECT and PUT DATA in case 2, and to GET DATA and GET RESPONSE in any other.
+
+        Errors, after which nothing has changed:
+        - CallError, GT_STATE: characters of a TPDU have passed.
+        - CommandError: there are fewer than four bytes, or INS is 6X or 9X.
+        - OutOfMemory: memory ran out.
         """
         return self._copied("apdu", *readable(command), room=lib.GT_ANSWER_LIMIT)
 
     def receive_bytes(self, data: Bytes) -> int:
-        """Takes characters of the terminal while the card listens. Returns how many it took."""
+        """Takes characters of the terminal while the card listens. Returns the number taken: if it
+        is less than that of `data`, the card has characters to send."""
         taken = ffi.new("size_t *")
         self._call("receive_bytes", *readable(data), taken, but=[lib.GT_NOT_LISTENING])
         return int(taken[0])
 
     def send_bytes(self, room: int = 1024) -> bytes:
-        """Returns the card's next characters, at most `room`, or no bytes if it listens."""
+        """Returns the card's next characters, at most `room`, or no bytes if it listens. They count
+        as sent: a put is stored with its second status byte.
+
+        Raises `ValueError` for a room below 0 or above 1,073,741,824.
+        """
         return self._copied("send_bytes", room=within(room, 0, 1 << 30, "the room"))
 
 
 class Character(NamedTuple):
-    """A character that went over the line."""
+    """A character that went over the line. `is_card` is whether the card sent it."""
 
     is_card: bool
     byte: int
 
 
 class Session(Holder):
-    """Takes a card, resets it, and carries out operations with it.
+    """Takes a card, resets it, and carries out operations with it. The card's plans are dropped.
 
-    The card's own handle is empty until `end` returns the card.
+    The card's own handle is empty from then on: `end` returns a new one.
 
     >>> from galliumtoad import Card, Get, Select, Session
     >>> aid = bytes.fromhex("A0000000031010")
@@ -146,9 +171,16 @@ class Session(Holder):
             super().__init__("session", ("start", card._handle))
 
     def run(self, operation: Operation) -> Answer:
-        """Carries out an operation, and returns the card's answer, whatever its status.
+        """Carries out an operation, and returns the card's answer, whatever its status. A put has
+        no data.
 
-        Raises `CallError` or `CommandError`; nothing was sent.
+        Errors, after which nothing was sent:
+        - CallError, GT_ARGUMENT: an identifier not of 5 to 16 bytes, or a tag that no command can
+          name. Or the data of a `Send` move the other way at the card.
+        - CallError, GT_BUSY: a chain of `Send` is pending. `Send` never gets it.
+        - CommandError: the bytes of `Send` are not a command.
+        - TypeError: it is not an operation.
+        - OutOfMemory: memory ran out.
         """
         status, room = ffi.new("uint16_t *"), lib.GT_RESPONSE_LIMIT
         data, count = writable(room)
@@ -158,7 +190,7 @@ class Session(Holder):
 
     @property
     def is_idle(self) -> bool:
-        """Whether an operation may begin: no chain is pending at the card."""
+        """Whether an operation other than `Send` may begin: no chain is pending at the card."""
         return self._call("idle") == 1
 
     def listen(self) -> None:
@@ -169,9 +201,11 @@ class Session(Holder):
         self._call("listen")
 
     def heard(self) -> list[Character]:
-        """Returns all characters of the last operation.
+        """Returns all characters of the last operation that was carried out since `listen`.
 
-        Raises `CallError` before `listen`, and `OutOfMemory` if the record ran out of memory.
+        Errors:
+        - CallError, GT_STATE: `listen` was not called.
+        - OutOfMemory: memory ran out in the operation, so some characters are lost.
         """
         count = ffi.new("size_t *")
         self._call("heard", ffi.NULL, 0, count, but=[lib.GT_BUFFER])
@@ -180,7 +214,8 @@ class Session(Holder):
         return [Character(getattr(it, "from") == lib.GT_CARD, it.byte) for it in line]
 
     def end(self) -> Card:
-        """Ends the session, resets its card and returns it."""
+        """Ends the session, resets its card and returns it. Data objects stay. Plans that are left
+        and the record are dropped, and the session's handle is empty."""
         card = Card.__new__(Card)
         Holder.__init__(card, "card")
         self._call("end", card._handle)

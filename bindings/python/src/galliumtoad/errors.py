@@ -11,7 +11,8 @@ class Error(Exception):
     """The library refused a call. The text is the library's.
 
     `code` is the number in `galliumtoad.h`, below 0; `name` is its name there. `place` is the
-    index of the faulty byte, from 0, or None if the call has no such place.
+    index of the faulty byte, from 0, or None if the call has no such place. For data objects it is
+    the first byte of the innermost object at fault.
 
     >>> import galliumtoad
     >>> try:
@@ -28,11 +29,14 @@ class Error(Exception):
 
 
 class CallError(Error):
-    """The state or the arguments do not fit the call. Nothing has changed."""
+    """The state or the arguments do not fit the call. Nothing has changed.
+
+    GT_FAILED of `send_bytes` is one too: the exchange or operation failed before.
+    """
 
 
 class OutOfMemory(CallError, MemoryError):
-    """Memory ran out. Nothing has changed."""
+    """Memory ran out. Nothing has changed, except as the call's comment says."""
 
 
 class BuildError(Error):
@@ -40,7 +44,11 @@ class BuildError(Error):
 
 
 class LineError(Error):
-    """A received character does not fit, or the response is too long: the exchange has failed."""
+    """A received character or answer does not fit.
+
+    - GT_BAD_PROCEDURE, GT_TOO_LONG, GT_STALLED: the exchange or operation has failed for good.
+    - GT_NOT_LISTENING, GT_AFTER_END: nothing has changed.
+    """
 
 
 class ObjectsError(Error):
@@ -52,7 +60,8 @@ class CommandError(Error):
 
 
 class TransportError(Error):
-    """A whole TPDU or command, or the answer to it, does not fit."""
+    """A whole TPDU, or the answer to a TPDU or command, does not fit. Nothing has changed, except
+    that GT_WANTS_DATA and GT_SENDS_DATA reset the card."""
 
 
 class AtrError(Error):
@@ -64,8 +73,8 @@ class PpsError(Error):
 
 
 class BlockError(Error):
-    """A terminal's end at T=1 gave up. `outcome` is whether the card carried out the command:
-    `no`, `unknown`, or `in part` if a part of the response arrived."""
+    """A terminal's end at T=1 gave up. `outcome` is whether the card carried out the command: `no`,
+    `unknown`, or `in part` if it did and only a part of the response arrived."""
 
     def __init__(self, code: int, outcome: Optional[int] = None) -> None:
         super().__init__(code)

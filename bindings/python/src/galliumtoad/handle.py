@@ -36,23 +36,26 @@ def copied(made: Any, count: Any) -> bytes:
 
 
 def within(value: int, least: int, most: int, what: str) -> int:
-    """Returns a number from `least` to `most`. Raises `TypeError` or `ValueError` for others."""
+    """Returns a number from `least` to `most`. Raises `ValueError` for any other number, and
+    `TypeError` for what is not a number."""
     if not least <= value <= most:
         raise ValueError(f"{what} is {value}, not from {least} to {most}")
     return value
 
 
 def tag_number(tag: int) -> int:
-    """Returns a tag, the number of its one to three bytes, as in 0x5F20."""
+    """Returns a tag, the number of its one to three bytes, as in 0x5F20. Raises `ValueError` for a
+    number below 0 or above 0xFFFFFF."""
     return within(tag, 0, 0xFFFFFF, "a tag")
 
 
 class Handle:
     """A context manager over a handle of the library. `close` or the collector frees it.
 
-    One thread at a time may use it. Errors of each call:
-    - RuntimeError: another thread is in a call of this handle; nothing has changed.
-    - CallError, GT_EMPTY: the handle is closed, or its card is in a session.
+    One thread at a time may use it. Errors of each call, after which nothing has changed:
+    - RuntimeError: another thread is in a call of this handle.
+    - CallError, GT_EMPTY: the handle is closed, its card is in a session, or its session has ended.
+    - TypeError: an argument that should be bytes is not bytes-like.
     """
 
     def __init__(self, kind: str, *calls: tuple[Any, ...]) -> None:
@@ -101,6 +104,9 @@ class Lasting(Handle):
     def reset(self) -> None:
         """Drops the operation or command in progress, and what is selected or pending at a card.
 
-        A card keeps its data objects and plans. A session also keeps what `heard` returns.
+        - A card keeps its data objects and the plans that wait.
+        - A session keeps these and what `heard` returns, and records on.
+        - A terminal drops its last answer too, and keeps its limit. Reset the card too.
+        - A `T1` drops its last response and its fault, and keeps its settings. Reset the card too.
         """
         self._call("reset")

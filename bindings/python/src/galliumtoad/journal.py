@@ -16,7 +16,8 @@ _STANDS |= {"unused": "free", "again": "free", "done": "done"}
 
 
 class Journal:
-    """Opens or creates the journal of the rows 1 to `rows`. Its first line is `heading`.
+    """Opens or creates the journal of the rows 1 to `rows`, for its owner alone. Its first line is
+    `heading`.
 
     Raises `OSError`. Raises `ValueError` for a file with another heading or a damaged line; that
     file does not change.

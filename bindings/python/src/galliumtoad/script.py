@@ -1,6 +1,8 @@
 """Scripts of a batch: operations as gt_pcsc takes them, with columns of a table in the words."""
 
+import io
 import re
+from hashlib import sha256
 from pathlib import Path
 from typing import IO, Any, Iterable, Mapping
 
@@ -13,9 +15,11 @@ _DIGITS = re.compile(r"-|((?:[0-9A-Fa-f]{2})+)(?:\*([1-9][0-9]{0,4}))?")
 Row = Mapping[str, str]
 
 
-def opened(path: str) -> IO[str]:
-    """Opens a text in UTF-8. Any other byte becomes a character that no value can contain."""
-    return open(path, newline="", encoding="utf-8-sig", errors="surrogateescape")
+def read(path: str) -> tuple[IO[str], str]:
+    """Reads a text in UTF-8, and returns its lines and the SHA-256 of its bytes. Any other byte
+    becomes a character that no value can contain."""
+    data = Path(path).read_bytes()
+    return io.StringIO(data.decode("utf-8-sig", "surrogateescape"), ""), sha256(data).hexdigest()
 
 
 def digits(word: str, row: Row) -> bytes:

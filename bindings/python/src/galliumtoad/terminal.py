@@ -13,7 +13,8 @@ Line = Callable[[bytes, int], Bytes]
 
 
 class Level(enum.Enum):
-    """What a transport carries: whole TPDUs, as PC/SC does at T=0, or whole commands, as at T=1."""
+    """What a transport carries: whole TPDUs, as PC/SC does at T=0, or whole commands, as at T=1 or
+    without contacts."""
 
     TPDU = "tpdu"
     APDU = "apdu"
@@ -22,7 +23,8 @@ class Level(enum.Enum):
 class Transport(Protocol):
     """Any callable that carries bytes to a card and returns the card's data and SW1 SW2.
 
-    Its attribute `level` is a `Level`. A callable without one carries TPDUs.
+    Its attribute `level` is a `Level`. A callable without one carries TPDUs. It may raise: then
+    `Terminal.run` ends with that, and sends nothing again.
     """
 
     def __call__(self, data: bytes, /) -> Bytes: ...
@@ -37,14 +39,15 @@ class Select:
 
 @dataclass(frozen=True)
 class Get:
-    """Reads a data object. The answer's data are its tag, length and value."""
+    """Reads the data object with this tag. The answer's data are its tag, length and value."""
 
     tag: int
 
 
 @dataclass(frozen=True)
 class Put:
-    """Stores a value under a tag, in a chain of commands of at most 255 bytes of data each."""
+    """Stores a value under a tag, in a chain of commands of at most 255 bytes of data each. It
+    stops at the first status other than 9000."""
 
     tag: int
     value: Bytes = field(repr=False)
@@ -52,7 +55,8 @@ class Put:
 
 @dataclass(frozen=True)
 class Send:
-    """Sends one command, and fetches the whole response."""
+    """Sends one command, and fetches as much of the response as its Le asks for: all with Le 00,
+    and none without Le."""
 
     command: Bytes = field(repr=False)
 
@@ -72,48 +76,73 @@ def call_of(operation: Operation) -> list[Any]:
 
 
 class Due(NamedTuple):
-    """What goes to the card now, and the most bytes of data that may come back."""
+    """What goes to the card now, and the most bytes of data that may come back, 0 to 256, before
+    SW1 SW2."""
 
     data: bytes
     most: int
 
 
 class Machine(Handle):
-    """What a terminal and an exchange share: characters, TPDUs and commands, and the answer."""
+    """What a terminal and an exchange share: characters, TPDUs and commands, and the answer.
+
+    The first character sent, or the first answer that is taken or fails the operation, sets the
+    level: characters and TPDUs, or commands. From then on calls of the other level raise
+    `CallError`, GT_STATE, and change nothing.
+    """
 
     def send_bytes(self) -> bytes:
-        """Returns all characters that go to the card now. If the card sends next, or after the end,
-        these are no bytes. Raises `CallError`, GT_FAILED, after a fault."""
+        """Returns all characters that go to the card now. They count as sent. If the card sends
+        next, or after the end, these are no bytes.
+
+        Errors, after which nothing has changed:
+        - CallError, GT_FAILED: the exchange or operation has failed.
+        - CallError, GT_STATE: no operation has begun, or it is at the level of commands.
+        """
         # It never sends more than a header, or the data of one command, before it listens.
         return self._copied("send_bytes", room=lib.GT_TPDU_LIMIT + 1)
 
     def receive_bytes(self, data: Bytes) -> None:
         """Takes characters of the card.
 
-        Raises `LineError` with the place of the first that does not fit. Those before it are taken.
+        Errors:
+        - LineError: the character at `place` does not fit. Those before it are taken. The class
+          says after which codes the operation has failed.
+        - CallError, GT_STATE: it is at the level of commands; nothing has changed.
         """
         taken = ffi.new("size_t *")
         self._call("receive_bytes", *readable(data), taken, place=taken)
 
     def tpdu(self) -> Optional[Due]:
-        """Returns the whole TPDU that goes to the card now, or None."""
+        """Returns the whole TPDU that goes to the card now. Returns None if a character of it was
+        sent, if no operation has begun, or if it has ended or failed.
+
+        Raises `CallError`, GT_STATE, at the level of commands.
+        """
         return self._due("tpdu", lib.GT_TPDU_LIMIT)
 
     def answered(self, answer: Bytes) -> None:
         """Takes the answer to that TPDU: data and SW1 SW2.
 
         Errors:
-        - TransportError: it does not fit; nothing has changed.
-        - LineError: the response is too long, or stalls; the operation has failed.
+        - TransportError: it does not fit, or no TPDU is next; nothing has changed.
+        - LineError: the response is too long, or stalls; the operation has failed for good.
+        - CallError, GT_STATE: it is at the level of commands; nothing has changed.
         """
         self._call("answered", *readable(answer))
 
     def apdu(self) -> Optional[Due]:
-        """Returns the whole command that goes to a card at T=1 now, or None."""
+        """Returns the whole command that goes to a card at T=1 now, or None if the operation has
+        ended or failed.
+
+        Errors, after which nothing has changed:
+        - CallError, GT_STATE: no operation has begun, or it is at the level of characters.
+        - OutOfMemory: memory ran out for this level.
+        """
         return self._due("apdu", lib.GT_APDU_LIMIT)
 
     def responded(self, response: Bytes) -> None:
-        """Takes the response to that command. Errors as `answered`."""
+        """Takes the response to that command: data and SW1 SW2. Errors as `answered` and `apdu`."""
         self._call("responded", *readable(response))
 
     def _due(self, name: str, room: int) -> Optional[Due]:
@@ -122,7 +151,11 @@ class Machine(Handle):
         return None if is_missing else Due(copied(made, count), most[0])
 
     def answer(self) -> Optional[Answer]:
-        """Returns the answer, as often as it is asked for. Returns None before the end."""
+        """Returns the status and the data of the last command, as often as it is asked for. Returns
+        None before the end and after a failure.
+
+        A terminal's answer stays until the next operation begins or `reset`.
+        """
         status, room = ffi.new("uint16_t *"), lib.GT_RESPONSE_LIMIT
         data, count = writable(room)
         code = self._call("answer", status, data, room, count, but=[lib.GT_STATE, lib.GT_NOT_FOUND])
@@ -130,9 +163,14 @@ class Machine(Handle):
 
 
 class Exchange(Machine):
-    """Begins the terminal's end of one command. `limit`, up to 16,384, bounds the response's bytes.
+    """Begins the terminal's end of one command. `limit`, 0 to 16,384, bounds the response's data.
 
-    Raises `CommandError` if the bytes are not a command, `CallError` for another limit.
+    With Le 00 it fetches the whole response, with another Le at most that many bytes, without Le
+    none. Errors, after which there is no exchange:
+    - CommandError: the bytes are not a command with short lengths.
+    - CallError, GT_ARGUMENT: `limit` is above 16,384.
+    - ValueError: `limit` is below 0 or above 2^63.
+    - OutOfMemory: memory ran out.
 
     >>> from galliumtoad import Card, Exchange
     >>> with Card({bytes(5): {}}) as card:
@@ -149,7 +187,12 @@ class Exchange(Machine):
 
 
 class Terminal(Machine, Lasting):
-    """Carries out one operation after another. `limit`, up to 16,384, bounds a response's bytes.
+    """Carries out one operation after another. `limit`, 0 to 16,384, bounds a response's data.
+
+    Raises `CallError`, GT_ARGUMENT, or `ValueError` for another limit.
+
+    No chain may be pending at the card when an operation begins. One may be after a fault: a put
+    under the same tag would continue it. So reset the card after a fault.
 
     >>> from galliumtoad import Card, Get, Select, Terminal
     >>> aid = bytes.fromhex("A0000000031010")
@@ -164,16 +207,26 @@ class Terminal(Machine, Lasting):
         super().__init__("terminal", ("new_within", within(limit, 0, 1 << 63, "a limit")))
 
     def begin(self, operation: Operation) -> None:
-        """Begins an operation. Raises `CallError` or `CommandError`; nothing has changed."""
+        """Begins an operation, and drops the last answer.
+
+        Errors, after which nothing has changed:
+        - CallError, GT_STATE: an operation is in progress: it has neither ended nor failed.
+        - CallError, GT_ARGUMENT: an identifier not of 5 to 16 bytes, or a tag that no command can
+          name.
+        - CommandError: the bytes of `Send` are not a command.
+        - TypeError: it is not an operation.
+        - OutOfMemory: memory ran out.
+        """
         self._call(*call_of(operation))
 
     def run(self, transport: Transport, operation: Operation) -> Answer:
         """Carries out an operation over a transport, and returns the card's answer.
 
         Errors:
+        - TypeError: the transport is not callable; nothing was sent.
         - as `begin`: nothing was sent.
-        - what the transport raises, or as `answered`: the terminal is reset. What the card has done
-          is unknown, so reset it too.
+        - what the transport raises, or as `answered` and `apdu`: the terminal is reset. What the
+          card has done is unknown, so reset it too.
         """
         if not callable(transport):
             raise TypeError("the transport is not callable")
@@ -195,7 +248,11 @@ class T1(Lasting):
     """A terminal's end of a line at T=1 (ISO/IEC 7816-3, clause 11), as a transport.
 
     It carries whole commands as blocks over a line that may damage and lose them. `edc` and `ifsc`
-    are those of `Atr.t1`. Raises `CallError` for an EDC other than LRC, or an IFSC out of range.
+    are those of `Atr.t1`. Raises `CallError` for an EDC other than LRC, or an IFSC of 0 or 255, and
+    `ValueError` for a number above 255.
+
+    It gives up after more than 4 fruitless receptions since the last progress, or more than 16
+    requests of the card in one command. A granted request is not fruitless.
 
     The line is a callable with two arguments. It sends the bytes of the first, if there are any,
     and returns the bytes received since. It returns no bytes if none came in time: within BWT times
@@ -222,8 +279,11 @@ class T1(Lasting):
     def __call__(self, command: Bytes, /) -> bytes:
         """Carries a command to the card, and returns the response.
 
-        Raises `BlockError` if the end gave up, and what the line raises. Then reset the card and
-        this end.
+        Errors:
+        - BlockError: the end gave up. Reset the card and this end.
+        - what the line raises: the command is still in progress. Reset the card and this end.
+        - CallError, GT_STATE: the end gave up or was left so before, and was not reset.
+        - OutOfMemory: memory ran out. Reset the card and this end.
         """
         self._call("begin", *readable(command))
         waits, taken, room = ffi.new("uint8_t *"), ffi.new("size_t *"), lib.GT_BLOCK_LIMIT

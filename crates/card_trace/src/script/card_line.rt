@@ -19,7 +19,7 @@ use t0_core::Plan;
 /// What a table line of `card` says.
 #[derive(Drop)]
 pub enum CardPart<A: Allocator = Global> {
-    /// An application or an entry of it.
+    /// An application, or an entry of the last one.
     Adds(TableLine<A>),
     /// The characters of an answer to reset, which are not checked yet.
     Atr(Bytes<A>),
@@ -34,14 +34,14 @@ pub enum CardAct<A: Allocator = Global> {
     Take(Bytes<A>),
     /// Prints the characters that the card hands out until it listens, at most this many, if given.
     HandOut(Option<u16>),
-    /// Resets the card.
+    /// Resets the card, which then hands out its answer to reset again. The plans stay.
     Reset,
     /// Prints the table.
     Table,
 }
 
 /// Reads a table line with this first word; `rest` is what follows it. The errors are those of
-/// `Runner::read`.
+/// `Runner::read`, except `LateTableLine`. Any other first word is `UnknownWord`.
 pub fn read_part<A: Allocator + Copy>(
     alloc: A,
     keyword: Keyword,
@@ -63,7 +63,7 @@ pub fn read_part<A: Allocator + Copy>(
 }
 
 /// Reads a run line with this first word; `rest` is what follows it. The errors are those of
-/// `Runner::read`.
+/// `Runner::read`, except `LateTableLine`. Any other first word is `UnknownWord`.
 pub fn read_act<A: Allocator>(
     alloc: A,
     keyword: Keyword,

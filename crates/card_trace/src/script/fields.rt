@@ -50,8 +50,8 @@ pub fn read_aid<A: Allocator>(alloc: A, text: &[u8]) -> Result<Aid, Refusal>
     Ok(aid)
 }
 
-/// Reads TAG. A text that is not HEX is `BadHex`; HEX that is no tag that a command can address is
-/// `BadTag`.
+/// Reads TAG. A text that is not HEX is `BadHex`. HEX that is no tag that GET DATA can name, of one
+/// or two bytes, is `BadTag`.
 pub fn read_tag<A: Allocator>(alloc: A, text: &[u8]) -> Result<ObjectTag, Refusal>
     ensures ok { IfOk result (λ tag. IsTagText text.now tag) }
     ensures refused { IfErr result (λ refusal. OnReason refusal (λ _.
@@ -62,7 +62,7 @@ pub fn read_tag<A: Allocator>(alloc: A, text: &[u8]) -> Result<ObjectTag, Refusa
     Ok(tag)
 }
 
-/// The tag that all of these bytes are; `None` unless they are one that a command can address.
+/// Returns the tag that all of these bytes are; `None` unless they are one that a command can name.
 fn object_tag(bytes: &[u8]) -> Option<ObjectTag>
     ensures { MatchOption result (¬ IsAddressable bytes.now)
         (λ tag. (tag ≡ bytes.now) × IsAddressable bytes.now) }
@@ -89,7 +89,8 @@ pub fn read_value<A: Allocator>(alloc: A, text: &[u8]) -> Result<Vec<u8, A>, Ref
     }
 }
 
-/// The byte of two hexadecimal digits, this many times. Any other text is `BadHex`.
+/// Returns the byte of two hexadecimal digits, `times` times, 1 to 65,535. Any other text is
+/// `BadHex`.
 fn repeated<A: Allocator>(alloc: A, digits: &[u8], times: &[u8]) -> Result<Vec<u8, A>, Refusal>
     ensures ok { IfOk result (λ value. IsRepeatedText digits.now times.now value.items) }
     ensures refused { IfErr result (λ refusal. OnReason refusal (λ _.
@@ -161,11 +162,11 @@ pub fn read_command<A: Allocator>(alloc: A, text: &[u8]) -> Result<Bytes<A>, Ref
     Ok(Bytes::new(bytes))
 }
 
-/// Reads a command that is agreed with a card of data objects.
+/// Reads a command that is agreed with a card of data objects (`is_agreed` of `object_card`).
 ///
 /// # Errors
-/// - `CommandTooShort`, `BadCommandLength`, `InvalidIns`: the bytes are no command.
-/// - `BadCommandLength`: the command is not agreed.
+/// - `CommandTooShort`, `BadCommandLength`, `InvalidIns`: the bytes are not a command.
+/// - `BadCommandLength`: the command is not agreed: its case does not go with its INS.
 pub fn agreed_command(bytes: &[u8]) -> Result<Command<'_>, Reason>
     ensures agreed { IfOk result (λ c. IsCommand c × (bytes.now ≡ command_bytes c)
         × IsAgreed MayReceive MaySend c) }

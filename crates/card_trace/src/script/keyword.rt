@@ -3,7 +3,7 @@ ghost use Rattle.std.specs.Prelude.{◌≡◌, ◌≢◌, MatchOption};
 ghost use Rattle.card_trace.specs.declared.script.keyword.Keyword.{Keyword};
 ghost use Rattle.card_trace.specs.ScriptKeywords.{keyword_text};
 
-/// The first words of table lines that both subcommands have.
+/// The first words of table lines that both subcommands have: `app`, `object` and `locked`.
 #[derive(Clone, Copy)]
 pub enum TableWord {
     App,
@@ -11,7 +11,9 @@ pub enum TableWord {
     Locked,
 }
 
-/// The first words of lines, of both subcommands.
+/// The first words of lines, of both subcommands: `app` to `locked`, `atr`, `plan`, `select`,
+/// `get`, `put`, `send`, `>` (`Take`), `<` (`HandOut`), `reset` and `table`. Each subcommand has
+/// some of them.
 #[derive(Clone, Copy)]
 pub enum Keyword {
     Adds(TableWord),
@@ -28,7 +30,7 @@ pub enum Keyword {
 }
 
 impl Keyword {
-    /// The keyword with this text; `None` for any other word.
+    /// Returns the keyword with this text, in lower case; `None` for any other word.
     pub fn of(word: &[u8]) -> Option<Keyword>
         ensures { MatchOption result ((keyword : Keyword) → word.now ≢ keyword_text keyword)
             (λ keyword. word.now ≡ keyword_text keyword) }

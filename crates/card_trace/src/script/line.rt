@@ -21,7 +21,7 @@ pub enum Line<P, A> {
     Runs(A),
 }
 
-/// Reads a line; `None` if it has no words and is passed over.
+/// Reads a line; `None` if it is empty, has only spaces or starts with `#`, and is passed over.
 ///
 /// # Errors
 /// - `Line`: the first reason that holds: an unknown word, a table line in the run section, a wrong

@@ -23,7 +23,7 @@ impl<'a> Model for Lines<'a> {
 }
 
 impl<'a> Lines<'a> {
-    /// The lines of this script.
+    /// Returns the lines of this script. An empty script has none.
     pub fn of(script: &'a [u8]) -> Lines<'a>
         ensures { result ≡ lines script.now }
     {
@@ -57,7 +57,7 @@ impl<'a> Iterator for Lines<'a> {
     }
 }
 
-/// The line without a CR at its end.
+/// Returns the line without one CR at its end.
 fn without_return(line: &[u8]) -> &[u8]
     ensures { result.now ≡ strip_carriage_return line.now }
 {

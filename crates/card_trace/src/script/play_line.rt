@@ -19,20 +19,20 @@ use t0_core::Plan;
 /// What a run line of `play` says.
 #[derive(Drop)]
 pub enum PlayAct<A: Allocator = Global> {
-    /// A plan for the next operation.
+    /// A plan for one TPDU of the next operation or command, after those before it.
     Plan(Plan<A>),
     /// An operation.
     Run(Op<A>),
-    /// The bytes of one command to send.
+    /// The bytes of one command to send, which is agreed with the card.
     Send(Bytes<A>),
-    /// Resets the card.
+    /// Resets the card. The plans stay.
     Reset,
     /// Prints the table.
     Table,
 }
 
 /// Reads a run line with this first word; `rest` is what follows it. The errors are those of
-/// `Runner::read`.
+/// `Runner::read`, except `LateTableLine`.
 pub fn read_act<A: Allocator + Copy>(
     alloc: A,
     keyword: Keyword,
@@ -61,7 +61,7 @@ pub fn read_act<A: Allocator + Copy>(
 }
 
 /// Reads an operation with this first word; `rest` is what follows it. The errors are those of
-/// `Runner::read`.
+/// `read_act`. A value above `PUT_LIMIT` is `ValueTooLong`, any other first word `UnknownWord`.
 fn read_operation<A: Allocator + Copy>(
     alloc: A,
     keyword: Keyword,

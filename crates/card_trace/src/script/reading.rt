@@ -12,7 +12,7 @@ pub const SCRIPT_LIMIT: usize = 1_048_576;
 /// The most bytes of one read.
 const CHUNK: usize = 4096;
 
-/// Reads all bytes of the reader.
+/// Reads all bytes of the reader, at most `SCRIPT_LIMIT`.
 ///
 /// # Errors
 /// - `Read`: the reader failed.

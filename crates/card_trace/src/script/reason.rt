@@ -15,7 +15,7 @@ pub enum Reason {
     WrongWordCount,
     /// A HEX or VALUE has another form.
     BadHex,
-    /// A TAG is HEX, but no tag that a command can address.
+    /// A TAG is HEX, but no tag that GET DATA and PUT DATA can name.
     BadTag,
     /// A STEPS or CUT has another form.
     BadPlan,
@@ -23,9 +23,10 @@ pub enum Reason {
     BadNumber,
     /// An application identifier has fewer than 5 or more than 16 bytes.
     BadAid,
-    /// The bytes are no answer to reset; this is their first fault.
+    /// The bytes are not an answer to reset; this is their first fault.
     BadAtr(AtrFault),
-    /// A value is longer than a put, or an entry of the table, may be.
+    /// The value of a put has more than 16,320 bytes, or that of an entry of the table more than
+    /// 8,192.
     ValueTooLong,
     /// A command has fewer than four bytes.
     CommandTooShort,
@@ -37,13 +38,14 @@ pub enum Reason {
     AtrTwice,
     /// There is an application with this identifier already.
     AidTwice,
-    /// There are as many applications as a card may have.
+    /// There are 8 applications, the most of a card.
     TooManyApps,
     /// No application precedes the entry.
     NoApp,
-    /// The tag is that of a constructed object, but the value is no list of objects.
+    /// The tag is that of a template, but the value is not a list of objects within level 16; the
+    /// template is at level 1.
     NotObjects,
-    /// The application has as many entries as it may have.
+    /// The tag is new, and the application has 64 entries, the most.
     TableFull,
 }
 

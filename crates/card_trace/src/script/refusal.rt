@@ -17,7 +17,7 @@ impl Refusal {
     ghost use Rattle.std.specs.Prelude.{◌≡◌};
     ghost use Rattle.card_trace.specs.ScriptReasons.{fault_at};
 
-    /// The program's fault at this line, counted from 1.
+    /// Returns the program's fault at this line, counted from 1.
     pub fn at(self, line: usize) -> PlayFault
         ensures { result ≡ fault_at line self }
     {

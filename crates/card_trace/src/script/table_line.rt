@@ -17,11 +17,11 @@ use tlv_core::ObjectTag;
 /// A line of the table section.
 #[derive(Drop)]
 pub enum TableLine<A: Allocator = Global> {
-    /// Adds an application.
+    /// Adds an application without entries.
     App(Aid),
-    /// Adds an entry to the last application.
+    /// Adds an entry to the last application, or replaces the one under this tag.
     Object(ObjectTag, Bytes<A>),
-    /// Adds a locked entry to the last application.
+    /// Does the same, with a locked entry: no command changes it.
     Locked(ObjectTag, Bytes<A>),
 }
 
@@ -75,6 +75,7 @@ pub fn read_entry<A: Allocator + Copy>(
 /// Adds what a table line says to the card.
 ///
 /// # Errors
+/// The script ends after either.
 /// - `Line`: the builder refuses it.
 /// - `OutOfMemory`: memory ran out.
 pub fn add<A: Allocator + Copy>(

@@ -6,8 +6,8 @@ ghost use Rattle.card_trace.specs.ScriptWords.{words_in, words_of};
 use crate::script::places::place_of;
 use crate::script::reason::Reason;
 
-/// The first word of a line, and what follows it; `None` if the line has no words. A comment, which
-/// starts with `#`, has none.
+/// Returns the first word of a line, and what follows it; `None` if the line has no words. Spaces
+/// alone separate words. A comment, which starts with `#`, has none.
 pub fn first_of_line(line: &[u8]) -> Option<(&[u8], &[u8])>
     ensures { MatchOption result (words_of line.now ≡ [])
         (λ cut. words_of line.now ≡ cut.0.now ∷ words_in cut.1.now) }
@@ -18,7 +18,7 @@ pub fn first_of_line(line: &[u8]) -> Option<(&[u8], &[u8])>
     }
 }
 
-/// The first word, and what follows it; `None` if there are only spaces.
+/// Returns the first word, and what follows it; `None` if there are only spaces.
 fn first_word(text: &[u8]) -> Option<(&[u8], &[u8])>
     ensures { MatchOption result (words_in text.now ≡ [])
         (λ cut. words_in text.now ≡ cut.0.now ∷ words_in cut.1.now) }
@@ -33,7 +33,7 @@ fn first_word(text: &[u8]) -> Option<(&[u8], &[u8])>
     }
 }
 
-/// The text without its leading spaces.
+/// Returns the text without its leading spaces.
 fn without_spaces(text: &[u8]) -> &[u8]
     ensures words { words_in result.now ≡ words_in text.now }
     ensures start { slice_index result.now 0 ≢ 0x20 }
@@ -56,7 +56,7 @@ pub fn no_word(rest: &[u8]) -> Result<(), Reason>
     }
 }
 
-/// The one word of the rest. Another number of words is `WrongWordCount`.
+/// Returns the one word of the rest. Another number of words is `WrongWordCount`.
 pub fn one_word(rest: &[u8]) -> Result<&[u8], Reason>
     ensures { MatchResult result (λ word. words_in rest.now ≡ word.now ∷ [])
         (λ reason. (reason ≡ Reason.WrongWordCount)
@@ -67,7 +67,7 @@ pub fn one_word(rest: &[u8]) -> Result<&[u8], Reason>
     Ok(word)
 }
 
-/// The two words of the rest. Another number of words is `WrongWordCount`.
+/// Returns the two words of the rest. Another number of words is `WrongWordCount`.
 pub fn two_words(rest: &[u8]) -> Result<(&[u8], &[u8]), Reason>
     ensures { MatchResult result
         (λ words. words_in rest.now ≡ words.0.now ∷ words.1.now ∷ [])
@@ -79,7 +79,7 @@ pub fn two_words(rest: &[u8]) -> Result<(&[u8], &[u8]), Reason>
     Ok((first, second))
 }
 
-/// The one word of the rest, or `None` if it has no words. More words are `WrongWordCount`.
+/// Returns the one word of the rest, or `None` if it has no words. More words are `WrongWordCount`.
 pub fn at_most_one_word(rest: &[u8]) -> Result<Option<&[u8]>, Reason>
     ensures { MatchResult result
         (λ word. words_in rest.now ≡ option_to_list (option_copied word))

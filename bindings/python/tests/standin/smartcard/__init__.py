@@ -3,9 +3,9 @@
 Each reader is a folder with a file `card`, the number of its card. Each card is a file of its
 tables in `cards/`, written again after each command that changes them. When a connection ends, the
 next card replaces the card; if STAYS is set, only after a while. If SWAPS is set, half of the cards
-are replaced just before a connection. An answer takes SLOW seconds, or no time. Some cards have
-another profile, some are removed in the middle, and some store a wrong byte. While the file `gone`
-exists, nothing answers.
+are replaced just before a connection. Cards whose numbers are words of MUTE do not answer to reset.
+An answer takes SLOW seconds, or no time. Some cards have another profile, some are removed in the
+middle, and some store a wrong byte. While the file `gone` exists, nothing answers.
 """
 
 import json

@@ -11,6 +11,8 @@ class PCSCCardConnection:
     def connect(self, protocol=None, mode=None, disposition=None):
         if "SWAPS" in os.environ and smartcard.number_in(self.reader) % 2 == 0:
             smartcard.put_in(self.reader, smartcard.number_in(self.reader) + 1)
+        if str(smartcard.number_in(self.reader)) in os.environ.get("MUTE", "").split():
+            raise SmartcardException("the card does not answer to reset")
         self.inside = smartcard.InReader(self.reader)
 
     def getProtocol(self):

@@ -26,8 +26,7 @@ pub fn tell_answer(mask: &Mask, preface: &Preface, page: &mut Page) {
     }
     page.row(Side::Card, "characters");
     if !is_direct(preface.turned) {
-        let turned =
-            "by the direct convention, so that TS was 03; all characters are shown turned
+        let turned = "by the direct convention, so that TS was 03; all characters are shown turned
 ";
         page.line_row("read", turned);
     }

@@ -1,15 +1,15 @@
 -- If the characters that led to an operation continue to those of a whole one, the next character
 -- is settled, and at the end the terminal is `Done`.
-use Rattle.std.proofs.Common.{◌≡◌, ◌≤◌, ◌<◌, ◌+◌, ◌*◌, arith, Some, length-append, ℕ, suc, List, [], ◌∷◌, ◌++◌, length, refl, sym, subst, ◌∙◌, ap, inl, inr, ◌⊎◌, true, append-nil, append_assoc}
+use Rattle.std.proofs.Common.{◌≡◌, ◌≤◌, ◌<◌, ◌+◌, ◌*◌, arith, Some, length-append, ℕ, suc, List, [], ◌∷◌, ◌++◌, length, refl, sym, subst, ◌∙◌, ap, inl, inr, ◌⊎◌, append-nil, append_assoc}
 use Rattle.std.specs.List.{AllByRecursion, flat_map}
 use Rattle.std.proofs.lemmas.Grind.{flat_map-append}
 use Rattle.apdu_core.specs.StatusWord.{ok}
 use Rattle.apdu_core.specs.CommandBytes.{Command}
 use Rattle.t0_core.specs.declared.host_end.HostTurn.TheVariants.{Done, Failed}
 use Rattle.t0_core.specs.Character.{Character}
-use Rattle.t0_core.specs.Dialogue.{Dialogue, IsDialogue, characters}
+use Rattle.t0_core.specs.Dialogue.{IsDialogue, characters}
 use Rattle.object_card.specs.OneStep.{Reply}
-use Rattle.card_terminal.specs.Gathered.{UnitOf, Gathers, dialogues_of, unit_data, tpdus}
+use Rattle.card_terminal.specs.Gathered.{UnitOf, dialogues_of, unit_data, tpdus}
 use Rattle.card_terminal.specs.Talk.{AreTakenUpTo, AreExchangesOf, talk_dialogues, talk_characters}
 use Rattle.card_terminal.specs.ExchangeSide.{ExchangeOf, exchange_turn}
 use Rattle.card_terminal.specs.ExchangeHistory.{ComesTo, Expects, BeginsExchange, FaultCameLast, unit_characters}

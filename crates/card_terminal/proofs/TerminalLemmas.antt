@@ -1,7 +1,7 @@
 -- After each call, the characters that led to an operation lead to its next state, with those of
 -- the call.
-use Rattle.std.proofs.Common.{◌≡◌, ◌≢◌, ℕ, List, [], ◌∷◌, ◌++◌, ◌⊎◌, inl, inr, refl, sym, subst, ◌∙◌, ap, append-nil, append_assoc, true, false}
-use Rattle.std.specs.List.{AllByRecursion, flat_map}
+use Rattle.std.proofs.Common.{◌≡◌, ◌≢◌, ℕ, List, [], ◌∷◌, ◌++◌, ◌⊎◌, inl, inr, refl, sym, ◌∙◌, ap, append-nil, append_assoc}
+use Rattle.std.specs.List.{flat_map}
 use Rattle.std.proofs.lemmas.Grind.{flat_map-append}
 use Rattle.apdu_core.specs.StatusWord.{StatusWord, ok}
 use Rattle.apdu_core.specs.CommandBytes.{Command}
@@ -9,7 +9,7 @@ use Rattle.t0_core.specs.declared.host_end.HostTurn.TheVariants.{Done}
 use Rattle.t0_core.specs.Character.{Character}
 use Rattle.t0_core.specs.Dialogue.{IsDialogue, characters}
 use Rattle.card_terminal.specs.Gathered.{UnitOf, dialogues_of}
-use Rattle.card_terminal.specs.Talk.{AreTakenUpTo, AreExchangesOf, talk_dialogues, talk_characters}
+use Rattle.card_terminal.specs.Talk.{AreExchangesOf, talk_dialogues, talk_characters}
 use Rattle.card_terminal.specs.ExchangeSide.{ExchangeOf, exchange_turn}
 use Rattle.card_terminal.specs.ExchangeHistory.{ComesTo, unit_characters}
 use Rattle.card_terminal.specs.TerminalSide.{OperationOf, AreLeft, HasCome, LeadsThrough, IsSettled, GoesToNext, GoesOver, with_exchange}

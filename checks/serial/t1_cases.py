@@ -21,7 +21,7 @@ GET_APDU, JOE = "00CA5F2000", "5F20034A4F459000"
 QUICK = "3B8081210323"
 BOOK = Path(__file__).resolve().parents[2] / "examples/blocks"
 BWT = 0.1
-CAUSE = "operation 1: too many tries without a valid block: the card "
+CAUSE = "operation 1: too many tries without progress: the card "
 OUTCOMES = {"none": "has not carried out the command\n",
             "unknown": "may have carried out the command\n",
             "part": "has carried out the command\n"}
@@ -408,7 +408,7 @@ def at_random(seed):
         assert program.output == TALK.answers and not program.faults, program.faults
         return
     number = program.output.count("\n") + 1
-    cause = f"operation {number}: too many tries without a valid block: the card "
+    cause = f"operation {number}: too many tries without progress: the card "
     wanted = [cause + outcome for outcome in OUTCOMES.values()]
     assert program.faults in wanted, f"{program.faults!r}"
 

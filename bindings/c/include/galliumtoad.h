@@ -234,7 +234,7 @@ GT_FUNCTION const char *gt_text(int32_t code) {
     case GT_PPS_RESERVED: return "PPS0 reserved";
     case GT_PPS_SURPLUS: return "characters after PCK";
     case GT_PPS_CHECK_WRONG: return "wrong PCK";
-    case GT_TRIES_SPENT: return "too many tries without a valid block";
+    case GT_TRIES_SPENT: return "too many tries without progress";
     case GT_EXTENSIONS_SPENT: return "too many requests from the card";
     case GT_ABORTED: return "aborted by the card";
     default: return "unknown code";
@@ -1493,8 +1493,9 @@ GT_MUST_CHECK int32_t gt_card_app_at(gt_card *c, size_t app, uint8_t aid[GT_AID_
     return galliumtoad_card_app_at(c, app, aid, GT_AID_LIMIT, n);
 }
 
-/* Copies a data object of an application. Both count from 0, the objects in the order of first
- * storing. It gives `tag`, `locked` (1 or 0), `value`, and `len`, the number of the value's bytes.
+/* Copies a data object of an application. Both count from 0: the applications in the order of
+ * building, the objects in the order of first storing. It gives `tag`, `locked` (1 or 0),
+ * `value`, and `len`, the number of the value's bytes.
  *
  * - GT_OK: all of it.
  * - GT_STATE: the card is not finished yet.

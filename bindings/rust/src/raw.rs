@@ -32,7 +32,11 @@ pub struct Handle(UnsafeCell<Held>);
 unsafe impl Send for Handle {}
 
 impl Handle {
-    /// A handle that holds nothing.
+    /// Makes a handle that holds nothing, as `GT_INIT` of the header does.
+    ///
+    /// # Panics
+    ///
+    /// If the library does not fit this crate: see `version_fits`.
     pub fn empty() -> Handle {
         version::look();
         Handle(UnsafeCell::new(Held {

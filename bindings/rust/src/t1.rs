@@ -19,7 +19,7 @@ codes! {
     /// Why a terminal's end at T=1 gave up. Each has the number that `galliumtoad.h` gives it.
     Cause {
         /// More than [`T1Limits::tries`] receptions were fruitless since the last progress.
-        TriesSpent = -90, "too many tries without a valid block";
+        TriesSpent = -90, "too many tries without progress";
         /// The card sent more than [`T1Limits::extensions`] S(WTX request) and S(IFS request) in
         /// one command.
         ExtensionsSpent = -91, "too many requests from the card";

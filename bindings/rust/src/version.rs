@@ -14,7 +14,7 @@ pub fn version() -> (u32, u32, u32) {
 /// Whether the library fits this crate: major and minor number are the same. A library that
 /// `GALLIUMTOAD_LIB_DIR` names may be another.
 ///
-/// The first call of this crate that needs the library looks at this, and panics if it is `false`.
+/// Every call of this crate that needs the library panics if this is `false`.
 #[must_use]
 pub fn version_fits() -> bool {
     let own = (

@@ -118,6 +118,6 @@ fn faults() {
     end.missed().expect("a block is awaited");
     end.missed().expect("a block is awaited");
     let text = end.fault().expect("a fault").to_string();
-    assert!(text.starts_with("too many tries without a valid block: "));
+    assert!(text.starts_with("too many tries without progress: "));
     gives_up(&mut end, Cause::TriesSpent, Outcome::NotCarriedOut);
 }

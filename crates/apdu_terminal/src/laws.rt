@@ -70,7 +70,8 @@ pub fn operations_by_whole_commands_are_single_steps()
         AnswersAll old operations replies new × (is_idle new.pending ≡ true) }
 {}
 
-/// No exchange with a card of data objects stalls: each GET RESPONSE that fetches brings data.
+/// No exchange with a card of data objects stalls, whatever the command, the count wanted and the
+/// card's state. If a GET RESPONSE of the exchange brings nothing, the card announces no more.
 pub fn no_exchange_of_commands_stalls()
     ensures { (c : Command) (wanted : Wanted) (pairs : List Pair) (old new : CardState) →
         StallsAt c wanted pairs → RespondsToAll Does old pairs new → ⊥ }

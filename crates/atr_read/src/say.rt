@@ -1,25 +1,28 @@
 //! Prints what one answer to reset means.
 
 use atr_core::{Atr, Classes, ClockStop, Group, Mode, block_guard_time};
-use std::alloc::Global;
+use hex::FromHexError;
+use std::alloc::{AllocError, Global};
 use std::io;
 use std::io::Write;
 
 /// Prints what the answer in this text means, or why it is not one. The text is hexadecimal digits,
-/// with or without spaces between them. Returns whether it is an answer to reset. If memory runs
-/// out for their bytes, prints `bad hex`, and returns `false`.
+/// with or without spaces between them. Returns whether it is an answer to reset.
 ///
 /// # Errors
-/// - `io::Error`: the output can't be written, or memory ran out for the digits. A part may be
-///   written.
+/// - `io::Error`: the output can't be written, or memory ran out. A part may be written.
 pub fn say<W: Write>(alloc: Global, text: &str, output: &mut W) -> io::Result<bool> {
     let mut digits = String::new(alloc);
     for word in text.split_ascii_whitespace() {
         digits.push_str(word)?;
     }
-    let Ok(bytes) = hex::decode(alloc, digits.as_str()) else {
-        writeln!(output, "{text}: bad hex")?;
-        return Ok(false);
+    let bytes = match hex::decode(alloc, digits.as_str()) {
+        Ok(bytes) => bytes,
+        Err(FromHexError::OutOfMemory) => return Err(AllocError.into()),
+        Err(_) => {
+            writeln!(output, "{text}: bad hex")?;
+            return Ok(false);
+        }
     };
     match Atr::read(&bytes) {
         Ok(answer) => {

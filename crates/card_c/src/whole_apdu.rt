@@ -82,8 +82,9 @@ pub fn responded_first(side: &mut ApduSide, unsent: Option<Unsent<'_>>, response
     }
 }
 
-/// Begins what is unsent by whole commands. Returns `None` if it has begun. Otherwise returns
-/// `STATE` if nothing is unsent, or `MEMORY` if memory ran out; then nothing changes.
+/// Begins the operation `unsent` by whole commands, in place of the last one of `side.terminal`.
+/// Returns `None` if that succeeds. Otherwise nothing changes: returns `STATE` if `unsent` is
+/// `None`, or `MEMORY` if memory ran out.
 pub fn opened(side: &mut ApduSide, unsent: Option<Unsent<'_>>) -> Option<i32>
     ensures { IsOpened unsent.entry side.old result side.new }
 {

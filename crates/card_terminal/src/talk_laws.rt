@@ -58,8 +58,9 @@ pub fn an_exchange_fits()
         length (flat_map received (so_far units first)) ≤ VALUE_LIMIT + HEAD_LIMIT }
 {}
 
-/// No exchange of any command with a card of data objects stalls: each GET RESPONSE that fetches
-/// brings data. The plans have cuts of 1 to 256.
+/// No exchange of any command with a card of data objects stalls, in any state of the card. If a
+/// GET RESPONSE of the exchange brings nothing, the card announces no more. The plans have cuts of
+/// 1 to 256.
 pub fn no_exchange_stalls()
     ensures { (c : Command) (units : List UnitOf) (plans : List Course) (old new : CardState) →
         HaveCuts plans → Runs Does old (flat_map dialogues_of units) plans new → Stall c units → ⊥ }

@@ -16,10 +16,10 @@ pub enum AnswerFault {
     NotAsked,
     /// The answer contains more data than P3 asks for (`00`: 256).
     TooMany,
-    /// The data exceed the room of the gather.
+    /// The data, with those gathered before, exceed the room of the gather.
     TooLong,
-    /// A `GET RESPONSE` brought no data, and the card announces more. Only an exchange of several
-    /// TPDUs returns this, never the end of one TPDU.
+    /// A `GET RESPONSE` that the exchange added, with its repetition, brought no data, and the card
+    /// announces more. Only an exchange of several TPDUs returns this.
     Stalled,
 }
 

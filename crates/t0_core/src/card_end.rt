@@ -54,12 +54,13 @@ impl Error for NotListening {}
 /// The progress of a card's end in a TPDU.
 #[derive(Clone, Copy, Debug, PartialEq, Eq)]
 pub enum Phase {
-    /// The terminal sends the header. `taken` is the number of its characters so far, 0 to 5.
+    /// The header is not judged yet. `taken` is the number of its characters so far, 0 to 5. At 5
+    /// the card sends next.
     Opening {
         bytes: [u8; 5],
         taken: usize,
     },
-    /// The card refused the header. `done` is the number of steps of the plan so far.
+    /// The card refused the header. `done` is the number of plan steps carried out or skipped.
     Refused {
         header: Header,
         p3: u8,

@@ -15,8 +15,8 @@ pub enum LineFault {
     AfterEnd,
     /// A data character is expected from the card, and the gather is full.
     TooLong,
-    /// A `GET RESPONSE` brought no data, and the card announces more. Only an exchange of several
-    /// TPDUs returns this, never the end of one TPDU.
+    /// A `GET RESPONSE` that the exchange added, with its repetition, brought no data, and the card
+    /// announces more. Only an exchange of several TPDUs returns this.
     Stalled,
     /// The end has header or data characters to send first.
     NotListening,

@@ -23,7 +23,7 @@ use std::io::{Read, Write};
 /// The most bytes of a trace (this project's profile).
 pub const TRACE_LIMIT: usize = 1_099_511_627_776;
 
-/// The most bytes of a line (this project's profile).
+/// The most bytes of a line, with its CR and without its LF (this project's profile).
 pub const LINE_LIMIT: usize = 4_194_304;
 
 /// How many bytes a reader is asked for at once.
@@ -100,7 +100,14 @@ fn explain_chunks<R: Read, W: Write>(
     Err(ExplainFault::InputTooLong)
 }
 
-/// Explains the lines that end in a chunk, and keeps the start of the next line in `line`.
+/// Explains the lines that end in `chunk`, at LF or CR LF. `line` holds the start of the next line.
+/// It is empty before the first chunk; pass it on unchanged.
+///
+/// # Errors
+/// The first fault. No later line is explained, and no chunk may follow.
+/// - `LineTooLong`: a line exceeds `LINE_LIMIT` bytes.
+/// - `OutOfMemory`: memory ran out.
+/// - those of `Explainer::line`.
 pub fn explain_chunk(
     explainer: &mut Explainer,
     chunk: &[u8],

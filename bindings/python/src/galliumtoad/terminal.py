@@ -23,8 +23,8 @@ class Level(enum.Enum):
 class Transport(Protocol):
     """Any callable that carries bytes to a card and returns the card's data and SW1 SW2.
 
-    Its attribute `level` is a `Level`. A callable without one carries TPDUs. It may raise: then
-    `Terminal.run` ends with that, and sends nothing again.
+    Its attribute `level` is a `Level`. Any other value, or no attribute, means TPDUs. It may raise:
+    then `Terminal.run` ends with that, and sends nothing again.
     """
 
     def __call__(self, data: bytes, /) -> Bytes: ...
@@ -264,7 +264,7 @@ class T1(Lasting):
     ...         no_card(bytes.fromhex("00CA005000"))
     ...     except BlockError as error:
     ...         print(f"{error}: carried out: {error.outcome}")
-    too many tries without a valid block: carried out: no
+    too many tries without progress: carried out: no
     """
 
     level = Level.APDU

@@ -115,7 +115,8 @@ impl Listener {
         }
     }
 
-    /// Hears `bytes` as a header, between two dialogues.
+    /// Hears the five characters of a header from the terminal. No dialogue may be in progress.
+    /// Returns `AllocError` if memory ran out, or if no dialogue continues with a character.
     pub fn hear_header(&mut self, bytes: &[u8]) -> Result<(), AllocError> {
         for &byte in bytes {
             if self.hear(End::Terminal, byte).is_err() {

@@ -143,7 +143,8 @@ pub fn turned_by(byte: u8) -> Option<Convention>
     }
 }
 
-/// Whether the card may begin an answer with this character.
+/// Whether this end may begin an answer to reset with this character: the card may, with `3B`,
+/// `3F` or `03`. `03` is `3F` as the direct convention reads it.
 pub fn begins_answer(from: End, byte: u8) -> bool
     ensures { result ≡ begins_answer from byte }
 {

@@ -34,11 +34,12 @@ pub enum TraceLine<'a> {
 /// Why a line is refused.
 #[derive(Clone, Copy)]
 pub enum LineFault {
-    /// It begins with a sign, and no space and digits of bytes follow.
+    /// It begins with a sign, and something other than a space and two digits for each byte
+    /// follows. A sign alone is valid. With `--unsigned`: it has not two digits for each byte.
     Hex,
-    /// Its sign has another form than this one of the lines before.
+    /// Its sign has another form than this one, which `--form` or a line before gave.
     OtherForm(Form),
-    /// It has digits without a sign, and no line before has a sign.
+    /// It has digits without a sign. No line before has a sign, and there is no `--form`.
     NoSign,
     /// It begins with a sign, and `--unsigned` expects none.
     Signed,
@@ -57,7 +58,12 @@ impl From<AllocError> for LineFault {
     }
 }
 
-/// Reads a line. `time` is its time, and `rest` is what follows that.
+/// Reads a line. `time` is its time, and `rest` is what follows that, without spaces before it. The
+/// sender is the end of the sign: `--swap` has no effect here. A note is the whole line, with its
+/// time.
+///
+/// # Errors
+/// Those of `LineFault`; `Hex` precedes `OtherForm`.
 pub fn read_line<'a>(
     alloc: Global,
     reading: &Reading,

@@ -1,5 +1,5 @@
 -- The data of a command are a slice of those of its operation.
-use Rattle.std.proofs.Common.{◌≡◌, ◌≤◌, ◌+◌, ◌*◌, arith, true, false, Bool, ℕ, List, [], ◌∷◌, ◌++◌, length, drop, refl, sym, subst, ◌∙◌, ap, Option, None, Some, if◌then◌else◌, append-nil}
+use Rattle.std.proofs.Common.{◌≡◌, ◌≤◌, ◌+◌, arith, true, false, Bool, ℕ, List, [], ◌∷◌, ◌++◌, length, drop, refl, sym, subst, ◌∙◌, ap, Option, None, Some, if◌then◌else◌, append-nil}
 use Rattle.std.specs.List.{slice_range}
 use Rattle.std.proofs.Math.Seq.{drop-append_seam}
 use Rattle.std.proofs.lemmas.List.{drop-drop, length-drop}
@@ -14,7 +14,7 @@ use Rattle.t0_core.specs.HostSide.{turn_of}
 use Rattle.object_card.specs.CarryingOut.{put_header}
 use Rattle.object_card.specs.OneStep.{Put}
 use Rattle.card_terminal.specs.Talk.{AreCommandsOf}
-use Rattle.card_terminal.specs.ExchangeSide.{ExchangeOf, UnderWay, IsKept, IsBounded, exchange_turn}
+use Rattle.card_terminal.specs.ExchangeSide.{ExchangeOf, UnderWay, exchange_turn}
 use Rattle.card_terminal.specs.ExchangeHistory.{ComesTo}
 use Rattle.card_terminal.specs.OwnedExchange.{ExchangeMarkOf, over_data, IsSound}
 use Rattle.card_terminal.specs.OperationRoom.{IsPart, BeginsWith}

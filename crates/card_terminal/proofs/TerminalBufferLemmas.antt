@@ -1,6 +1,6 @@
 -- What an exchange does with a buffer, its terminal does.
 use Rattle.std.proofs.Common.{◌≡◌, ◌<◌, ℕ, List, [], ◌∷◌, length, take, get_or, inl, inr, refl, sym, subst, ◌∙◌, ap, true, false, Bool, Option, Some, None}
-use Rattle.std.specs.Prelude.{Result, Ok, Err, MatchResult, MatchOption, IfErr, not, is_some}
+use Rattle.std.specs.Prelude.{Result, Ok, Err, MatchResult, MatchOption, IfErr, not}
 use Rattle.apdu_core.specs.StatusWord.{ok}
 use Rattle.t0_core.specs.declared.host_end.HostTurn.{HostTurn}
 use Rattle.t0_core.specs.declared.host_end.HostTurn.TheVariants.{Sends, Done, Failed}

@@ -1,5 +1,5 @@
 -- The command that an exchange returns before its first character is the one that began it.
-use Rattle.std.proofs.Common.{◌≡◌, ◌≤◌, ℕ, zero, suc, List, [], ◌∷◌, refl, sym, subst, ◌∙◌, ap, arith, true, false, not, ◌&&◌, ◌==◌, Bool, Option, Some, None, if◌then◌else◌}
+use Rattle.std.proofs.Common.{◌≡◌, ◌≤◌, ℕ, zero, suc, List, [], ◌∷◌, refl, sym, ◌∙◌, ap, arith, true, false, not, ◌&&◌, ◌==◌, Bool, Option, Some, None, if◌then◌else◌}
 use Rattle.std.specs.Prelude.{SomeIff, IfSome}
 use Rattle.std.specs.List.{AllByRecursion}
 use Rattle.std.proofs.lemmas.Bool.{eqb-true}
@@ -8,7 +8,7 @@ use Rattle.apdu_core.specs.StatusWord.{StatusWord}
 use Rattle.apdu_core.specs.CommandBytes.{Command, IsCommand}
 use Rattle.t0_core.specs.declared.direction.Direction.{Direction}
 use Rattle.t0_core.specs.declared.direction.Direction.TheVariants.{ToCard, FromCard}
-use Rattle.t0_core.specs.declared.host_end.HostTurn.TheVariants.{Sends, Done, Failed}
+use Rattle.t0_core.specs.declared.host_end.HostTurn.TheVariants.{Done, Failed}
 use Rattle.t0_core.specs.Character.{Character}
 use Rattle.t0_core.specs.Dialogue.{Dialogue}
 use Rattle.t0_core.specs.Front.{Front}
@@ -18,8 +18,8 @@ use Rattle.t0_core.specs.HostSide.{Hosting, AreForeseen, turn_of}
 use Rattle.t0_core.specs.TpduBytes.{Asked, asked_by, due_by}
 use Rattle.card_terminal.specs.declared.unsent.Unsent.{Unsent}
 use Rattle.card_terminal.specs.declared.wanted.Wanted.TheVariants.{Everything, Bytes}
-use Rattle.card_terminal.specs.Gathered.{UnitOf, Single, Repeated, wanted_by, Opening}
-use Rattle.card_terminal.specs.ExchangeSide.{ExchangeOf, UnderWay, HostOpensBy, HostOpens, exchange_turn}
+use Rattle.card_terminal.specs.Gathered.{UnitOf, Single, Repeated, wanted_by}
+use Rattle.card_terminal.specs.ExchangeSide.{ExchangeOf, UnderWay, HostOpensBy, exchange_turn}
 use Rattle.card_terminal.specs.ExchangeHistory.{ComesTo, to_front, to_end, to_stall, to_fault}
 use Rattle.card_terminal.specs.Talk.{AreTakenUpTo}
 use Rattle.card_terminal.specs.TerminalSide.{OperationOf, AreLeft}

@@ -1,4 +1,4 @@
-use Rattle.std.proofs.Common.{get_or, ◌∙◌}
+use Rattle.std.proofs.Common.{get_or}
 use Rattle.card_terminal.specs.ExchangeSteps.{IsTaking}
 use Rattle.card_terminal.specs.OwnedExchange.{of_parts}
 use Rattle.card_terminal.proofs.TakingLemmas.{none_yet, taken_on, taken_up_to, taken_all}

@@ -1,9 +1,7 @@
 use Rattle.std.proofs.Common.{sym, subst, ap}
 use Rattle.t0_core.specs.HostSide.{Hosting}
 use Rattle.t0_core.specs.HostMark.{HasOnly}
-use Rattle.card_terminal.specs.ExchangeSide.{ExchangeOf}
-use Rattle.card_terminal.specs.ExchangeSteps.{IsTurn}
-use Rattle.card_terminal.specs.OwnedExchange.{ExchangeMarkOf, over_data, of_parts, IsSound}
+use Rattle.card_terminal.specs.OwnedExchange.{ExchangeMarkOf, over_data, IsSound}
 use Rattle.card_terminal.proofs.OwnedLemmas.{same_parts, end_has_only, turned}
 use Rattle.card_terminal.proofs.exchange.exchange_mark.ExchangeMark.next.Goals as goal
 

@@ -2,8 +2,6 @@ use Rattle.std.proofs.Common.{refl, sym, subst, ap, ◌∙◌, Some}
 use Rattle.t0_core.specs.declared.host_end.HostTurn.TheVariants.{Sends}
 use Rattle.t0_core.specs.HostSide.{Hosting}
 use Rattle.t0_core.specs.HostMark.{HasOnly}
-use Rattle.card_terminal.specs.ExchangeSide.{ExchangeOf}
-use Rattle.card_terminal.specs.ExchangeSteps.{IsTurn}
 use Rattle.card_terminal.specs.OwnedExchange.{ExchangeMarkOf, over_data, of_parts, IsSound}
 use Rattle.card_terminal.proofs.ExchangeLemmas.{sending_is_going}
 use Rattle.card_terminal.proofs.OwnedLemmas.{same_parts, same_sent, end_has_only, turned}

@@ -1,6 +1,5 @@
 use Rattle.std.proofs.Common.{sym, subst, ap}
 use Rattle.t0_core.specs.HostSide.{Hosting}
-use Rattle.card_terminal.specs.ExchangeSide.{ExchangeOf}
 use Rattle.card_terminal.specs.ExchangeSteps.{IsTaking}
 use Rattle.card_terminal.specs.OwnedExchange.{ExchangeMarkOf, over_data, of_parts, IsSound}
 use Rattle.card_terminal.proofs.OwnedLemmas.{same_parts, end_has_only}

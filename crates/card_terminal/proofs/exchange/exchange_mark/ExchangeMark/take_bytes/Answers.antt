@@ -1,8 +1,5 @@
 use Rattle.std.proofs.Common.{sym, subst, ap}
 use Rattle.t0_core.specs.HostSide.{Hosting}
-use Rattle.card_terminal.specs.Buffers.{IsTakingAll}
-use Rattle.card_terminal.specs.ExchangeSide.{ExchangeOf}
-use Rattle.card_terminal.specs.ExchangeSteps.{IsTaking}
 use Rattle.card_terminal.specs.OwnedExchange.{ExchangeMarkOf, over_data, of_parts, IsSound}
 use Rattle.card_terminal.proofs.OwnedLemmas.{same_parts, end_has_only}
 use Rattle.card_terminal.proofs.exchange.exchange_mark.ExchangeMark.take_bytes.Goals as goal

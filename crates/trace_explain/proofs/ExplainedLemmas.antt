@@ -101,7 +101,7 @@ pub both_hold : (a b : Bool) → (a && b) ≡ true → (a ≡ true) × (b ≡ tr
 both_hold true b e = (refl, e)
 both_hold false b e = absurd (let no : false ≡ true = e in cc)
 
--- It takes a character: of an opening, of the dialogue, or with which the card answers again.
+-- It takes a character: of an opening, of the dialogue, or the first of a later answer to reset.
 pub taken_before : (from : End) (b : ℕ) (events : List Event) (before : List Report)
     (old new : Explainer) → is_dialogue (role_of (opening_of old.preface) from b) ≡ false
     → HasExplained events before new → position_of new ≡ after_character (position_of old) from b

@@ -214,7 +214,7 @@ after_character at from b = record {
   reading = at.reading;
 }
 
--- The event of a character: a character of an opening is none.
+-- The event of a character. A character of an opening has no event.
 abbrev pub dialogue_events : Opening → End → ℕ → List Event
 dialogue_events o from b =
     if is_dialogue (role_of o from b) then history.Passed (from, b) ∷ [] else []

@@ -17,8 +17,8 @@ use Rattle.trace_explain.specs.declared.follow.opening.Role.{Role}
 use Rattle.trace_explain.specs.declared.follow.opening.Role.TheVariants as role
 use Rattle.trace_explain.specs.declared.follow.preface.Preface.{Preface}
 
--- What has come since the trace began or the card was reset: how far it is; how the characters of
--- the answer are turned; the answer; the last PPS request and the response to it.
+-- What was received since the trace began or the card was reset: how far it is; how the characters
+-- of the answer are turned; the answer; the last PPS request and the response to it.
 pub record Opening : Type 0 where
   pub stage : Stage
   pub turned : Convention
@@ -35,7 +35,7 @@ opening_of p = record {
   response = p.response.items;
 }
 
--- nothing has come; and the dialogue has begun
+-- nothing was received; and the dialogue has begun
 abbrev pub opening_at : Stage → Opening
 opening_at stage =
     record { stage = stage; turned = Direct; answer = []; request = []; response = [] }

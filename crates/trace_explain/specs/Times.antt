@@ -2,7 +2,7 @@
 use Rattle.std.specs.Prelude.{ℕ, ◌+◌, ◌-◌, List, [], ◌∷◌, take, drop, length, Bool, true, false, ◌==◌, ◌&&◌, ◌||◌, nat_le, nat_lt, if◌then◌else◌}
 use Rattle.std.specs.List.{position_or_len}
 
--- The place of the first such byte; the length if there is none.
+-- The place of the first such byte; the length if it is missing.
 abbrev pub place_of : ℕ → List ℕ → ℕ
 place_of byte line = position_or_len (λ b. b == byte) line
 
@@ -39,7 +39,7 @@ is_unit (b ∷ []) = b == 115
 is_unit (b ∷ c ∷ []) = ((b == 109) || (b == 117)) && (c == 115)
 is_unit (b ∷ c ∷ d ∷ rest) = false
 
--- The length of a time of each kind before the sign; 0 if there is none.
+-- The length of a time of each kind before the sign; 0 without such a time.
 abbrev pub stamp_len : List ℕ → ℕ
 stamp_len line = if is_stamp (take (place_of 32 line) line) then place_of 32 line else 0
 

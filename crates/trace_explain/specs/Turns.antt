@@ -66,8 +66,8 @@ data_turn (Some way) known ins = Ok (sent way)
 data_turn None (Some way) ins = Ok (sent way)
 data_turn None None ins = Err (unknown.Way ins)
 
--- P3 `00` asks the card for 256 bytes (10.3.2). If the data go to the card there are none, and SW1
--- and SW2 follow INS.
+-- P3 `00` asks the card for 256 bytes (10.3.2). If the data go to the card, it means no data, and
+-- SW1 and SW2 follow INS.
 abbrev pub with_p3_00 : Option Direction → ℕ → ℕ → Result End TurnFault
 with_p3_00 (Some FromCard) ins count = Ok Card
 with_p3_00 (Some ToCard) ins count = Ok (card_if (nat_lt count 2))

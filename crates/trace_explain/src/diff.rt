@@ -211,7 +211,7 @@ impl<'r, R: Read> Trace<'r, R> {
         self.explainer.end()
     }
 
-    /// Explains the lines that end in one more chunk. Returns false if there is none.
+    /// Explains the lines that end in one more chunk. Returns false at the end of the trace.
     fn read_chunk(&mut self) -> Result<bool, ExplainFault> {
         let mut chunk = [0; CHUNK];
         match self.reader.read(&mut chunk) {

@@ -210,8 +210,8 @@ impl Explainer {
         }
     }
 
-    /// Takes a character of an opening, of the dialogue, or with which the card answers again.
-    /// Returns true if it is none of these. `rest` is its line from there on.
+    /// Takes a character of an opening, of the dialogue, or the first of a later answer to reset.
+    /// Returns true if it is not one of these. `rest` is its line from there on.
     fn character(&mut self, from: End, byte: u8, rest: &[u8]) -> Result<bool, AllocError>
         ensures takes { (events : List Event) (before : List Report) →
             HasExplained events before self.old → IfOk result

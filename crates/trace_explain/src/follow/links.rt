@@ -17,7 +17,7 @@ pub enum Link {
     Piece(u64),
     /// The last piece of a chain, with this number.
     LastPiece(u64),
-    /// A piece of a chain that continues, some pieces of which were missed.
+    /// A piece of a chain that continues, after pieces that were missed.
     LaterPiece,
     /// The last piece of such a chain.
     LastOfLater,

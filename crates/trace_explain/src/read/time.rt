@@ -87,7 +87,7 @@ fn shift_len(line: &[u8]) -> usize
     }
 }
 
-/// Returns the place of the first byte that equals `byte`; the length if there is none.
+/// Returns the place of the first byte that equals `byte`; the length if it is missing.
 pub fn place_of(byte: u8, line: &[u8]) -> usize
     ensures value { result ≡ place_of byte line.now }
     ensures within { result ≤ length line.now }

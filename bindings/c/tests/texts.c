@@ -16,6 +16,19 @@ static void unknown(void) {
     CHECK(known, 14 + 2 * 256);
 }
 
+/* The texts of codes that are not faults, and of statuses by their first byte. The crate for Rust
+ * has other names for the former, and ranges for the latter. */
+static void known(void) {
+    uint16_t low;
+    CHECK(strcmp(gt_text(GT_OK), "ok"), 0);
+    CHECK(strcmp(gt_text(GT_SENDS), "sends"), 0);
+    CHECK(strcmp(gt_text(GT_DONE), "done"), 0);
+    for (low = 0; low <= 0xFF; low++) {
+        CHECK(strcmp(gt_status_text((uint16_t)(0x6100 | low)), "more data available"), 0);
+        CHECK(strcmp(gt_status_text((uint16_t)(0x6C00 | low)), "fewer data than asked for"), 0);
+    }
+}
+
 /* The numbers in fields of an answer to reset, and the version. */
 static void numbers(void) {
     CHECK(GT_TERMINAL, 0);
@@ -119,6 +132,7 @@ static void layout_of_an_answer(void) {
 
 int main(void) {
     unknown();
+    known();
     numbers();
     layouts();
     layout_of_an_answer();

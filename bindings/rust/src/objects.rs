@@ -30,14 +30,15 @@ codes! {
 #[derive(Clone, Copy, Debug, PartialEq, Eq, Hash)]
 #[non_exhaustive]
 pub enum ObjectsError {
-    /// Memory ran out.
+    /// Memory ran out. Only [`Objects::over`] returns this.
     Memory,
     /// A step of the path is not a tag of one to three bytes. Only [`find`] returns this.
     NoTag,
     /// The bytes are not a list of objects. This is their first fault, from the left.
     #[non_exhaustive]
     Fault {
-        /// The place of the innermost object at fault, counted in bytes from 0.
+        /// The place of the first byte that starts no object, counted in bytes from 0. A template
+        /// around it is not the fault, and nothing inside a cut template counts.
         place: usize,
         /// What is wrong there.
         reason: Reason,

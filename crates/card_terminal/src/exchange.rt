@@ -103,8 +103,9 @@ impl<'a, A: Allocator> Exchange<'a, A> {
         Exchange::in_room(alloc, command, RESPONSE_LIMIT)
     }
 
-    /// Begins the exchange of a command whose response has at most `limit` bytes, 0 to
-    /// `RESPONSE_LIMIT`, and allocates room for them. More data are a fault, `TooLong`.
+    /// Begins the exchange of a command, and allocates room for `limit` data bytes of its response,
+    /// 0 to `RESPONSE_LIMIT`. They count over all its TPDUs. One more is a fault, `TooLong`: the
+    /// exchange has failed for good.
     ///
     /// # Errors
     ///

@@ -23,7 +23,7 @@ use object_card::{CardBuilder, ObjectCard};
 use std::alloc::{AllocError, Allocator};
 use t0_core::{CardEnd, Plan, Plans, Recorder};
 
-/// A card in a session with a terminal, and the plans for the next operation.
+/// A card in a session with a terminal, and the plans for the next operation or command.
 #[derive(Drop)]
 pub struct BothEnds<A: Allocator + Copy> {
     session: Session<ObjectCard<A>>,

@@ -4,7 +4,8 @@ ghost use Rattle.std.specs.Prelude.{◌≡◌, ℕ, ◌<◌, ◌≤◌, [], ◌�
 use std::alloc::{AllocError, Allocator, Global};
 use std::marker::Model;
 
-/// A buffer for the data characters from the card, allocated once.
+/// A buffer for the data characters from the card. Its room is fixed when it is made. Each TPDU
+/// appends to it, until `clear`. If it is full, a further data character is a fault, `TooLong`.
 #[derive(Drop)]
 pub struct Gather<A: Allocator = Global> {
     bytes: Vec<u8, A>,

@@ -41,8 +41,12 @@ impl fmt::Display for Reason {
     }
 }
 
-/// Why bytes are not a list of objects, and where. `place` is the offset of the first byte of the
-/// innermost object at fault.
+/// The first fault, from the left, of bytes that are not a list of objects. `place` is the offset
+/// of the first byte that starts no object. A template around that byte is not the fault, and
+/// nothing inside a cut template counts.
+///
+/// [`Tag::read`](crate::Tag::read) returns one at place 0 if the bytes start with no tag, also for
+/// empty bytes and padding.
 #[derive(Clone, Copy, Debug, PartialEq, Eq, Hash)]
 pub struct TlvFault {
     pub place: usize,

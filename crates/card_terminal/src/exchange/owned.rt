@@ -57,9 +57,9 @@ impl OwnedExchange {
         OwnedExchange::in_room(alloc, command, RESPONSE_LIMIT)
     }
 
-    /// Begins the exchange of a command whose response has at most `limit` bytes, 0 to
-    /// `RESPONSE_LIMIT`. Allocates room for them, and a copy of the command's data. More data are a
-    /// fault, `TooLong`.
+    /// Begins the exchange of a command. Allocates room for `limit` data bytes of its response, 0
+    /// to `RESPONSE_LIMIT`, and a copy of the command's data. The bytes count over all its TPDUs.
+    /// One more is a fault, `TooLong`: the exchange has failed for good.
     ///
     /// # Errors
     ///

@@ -4,7 +4,8 @@ use crate::describe::mask::HIDDEN;
 use std::fmt;
 use t0_core::{Direction, Due, End};
 
-/// A hint, if a trace without signs has an unexpected byte before its first whole TPDU.
+/// The hint at an unexpected byte of a trace without signs, if no answer to reset, line `reset` or
+/// whole TPDU precedes it.
 pub const ASTRAY: &str = "the trace may begin within a TPDU";
 
 /// A byte of the trace, which may be hidden.

@@ -13,7 +13,8 @@ use t0_core::{Direction, Due, End};
 /// Why the sender of a character is unknown.
 #[derive(Clone, Copy, Debug, PartialEq, Eq)]
 pub enum TurnFault {
-    /// It is the first data character, if this instruction has data, and their way is unknown.
+    /// It is the first data character, if the instruction with this INS has data, and their way is
+    /// unknown.
     Way(u8),
     /// It follows an invalid answer to reset, and may be part of that.
     Answer,

@@ -62,7 +62,7 @@ pub struct Head<'a> {
     pub kind: Kind,
     /// The line of the trace in which it begins, counted from 1.
     pub line: u64,
-    /// SW1 and SW2 of a whole TPDU, otherwise nothing.
+    /// SW1 and SW2 of a whole TPDU. SW1 alone if the TPDU is cut off after it. Otherwise empty.
     pub status: &'a [u8],
     /// Its name in links.
     pub anchor: Anchor,

@@ -37,7 +37,7 @@ The lines after them are carried out in order:
   get TAG            reads a data object
   put TAG VALUE      stores a data object
   send HEX           sends one command, of the case that goes with its INS
-  plan STEPS CUT     how the card answers one TPDU of the next operation
+  plan STEPS CUT     how the card answers one TPDU of the next operation or send
   reset              resets the card
   table              prints what the card holds
 

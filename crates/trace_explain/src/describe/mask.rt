@@ -106,7 +106,8 @@ impl Origin {
 pub enum Shown {
     /// All.
     All,
-    /// Objects, except the values of those that the mask hides.
+    /// Objects, except the values of those that the mask hides. Nothing if the data are not a list
+    /// of objects.
     Objects,
     /// Nothing.
     Nothing,
@@ -125,6 +126,11 @@ impl Mask {
 
     /// The mask that hides reference data, and objects with the tags in `words`. Tags are
     /// hexadecimal digits, separated by commas. An empty text has no tag.
+    ///
+    /// # Errors
+    ///
+    /// - `Form`: a part of `words` between commas is not a tag of one to three bytes.
+    /// - `OutOfMemory`: memory ran out.
     pub fn of(alloc: Global, words: &str) -> Result<Mask, TagsFault>
         ensures hides { IfOk result (λ mask. mask.hides ≡ true) }
         ensures no_tags { words.now ≡ [] → IfOk result (λ mask. mask.tags.items ≡ []) }
@@ -213,7 +219,7 @@ impl Mask {
         }
     }
 
-    /// Adds bytes of unknown meaning, as lines of digits. Each mask hides them.
+    /// Adds bytes of unknown meaning as lines of digits, or `**` if the mask hides anything.
     pub fn push_unknown(&self, text: &mut Sheet, bytes: &[u8]) {
         if self.hides {
             push_hidden_line(text);

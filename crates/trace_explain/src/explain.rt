@@ -29,7 +29,8 @@ pub const LINE_LIMIT: usize = 4_194_304;
 /// How many bytes a reader is asked for at once.
 pub const CHUNK: usize = 16_384;
 
-/// Explains a trace, and writes the explanation.
+/// Explains a trace, and writes the explanation. If it resumes, it continues after an unexpected
+/// character.
 ///
 /// # Errors
 ///
@@ -106,7 +107,9 @@ fn explain_chunks<R: Read, W: Write>(
 /// It is empty before the first chunk; pass it on unchanged.
 ///
 /// # Errors
+///
 /// The first fault. No later line is explained, and no chunk may follow.
+///
 /// - `LineTooLong`: a line exceeds `LINE_LIMIT` bytes.
 /// - `OutOfMemory`: memory ran out.
 /// - those of `Explainer::line`.

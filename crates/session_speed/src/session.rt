@@ -56,7 +56,7 @@ pub fn carry_out(alloc: Global, session: &mut ObjectSession, ops: &[Op]) -> anyh
     run(alloc, session, ops, &mut Silent)
 }
 
-/// The number of characters of one operation on the line.
+/// Carries out one operation of a load, and returns the number of its characters on the line.
 pub fn characters_of_one(
     alloc: Global,
     session: &mut ObjectSession,

@@ -146,7 +146,7 @@ impl Story {
         drops
     }
 
-    /// Returns the bytes of what is complete.
+    /// Returns the bytes of what is complete with the last TPDU; no bytes for `None`.
     pub fn whole(&self, whole: Whole) -> &[u8] {
         match whole {
             Whole::None => &[],
@@ -192,7 +192,7 @@ pub fn header_of(tpdu: &Tpdu) -> Option<(Header, u8)>
     }
 }
 
-/// Returns the status of a whole TPDU.
+/// Returns the status of a whole TPDU; `None` if it is cut off.
 pub fn status_of(tpdu: &Tpdu) -> Option<Status> {
     match tpdu.status.as_slice() {
         [sw1, sw2] => Status::new(*sw1, *sw2),
@@ -200,7 +200,7 @@ pub fn status_of(tpdu: &Tpdu) -> Option<Status> {
     }
 }
 
-/// Returns the terminal's data.
+/// Returns the terminal's data, as far as received.
 pub fn sent(tpdu: &Tpdu) -> &[u8] {
     if tpdu.way == Some(Direction::ToCard) {
         tpdu.moved.as_slice()
@@ -209,7 +209,7 @@ pub fn sent(tpdu: &Tpdu) -> &[u8] {
     }
 }
 
-/// Returns the card's data.
+/// Returns the card's data, as far as received.
 pub fn brought(tpdu: &Tpdu) -> &[u8] {
     if tpdu.way == Some(Direction::FromCard) {
         tpdu.moved.as_slice()

@@ -10,7 +10,7 @@ use t0_core::Direction;
 /// The ways that `--to-card` and `--from-card` give, for every class.
 #[derive(Clone, Copy)]
 pub struct Ways {
-    /// The way of each INS.
+    /// The way of each INS; `None` if the options don't give it.
     pub given: [Option<Direction>; 256],
 }
 

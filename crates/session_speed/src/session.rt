@@ -51,7 +51,7 @@ fn one(alloc: Global, op: Op) -> Result<Vec<Op>, AllocError> {
     Ok(ops)
 }
 
-/// Carries out operations. The card must answer each with `9000`.
+/// Carries out operations. It is an error if the card does not answer one with `9000`.
 pub fn carry_out(alloc: Global, session: &mut ObjectSession, ops: &[Op]) -> anyhow::Result<()> {
     run(alloc, session, ops, &mut Silent)
 }

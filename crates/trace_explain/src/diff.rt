@@ -34,10 +34,12 @@ struct Trace<'r, R: Read> {
     fault: Option<ExplainFault>,
 }
 
-/// Compares two traces, and writes the first TPDU that differs, and in what; or that one ends
-/// before the other, and the next TPDU of that; or that they are alike. Returns whether they are
-/// alike, even if nobody reads the output any more. Ignores procedure bytes, and what is between
-/// TPDUs. A TPDU that is cut off is compared as far as it was received.
+/// Compares two traces, and writes the first TPDU that differs, and in what. If one trace ends
+/// before the other, it writes the next TPDU of the other. If they are alike, it writes their
+/// number of TPDUs. Returns whether they are alike, even if nobody reads the output any more.
+///
+/// It ignores procedure bytes, and what is between TPDUs. A TPDU that is cut off is compared as far
+/// as it was received.
 ///
 /// # Errors
 ///

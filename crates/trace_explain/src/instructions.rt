@@ -184,8 +184,8 @@ pub fn is_interindustry(header: Header) -> bool {
     header.cla & 0x80 == 0
 }
 
-/// Whether the data of commands with this INS may be secret: VERIFY, CHANGE REFERENCE DATA, DISABLE
-/// and ENABLE VERIFICATION REQUIREMENT, RESET RETRY COUNTER, in any class.
+/// Whether the data of commands with this INS may be secret, in any class. These are VERIFY, CHANGE
+/// REFERENCE DATA, DISABLE and ENABLE VERIFICATION REQUIREMENT, and RESET RETRY COUNTER.
 pub fn is_secret(ins: u8) -> bool
     ensures { result ≡ is_secret ins }
 {

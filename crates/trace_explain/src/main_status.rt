@@ -21,7 +21,7 @@ use std::{fmt, io};
 /// Runs the program on its words, and returns its exit status. The first word is its name.
 ///
 /// - 0: it explained the trace and found no protocol error, or found two traces alike. Or it wrote
-///   help or the version to `output`, or nobody reads `output` any more.
+///   help or the version to `output`, or nobody reads the explanation any more.
 /// - 1: a fault or a protocol error, which it writes to `faults`. Or two traces differ: `output`
 ///   shows in what.
 /// - 2: the command line is refused, for a reason that it writes to `faults`.

@@ -20,7 +20,8 @@ use tlv_core::{ObjectTag, Tag};
 /// What is shown in place of hidden data.
 pub const HIDDEN: &str = "**";
 
-/// What is hidden: nothing; or reference data, and objects with these tags.
+/// What is hidden: nothing; or reference data, bytes of unknown meaning, and objects with these
+/// tags. With tags it also hides data that may be part of such an object.
 #[derive(Drop)]
 pub struct Mask {
     hides: bool,
@@ -157,8 +158,8 @@ impl Mask {
         Ok(Mask { hides, tags })
     }
 
-    /// Whether it hides anything. If so it hides all bytes of unknown meaning: notes, unexpected
-    /// bytes, and a line that may be a header.
+    /// Whether it hides anything. If so it hides all bytes of unknown meaning, such as notes and
+    /// unexpected bytes. Then no line after an unexpected byte is taken for a header.
     pub fn hides(&self) -> bool
         ensures { result ≡ self.now.hides }
     {

@@ -32,7 +32,8 @@ impl Story {
         }
     }
 
-    /// Counts a TPDU, and returns how it is linked to those before it.
+    /// Counts a TPDU, and returns how it is linked to those before it. One that is cut off changes
+    /// neither the chain nor the response.
     pub fn tell(&mut self, tpdu: &Tpdu) -> Result<Links, AllocError>
         ensures next { self.new.number ≡ one_more self.old.number }
         ensures number { IfOk result (λ links. links.number ≡ self.new.number) }
@@ -136,7 +137,8 @@ impl Story {
         self.chain.lose_some();
     }
 
-    /// Forgets all after a reset. Returns whether that drops a chain.
+    /// Forgets the chain and the response after a reset; numbers continue. Returns whether that
+    /// drops a chain.
     pub fn reset(&mut self) -> bool
         ensures { self.new.number ≡ self.old.number }
     {

@@ -30,6 +30,7 @@ pub enum Logged {
 }
 
 impl Logged {
+    /// Whether the card was reset.
     pub fn is_reset(&self) -> bool {
         matches!(self, Logged::Reset)
     }

@@ -19,9 +19,10 @@ pub enum Link {
     Piece(u64),
     /// The last piece of a chain, with this number.
     LastPiece(u64),
-    /// A piece of a chain that continues, after pieces that were missed.
+    /// A piece of a chain that continues. Pieces before it, or bytes of them, may be missing, so
+    /// its number is unknown.
     LaterPiece,
-    /// The last piece of such a chain.
+    /// The same for the last piece of a chain.
     LastOfLater,
 }
 

@@ -8,7 +8,7 @@ use std::alloc::Global;
 use t0_core::CardEnd;
 
 /// Selects an application of a card of data objects, by whole commands as bytes. `None`: memory ran
-/// out.
+/// out, or a step failed.
 pub fn select(alloc: Global, card: &mut CardEnd<ObjectCard>, aid: &Aid) -> Option<Answer> {
     let mut terminal = ApduTerminal::new(alloc);
     let mut bytes = [0; COMMAND_LIMIT];

@@ -3,7 +3,8 @@
 use apdu_core::Status;
 use t0_core::{End, Heard, Tap, TapFault};
 
-/// Returns the number of TPDUs in a trace, and the status of the last.
+/// Returns the number of whole TPDUs in a trace, and the status of the last; `None` if there are no
+/// such TPDUs. It is an error if no dialogue continues with a character.
 pub fn followed(trace: &[(End, u8)]) -> Result<(usize, Option<Status>), TapFault> {
     let mut tap = Tap::new();
     let mut tpdus = 0usize;

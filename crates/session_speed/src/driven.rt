@@ -32,7 +32,8 @@ impl Driven {
         Ok(driven)
     }
 
-    /// Carries out operations through one buffer. The card must answer each with `9000`.
+    /// Carries out operations through one buffer. It is an error if the card does not answer one
+    /// with `9000`.
     pub fn carry_out(&mut self, ops: &[Op]) -> anyhow::Result<()> {
         let mut buffer = [0; BUFFER];
         for op in ops {

@@ -52,9 +52,9 @@ pub struct Load {
     pub rounds: usize,
 }
 
-/// A small object takes two TPDUs, since `6CXX` first states its size. A value of 8,192 bytes goes
-/// to the card in 33 pieces of up to 255 bytes. It comes from the card in 33 of up to 256, with its
-/// tag and length.
+/// A get of a small object takes two TPDUs, since `6CXX` first states its size. A value of 8,192
+/// bytes goes to the card in 33 pieces of up to 255 bytes. It comes from the card in 33 of up to
+/// 256, with its tag and length.
 pub const LOADS: [Load; 5] = [
     Load {
         name: "get of 3 bytes",

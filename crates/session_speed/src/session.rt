@@ -51,12 +51,12 @@ fn one(alloc: Global, op: Op) -> Result<Vec<Op>, AllocError> {
     Ok(ops)
 }
 
-/// Carries out operations. The card must answer each with `9000`.
+/// Carries out operations. It is an error if the card does not answer one with `9000`.
 pub fn carry_out(alloc: Global, session: &mut ObjectSession, ops: &[Op]) -> anyhow::Result<()> {
     run(alloc, session, ops, &mut Silent)
 }
 
-/// The number of characters of one operation on the line.
+/// Carries out one operation of a load, and returns the number of its characters on the line.
 pub fn characters_of_one(
     alloc: Global,
     session: &mut ObjectSession,

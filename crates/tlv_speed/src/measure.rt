@@ -54,8 +54,9 @@ fn read(reading: Reading, bytes: &[u8]) -> usize {
     }
 }
 
-/// Returns the time of one reading in nanoseconds, or 0 if nothing was read. Every second reading
-/// skips the first `part` bytes, so that no two in a row are the same.
+/// Returns the time of one reading in nanoseconds, or 0 if nothing was read. It is the mean of the
+/// fastest of `TRIES` rounds. Every second reading skips the first `part` bytes, so that no two in
+/// a row are the same.
 pub fn nanoseconds(
     clock: &impl Clock,
     reading: Reading,

@@ -1,6 +1,6 @@
-//! Lists of objects to read, as they occur on cards.
+//! Patterns of the lists of objects to read, as they occur on cards.
 
-/// The approximate size of each list in bytes.
+/// The most bytes of a list. Each list falls short of it by less than one pattern.
 pub const SIZE: usize = 65_536;
 
 /// Four objects of ten bytes.
@@ -36,7 +36,7 @@ const PADDED: [u8; 96] = [
     0x00, 0x00, 0x00, 0x50, 0x06, 0x4C, 0x41, 0x42, 0x45, 0x4C, 0x32, 0x00, 0x00, 0x00, 0x00, 0x00,
 ];
 
-/// The lists to read, each with its name.
+/// The patterns of the lists to read, each with its name. `repeated` makes the list.
 pub const SHAPES: [(&str, &[u8]); 4] = [
     ("flat", &FLAT),
     ("three deep", &THREE_DEEP),

@@ -20,9 +20,9 @@ pub struct Request<'a> {
     pub mask: Mask,
     /// Whether it continues after an unexpected byte.
     pub resumes: bool,
-    /// How the lines of the trace are read.
+    /// How the lines of each trace are read.
     pub reading: Reading,
-    /// The files of two traces, if two are compared.
+    /// The paths of two traces, A and B, if two are compared.
     pub compared: Option<(&'a str, &'a str)>,
 }
 
@@ -30,7 +30,8 @@ pub struct Request<'a> {
 ///
 /// # Errors
 ///
-/// That of the parser: help is asked for, a word is wrong, or memory ran out.
+/// That of the parser: help or the version is asked for, a word is wrong, or memory ran out. An
+/// invalid value of `--mask`, `--to-card` or `--from-card` is a wrong word.
 pub fn parsed<'a>(alloc: Global, words: &'a [String]) -> Result<Request<'a>, Error> {
     let matches = command(alloc)?.try_get_matches_from(words)?;
     let unsigned = unsigned(alloc, &matches)?;

@@ -34,9 +34,18 @@ struct Trace<'r, R: Read> {
     fault: Option<ExplainFault>,
 }
 
-/// Compares two traces, and writes the first TPDU that differs, and in what. Returns whether they
-/// are alike, even if nobody reads the output any more. Ignores procedure bytes, and what is
-/// between TPDUs.
+/// Compares two traces, and writes the first TPDU that differs, and in what. If one trace ends
+/// before the other, it writes the next TPDU of the other. If they are alike, it writes their
+/// number of TPDUs. Returns whether they are alike, even if nobody reads the output any more.
+///
+/// It ignores procedure bytes, and what is between TPDUs. A TPDU that is cut off is compared as far
+/// as it was received.
+///
+/// # Errors
+///
+/// - `Trace`: this trace has this fault, and no TPDU before it differs. Nothing is written.
+/// - `Write`: the writer failed.
+/// - `OutOfMemory`: memory ran out. Nothing is written.
 pub fn diff<R: Read, S: Read, W: Write>(
     alloc: Global,
     mask: Mask,

@@ -10,10 +10,10 @@ pub enum DiffFault {
     /// The file of this trace can't be opened: `A` or `B`.
     #[error("{0}: can't be opened")]
     Open(&'static str),
-    /// This trace has this fault; the TPDUs before it are alike.
+    /// This trace, `A` or `B`, has this fault. The other begins with the same TPDUs.
     #[error("{0}: {1}")]
     Trace(&'static str, ExplainFault),
-    /// The writer failed.
+    /// The writer failed. How much it took is unknown.
     #[error("write fault")]
     Write,
     /// Memory ran out.

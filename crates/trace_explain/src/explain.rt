@@ -29,11 +29,14 @@ pub const LINE_LIMIT: usize = 4_194_304;
 /// How many bytes a reader is asked for at once.
 pub const CHUNK: usize = 16_384;
 
-/// Explains a trace, and writes the explanation.
+/// Explains a trace, and writes the explanation. If it resumes, it continues after an unexpected
+/// character.
 ///
 /// # Errors
 ///
-/// The first fault. What precedes it is written, unless the writer failed or memory ran out.
+/// The first fault; `Resumed` and `BadPairs` come only after the whole trace. But if the writer
+/// then fails, or memory runs out, it is that. What precedes the fault is written, with the last
+/// block, unless the writer failed or memory ran out.
 pub fn explain<R: Read, W: Write>(
     alloc: Global,
     layout: Layout,
@@ -104,7 +107,9 @@ fn explain_chunks<R: Read, W: Write>(
 /// It is empty before the first chunk; pass it on unchanged.
 ///
 /// # Errors
+///
 /// The first fault. No later line is explained, and no chunk may follow.
+///
 /// - `LineTooLong`: a line exceeds `LINE_LIMIT` bytes.
 /// - `OutOfMemory`: memory ran out.
 /// - those of `Explainer::line`.
@@ -136,7 +141,12 @@ pub fn explain_chunk(
     Ok(())
 }
 
-/// Explains the last line, if it has no LF.
+/// Explains the last line, if it has no LF. `line` is what `explain_chunk` left: it is empty if
+/// there is no such line. A CR at its end is part of it.
+///
+/// # Errors
+///
+/// Those of `Explainer::line`.
 pub fn explain_last(explainer: &mut Explainer, line: &[u8]) -> Result<(), ExplainFault>
     ensures explained { (front : Out) (reading : Reading) (all : List (List ℕ)) →
         HasReceived front reading all line.now [] explainer.old →

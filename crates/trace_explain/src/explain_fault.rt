@@ -1,4 +1,4 @@
-//! Why the program ends with status 1, with the texts of these faults.
+//! Why the explanation of a trace stopped, or what it met, with the texts of these faults.
 
 ghost use Rattle.trace_explain.specs.Trace.{IsOfWriting};
 
@@ -10,21 +10,25 @@ use std::alloc::AllocError;
 use std::io;
 use thiserror::Error;
 
-/// Why the program ends with status 1. Lines are counted from 1, places in a line from 0.
+/// Why an explanation stopped, or what it met. The program then ends with status 1, or with 0 after
+/// `Closed`. Lines are counted from 1, places in a line from 0.
 #[derive(Debug, Drop, Error)]
 pub enum ExplainFault {
-    /// Characters of a line are not digits of bytes. The lines before it were explained.
+    /// A line can't be read: it begins as one with bytes, or continues a dump, and does not spell
+    /// bytes. The lines before it were explained.
     #[error("line {line}: bad hex")]
     BadHex {
         line: u64,
     },
-    /// The sign of a line has another form than this one of the lines before, which were explained.
+    /// The sign of a line has another form than this one, which `--form` or a line before gave. The
+    /// lines before it were explained.
     #[error("line {line}: a sign of another form than {form}")]
     OtherForm {
         line: u64,
         form: Form,
     },
-    /// A line has digits without a sign, and no line before has a sign.
+    /// A line contains digits alone, no line before has a sign, and `--form` is missing. The lines
+    /// before it were explained.
     #[error("line {line}: no sign says which end sent these digits, and no line before has one: \
         `--unsigned` reads such lines")]
     NoSign {
@@ -44,21 +48,23 @@ pub enum ExplainFault {
         place: usize,
         why: TurnFault,
     },
-    /// A line exceeds the limit.
+    /// A line exceeds `LINE_LIMIT` bytes. The lines before it were explained.
     #[error("line {line}: line too long")]
     LineTooLong {
         line: u64,
     },
-    /// No dialogue continues with a character.
+    /// No dialogue continues with a character. What precedes it was explained.
     #[error("{0}")]
     NoDialogue(Complaint),
-    /// The explanation continued after such characters; this is the first.
+    /// No dialogue continues with some characters. The explanation continued after each, to the
+    /// end. `first` is the first of them, and `complaints` their number.
     #[error("{first} (protocol errors: {complaints})")]
     Resumed {
         complaints: u64,
         first: Complaint,
     },
-    /// Commands of a log are not TPDUs. The explanation continued; the first began in this line.
+    /// Commands or answers of a log are not those of a TPDU. The explanation continued, to the end.
+    /// The first such command began in `line`, and `complaints` is their number.
     #[error("line {line}: unexpected command or answer: {why} \
         (protocol errors: {complaints})")]
     BadPairs {
@@ -69,7 +75,7 @@ pub enum ExplainFault {
     /// The trace has ended, and no line has a character of either end.
     #[error("no characters heard")]
     NoCharacters,
-    /// The reader failed. What it read before was explained.
+    /// The reader failed. The lines that ended before were explained.
     #[error("read fault")]
     Read,
     /// The writer failed. How much it took is unknown.
@@ -79,7 +85,8 @@ pub enum ExplainFault {
     /// fault.
     #[error("closed output")]
     Closed,
-    /// The trace exceeds the limit. What it contained before was explained.
+    /// The trace exceeds `TRACE_LIMIT` bytes. The lines that ended in earlier chunks were
+    /// explained.
     #[error("input too long")]
     InputTooLong,
     /// Memory ran out.

@@ -91,10 +91,11 @@ impl Explainer {
     /// # Errors
     ///
     /// - `BadHex`: characters are not digits of bytes, or the line of a log can't be read.
-    /// - `OtherForm`: its sign has another form than those before.
-    /// - `NoSign`: it contains digits alone, and no line before has a sign.
+    /// - `OtherForm`: its sign has another form than `--form` or the signs before.
+    /// - `NoSign`: it contains digits alone, no line before has a sign, and `--form` is missing.
     /// - `Signed`: it has a sign, and `--unsigned` expects none.
-    /// - `NoTurn`: who sends a character is unknown.
+    /// - `NoTurn`: who sends a character is unknown. If it resumes, it skips what follows an
+    ///   invalid answer to reset instead.
     /// - `NoDialogue`: no dialogue continues with a character, and it does not resume.
     /// - `OutOfMemory`: a part of the line may have been explained.
     pub fn line(&mut self, line: &[u8]) -> Result<(), ExplainFault>
@@ -340,7 +341,14 @@ impl Explainer {
         }
     }
 
-    /// Returns an error unless all of it was dialogues and some line has a character.
+    /// Returns an error if the lines so far contain a protocol error after which it continued, or
+    /// no character of either end.
+    ///
+    /// # Errors
+    ///
+    /// - `BadPairs`: commands or answers of a log are not those of a TPDU.
+    /// - `Resumed`: it continued after unexpected characters.
+    /// - `NoCharacters`: no line has a character of either end.
     pub fn outcome(&self) -> Result<(), ExplainFault>
         ensures has_characters { OnOk result (self.now.has_characters ≡ true) }
         ensures ended { IfErr result (λ fault. IsOfEnd fault self.now.has_characters) }

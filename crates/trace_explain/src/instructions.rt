@@ -31,14 +31,15 @@ pub enum Parts {
     Channel,
     /// Which cryptogram is asked for.
     Cryptogram,
-    /// Something that the program does not show.
+    /// Something else. The program shows their digits, unless they are `0000`.
     Others,
 }
 
 /// The name of an instruction, which way its data go if it has any, and what P1 and P2 mean.
 pub type Instruction = (&'static str, Direction, Parts);
 
-/// Returns the instruction of a class; `None` if the program does not know it.
+/// Returns the instruction with this INS: of the standard of its class, or else one that is read
+/// alike in every class. Returns `None` if the program does not know it.
 pub fn instruction(cla: u8, ins: u8) -> Option<Instruction>
     ensures { way_in result ≡ by_standard cla ins }
 {
@@ -183,8 +184,8 @@ pub fn is_interindustry(header: Header) -> bool {
     header.cla & 0x80 == 0
 }
 
-/// Whether the data of a command may be secret: VERIFY, CHANGE REFERENCE DATA, DISABLE and ENABLE
-/// VERIFICATION REQUIREMENT, RESET RETRY COUNTER, in any class.
+/// Whether the data of commands with this INS may be secret, in any class. These are VERIFY, CHANGE
+/// REFERENCE DATA, DISABLE and ENABLE VERIFICATION REQUIREMENT, and RESET RETRY COUNTER.
 pub fn is_secret(ins: u8) -> bool
     ensures { result ≡ is_secret ins }
 {
@@ -192,7 +193,7 @@ pub fn is_secret(ins: u8) -> bool
 }
 
 /// Whether `63CX` counts the remaining tries after such a command: one of reference data, or
-/// EXTERNAL AUTHENTICATE.
+/// EXTERNAL AUTHENTICATE. Its class must be one of ISO/IEC 7816-4.
 pub fn counts_tries(header: Header) -> bool {
     is_interindustry(header) && (is_secret(header.ins) || header.ins == 0x82)
 }

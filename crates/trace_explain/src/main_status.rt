@@ -20,8 +20,10 @@ use std::{fmt, io};
 
 /// Runs the program on its words, and returns its exit status. The first word is its name.
 ///
-/// - 0: it explained the trace, or wrote help to `output`, or nobody reads `output` any more.
-/// - 1: a fault, which it writes to `faults`.
+/// - 0: it explained the trace and found no protocol error, or found two traces alike. Or it wrote
+///   help or the version to `output`, or nobody reads the explanation any more.
+/// - 1: a fault or a protocol error, which it writes to `faults`. Or two traces differ: `output`
+///   shows in what.
 /// - 2: the command line is refused, for a reason that it writes to `faults`.
 ///
 /// A failure of `faults` changes no status.

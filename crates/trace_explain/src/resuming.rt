@@ -1,4 +1,5 @@
-//! What `--resume` passes over after an unexpected character.
+//! What `--resume` passes over: an unexpected character, or one after an invalid answer to reset,
+//! and what follows it.
 
 ghost use Rattle.std.specs.Prelude.{◌≡◌, None};
 
@@ -7,11 +8,11 @@ use crate::describe::complaint::Complaint;
 /// Lines whose characters are passed over.
 #[derive(Clone, Copy)]
 pub struct Passed {
-    /// The line of the unexpected character, counted from 1.
+    /// The line of the first character that is passed over, counted from 1.
     pub line: u64,
     /// Its place in the line, counted from 0.
     pub place: usize,
-    /// The last line that is passed over.
+    /// The last line that is passed over, so far.
     pub last: u64,
 }
 
@@ -39,13 +40,13 @@ impl Resuming {
         }
     }
 
-    /// Passes over what follows this place of a line.
+    /// Passes over the character at this place of a line, and what follows it.
     pub fn pass(&mut self, line: u64, place: usize) {
         let last = line;
         self.passed = Some(Passed { line, place, last });
     }
 
-    /// Ends that, and returns what was passed over.
+    /// Ends that, and returns what was passed over; `None` if nothing was.
     pub fn end(&mut self) -> Option<Passed>
         ensures resumes { self.new.resumes ≡ self.old.resumes }
         ensures none { self.new.passed ≡ None }

@@ -66,7 +66,7 @@ impl Clock {
         }
     }
 
-    /// Takes the time of the next line. It is empty if the line has none.
+    /// Takes the time of the next line: the text, which is empty if the line has none.
     pub fn pass(&mut self, time: &[u8]) -> Result<(), AllocError> {
         self.has_begun = false;
         self.text.clear();
@@ -77,7 +77,8 @@ impl Clock {
         Ok(())
     }
 
-    /// Notes that the last line has characters. It has no effect once a TPDU began in that line.
+    /// Notes that the last line has characters. It has no effect if that line has no time, or once
+    /// a TPDU began in it.
     pub fn count(&mut self) {
         if self.text.is_empty() || self.has_begun {
             return;
@@ -88,7 +89,8 @@ impl Clock {
         self.counted = self.now;
     }
 
-    /// Notes that a TPDU begins in the last line. For a second one in a line, no time is known.
+    /// Notes that a TPDU begins in the last line. For a second one in a line, how much later it
+    /// began is unknown.
     pub fn begin(&mut self) {
         self.since = None;
         if self.has_begun {
@@ -102,8 +104,8 @@ impl Clock {
         mem::swap(&mut self.text, &mut self.shown);
     }
 
-    /// Adds when the last TPDU began, and how much later than the one before. Adds nothing if its
-    /// line has no time.
+    /// Adds the time of the line in which the last TPDU began. If known, it adds how much later
+    /// that is than for the TPDU before. Adds nothing if the line has no time.
     pub fn push_begin(&self, text: &mut Sheet) {
         if self.shown.is_empty() {
             return;
@@ -119,8 +121,8 @@ impl Clock {
         text.push('\n');
     }
 
-    /// Adds the time from the first line of characters with a time to the last. Adds nothing if no
-    /// line has a time.
+    /// Adds the time from the first line of characters with a time to the last, or that it is
+    /// unknown. Adds nothing if no line of characters has a time.
     pub fn push_whole(&self, text: &mut Sheet) {
         if self.counted.is_none() {
             return;

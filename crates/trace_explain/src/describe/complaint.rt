@@ -13,7 +13,7 @@ pub const ASTRAY: &str = "the trace may begin within a TPDU";
 pub struct Seen {
     /// The byte.
     pub byte: u8,
-    /// Whether it is hidden.
+    /// Whether it is hidden, and shown as `**`.
     pub hides: bool,
 }
 

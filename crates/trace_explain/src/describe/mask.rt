@@ -20,7 +20,8 @@ use tlv_core::{ObjectTag, Tag};
 /// What is shown in place of hidden data.
 pub const HIDDEN: &str = "**";
 
-/// What is hidden: nothing; or reference data, and objects with these tags.
+/// What is hidden: nothing; or reference data, bytes of unknown meaning, and objects with these
+/// tags. With tags it also hides data that may be part of such an object.
 #[derive(Drop)]
 pub struct Mask {
     hides: bool,
@@ -106,7 +107,8 @@ impl Origin {
 pub enum Shown {
     /// All.
     All,
-    /// Objects, except the values of those that the mask hides.
+    /// Objects, except the values of those that the mask hides. Nothing if the data are not a list
+    /// of objects.
     Objects,
     /// Nothing.
     Nothing,
@@ -125,6 +127,11 @@ impl Mask {
 
     /// The mask that hides reference data, and objects with the tags in `words`. Tags are
     /// hexadecimal digits, separated by commas. An empty text has no tag.
+    ///
+    /// # Errors
+    ///
+    /// - `Form`: a part of `words` between commas is not a tag of one to three bytes.
+    /// - `OutOfMemory`: memory ran out.
     pub fn of(alloc: Global, words: &str) -> Result<Mask, TagsFault>
         ensures hides { IfOk result (λ mask. mask.hides ≡ true) }
         ensures no_tags { words.now ≡ [] → IfOk result (λ mask. mask.tags.items ≡ []) }
@@ -151,8 +158,8 @@ impl Mask {
         Ok(Mask { hides, tags })
     }
 
-    /// Whether it hides anything. If so it hides all bytes of unknown meaning: notes, unexpected
-    /// bytes, and a line that may be a header.
+    /// Whether it hides anything. If so it hides all bytes of unknown meaning, such as notes and
+    /// unexpected bytes. Then no line after an unexpected byte is taken for a header.
     pub fn hides(&self) -> bool
         ensures { result ≡ self.now.hides }
     {
@@ -213,7 +220,7 @@ impl Mask {
         }
     }
 
-    /// Adds bytes of unknown meaning, as lines of digits. Each mask hides them.
+    /// Adds bytes of unknown meaning as lines of digits, or `**` if the mask hides anything.
     pub fn push_unknown(&self, text: &mut Sheet, bytes: &[u8]) {
         if self.hides {
             push_hidden_line(text);

@@ -7,7 +7,8 @@ use crate::instructions::{SIM_CLASS, counts_tries};
 use crate::write::sheet::Sheet;
 use apdu_core::{Header, Status};
 
-/// Whether a command succeeded, or its status asks for another: also `91XX` and `920X` of a SIM.
+/// Whether a command succeeded, or its status asks for another: `9000`, `61XX` or `6CXX`. In the
+/// class of a SIM card also `91XX`, `920X` and `9FXX`.
 pub fn is_well(header: Header, status: Status) -> bool {
     match (header.cla, status.sw1(), status.sw2()) {
         (_, 0x6C, _) | (SIM_CLASS, 0x91, _) | (SIM_CLASS, 0x92, 0x00..=0x0F) => true,

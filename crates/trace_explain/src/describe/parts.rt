@@ -14,8 +14,8 @@ const SHORT: u8 = 0x80;
 /// The short file identifier that names no file.
 const NO_FILE: u8 = 0x1F;
 
-/// Adds the name of a command, what P1-P2 mean, and its class if that is not `00` or `10`. `sent`
-/// is the data of SELECT.
+/// Adds the name of a command, what P1-P2 mean, and its class if that is not `00` or `10`. If the
+/// instruction is unknown, it adds INS and P1-P2 as digits. `sent` is the data of SELECT.
 pub fn push_command(text: &mut Sheet, header: Header, sent: &[u8]) {
     match instruction(header.cla, header.ins) {
         Some((name, _, parts)) => {

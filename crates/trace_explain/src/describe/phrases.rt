@@ -11,7 +11,8 @@ use crate::write::sheet::Sheet;
 use apdu_core::count;
 use t0_core::Direction;
 
-/// Adds the title of a TPDU: its command, and what it selects.
+/// Adds the title of a TPDU: its command, and what it selects. If the header is cut off, the title
+/// says so.
 pub fn push_title(text: &mut Sheet, outline: &Outline, selected: &[u8]) {
     match outline.header {
         Some((header, _)) => push_command(text, header, selected),
@@ -59,7 +60,7 @@ pub fn push_most(text: &mut Sheet, le: Option<u8>) {
 }
 
 /// Adds where a TPDU is cut off: after `n` characters of its header, or after `n` bytes of the data
-/// that P3 foresees.
+/// that P3 foresees. Before data or after SW1 it adds no place.
 pub fn push_cut_off(text: &mut Sheet, outline: &Outline) {
     text.push_str("cut off");
     match (outline.header, outline.way) {

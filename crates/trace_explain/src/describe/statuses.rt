@@ -69,7 +69,8 @@ pub fn of_sim(word: u16) -> Option<&'static str> {
     })
 }
 
-/// The meaning of SW1 by table 5, if the word has no meaning of its own.
+/// The meaning of SW1 by table 5, for a word without a meaning of its own. If table 5 does not list
+/// SW1, it is `no known meaning`.
 pub fn of_first(sw1: u8) -> &'static str {
     match sw1 {
         0x62 => "a warning: what the card holds is unchanged",

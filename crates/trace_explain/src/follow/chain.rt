@@ -19,7 +19,7 @@ const PROPRIETARY: u8 = 0x80;
 pub struct PendingChain {
     pending: Option<Header>,
     pieces: u64,
-    /// Whether all bytes of each piece were received.
+    /// Whether, as far as known, all pieces and all bytes of each were received.
     pub is_whole: bool,
     /// The bytes of the pieces; only the first of them from `VALUE_LIMIT` on.
     pub value: Vec<u8>,
@@ -73,8 +73,9 @@ impl PendingChain {
         }
     }
 
-    /// Takes a command that continues the chain or begins one. `is_complete`: all its data were
-    /// received.
+    /// Takes the next command. It continues the pending chain, or drops that and may begin one.
+    /// `piece` is its data; `is_complete` means that all of them were received. After the last
+    /// piece no chain is pending, and the value remains.
     pub fn take(
         &mut self,
         header: Header,

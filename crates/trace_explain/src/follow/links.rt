@@ -9,24 +9,27 @@ pub enum Link {
     None,
     /// It repeats the one before it, whose status was `6CXX`, for this many bytes.
     AskedAgain(u16),
-    /// The first GET RESPONSE after a status that announces data, for this many bytes.
+    /// A GET RESPONSE that the last status asks for, for this many bytes. No data of the response
+    /// were received before.
     Fetches(u16),
-    /// A later GET RESPONSE, for this many bytes.
+    /// The same after data of the response, from an earlier GET RESPONSE or from the command
+    /// itself.
     FetchesMore(u16),
     /// The piece with this number of a chain that continues.
     Piece(u64),
     /// The last piece of a chain, with this number.
     LastPiece(u64),
-    /// A piece of a chain that continues, after pieces that were missed.
+    /// A piece of a chain that continues. Pieces before it, or bytes of them, may be missing, so
+    /// its number is unknown.
     LaterPiece,
-    /// The last piece of such a chain.
+    /// The same for the last piece of a chain.
     LastOfLater,
 }
 
 /// What is complete with a TPDU.
 #[derive(Clone, Copy)]
 pub enum Whole {
-    /// Nothing, or something that is in this TPDU alone.
+    /// Nothing; or something that is in this TPDU alone, too long to show, or with missing parts.
     None,
     /// A response, in this many parts.
     Response(u64),
@@ -47,7 +50,7 @@ pub struct Links {
     pub drops_after: bool,
     /// What is complete with it.
     pub whole: Whole,
-    /// The command whose response the card's data are.
+    /// The command whose response the card's data are; `None` if the header is cut off.
     pub asker: Option<Header>,
     /// Its data continue those of earlier TPDUs: of a chain, or of a response in parts.
     pub continues: bool,

@@ -20,7 +20,7 @@ pub enum Stage {
     Ready,
     /// An answer has started.
     Answer,
-    /// The card sent characters that are not part of an answer, or follow its first fault.
+    /// The card sent an invalid answer, or characters that are not part of one.
     Astray,
     /// A PPS request has started.
     Request,
@@ -84,7 +84,8 @@ impl Stage {
     }
 }
 
-/// Returns what a character of this end is. `may_ask`: the terminal may ask by PPS.
+/// Returns what a character of this end is. `may_ask`: the terminal may ask by PPS, since an answer
+/// without turned characters has begun.
 pub fn role_at(stage: Stage, may_ask: bool, from: End, byte: u8) -> Role
     ensures { result ≡ role_at stage may_ask from byte }
 {
@@ -130,7 +131,8 @@ fn as_ts(byte: u8) -> Role
     }
 }
 
-/// Returns how the characters of an answer are turned that begins with this one.
+/// Returns the convention that turns the characters of an answer that begins with this one. `3B`
+/// and `3F` need no turning, and `03` the inverse convention. `None`: no answer begins with it.
 pub fn turned_by(byte: u8) -> Option<Convention>
     ensures { result ≡ turned_by byte }
 {
@@ -158,7 +160,8 @@ pub fn is_direct(turned: Convention) -> bool
     matches!(turned, Convention::Direct)
 }
 
-/// Returns the stage after these characters of an answer.
+/// Returns the stage after these characters of an answer: `Answer` if more must follow, `Ready` if
+/// it is whole, or `Astray` if it is invalid.
 pub fn after_answer(bytes: &[u8]) -> Stage
     ensures { result ≡ after_answer (first_fault bytes.now) }
 {

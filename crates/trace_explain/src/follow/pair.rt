@@ -16,7 +16,8 @@ pub enum PairFault {
     Short,
     /// The command has extended length fields, which don't fit P3.
     Extended,
-    /// After Lc the command has fewer bytes than it announces, or more than these and Le.
+    /// After Lc the command has fewer bytes than it announces, or more than these and Le. Or one
+    /// byte follows Lc `00`.
     Length,
     /// The answer does not end with SW1 and SW2.
     NoStatus,
@@ -51,7 +52,7 @@ impl fmt::Display for PairFault {
 ///
 /// # Errors
 ///
-/// - `NoStatus`: the answer does not end with a status.
+/// - `NoStatus`: the command is valid, and the answer does not end with a status.
 /// - Others as for `tpdu_of_command`.
 pub fn tpdu_of_pair(alloc: Global, command: &[u8], answer: &[u8]) -> Result<Tpdu, PairFault>
     ensures reports { IfOk result (IsPair command.now answer.now) }
@@ -72,6 +73,7 @@ pub fn tpdu_of_pair(alloc: Global, command: &[u8], answer: &[u8]) -> Result<Tpdu
 /// # Errors
 ///
 /// - `Short`, `Extended`, `Length`: the command is anything else.
+/// - `OutOfMemory`: memory ran out.
 pub fn tpdu_of_command(alloc: Global, command: &[u8]) -> Result<Tpdu, PairFault>
     ensures reports { IfOk result (IsCommand command.now) }
     ensures refused { IfErr result (λ why. IsBadCommand why command.now) }

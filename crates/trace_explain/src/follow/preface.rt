@@ -40,13 +40,14 @@ impl Preface {
         }
     }
 
+    /// Returns the stage.
     pub fn stage(&self) -> Stage
         ensures { result ≡ self.now.stage }
     {
         self.stage
     }
 
-    /// Whether an answer has begun.
+    /// Whether an answer has begun since the last reset, and the dialogue has not.
     pub fn has_answered(&self) -> bool
         ensures { result ≡ has_answered (opening_of self.now) }
     {
@@ -61,7 +62,8 @@ impl Preface {
         role_at(self.stage, may_ask, from, byte)
     }
 
-    /// Takes a character of this line, in this role.
+    /// Takes a character of this line, in this role. TS of an answer, and each character of the
+    /// dialogue, clear the characters before it.
     pub fn take(&mut self, role: Role, byte: u8, line: u64) -> Result<(), AllocError>
         ensures { OnOk result (opening_of self.new ≡ opens (opening_of self.old) role byte) }
     {

@@ -10,7 +10,7 @@ use std::alloc::{AllocError, Global};
 pub const RESPONSE_LIMIT: usize = 65_536;
 
 /// Returns how many bytes wait after this status: `count(XX)` of `61XX`, and of `9FXX` in the class
-/// of a SIM card (3GPP TS 51.011, 9.4.1).
+/// of a SIM card (3GPP TS 51.011, 9.4.1). `None` after any other status.
 pub fn waiting(header: Header, status: Status) -> Option<u16> {
     match status.sw1() {
         0x61 => Some(count(status.sw2())),

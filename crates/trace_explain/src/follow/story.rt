@@ -32,7 +32,8 @@ impl Story {
         }
     }
 
-    /// Counts a TPDU, and returns how it is linked to those before it.
+    /// Counts a TPDU, and returns how it is linked to those before it. One that is cut off changes
+    /// neither the chain nor the response.
     pub fn tell(&mut self, tpdu: &Tpdu) -> Result<Links, AllocError>
         ensures next { self.new.number ≡ one_more self.old.number }
         ensures number { IfOk result (λ links. links.number ≡ self.new.number) }
@@ -136,7 +137,8 @@ impl Story {
         self.chain.lose_some();
     }
 
-    /// Forgets all after a reset. Returns whether that drops a chain.
+    /// Forgets the chain and the response after a reset; numbers continue. Returns whether that
+    /// drops a chain.
     pub fn reset(&mut self) -> bool
         ensures { self.new.number ≡ self.old.number }
     {
@@ -146,7 +148,7 @@ impl Story {
         drops
     }
 
-    /// Returns the bytes of what is complete.
+    /// Returns the bytes of what is complete with the last TPDU; no bytes for `None`.
     pub fn whole(&self, whole: Whole) -> &[u8] {
         match whole {
             Whole::None => &[],
@@ -192,7 +194,7 @@ pub fn header_of(tpdu: &Tpdu) -> Option<(Header, u8)>
     }
 }
 
-/// Returns the status of a whole TPDU.
+/// Returns the status of a whole TPDU; `None` if it is cut off.
 pub fn status_of(tpdu: &Tpdu) -> Option<Status> {
     match tpdu.status.as_slice() {
         [sw1, sw2] => Status::new(*sw1, *sw2),
@@ -200,7 +202,7 @@ pub fn status_of(tpdu: &Tpdu) -> Option<Status> {
     }
 }
 
-/// Returns the terminal's data.
+/// Returns the terminal's data, as far as received.
 pub fn sent(tpdu: &Tpdu) -> &[u8] {
     if tpdu.way == Some(Direction::ToCard) {
         tpdu.moved.as_slice()
@@ -209,7 +211,7 @@ pub fn sent(tpdu: &Tpdu) -> &[u8] {
     }
 }
 
-/// Returns the card's data.
+/// Returns the card's data, as far as received.
 pub fn brought(tpdu: &Tpdu) -> &[u8] {
     if tpdu.way == Some(Direction::FromCard) {
         tpdu.moved.as_slice()

@@ -15,9 +15,11 @@ use t0_core::{Direction, Heard};
 pub struct Tpdu {
     /// CLA INS P1 P2 P3, as far as received.
     pub header: Vec<u8>,
+    /// The procedure bytes; a pair has none.
     pub tally: Tally,
     /// Which way the data went; `None` without data.
     pub way: Option<Direction>,
+    /// The data that went this way, as far as received.
     pub moved: Vec<u8>,
     /// SW1 and SW2, as far as received.
     pub status: Vec<u8>,

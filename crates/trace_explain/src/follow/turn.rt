@@ -36,6 +36,10 @@ impl fmt::Display for TurnFault {
 }
 
 /// Returns who sends this character before the dialogue. `has_answered`: an answer has begun.
+///
+/// # Errors
+///
+/// - `Answer`: the stage is `Astray`.
 pub fn turn_before(stage: Stage, has_answered: bool, byte: u8) -> Result<End, TurnFault>
     ensures { result ≡ turn_before stage has_answered byte }
 {
@@ -52,6 +56,10 @@ pub fn turn_before(stage: Stage, has_answered: bool, byte: u8) -> Result<End, Tu
 }
 
 /// Returns who sends this character in the dialogue.
+///
+/// # Errors
+///
+/// - `Way`: it is the first data character, and the way of the instruction is unknown.
 pub fn turn_within(ways: &Ways, expected: Due, under_way: &Tpdu, byte: u8) -> Result<End, TurnFault>
     ensures { result ≡ turn_within ways.now expected (report_of under_way.now) byte }
 {

@@ -7,11 +7,12 @@ use crate::read::trace_line::LineFault;
 use std::alloc::{AllocError, Global};
 
 /// Returns the bytes that digits spell: two digits each, in either case, with any number of spaces
-/// between bytes.
+/// before, between and after bytes.
 ///
 /// # Errors
 ///
 /// - `Hex`: `digits` contains anything else.
+/// - `OutOfMemory`: memory ran out.
 pub fn bytes_of(alloc: Global, digits: &[u8]) -> Result<Vec<u8>, LineFault>
     ensures says { IfOk result (λ bytes. bytes_in digits.now ≡ Some bytes.items) }
     ensures refused { IfErr result (λ why. AreBadDigits why digits.now) }
@@ -44,14 +45,14 @@ pub fn push(bytes: &mut Vec<u8>, byte: u8) -> Result<(), AllocError>
     bytes.push(byte).map_err(AllocError::from)
 }
 
-/// Returns the byte of two digits; `None` if one of them is not a digit.
+/// Returns the byte of two hexadecimal digits; `None` if one of them is not one.
 pub fn byte_of(high: u8, low: u8) -> Option<u8>
     ensures { result ≡ byte_of (hex_digit_value high) (hex_digit_value low) }
 {
     Some(value_of(high)? * 16 + value_of(low)?)
 }
 
-/// Whether a line begins with a digit, and contains digits and spaces alone.
+/// Whether a line begins with a hexadecimal digit, and contains these and spaces alone.
 pub fn is_digits(line: &[u8]) -> bool
     ensures { result ≡ is_digits line.now }
 {
@@ -66,7 +67,7 @@ pub fn is_digits(line: &[u8]) -> bool
     has_digit
 }
 
-/// Returns the value of a digit; `None` if it is not one.
+/// Returns the value of a hexadecimal digit, in either case; `None` if it is not one.
 pub fn value_of(digit: u8) -> Option<u8>
     ensures { result ≡ hex_digit_value digit }
 {

@@ -29,7 +29,8 @@ pub const FORM_NAMES: [&str; 10] = [
 ];
 
 impl Form {
-    /// Returns the form with this name.
+    /// Returns the form with this name. A sign, of either end, names its form too. `None`: there is
+    /// no such form.
     pub fn of_name(name: &str) -> Option<Form> {
         match name {
             "angle" => Some(Form::Angle),
@@ -68,12 +69,12 @@ impl fmt::Display for Form {
 #[derive(Clone, Copy)]
 pub struct Sign {
     pub form: Form,
-    /// The end that sends what follows the sign.
+    /// The end that the sign marks. With `--swap` the other end sends what follows.
     pub from: End,
 }
 
 impl Sign {
-    /// Returns the sign that this word is.
+    /// Returns the sign that this word is; `None` if it is not one.
     pub fn of_word(word: &[u8]) -> Option<Sign>
         ensures is { IfSome result (λ sign. word.now ≡ sign_of sign.form sign.from) }
         ensures none { result ≡ None → (form : Form) (from : Side) →

@@ -21,7 +21,7 @@ pub enum Logged {
     Unanswered(Vec<u8>),
     /// An answer without a command.
     Stray(Vec<u8>),
-    /// The first bytes of a command or an answer, which the end of the log cut off.
+    /// The first bytes of a dump, which the end of the log cut off: of a command or an answer.
     Part(End, Vec<u8>),
     /// The card was reset.
     Reset,
@@ -30,6 +30,7 @@ pub enum Logged {
 }
 
 impl Logged {
+    /// Whether the card was reset.
     pub fn is_reset(&self) -> bool {
         matches!(self, Logged::Reset)
     }
@@ -275,7 +276,8 @@ impl Log {
         }
     }
 
-    /// Ends the log, and appends what that adds to `logged`.
+    /// Ends the log, and appends what that adds to `logged`. An open answer is then whole, an open
+    /// dump is cut off, and the last command may have no answer.
     pub fn end(&mut self, logged: &mut Vec<Logged>) -> Result<(), AllocError>
         ensures { OnOk result (map logged_of logged.new.items
             ≡ map logged_of logged.old.items ++ ended (log_at self.old)) }

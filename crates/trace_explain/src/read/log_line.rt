@@ -25,9 +25,9 @@ pub enum LineKind {
     /// The head of a dump of a command or an answer.
     Dump(End),
     Reset,
-    /// Any other line.
+    /// Any other line; also one with `< OK:` or `< KO:`, as `scriptor` writes it.
     Note,
-    /// A line that begins with a sign and can't be read.
+    /// A line that begins with `>` or `<`, and can't be read.
     Bad,
 }
 
@@ -62,6 +62,7 @@ pub enum Rest {
 /// # Errors
 ///
 /// - `Hex`: the line begins as one of a log, and can't be read.
+/// - `OutOfMemory`: memory ran out.
 pub fn read_log_line(alloc: Global, line: &[u8]) -> Result<LogLine, LineFault>
     ensures says { IfOk result (λ log_line. SaysLog line.now log_line) }
     ensures refused { IfErr result (λ why. IsBadLogLine why line.now) }
@@ -89,7 +90,12 @@ fn open_answer(bytes: Vec<u8>) -> LogLine
     }
 }
 
-/// Reads a line while an answer is open.
+/// Reads a line while an answer is open: bytes alone, or bytes before a colon. 16 bytes without a
+/// colon may continue in the next line. Any other line is no part of the answer.
+///
+/// # Errors
+///
+/// - `OutOfMemory`: memory ran out.
 pub fn read_rest(alloc: Global, line: &[u8]) -> Result<Rest, LineFault>
     ensures says { IfOk result (λ rest. SaysRest line.now rest) }
     ensures wants { IfErr result (λ why. why ≡ LineFault.OutOfMemory) }
@@ -111,6 +117,11 @@ pub fn read_rest(alloc: Global, line: &[u8]) -> Result<Rest, LineFault>
 
 /// Reads a line of a dump with `left` more bytes: 16 of them, or all if fewer are left. A space
 /// follows each; the rest of the line repeats them as text.
+///
+/// # Errors
+///
+/// - `Hex`: the line is too short, or does not begin with as many bytes.
+/// - `OutOfMemory`: memory ran out.
 pub fn read_dump(alloc: Global, left: usize, line: &[u8]) -> Result<Vec<u8>, LineFault>
     ensures says { IfOk result (λ bytes. dumped_in left line.now ≡ Some bytes.items) }
     ensures refused { IfErr result (λ why. IsBadDump why left line.now) }

@@ -16,9 +16,9 @@ use t0_core::End;
 pub struct Reading {
     /// The form of the lines, once it is known.
     pub form: Option<Form>,
-    /// Whether each sign marks the other end.
+    /// Whether the other end sends what follows each sign.
     pub swaps: bool,
-    /// Lines have no signs; the options give these ways of instructions.
+    /// Lines have no signs; the options give these ways of instructions. `None`: lines have signs.
     pub unsigned: Option<Ways>,
     /// Whether the lines are a log of whole TPDUs or APDUs.
     pub of_tpdus: bool,

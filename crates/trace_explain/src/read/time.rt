@@ -2,8 +2,8 @@
 ghost use Rattle.std.specs.Prelude.{◌≡◌, ◌≤◌, length};
 ghost use Rattle.trace_explain.specs.Times.{are_decimal, are_of_time, behind_clock, behind_spaces, behind_time, bracket_len, is_bracketed, is_shift, is_stamp, is_unit, place_of, shift_len, stamp_len, time_in, time_len};
 
-/// Returns the time that a line begins with, which may be empty, and what follows it and its
-/// spaces.
+/// Returns the time that a line begins with, and what follows it and its spaces. Without a time the
+/// first is empty, and the second is the whole line.
 pub fn cut_time(line: &[u8]) -> (&[u8], &[u8])
     ensures time { result.0.now ≡ time_in line.now }
     ensures rest { result.1.now ≡ behind_time line.now }
@@ -26,7 +26,7 @@ pub fn behind_clock<'a>(line: &'a [u8], time: &[u8], rest: &'a [u8]) -> &'a [u8]
     if are_decimal(time) { line } else { rest }
 }
 
-/// Whether the bytes are decimal digits alone.
+/// Whether the bytes are decimal digits alone, or none.
 pub fn are_decimal(bytes: &[u8]) -> bool
     ensures { result ≡ are_decimal bytes.now }
 {

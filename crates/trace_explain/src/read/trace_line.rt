@@ -35,11 +35,13 @@ pub enum TraceLine<'a> {
 #[derive(Clone, Copy)]
 pub enum LineFault {
     /// It begins with a sign, and something other than a space and two digits for each byte
-    /// follows. A sign alone is valid. With `--unsigned`: it has not two digits for each byte.
+    /// follows. A sign alone is valid. With `--unsigned`: it has not two digits for each byte. In a
+    /// log: it begins as one with bytes, or continues a dump, and does not spell bytes.
     Hex,
     /// Its sign has another form than this one, which `--form` or a line before gave.
     OtherForm(Form),
-    /// It has digits without a sign. No line before has a sign, and there is no `--form`.
+    /// It contains digits alone, perhaps after a time. No line before has a sign, and `--form` is
+    /// missing.
     NoSign,
     /// It begins with a sign, and `--unsigned` expects none.
     Signed,
@@ -63,6 +65,7 @@ impl From<AllocError> for LineFault {
 /// time.
 ///
 /// # Errors
+///
 /// Those of `LineFault`; `Hex` precedes `OtherForm`.
 pub fn read_line<'a>(
     alloc: Global,

@@ -10,7 +10,7 @@ use t0_core::Direction;
 /// The ways that `--to-card` and `--from-card` give, for every class.
 #[derive(Clone, Copy)]
 pub struct Ways {
-    /// The way of each INS.
+    /// The way of each INS; `None` if the options don't give it.
     pub given: [Option<Direction>; 256],
 }
 
@@ -30,7 +30,13 @@ impl Ways {
     }
 
     /// Gives this way to the instructions in `words`: two digits each, with commas between them.
+    ///
+    /// # Errors
+    ///
     /// After an error some of them have it.
+    ///
+    /// - `Form`: `words` is anything else.
+    /// - `Both`: this instruction has the other way already.
     pub fn give(&mut self, way: Direction, words: &str) -> Result<(), WaysFault> {
         for word in words.split(',') {
             let ins = ins_of(word.as_bytes()).ok_or(WaysFault::Form)?;

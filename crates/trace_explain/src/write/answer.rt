@@ -13,8 +13,8 @@ use crate::write::page::Page;
 use crate::write::sheet::Sheet;
 use atr_core::{Atr, AtrFault, Category, Fi, di};
 
-/// Adds the box of an answer, whole or cut off. Each mask hides an invalid answer, since it may be
-/// the end of some data.
+/// Adds the box of an answer: whole, cut off or invalid. A mask that hides anything hides the
+/// characters of one that is not whole, since they may be the end of some data.
 pub fn tell_answer(mask: &Mask, preface: &Preface, page: &mut Page) {
     let bytes = preface.answer.as_slice();
     let read = Atr::read(bytes);
@@ -99,7 +99,8 @@ fn push_protocols(text: &mut Sheet, answer: &Atr) {
     text.push('\n');
 }
 
-/// Adds Fi with its clock frequency, and Di, by their code in TA1 or PPS1.
+/// Adds Fi with its clock frequency, and Di, by their code in TA1 or PPS1. If a code is reserved,
+/// it adds that.
 pub fn push_rate(text: &mut Sheet, code: u8) {
     match Fi::of(code) {
         Ok(fi) => write!(text, "Fi {fi}; "),

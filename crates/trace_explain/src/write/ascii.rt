@@ -35,7 +35,7 @@ fn are_printable(bytes: &[u8]) -> bool
     true
 }
 
-/// Adds bytes as lines of digits, with LF after each line.
+/// Adds bytes as lines of digits, 40 bytes in each, with LF after each line.
 pub fn push_hex_lines(text: &mut Sheet, bytes: &[u8]) {
     for line in bytes.chunks(LINE_BYTES) {
         text.push_hex(line);
@@ -43,7 +43,8 @@ pub fn push_hex_lines(text: &mut Sheet, bytes: &[u8]) {
     }
 }
 
-/// Adds bytes as lines of digits, with LF before each line, and with text beside them.
+/// Adds bytes as lines of digits, with LF before each line. If they count as text, each line has 25
+/// bytes and their text beside them; otherwise 40.
 pub fn push_digits(lines: &mut Sheet, bytes: &[u8])
     ensures { PutsLines (AreDigits bytes.now) lines.old lines.new }
 {
@@ -59,7 +60,8 @@ fn width(is_text: bool) -> usize
     if is_text { LINE_TEXT } else { LINE_BYTES }
 }
 
-/// Adds bytes as lines, `width` bytes in each, after `indent` spaces.
+/// Adds bytes as lines of digits, `width` bytes in each. LF and `indent` spaces precede each line,
+/// and text is beside the digits if `is_text`.
 pub fn push_lines(lines: &mut Sheet, indent: usize, width: usize, is_text: bool, bytes: &[u8])
     requires some { 0 < width }
     ensures { PutsLines (AreLines indent width is_text bytes.now) lines.old lines.new }
@@ -94,7 +96,7 @@ pub fn cut(bytes: &[u8], width: usize) -> (&[u8], &[u8])
     }
 }
 
-/// Adds bytes as digits, with text in quotes beside them.
+/// Adds bytes as digits, with their text in quotes beside them if `is_text`.
 pub fn push_content(lines: &mut Sheet, is_text: bool, bytes: &[u8])
     ensures { Adds lines.old (content is_text bytes.now) lines.new }
 {

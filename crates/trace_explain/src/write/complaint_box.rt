@@ -29,7 +29,8 @@ pub fn tell_complaint(number: u64, complaint: Complaint, page: &mut Page) {
     page.close();
 }
 
-/// Adds the box of the protocol error with this number, a command from this line with its answer.
+/// Adds the box of the protocol error with this number, a command from this line with its answer,
+/// if any. If the mask hides anything, it hides both.
 pub fn tell_bad_pair(
     number: u64,
     line: u64,

@@ -93,8 +93,8 @@ impl Counts {
         }
     }
 
-    /// Adds the last block. Its time is the sum of the clock's known steps, which is right for a
-    /// capture of several days too.
+    /// Adds the last block. Its time is the sum of the clock's steps, so that it may exceed a day.
+    /// If one step is unknown, so is the time.
     pub fn tell(&self, clock: &Clock, page: &mut Page) {
         page.open_block("summary");
         write!(page.lines, "{}", self.tpdus);

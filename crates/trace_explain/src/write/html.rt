@@ -12,7 +12,7 @@ pub const BOX_END: &str = "</details>\n";
 /// The end of the last block.
 pub const BLOCK_END: &str = "</section>\n";
 
-/// Begins a box. It is folded if it shows a success.
+/// Begins a box, up to its title. It is folded if it shows a success.
 pub fn begin(out: &mut Sheet, head: Head<'_>) {
     let class = class_of(head.kind);
     write!(out, "<details class=\"{class}\"");
@@ -27,7 +27,7 @@ pub fn begin(out: &mut Sheet, head: Head<'_>) {
     out.push_str("><summary>");
 }
 
-/// Adds the title of a box, a status after it, and a space.
+/// Adds the title of a box, the status after it if it is whole, and a space.
 pub fn push_title(out: &mut Sheet, title: &str, head: Head<'_>) {
     push_escaped(out, title);
     if let [sw1, sw2] = head.status {
@@ -48,7 +48,8 @@ fn class_of(kind: Kind) -> &'static str {
     }
 }
 
-/// Adds links to the first of `all` protocol errors, which are in these lines.
+/// Adds links to the first of `all` protocol errors, which are in these lines, and how many more
+/// there are. Adds nothing if there are no lines.
 pub fn error_links(out: &mut Sheet, lines: &[u64], all: u64) {
     if lines.is_empty() {
         return;
@@ -62,7 +63,8 @@ pub fn error_links(out: &mut Sheet, lines: &[u64], all: u64) {
     push_more(out, all.saturating_sub(number));
 }
 
-/// Adds links to the first of `all` TPDUs, with their numbers and statuses.
+/// Adds links to the first of `all` TPDUs with a status other than `9000`, `61XX` and `6CXX`. Each
+/// is a number and a status. Adds how many more there are, or nothing if `tpdus` is empty.
 pub fn status_links(out: &mut Sheet, tpdus: &[(u64, u16)], all: u64) {
     if tpdus.is_empty() {
         return;
@@ -84,7 +86,7 @@ fn push_more(out: &mut Sheet, more: u64) {
     out.push_str("</p>\n");
 }
 
-/// Adds text without markup.
+/// Adds text, with `<`, `>` and `&` escaped, so that it is no markup.
 pub fn push_escaped(out: &mut Sheet, text: &str) {
     for letter in text.chars() {
         match letter {

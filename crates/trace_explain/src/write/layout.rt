@@ -32,13 +32,13 @@ pub enum Side {
 /// What a box of rows is about.
 #[derive(Clone, Copy, PartialEq, Eq)]
 pub enum Kind {
-    /// A success.
+    /// A success: also `61XX` and `6CXX`, an answer to reset, or a PPS exchange.
     Well,
-    /// A TPDU with a warning.
+    /// A TPDU with a warning: SW1 is `62` or `63`.
     Warning,
-    /// A TPDU with an error.
+    /// A TPDU with any other status.
     Failed,
-    /// Something that was cut off.
+    /// Something that was cut off, or a PPS exchange that is not valid.
     CutOff,
     /// A protocol error, or an invalid answer to reset.
     Error,
@@ -49,7 +49,7 @@ pub enum Kind {
 pub enum Anchor {
     /// No name.
     None,
-    /// The TPDU of this number.
+    /// The TPDU of this number, counted from 1.
     Tpdu(u64),
     /// The protocol error of this number, counted from 1.
     Error(u64),

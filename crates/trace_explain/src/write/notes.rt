@@ -29,14 +29,16 @@ pub fn tell_passed(passed: Option<Passed>, page: &mut Page) {
     page.note_line("\n");
 }
 
-/// Adds bytes outside of TPDUs, after words for them.
+/// Adds bytes outside of TPDUs, after words for them. If the mask hides anything, it hides the
+/// bytes.
 pub fn tell_bytes(what: &str, bytes: &[u8], mask: &Mask, page: &mut Page) {
     page.lines.push_str(what);
     mask.push_unknown(&mut page.lines, bytes);
     page.note();
 }
 
-/// Adds a line without characters.
+/// Adds a line without characters; nothing if it is empty. If the mask hides anything, it hides the
+/// line.
 pub fn tell_note(note: &[u8], mask: &Mask, page: &mut Page) {
     if note.is_empty() {
         return;

@@ -30,7 +30,7 @@ impl Output {
         }
     }
 
-    /// Joins the words to the output.
+    /// Joins the words to the output, and clears them.
     pub fn join(&mut self)
         ensures { Joins self.old.sheet self.new.sheet }
     {
@@ -49,7 +49,7 @@ impl Output {
         self.sheet.is_whole()
     }
 
-    /// Returns the whole text.
+    /// Returns the whole text, with the words, or `AllocError` if memory ran out.
     pub fn into_text(self) -> Result<String, AllocError> {
         let mut output = self;
         output.join();

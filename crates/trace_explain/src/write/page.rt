@@ -11,7 +11,8 @@ use std::alloc::Global;
 /// The most columns of a line of text.
 const COLUMNS: usize = 100;
 
-/// Words to which parts are added. Once memory ran out, nothing is added.
+/// Words to which parts are added: for a summary the last block alone. Once memory ran out, nothing
+/// is added. A call that adds the lines clears them.
 #[derive(Drop)]
 pub struct Page {
     layout: Layout,
@@ -55,14 +56,14 @@ impl Page {
         matches!(self.layout.medium, Medium::Html) && self.prints()
     }
 
-    /// Adds the start of the page.
+    /// Adds the start of a page of HTML. Text has none.
     pub fn begin(&mut self) {
         if matches!(self.layout.medium, Medium::Html) {
             self.out.push_str(HEAD);
         }
     }
 
-    /// Adds the end of the page.
+    /// Adds the end of a page of HTML. Text has none.
     pub fn end(&mut self) {
         self.mark(html::END);
     }
@@ -83,7 +84,7 @@ impl Page {
         }
     }
 
-    /// Opens a box with this title, which has no links.
+    /// Opens a box with this title, to which no link leads.
     pub fn open_titled(&mut self, kind: Kind, title: &str, line: u64) {
         self.lines.push_str(title);
         self.open(Head {
@@ -146,7 +147,7 @@ impl Page {
         self.row(Side::Nobody, label);
     }
 
-    /// Closes the box.
+    /// Closes the box, which matters on a page of HTML alone.
     pub fn close(&mut self) {
         self.mark(html::BOX_END);
     }
@@ -162,8 +163,8 @@ impl Page {
         }
     }
 
-    /// Adds links to the lines of the first of `errors` protocol errors, and to the first of `all`
-    /// TPDUs with a status.
+    /// Adds links to the lines of the first of `errors` protocol errors. Adds links to the first of
+    /// `all` TPDUs with a status other than `9000`, `61XX` and `6CXX`. Text has no links.
     pub fn links(&mut self, lines: &[u64], errors: u64, tpdus: &[(u64, u16)], all: u64) {
         if self.marks() {
             html::error_links(&mut self.out, lines, errors);

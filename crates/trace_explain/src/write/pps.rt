@@ -9,7 +9,8 @@ use crate::write::page::Page;
 use crate::write::sheet::Sheet;
 use atr_core::{Pps, PpsFault, agreed};
 
-/// Adds the box of a PPS exchange: request and response with their values, whole or cut off.
+/// Adds the box of a PPS exchange: request and response with their values, or what is wrong with
+/// them. A mask that hides anything hides the characters of one that is cut off or invalid.
 pub fn tell_pps(mask: &Mask, preface: &Preface, page: &mut Page) {
     let asked = preface.request.as_slice();
     let answered = preface.response.as_slice();

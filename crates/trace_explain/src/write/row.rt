@@ -7,7 +7,7 @@ ghost use Rattle.trace_explain.specs.Written.{before, behind, data_row, label_be
 use crate::write::layout::{Medium, Side};
 use crate::write::sheet::Sheet;
 
-/// The number of columns before the text of a row.
+/// The number of columns before the lines of a row of text.
 pub const ROW_INDENT: usize = 15;
 
 /// The text between two lines of a row.
@@ -18,7 +18,7 @@ pub fn between(medium: Medium) -> &'static str {
     }
 }
 
-/// Adds the start of a row: the sign of its end, and its label.
+/// Adds the start of a row: the sign of its end, if it is of one, and its label.
 pub fn push_before(sheet: &mut Sheet, side: Side, label: &str)
     ensures { Adds sheet.old (before sheet.old.layout.medium side label.now) sheet.new }
 {
@@ -56,7 +56,8 @@ fn push_row(sheet: &mut Sheet, side: Side, label: &str, text: &[u8])
     sheet.push_str(marks(medium, side).1);
 }
 
-/// Adds text: plain, or without markup.
+/// Adds each byte as a character. In a row of text, LF also indents the next line; in a row of
+/// HTML, `<`, `>` and `&` are escaped. `None`: the bytes are not a row, and stay as they are.
 pub fn push_letters(sheet: &mut Sheet, medium: Option<Medium>, text: &[u8])
     ensures { Adds sheet.old (flat_map (letter medium) text.now) sheet.new }
 {
@@ -78,7 +79,8 @@ fn push_letter(sheet: &mut Sheet, medium: Option<Medium>, byte: u8)
     }
 }
 
-/// Adds lines as the row of data. Adds nothing if there are no lines.
+/// Adds lines as the row of data. Each line begins with LF; the first LF is left out. Adds nothing
+/// if there are no lines. If memory ran out for them, it has for the sheet.
 pub fn push_data_row(sheet: &mut Sheet, side: Side, lines: &Sheet)
     ensures { (text : List ℕ) → HasText lines.now text →
         Adds sheet.old (data_row sheet.old.layout.medium side text) sheet.new }
@@ -91,7 +93,8 @@ pub fn push_data_row(sheet: &mut Sheet, side: Side, lines: &Sheet)
     }
 }
 
-/// Adds lines as a row with this label.
+/// Adds lines as a row with this label, even if `lines` is empty. If memory ran out for them, it
+/// has for the sheet.
 pub fn push_lines_row(sheet: &mut Sheet, side: Side, label: &str, lines: &Sheet)
     ensures { (text : List ℕ) → HasText lines.now text →
         Adds sheet.old (row sheet.old.layout.medium side label.now text) sheet.new }

@@ -159,7 +159,7 @@ impl Sheet {
         if self.is_cut { Err(AllocError) } else { Ok(()) }
     }
 
-    /// Returns the whole text.
+    /// Returns the text, or `AllocError` if memory ran out.
     pub fn into_text(self) -> Result<String, AllocError> {
         if self.is_cut {
             Err(AllocError)

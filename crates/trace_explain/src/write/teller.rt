@@ -44,7 +44,8 @@ pub struct Teller {
     began: u64,
     /// The last line whose characters were shown as before a header.
     strays: u64,
-    /// Whether an answer to reset, a line `reset` or a whole TPDU was read.
+    /// Whether a character before a dialogue, such as one of an answer to reset, a line `reset` or
+    /// a whole TPDU was read.
     pub is_led: bool,
     story: Story,
     /// The times of the lines.
@@ -97,8 +98,9 @@ impl Teller {
         self.clock.pass(time)
     }
 
-    /// Takes a character if it belongs to an opening, and writes the parts that end. `rest` is the
-    /// line from that character. Returns whether the dialogue does not contain the character.
+    /// Takes a character, and writes the parts of an opening that end before or with it. `rest` is
+    /// the line from that character. Returns false if the character is part of the dialogue: the
+    /// opening has then ended, and the character is still to be heard.
     pub fn open(
         &mut self,
         preface: &mut Preface,
@@ -137,7 +139,8 @@ impl Teller {
         }
     }
 
-    /// Takes the first character after a reset without a line `reset`, as `open` does.
+    /// Writes a reset without a line `reset`, and takes the first character after it, as `open`
+    /// does. Reset the listener first.
     pub fn answer_again(
         &mut self,
         preface: &mut Preface,
@@ -168,7 +171,7 @@ impl Teller {
     }
 
     /// Hears a character of the dialogue, and writes the TPDU that ends with it or before it.
-    /// Returns whether a dialogue continues with it.
+    /// Returns whether a dialogue continues with it. If none does, the listener has not changed.
     pub fn hear(&mut self, listener: &mut Listener, from: End, byte: u8) -> Result<bool, AllocError>
         ensures { (events : List Event) (before : List Report) →
             HasNoted events before listener.old → IfOk result (λ continues.
@@ -288,7 +291,7 @@ impl Teller {
         tell_part(stage, preface, &self.mask, &mut self.output.page);
     }
 
-    /// Writes what an unexpected byte cuts off, and the box of that byte.
+    /// Counts an unexpected byte, and writes what it cuts off and its box.
     pub fn complain(
         &mut self,
         complaint: Complaint,
@@ -310,7 +313,7 @@ impl Teller {
         self.output.outcome()
     }
 
-    /// Writes what this line of a log completes, or the end of the log.
+    /// Writes what this line of a log completes. At the end of the log `line` is empty.
     pub fn tell_logged(&mut self, logged: &[Logged], line: &[u8]) -> Result<(), AllocError> {
         for one in logged {
             match one {

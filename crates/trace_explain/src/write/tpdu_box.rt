@@ -25,8 +25,8 @@ use crate::write::shown::{push_header, push_line, push_number, push_status};
 use crate::write::tree_row::push_tree;
 use t0_core::Direction;
 
-/// Adds the box of a TPDU. `began` is the line where it began; `links` and `story` link it to
-/// earlier TPDUs.
+/// Adds the box of a TPDU; nothing for a summary. `began` is the line where it began. `links` and
+/// `story` link it to earlier TPDUs; `links` must be what `story` returned for this one.
 pub fn tell_box(
     tpdu: &Tpdu,
     links: Links,

@@ -32,7 +32,7 @@ use std::marker::Model;
 use t0_core::{AnswerFault, Gather, HostEnd, HostTurn, LineFault, WholeTpdu};
 use taking::{all_taken_by, taken_by};
 
-/// The most bytes of a response that any exchange gathers (profile).
+/// The most data bytes of a response that any exchange gathers (profile).
 pub const RESPONSE_LIMIT: usize = 16_384;
 
 /// The terminal's side of one command (ISO/IEC 7816-3, clause 12): its TPDU, and a GET RESPONSE

@@ -13,8 +13,9 @@ ghost use Rattle.card_terminal.specs.Gathered.{UnitOf, dialogues_of, IsOpenExcha
 ghost use Rattle.card_terminal.specs.ExchangeSide.{ExchangeOf, Continues, IsOver, Stall, ended_with, exchange_turn};
 ghost use Rattle.card_terminal.specs.ExchangeHistory.{ComesTo, Expects, BeginsExchange, FaultCameLast, unit_characters};
 
-/// The characters that led to an exchange are the first of an open exchange of its command. Or all
-/// except the last are, and the last was an error that ended it.
+/// The characters that led to an exchange are the first, or all, of an exchange of its command,
+/// whether it is in progress, has ended or has stalled. Or this holds without the last character,
+/// which was an error that ended it.
 pub fn what_led_begins_an_exchange()
     ensures { (c : spec.Command) (came : List Character) (ex : ExchangeOf) → ComesTo c came ex →
         BeginsExchange c came ⊎ FaultCameLast c came ex }

@@ -14,9 +14,10 @@ ghost use Rattle.card_terminal.specs.ExchangeHistory.{Expects, BeginsExchange, F
 ghost use Rattle.card_terminal.specs.TerminalSide.{OperationOf, HasCome, LeadsTo};
 ghost use Rattle.card_terminal.specs.TerminalHistory.{HaveValidIns, HaveRoom, brought_by};
 
-/// The characters that led to an operation are those of whole exchanges of its first commands, each
-/// with the status `9000`, and the first of an open exchange of the next command. Or all except the
-/// last are, and the last was an error that ended the operation.
+/// The characters that led to an operation begin with those of whole exchanges of its first
+/// commands, each with the status `9000`. Those of the next command's exchange follow: the first of
+/// them, or all, whether it is in progress, has ended or has stalled. Or this holds without the
+/// last character, which the card sent, and which was an error that ended the operation.
 pub fn what_led_begins_an_operation()
     ensures { (commands : List Command) (came : List Character) (o : OperationOf)
         → LeadsTo commands came (Some o) → HasCome (λ c here. BeginsExchange c here) commands came o

@@ -54,8 +54,9 @@ pub fn a_dialogue_is_gone_through()
 
 /// The characters determine what a terminal's end does. Take an end at a front, and a dialogue that
 /// it opened and that continues from there. If the next character is the terminal's, the end sends
-/// exactly that one. If it is the card's, the end takes it without an error, if the gather has
-/// room for the data still to come. No front of the end contains a whole dialogue that it opened.
+/// exactly that one. If it is the card's, the end listens. It takes the character without an error
+/// if the gather has room for the data still to come. No front of the end contains a whole dialogue
+/// that it opened.
 pub fn the_next_character_is_settled()
     ensures sent { (host : Hosting) (front : Front) (d : Dialogue) (byte : ℕ)
         (rest : List Character) → IsRequest host → HostStandsAt host front → IsFront front →

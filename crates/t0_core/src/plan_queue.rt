@@ -10,9 +10,9 @@ use std::mem;
 /// The plans that wait, and the one taken last. Contracts see it as a cursor over the plans that
 /// wait.
 ///
-/// A waiting plan takes 32 bytes and a block for its steps; while the queue grows, up to six times
-/// the 32. Taking a plan allocates nothing. Its steps are freed when the next plan is taken, and
-/// the queue's own block when no plan waits.
+/// A plan takes 32 bytes with `Global`, and a block for its steps. The queue's own block grows by
+/// doubling. It does not shrink as plans are taken, and is freed when no plan waits. Taking a plan
+/// allocates nothing. Its steps are freed when the next plan is taken.
 #[derive(Drop)]
 pub struct PlanQueue<A: Allocator + Copy = Global> {
     /// Plans without steps in place of those taken, followed by the plans that wait.

@@ -295,7 +295,7 @@ fn tag_of(alloc: Global, digits: &str) -> Result<Tag, TagsFault> {
     }
 }
 
-/// Adds the line that is shown in place of hidden data.
+/// Adds the line `**`, with its end, in place of hidden data.
 pub fn push_hidden_line(text: &mut Sheet) {
     writeln!(text, "{HIDDEN}");
 }

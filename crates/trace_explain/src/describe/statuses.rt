@@ -1,6 +1,8 @@
 //! The meaning of status words (ISO/IEC 7816-4, 5.1.3, tables 5 and 6).
 
-/// The meaning of a word that table 6 lists, or that table 5 lists alone.
+/// The meaning of a word that table 6 lists with an SW2 of its own other than `00`, or that table 5
+/// lists alone. `None` for others, such as `6200`, and for words that contain a number: `61XX`,
+/// `6202` to `6280`, `63CX`, `6402` to `6480` and `6CXX`.
 pub fn of_word(word: u16) -> Option<&'static str> {
     Some(match word {
         0x9000 => "normal processing",

@@ -88,7 +88,8 @@ impl Tpdu {
             && are_status(self.moved.as_slice())
     }
 
-    /// Returns the same with these two as its status.
+    /// Returns the TPDU with its data as its status, and without data or direction. Its old status
+    /// is dropped. Call it if `is_bare` is true.
     pub fn bared(mut self) -> Tpdu
         ensures { report_of result ≡ bared (report_of self) }
     {

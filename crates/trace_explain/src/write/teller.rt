@@ -44,13 +44,13 @@ pub struct Teller {
     began: u64,
     /// The last line whose characters were shown as before a header.
     strays: u64,
-    /// Whether a character before a dialogue, such as one of an answer to reset, a line `reset` or
-    /// a whole TPDU was read.
+    /// Whether a trace had a character before a dialogue, such as one of an answer to reset, a line
+    /// `reset` or a whole TPDU. A log leaves it false.
     pub is_led: bool,
     story: Story,
     /// The times of the lines.
     clock: Clock,
-    /// The first unexpected command or answer of a log: its line, and why.
+    /// Why the first unexpected command or answer of a log is one. The line is that of its command.
     pub first_bad: Option<(u64, PairFault)>,
     /// The counts.
     pub counts: Counts,
@@ -171,7 +171,9 @@ impl Teller {
     }
 
     /// Hears a character of the dialogue, and writes the TPDU that ends with it or before it.
-    /// Returns whether a dialogue continues with it. If none does, the listener has not changed.
+    /// Returns whether a dialogue continues with it. If none does, the listener has not changed, and
+    /// no TPDU is written. Returns `AllocError` if memory ran out: then use neither the teller nor
+    /// the listener any more.
     pub fn hear(&mut self, listener: &mut Listener, from: End, byte: u8) -> Result<bool, AllocError>
         ensures { (events : List Event) (before : List Report) →
             HasNoted events before listener.old → IfOk result (λ continues.

@@ -171,9 +171,11 @@ impl Teller {
     }
 
     /// Hears a character of the dialogue, and writes the TPDU that ends with it or before it.
-    /// Returns whether a dialogue continues with it. If none does, the listener has not changed, and
-    /// no TPDU is written. Returns `AllocError` if memory ran out: then use neither the teller nor
-    /// the listener any more.
+    /// Returns whether a dialogue continues with it. If none does, the listener has not changed,
+    /// and no TPDU is written.
+    ///
+    /// # Errors
+    /// - `AllocError`: memory ran out. Use neither the teller nor the listener any more.
     pub fn hear(&mut self, listener: &mut Listener, from: End, byte: u8) -> Result<bool, AllocError>
         ensures { (events : List Event) (before : List Report) →
             HasNoted events before listener.old → IfOk result (λ continues.

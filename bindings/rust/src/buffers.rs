@@ -51,11 +51,12 @@ impl error::Error for ReceiveError {}
 
 impl Exchange {
     /// Hands out what the terminal sends now, as [`next`](Exchange::next) one at a time, as many
-    /// characters as `room` has place for.
+    /// characters as `room` has place for. An empty `room` gives [`Stop::Full`], also if the exchange
+    /// has ended or failed.
     ///
     /// # Errors
     ///
-    /// - [`Error::Failed`]: the exchange has failed for good. Nothing is handed out.
+    /// - [`Error::Failed`]: it has failed for good, and `room` is not empty. Nothing is handed out.
     /// - [`Error::State`]: it goes by whole commands. Nothing is handed out.
     #[inline]
     pub fn send_bytes(&mut self, room: &mut [u8]) -> Result<Sent, Error> {
@@ -109,7 +110,7 @@ impl Terminal {
     ///
     /// - [`Error::State`]: no operation has begun, or it goes by whole commands. Nothing is handed
     ///   out.
-    /// - [`Error::Failed`]: it has failed for good. Nothing is handed out.
+    /// - [`Error::Failed`]: it has failed for good, and `room` is not empty. Nothing is handed out.
     #[inline]
     pub fn send_bytes(&mut self, room: &mut [u8]) -> Result<Sent, Error> {
         send(&self.0, raw::galliumtoad_terminal_send_bytes, room)

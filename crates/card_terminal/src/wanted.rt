@@ -6,7 +6,7 @@ ghost use Rattle.card_terminal.specs.Unsent.{le_by};
 /// How many bytes of a response a command wants.
 #[derive(Clone, Copy, Debug, PartialEq, Eq)]
 pub enum Wanted {
-    /// At most this number of bytes, 0 to 255.
+    /// At most this number of bytes, 0 to 256. [`Wanted::by`] makes `Everything` of Le 256.
     Bytes(u16),
     /// All bytes that the card announces.
     Everything,

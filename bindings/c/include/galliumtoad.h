@@ -324,7 +324,7 @@ enum { GT_NOT_CARRIED_OUT = 0, GT_UNKNOWN = 1, GT_IN_PART = 2 };
 enum {
     GT_HISTORY_NONE = 0,        /* they are missing */
     GT_HISTORY_STATUS = 1,      /* 00: objects in COMPACT-TLV, and then a status: the last three
-                                 * bytes, if so many follow the 00 */
+                                 * bytes, if three or more follow the 00 */
     GT_HISTORY_DIR = 2,         /* 10: the next byte refers to a record of EF.DIR */
     GT_HISTORY_OBJECTS = 3,     /* 80: objects in COMPACT-TLV; the last may be a status */
     GT_HISTORY_RESERVED = 4,    /* 81 to 8F */

@@ -109,8 +109,8 @@ pub struct Classes {
 pub enum Category {
     /// There are no historical bytes.
     Absent,
-    /// `00`: objects in COMPACT-TLV, and then a status: the last three bytes, if so many follow the
-    /// `00`.
+    /// `00`: objects in COMPACT-TLV, and then a status: the last three bytes, if three or more
+    /// follow the `00`.
     StatusBehind,
     /// `10`: the next byte refers to a record of EF.DIR.
     DirReference,

@@ -51,8 +51,8 @@ impl error::Error for ReceiveError {}
 
 impl Exchange {
     /// Hands out what the terminal sends now, as [`next`](Exchange::next) one at a time, as many
-    /// characters as `room` has place for. An empty `room` gives [`Stop::Full`], also if the exchange
-    /// has ended or failed.
+    /// characters as `room` has place for. An empty `room` gives [`Stop::Full`], also if the
+    /// exchange has ended or failed.
     ///
     /// # Errors
     ///

@@ -28,6 +28,10 @@ class Skipped(Exception):
     """A test that can't be run: `WHAT, since REASON`."""
 
 
+class Late(AssertionError):
+    """A program that ended later than it should, as on a busy machine it may."""
+
+
 class Program:
     """A running program, with the stand-in for a tty. `before` is a shell command that runs first:
     `trap "" HUP` makes it ignore a signal, and `exec 1>&-` closes a descriptor. `user` is the
@@ -83,15 +87,22 @@ class Program:
         self.process.send_signal(number)
 
 
-def in_time(test):
-    """Runs a test that measures short times. It runs it again if that fails, since a busy machine
-    may be late."""
+def in_time(test, fault=AssertionError):
+    """Runs a test that measures short times. It runs it again if that ends in `fault`, since a busy
+    machine may be late."""
     for _ in range(5):
         try:
             return test()
-        except AssertionError:
+        except fault:
             time.sleep(0.2)
     return test()
+
+
+def must_end(seconds, least, most):
+    """A program that ended after so many seconds ended neither too early nor too late."""
+    assert least <= seconds, f"it ends after {seconds:.2f} s"
+    if seconds >= most:
+        raise Late(f"it ends after {seconds:.2f} s")
 
 
 def end_all():

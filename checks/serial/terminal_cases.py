@@ -11,7 +11,7 @@ import time
 from dataclasses import dataclass, field
 
 from lines import Line, Other, play, trace_of
-from programs import Program, in_time, version
+from programs import Program, in_time, must_end, version
 
 USAGE = (
     "\nUsage: gt_serial [OPTIONS] TTY [OPERATION..]\n"
@@ -91,7 +91,7 @@ def run(case):
         look(program, status, case.output, case.fault, case.status, played)
         waited = program.began + program.seconds - last
         least = 0 if case.waits is None else case.waits + (case.slack or 200) / 1000
-        assert least <= waited < least + LATE, f"it ends after {waited:.2f} s"
+        must_end(waited, least, least + LATE)
         assert line.is_put_back(), "the tty is not set as it was before"
         assert case.baud in (None, baud), f"the tty runs at {baud} baud"
         assert not other.gaps or min(other.gaps) >= case.gap, f"{min(other.gaps)} s between two"
@@ -613,7 +613,7 @@ def nulls_for_ever():
             time.sleep(0.05)
         ended = time.monotonic() - began
         look(program, program.end(), "", "operation 1: the card sends nothing but NULLs\n", 1)
-        assert 1.0 <= ended < 4, f"it ends after {ended:.2f} s"
+        must_end(ended, 1.0, 1.0 + LATE)
     finally:
         line.close()
 

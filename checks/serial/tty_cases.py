@@ -14,7 +14,7 @@ from pathlib import Path
 
 from card_cases import APP, GONE, table
 from lines import Line, Other, play
-from programs import BUILD, TABLE, Program, in_time
+from programs import BUILD, TABLE, Program, in_time, must_end
 from terminal_cases import DONE, LATE, SHORT, SHORT_WORDS, look
 
 SET = "set {} baud, 8 bits, {} parity with marks, 2 stop bits"
@@ -108,12 +108,10 @@ def terminal(dialogue, noted, fault="", refuses="", options=(), output="= 9000\n
             other.sent_at = time.monotonic()
             (play_it or (lambda it: play(it, dialogue, card=True)))(other)
             status = program.end()
-            waited = program.began + program.seconds - other.sent_at
             look(program, status, output, fault, 0 if not fault else 1)
             assert tty.noted() == noted, f"noted {tty.noted()}, and not {noted}"
             assert tty.line.is_put_back(), "the tty is not set as it was before"
-            assert waits <= program.seconds, f"it ends after {program.seconds:.2f} s"
-            assert waited < waits + LATE, f"it ends {waited:.2f} s after the last character"
+            must_end(program.seconds, waits, other.sent_at - program.began + waits + LATE)
         finally:
             tty.line.close()
 

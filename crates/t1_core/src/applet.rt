@@ -1,5 +1,4 @@
 //! The card behind its end of the line.
-
 use std::alloc::AllocError;
 
 /// The requests that a card makes before it responds to a command: first each S(WTX request), then

@@ -1,5 +1,4 @@
 //! A block, as an end sends and takes it.
-
 use crate::control::Control;
 
 /// A block whose bytes are valid (ISO/IEC 7816-3, clause 11). N(S) and N(R) are 0 (`false`) or 1.

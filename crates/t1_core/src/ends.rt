@@ -1,11 +1,9 @@
 //! Both ends of a line, and commands one after another: each may depend on the answers before it.
-
-ghost use Rattle.std.specs.Prelude.{◌≡◌, List, true, false, OnOk};
+ghost use Rattle.std.specs.Prelude.{◌≡◌, List, true, OnOk};
 ghost use Rattle.t1_core.specs.declared.line.Fates.{Fates};
 ghost use Rattle.t1_core.specs.Carried.{EndsOf, HasCarried, Past, nothing_yet, with_command};
 ghost use Rattle.t1_core.specs.Conversing.{Conversed};
-ghost use Rattle.t1_core.specs.Passing.{Passes};
-ghost use Rattle.t1_core.specs.TerminalSide.{begins, fault_of, has_stopped, is_ready};
+ghost use Rattle.t1_core.specs.TerminalSide.{fault_of, has_stopped, is_ready};
 
 use crate::applet::Applet;
 use crate::card::CardEnd;
@@ -63,39 +61,14 @@ impl<C: Applet> Ends<C> {
             (L.passed line.new) self.new) }
         ensures stopped { OnOk result (has_stopped self.new.terminal.phase ≡ true) }
     {
-        self.begin(command)?;
-        'exchanges: while !self.has_stopped() {
+        let Ok(()) = self.terminal.begin(command) else {
+            return Err(AllocError);
+        };
+        'exchanges: while !self.terminal.has_stopped() {
             let fates = line.next();
-            self.exchange(fates)?;
+            pass(&mut self.terminal, &mut self.card, fates)?;
         }
         Ok(())
-    }
-
-    fn begin(&mut self, command: &[u8]) -> Result<(), AllocError>
-        requires { is_ready self.old.terminal.phase ≡ true }
-        ensures { OnOk result (self.new ≡ record {
-          terminal = begins command.now self.old.terminal;
-          card = self.old.card;
-        }) }
-    {
-        match self.terminal.begin(command) {
-            Ok(()) => Ok(()),
-            Err(_) => Err(AllocError),
-        }
-    }
-
-    /// Passes a block of the terminal and the card's answer.
-    fn exchange(&mut self, fates: Fates) -> Result<(), AllocError>
-        ensures { OnOk result (Passes C.Applet fates self.old.terminal self.new.terminal
-            self.old.card self.new.card) }
-    {
-        pass(&mut self.terminal, &mut self.card, fates)
-    }
-
-    fn has_stopped(&self) -> bool
-        ensures { result ≡ has_stopped self.now.terminal.phase }
-    {
-        self.terminal.has_stopped()
     }
 
     /// Whether a command can begin: none is in progress, and there was no fault.

@@ -1,5 +1,4 @@
 //! One exchange: a block of the terminal and the card's reply, over a line.
-
 ghost use Rattle.std.specs.Prelude.{OnOk, IfOk, ◌≡◌, true};
 ghost use Rattle.std.specs.Option.{option_map};
 ghost use Rattle.t1_core.specs.Block.{are_filled};
@@ -45,10 +44,7 @@ fn hear<C: Applet>(
         (λ reply. Hears C.Applet fate (said block.entry) card.old reply card.new) }
 {
     match fate {
-        Fate::Delivers => {
-            let reply = card.take(block)?;
-            Ok(Some(reply))
-        }
+        Fate::Delivers => Ok(Some(card.take(block)?)),
         Fate::Damages => Ok(Some(card.damaged())),
         Fate::Loses => Ok(None),
     }
@@ -66,13 +62,10 @@ fn bring<C: Applet>(
     ensures filled { OnOk result (are_filled
         (arrives fate (option_map (λ r. replies r card.now.at) reply)) ≡ true) }
 {
-    match reply {
-        None => terminal.timed_out(),
-        Some(reply) => match fate {
-            Fate::Delivers => terminal.take(card.block(reply))?,
-            Fate::Damages => terminal.damaged(),
-            Fate::Loses => terminal.timed_out(),
-        },
+    match (fate, reply) {
+        (Fate::Delivers, Some(reply)) => terminal.take(card.block(reply))?,
+        (Fate::Damages, Some(_)) => terminal.damaged(),
+        _ => terminal.timed_out(),
     }
     Ok(())
 }

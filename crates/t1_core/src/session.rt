@@ -1,5 +1,4 @@
 //! A whole dialogue: a list of commands, over a line.
-
 ghost use Rattle.std.specs.Prelude.{IfOk, map};
 ghost use Rattle.t1_core.specs.Conversing.{Conversed};
 

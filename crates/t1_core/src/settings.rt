@@ -1,5 +1,4 @@
 //! The settings of a terminal's end.
-
 ghost use Rattle.std.specs.Prelude.{◌≡◌, ◌<◌, IfOk};
 ghost use Rattle.std.specs.Result.{result_err};
 ghost use Rattle.t1_core.specs.Settings.{fault_of};

@@ -1,13 +1,11 @@
 //! The bytes of a block: NAD 00, PCB, LEN, the field and the LRC.
-
 ghost use Rattle.std.specs.Prelude.{◌≡◌, ◌≤◌, ◌<◌, ◌++◌, ◌∷◌, [], List, ℕ, true, length, IfOk, IfSome, Some, None};
 ghost use Rattle.std.specs.Option.{option_map};
 ghost use Rattle.t1_core.specs.Block.{is_filled};
 ghost use Rattle.t1_core.specs.BlockView.{said};
 ghost use Rattle.t1_core.specs.BlockBytes.{lrc, spelled, parts_of, block_of, block_in, bytes_of, info_of, control_of, field_of, subject_of, Sent, Reads};
 ghost use Rattle.t1_core.specs.declared.pcb.Pcb.{Pcb};
-ghost use Rattle.t1_core.specs.declared.pcb.Pcb.TheVariants.{Ready, Supervisory};
-ghost use Rattle.t1_core.specs.declared.pcb.Reason.TheVariants.{NoError};
+ghost use Rattle.t1_core.specs.declared.pcb.Pcb.TheVariants.{Supervisory};
 
 use crate::block::Block;
 use crate::control::Control;
@@ -38,18 +36,13 @@ pub fn write(alloc: Global, block: Block<'_>) -> Result<Vec<u8>, AllocError>
         Block::Information { number, more, info } => {
             spell(alloc, Pcb::Information { number, more }, info)
         }
-        Block::Ready(number) => write_ready(alloc, number),
+        Block::Ready(number) => {
+            let reason = Reason::NoError;
+            spell(alloc, Pcb::Ready { number, reason }, &[])
+        }
         Block::Request(control) => write_control(alloc, false, control),
         Block::Response(control) => write_control(alloc, true, control),
     }
-}
-
-fn write_ready(alloc: Global, number: bool) -> Result<Vec<u8>, AllocError>
-    ensures { IfOk result (λ v. v.items ≡ spelled (Ready number NoError) []) }
-{
-    let reason = Reason::NoError;
-    let pcb = Pcb::Ready { number, reason };
-    spell(alloc, pcb, &[])
 }
 
 fn write_control(alloc: Global, response: bool, control: Control) -> Result<Vec<u8>, AllocError>
@@ -59,8 +52,7 @@ fn write_control(alloc: Global, response: bool, control: Control) -> Result<Vec<
     let subject = subject_of(control);
     let pcb = Pcb::Supervisory { response, subject };
     match control {
-        Control::Ifs(size) => spell(alloc, pcb, &[size]),
-        Control::Wtx(multiple) => spell(alloc, pcb, &[multiple]),
+        Control::Ifs(byte) | Control::Wtx(byte) => spell(alloc, pcb, &[byte]),
         _ => spell(alloc, pcb, &[]),
     }
 }
@@ -107,10 +99,8 @@ pub fn read(bytes: &[u8]) -> Option<Block<'_>>
 fn read_whole(bytes: &[u8]) -> Option<Block<'_>>
     ensures { option_map said result ≡ block_of bytes.now }
 {
-    match parts(bytes) {
-        None => None,
-        Some((pcb, info)) => block_in(pcb, info),
-    }
+    let (pcb, info) = parts(bytes)?;
+    block_in(pcb, info)
 }
 
 /// Returns the PCB and the field, 0 to 254 bytes, of a whole block. Unlike `read`, it accepts any
@@ -133,19 +123,11 @@ pub fn parts(bytes: &[u8]) -> Option<(Pcb, &[u8])>
         return None;
     }
     let end = usize::from(len) + 3;
-    if bytes.len() != end + 1 {
+    if bytes.len() != end + 1 || bytes[0] != 0 || bytes[end] != lrc(&bytes[..end]) {
         return None;
     }
-    if bytes[0] != 0 {
-        return None;
-    }
-    if bytes[end] != lrc(&bytes[..end]) {
-        return None;
-    }
-    match Pcb::of(bytes[1]) {
-        Some(pcb) => Some((pcb, &bytes[3..end])),
-        None => None,
-    }
+    let pcb = Pcb::of(bytes[1])?;
+    Some((pcb, &bytes[3..end]))
 }
 
 fn block_in(pcb: Pcb, info: &[u8]) -> Option<Block<'_>>
@@ -156,14 +138,14 @@ fn block_in(pcb: Pcb, info: &[u8]) -> Option<Block<'_>>
         Pcb::Information { number, more } => Some(Block::Information { number, more, info }),
         Pcb::Ready { number, .. } if info.is_empty() => Some(Block::Ready(number)),
         Pcb::Ready { .. } => None,
-        Pcb::Supervisory { response, subject } => match control_of(subject, info) {
-            Some(control) => Some(if response {
+        Pcb::Supervisory { response, subject } => {
+            let control = control_of(subject, info)?;
+            Some(if response {
                 Block::Response(control)
             } else {
                 Block::Request(control)
-            }),
-            None => None,
-        },
+            })
+        }
     }
 }
 

@@ -1,9 +1,7 @@
 //! A card of data objects above its end of a line at T=1.
-
 ghost use Rattle.std.specs.Prelude.{◌≡◌, ◌+◌, ◌≤◌, [], ◌++◌, length, true, IfOk, MatchResult, vec_capacity};
 ghost use Rattle.apdu_core.specs.StatusWord.{StatusWord, IsStatusWord};
 ghost use Rattle.t0_core.specs.CardTpdu.{rests};
-ghost use Rattle.t1_core.specs.CardSide.{no_requests};
 ghost use Rattle.t1_terminal.specs.CardCommand.{Answers, DoesAt, status_bytes};
 
 use apdu_core::{ApduFault, Command, Status};
@@ -99,13 +97,6 @@ fn write(content: &[u8], status: Status, response: &mut Vec<u8>)
     response.push_reserved(status.sw2());
 }
 
-/// The card asks for no more time, and announces no other IFSC.
-const NO_REQUESTS: Requests = Requests {
-    extensions: 0,
-    multiple: 0,
-    size: None,
-};
-
 impl<C: DataCard> Applet for DataApplet<C> {
     ghost State = { C.State };
 
@@ -125,7 +116,11 @@ impl<C: DataCard> Applet for DataApplet<C> {
             Err(ApduFault::InvalidIns) => write(&[], status(0x6D), response),
             Err(ApduFault::TooShort | ApduFault::BadLength) => write(&[], status(0x67), response),
         }
-        Ok(NO_REQUESTS)
+        Ok(Requests {
+            extensions: 0,
+            multiple: 0,
+            size: None,
+        })
     }
 }
 

@@ -1,8 +1,6 @@
 //! One operation over T=1: a terminal runs its commands over both ends of a line.
-
 ghost use Rattle.std.specs.Prelude.{◌≡◌, ◌++◌, ◌∷◌, [], ℕ, List, true, None, IfOk, OnOk, MatchResult, MatchOption, is_some};
 ghost use Rattle.apdu_core.specs.CommandBytes as spec;
-ghost use Rattle.apdu_core.specs.CommandBytes.{command_bytes};
 ghost use Rattle.apdu_core.specs.StatusWord.{StatusWord, IsStatusWord};
 ghost use Rattle.card_terminal.specs.ExchangeSide.{response_limit};
 ghost use Rattle.card_terminal.specs.Operations.{operation_of};

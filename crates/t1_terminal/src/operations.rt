@@ -1,5 +1,4 @@
 //! A list of operations over T=1, and the result if the terminal gives up.
-
 ghost use Rattle.std.specs.Prelude.{◌≡◌, map, true, IfOk};
 ghost use Rattle.card_terminal.specs.Operations.{operation_of};
 ghost use Rattle.object_card.specs.State.{is_idle};

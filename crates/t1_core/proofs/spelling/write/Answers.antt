@@ -5,5 +5,5 @@ use Rattle.t1_core.proofs.spelling.write.Goals as goal
 
 pub returns-in-Ready : goal.returns-in-Ready
 returns-in-Ready c =
-    subst (λ b. IfOk c.write_ready.result (λ v. v.items ≡ bytes_of (said b))) (sym c.in-Ready.is)
-    c.write_ready.ensures
+    subst (λ b. IfOk c.spell-in-Ready.result (λ v. v.items ≡ bytes_of (said b))) (sym c.in-Ready.is)
+    c.spell-in-Ready.ensures

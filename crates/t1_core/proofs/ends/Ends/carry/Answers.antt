@@ -1,27 +1,36 @@
-use Rattle.std.proofs.Common.{sym, ◌∙◌}
+use Rattle.std.proofs.Common.{sym, ap, ◌∙◌}
+use Rattle.t1_core.specs.TerminalSide.{begins}
 use Rattle.t1_core.proofs.Carrying.{carried_begins, carried_next, received}
 use Rattle.t1_core.proofs.Endless.{fewer_left}
 use Rattle.t1_core.proofs.ends.Ends.carry.Goals as goal
 
 pub exchanges-init : goal.exchanges-init
 exchanges-init g c = λ past h.
-    carried_begins g.C.Applet past _ c.args.self.now c.begin.new.self c.args.command.now h
-    c.requires.ready c.in_ok-begin.ensures
+    carried_begins g.C.Applet past _ c.args.self.now
+    (record { terminal = c.begin.new.self; card = c.self.inside.card }) c.args.command.now h
+    c.requires.ready
+    (ap (λ t. record { terminal = t; card = c.self.inside.card }) c.in-Ok.ensures.begun.1
+    ∙ ap (λ e. record { terminal = begins c.args.command.now e.terminal; card = e.card })
+    c.self.view_is)
 
 pub exchanges-smaller : goal.exchanges-smaller
 exchanges-smaller g c =
+    let e = c.exchanges.self-inside in
     let moving = sym c.has_stopped.ensures ∙ c.exchanges-test.true in
     let h = c.exchanges.invariant c.requires.led.0 c.requires.led.1 in
-    fewer_left c.exchanges.self.terminal c.exchange.new.self.terminal moving
-    (received g.C.Applet c.next-fates.result c.exchanges.self c.exchange.new.self moving h.sized
-    c.in_ok-exchange.ensures).1
+    fewer_left e.terminal c.pass.new.terminal moving
+    (received g.C.Applet c.next-fates.result (record { terminal = e.terminal; card = e.card })
+    (record { terminal = c.pass.new.terminal; card = c.pass.new.card }) moving h.sized
+    c.in_ok-pass.ensures).1
 
 pub exchanges-preserved : goal.exchanges-preserved
 exchanges-preserved g c = λ past h.
-    carried_next g.C.Applet past c.args.command.now _ _ c.next-fates.result c.exchanges.self
-    c.exchange.new.self (c.exchanges.invariant past h)
-    (sym c.has_stopped.ensures ∙ c.exchanges-test.true) c.next-fates.ensures
-    c.in_ok-exchange.ensures
+    let e = c.exchanges.self-inside in
+    carried_next g.C.Applet past c.args.command.now _ _ c.next-fates.result
+    (record { terminal = e.terminal; card = e.card })
+    (record { terminal = c.pass.new.terminal; card = c.pass.new.card })
+    (c.exchanges.invariant past h) (sym c.has_stopped.ensures ∙ c.exchanges-test.true)
+    c.next-fates.ensures c.in_ok-pass.ensures
 
 pub returns-clause-led : goal.returns-clause-led
 returns-clause-led g c = c.exchanges.invariant

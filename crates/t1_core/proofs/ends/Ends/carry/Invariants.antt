@@ -4,10 +4,10 @@ use Rattle.t1_core.proofs.ends.Ends.carry.Given as goal
 
 -- the exchanges since the command began led to both ends
 abbrev pub invariant-exchanges : goal.invariant-exchanges
-invariant-exchanges g l = (past : Past g.C.Applet.State)
+invariant-exchanges g l = let e = l.self-inside in (past : Past g.C.Applet.State)
     → HasCarried g.C.Applet past (g.L.Line.passed l.fn.line) l.fn.self
-    → HasCarried g.C.Applet (with_command past l.command l.self.terminal) (g.L.Line.passed l.line)
-    l.self
+    → HasCarried g.C.Applet (with_command past l.command e.terminal) (g.L.Line.passed l.line)
+    (record { terminal = e.terminal; card = e.card })
 
 abbrev pub decreases-exchanges : goal.decreases-exchanges
-decreases-exchanges g l = receptions_left l.self.terminal
+decreases-exchanges g l = receptions_left l.self-inside.terminal

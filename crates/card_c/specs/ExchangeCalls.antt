@@ -59,10 +59,10 @@ Starts bytes limit None code new = MatchOption new (IsRefused bytes limit code)
     (λ side. (code ≡ gt_ok) × HasBegun bytes limit side)
 
 -- A call by characters or TPDUs is refused if the exchange goes by whole commands, and otherwise
--- does this.
-pub record ByTpdus (Does : ExchangeOf → ℤ → ExchangeOf → Type 0) (old : ExchangeSide) (code : ℤ)
-    (new : ExchangeSide) : Type 0 where
-  pub refused : old.apdus.leads ≡ true → (code ≡ gt_state) × (new ≡ old)
+-- does this. If it is refused, `Unwritten` holds.
+pub record ByTpdus (Unwritten : Type 0) (Does : ExchangeOf → ℤ → ExchangeOf → Type 0)
+    (old : ExchangeSide) (code : ℤ) (new : ExchangeSide) : Type 0 where
+  pub refused : old.apdus.leads ≡ true → (code ≡ gt_state) × (new ≡ old) × Unwritten
   pub does : old.apdus.leads ≡ false → Does old.exchange code new.exchange
   pub apdus : new.apdus ≡ old.apdus
 

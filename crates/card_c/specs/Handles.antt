@@ -29,3 +29,16 @@ abbrev pub OnHandle : {Content : Type 0} → (Content → ℤ → Content → Ty
     → Option Content → Type 0
 OnHandle Does None code new = (code ≡ gt_empty) × (new ≡ None)
 OnHandle Does (Some old) code new = MatchOption new ⊥ (λ content. Does old code content)
+
+-- The same of a call that also writes to the caller: with an empty handle `Unwritten` holds.
+abbrev pub OnHandleOr : {Content : Type 0} → Type 0 → (Content → ℤ → Content → Type 0)
+    → Option Content → ℤ → Option Content → Type 0
+OnHandleOr Unwritten Does None code new = (code ≡ gt_empty) × (new ≡ None) × Unwritten
+OnHandleOr Unwritten Does (Some old) code new = MatchOption new ⊥ (λ content. Does old code content)
+
+-- A call that only looks at what a handle holds, and writes of it what this says. With an empty
+-- handle it returns that code, and `Unwritten` holds.
+abbrev pub OnLook : {Content : Type 0} → Type 0 → (Content → ℤ → Type 0) → Option Content → ℤ
+    → Option Content → Type 0
+OnLook Unwritten Tells old code new =
+    (new ≡ old) × MatchOption old ((code ≡ gt_empty) × Unwritten) (λ content. Tells content code)

@@ -31,10 +31,11 @@ abbrev pub KeepsRoom : TerminalOf → TerminalOf → Type 0
 KeepsRoom old new = KeepsLimit old new ⊎ (new ≡ old)
 
 -- A call by characters or TPDUs is refused if the operation goes by whole commands, and otherwise
--- does this.
-pub record OnTpdus (Does : Option OperationOf → ℤ → Option OperationOf → Type 0)
-    (old : TerminalSide) (code : ℤ) (new : TerminalSide) : Type 0 where
-  pub refused : old.apdus.leads ≡ true → (code ≡ gt_state) × (new ≡ old)
+-- does this. If it is refused, `Unwritten` holds.
+pub record OnTpdus (Unwritten : Type 0)
+    (Does : Option OperationOf → ℤ → Option OperationOf → Type 0) (old : TerminalSide) (code : ℤ)
+    (new : TerminalSide) : Type 0 where
+  pub refused : old.apdus.leads ≡ true → (code ≡ gt_state) × (new ≡ old) × Unwritten
   pub does : old.apdus.leads ≡ false
       → Does old.terminal.operation code new.terminal.operation
   pub room : KeepsRoom old.terminal new.terminal

@@ -14,10 +14,6 @@ use atr_core::{
 const MOST_PROTOCOLS: usize = 15;
 
 /// Reads an answer to reset, which is all of `bytes`, and writes what it says to `atr`.
-///
-/// # Errors
-/// - a code of [`code::of_atr`]: the first fault from the left. Only its place is written, to
-///   `place`.
 #[unsafe(no_mangle)]
 pub extern "C" fn galliumtoad_atr_read(bytes: &[u8], atr: &mut AtrRecord, place: &mut usize) -> i32
     ensures { ReadsAtr bytes.now atr.old place.old result atr.new place.new }

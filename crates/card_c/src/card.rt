@@ -1,7 +1,7 @@
 //! The exports of a card: C builds it, and then passes it characters.
-ghost use Rattle.std.specs.Prelude.{◌≡◌, ◌≢◌, ◌==◌, not, pos, true, None, MatchOption};
+ghost use Rattle.std.specs.Prelude.{◌≡◌, true, None, MatchOption};
 ghost use Rattle.t0_core.specs.CardSide.{listens};
-ghost use Rattle.card_c.specs.Handles.{held_by, OnHandle};
+ghost use Rattle.card_c.specs.Handles.{held_by, OnHandle, OnHandleOr};
 ghost use Rattle.card_c.specs.CardT1Calls.{at_t0};
 ghost use Rattle.card_c.specs.CardCalls.{Begins, AddsApplication, AddsObject, Finishes, TakesOne, HandsOutCharacter, Turns, Resets};
 
@@ -17,10 +17,6 @@ use std::mem;
 use t0_core::{CardEnd, LineFault, PlanQueue, Turn};
 
 /// Starts to build a card, which has no applications yet.
-///
-/// # Errors
-/// - `STATE`: the handle is live, and stays as it was.
-/// - `MEMORY`: memory ran out; the handle stays empty.
 #[unsafe(no_mangle)]
 pub extern "C" fn galliumtoad_card_new(alloc: Global, card: &mut GtCard) -> i32
     ensures { Begins (held_by card.old) result (held_by card.new) }
@@ -46,42 +42,25 @@ pub extern "C" fn galliumtoad_card_free(alloc: Global, card: &mut GtCard)
 }
 
 /// Adds an application without data objects. `aid` is its identifier, of 5 to 16 bytes.
-///
-/// # Errors
-/// The card stays as it was; the first that holds:
-/// - `STATE`: the card is built.
-/// - `ARGUMENT`: `aid` does not have 5 to 16 bytes.
-/// - a code of [`code::of_builder`]: the builder refuses it.
 #[unsafe(no_mangle)]
 pub extern "C" fn galliumtoad_card_app(alloc: Global, card: &mut GtCard, aid: &[u8]) -> i32
     ensures { OnHandle (AddsApplication aid.now) (held_by card.old) result (held_by card.new) }
 {
-    with(alloc, card, |side| add_app(side, aid))
+    with(alloc, card, |side| {
+        let CardSide::Building(builder) = side else {
+            return code::STATE;
+        };
+        let Some(aid) = Aid::new(aid) else {
+            return code::ARGUMENT;
+        };
+        match builder.app(aid) {
+            Ok(()) => code::OK,
+            Err(fault) => code::of_builder(fault),
+        }
+    })
 }
 
-fn add_app(side: &mut CardSide, aid: &[u8]) -> i32
-    ensures { AddsApplication aid.now side.old result side.new }
-{
-    let CardSide::Building(builder) = side else {
-        return code::STATE;
-    };
-    let Some(aid) = Aid::new(aid) else {
-        return code::ARGUMENT;
-    };
-    match builder.app(aid) {
-        Ok(()) => code::OK,
-        Err(fault) => code::of_builder(fault),
-    }
-}
-
-/// Adds a data object to the last application, or replaces the one under this tag. If `locked`, no
-/// command changes it.
-///
-/// # Errors
-/// The card stays as it was; the first that holds:
-/// - `STATE`: the card is built.
-/// - `ARGUMENT`: GET DATA can name no tag with this number.
-/// - a code of [`code::of_builder`]: the builder refuses it.
+/// Adds a data object to the last application, or replaces the one under this tag.
 #[unsafe(no_mangle)]
 pub extern "C" fn galliumtoad_card_object(
     alloc: Global,
@@ -117,44 +96,31 @@ fn add_object(side: &mut CardSide, number: u32, value: &[u8], locked: bool) -> i
 }
 
 /// Ends the building of a card. It speaks T=0 and listens, with nothing selected, and has no plans.
-///
-/// # Errors
-/// - `STATE`: the card is built already, and stays as it was.
-/// - `MEMORY`: memory ran out; the card is still being built.
 #[unsafe(no_mangle)]
 pub extern "C" fn galliumtoad_card_finish(alloc: Global, card: &mut GtCard) -> i32
     ensures { OnHandle Finishes (held_by card.old) result (held_by card.new) }
 {
-    with(alloc, card, |side| finish(alloc, side))
-}
-
-fn finish(alloc: Global, side: &mut CardSide) -> i32
-    ensures { Finishes side.old result side.new }
-{
-    // An empty builder takes no memory. It fills the place until the function writes it.
-    let before = mem::replace(side, CardSide::Building(CardBuilder::new(alloc)));
-    let CardSide::Building(builder) = before else {
-        *side = before;
-        return code::STATE;
-    };
-    match builder.try_finish() {
-        Ok(card) => {
-            *side = CardSide::Standing(CardEnd::new(card), PlanQueue::new(alloc));
-            code::OK
+    with(alloc, card, |side| {
+        // An empty builder takes no memory. It fills the place until the function writes it.
+        let before = mem::replace(side, CardSide::Building(CardBuilder::new(alloc)));
+        let CardSide::Building(builder) = before else {
+            *side = before;
+            return code::STATE;
+        };
+        match builder.try_finish() {
+            Ok(card) => {
+                *side = CardSide::Standing(CardEnd::new(card), PlanQueue::new(alloc));
+                code::OK
+            }
+            Err(builder) => {
+                *side = CardSide::Building(builder);
+                code::MEMORY
+            }
         }
-        Err(builder) => {
-            *side = CardSide::Building(builder);
-            code::MEMORY
-        }
-    }
+    })
 }
 
 /// Takes a character of the terminal.
-///
-/// # Errors
-/// The card stays as it was.
-/// - `STATE`: the card is not built, speaks T=1 or is in a session.
-/// - the code of `NotListening`: the card has a character to send.
 #[unsafe(no_mangle)]
 pub extern "C" fn galliumtoad_card_take(alloc: Global, card: &mut GtCard, byte: u8) -> i32
     ensures { OnHandle (TakesOne byte) (held_by card.old) result (held_by card.new) }
@@ -174,16 +140,10 @@ fn take(side: &mut CardSide, byte: u8) -> i32
     }
 }
 
-/// Writes the card's next character to `byte` and returns `SENDS`, or returns `OK` if the card
-/// listens. The character counts as sent. The first one of an answer takes the next plan. Only
-/// `SENDS` changes anything.
-///
-/// # Errors
-/// - `STATE`: the card is not built, speaks T=1 or is in a session. Nothing changes.
+/// Writes the card's next character to `byte`, if it does not listen. Then it counts as sent.
 #[unsafe(no_mangle)]
 pub extern "C" fn galliumtoad_card_turn(alloc: Global, card: &mut GtCard, byte: &mut u8) -> i32
-    ensures empty { held_by card.old ≡ None → byte.new ≡ byte.old }
-    ensures turns { OnHandle (Turns byte.old byte.new)
+    ensures { OnHandleOr (byte.new ≡ byte.old) (Turns byte.old byte.new)
         (held_by card.old) result (held_by card.new) }
 {
     let Some(mut side) = card.take_out(alloc) else {
@@ -222,11 +182,7 @@ pub(crate) fn next_of(end: &mut CardEnd<ObjectCard>, plans: &mut PlanQueue) -> O
     Some(byte)
 }
 
-/// Resets the card: a TPDU or block in progress is dropped, and nothing is selected or pending. The
-/// card speaks T=0 then. Its data objects and the plans that wait stay.
-///
-/// # Errors
-/// - `STATE`: the card is not built, or is in a session. It stays as it was.
+/// Resets the card, which speaks T=0 then. Its data objects and the plans that wait stay.
 #[unsafe(no_mangle)]
 pub extern "C" fn galliumtoad_card_reset(alloc: Global, card: &mut GtCard) -> i32
     ensures { OnHandle Resets (held_by card.old) result (held_by card.new) }

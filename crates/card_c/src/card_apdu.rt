@@ -1,7 +1,7 @@
 //! The export that gives a card a whole command, as at T=1 or without contacts.
-ghost use Rattle.std.specs.Prelude.{◌≡◌, true, None};
+ghost use Rattle.std.specs.Prelude.{◌≡◌, true};
 ghost use Rattle.t0_core.specs.CardTpdu.{rests};
-ghost use Rattle.card_c.specs.Handles.{held_by, OnHandle};
+ghost use Rattle.card_c.specs.Handles.{held_by, OnHandleOr};
 ghost use Rattle.card_c.specs.CardApduCalls.{RespondsTo, RespondsToCommand, RefusesLength};
 
 use crate::card_held::GtCard;
@@ -15,16 +15,7 @@ use object_card::ObjectCard;
 use std::alloc::Global;
 use t0_core::CardEnd;
 
-/// Carries out a whole command, and writes the response: data, then the status. The response is
-/// `6700`, and the card stays as it was, if the bytes fit no case or the command is not agreed with
-/// the card. Plans stay as they were.
-///
-/// # Errors
-/// The card stays as it was, and nothing is written; the first that holds:
-/// - `STATE`: the card is not built, speaks T=1, is in a session, or has begun a TPDU.
-/// - the code of `TooShort` or `InvalidIns`: the bytes are not a command.
-/// - `BUFFER`: the array is shorter than 2 and Le, or than 2 without Le.
-/// - `MEMORY`: memory ran out.
+/// Carries out a whole command, and writes the response: data, then the status.
 #[unsafe(no_mangle)]
 pub extern "C" fn galliumtoad_card_apdu(
     alloc: Global,
@@ -33,9 +24,8 @@ pub extern "C" fn galliumtoad_card_apdu(
     response: &mut [u8],
     len: &mut usize,
 ) -> i32
-    ensures empty { held_by card.old ≡ None
-        → (response.new ≡ response.old) × (len.new ≡ len.old) }
-    ensures responds { OnHandle (RespondsTo apdu.now response.old len.old response.new len.new)
+    ensures { OnHandleOr ((response.new ≡ response.old) × (len.new ≡ len.old))
+        (RespondsTo apdu.now response.old len.old response.new len.new)
         (held_by card.old) result (held_by card.new) }
 {
     let Some(mut side) = card.take_out(alloc) else {

@@ -1,6 +1,6 @@
 //! The exports that pass several characters to and from a card.
-ghost use Rattle.std.specs.Prelude.{◌≡◌, None};
-ghost use Rattle.card_c.specs.Handles.{held_by, OnHandle};
+ghost use Rattle.std.specs.Prelude.{◌≡◌};
+ghost use Rattle.card_c.specs.Handles.{held_by, OnHandleOr};
 ghost use Rattle.card_c.specs.BufferCalls.{CardSends, CardReceives, HandsOutAll, TakesAll};
 
 use crate::card::next_of;
@@ -12,11 +12,7 @@ use object_card::ObjectCard;
 use std::alloc::Global;
 use t0_core::{CardEnd, LineFault, PlanQueue};
 
-/// Writes the card's characters to `bytes` until it listens or `bytes` is full, and their number to
-/// `count`. Returns `SENDS` if `bytes` is full, as an empty array always is, and otherwise `OK`.
-///
-/// # Errors
-/// - `STATE`: the card is not built, speaks T=1 or is in a session. Nothing changes.
+/// Writes the card's characters until it listens or `bytes` is full, and their number.
 #[unsafe(no_mangle)]
 pub extern "C" fn galliumtoad_card_send_bytes(
     alloc: Global,
@@ -24,9 +20,8 @@ pub extern "C" fn galliumtoad_card_send_bytes(
     bytes: &mut [u8],
     count: &mut usize,
 ) -> i32
-    ensures empty { held_by card.old ≡ None
-        → (bytes.new ≡ bytes.old) × (count.new ≡ count.old) }
-    ensures sends { OnHandle (CardSends bytes.old count.old bytes.new count.new)
+    ensures { OnHandleOr ((bytes.new ≡ bytes.old) × (count.new ≡ count.old))
+        (CardSends bytes.old count.old bytes.new count.new)
         (held_by card.old) result (held_by card.new) }
 {
     let Some(mut side) = card.take_out(alloc) else {
@@ -66,10 +61,6 @@ fn hand_out(end: &mut CardEnd<ObjectCard>, plans: &mut PlanQueue, bytes: &mut [u
 }
 
 /// Takes characters of the terminal while the card listens, and writes their number to `count`.
-///
-/// # Errors
-/// - `STATE`: the card is not built, speaks T=1 or is in a session. Nothing changes.
-/// - the code of `NotListening`: the card has a character to send after those that it has taken.
 #[unsafe(no_mangle)]
 pub extern "C" fn galliumtoad_card_receive_bytes(
     alloc: Global,
@@ -77,8 +68,7 @@ pub extern "C" fn galliumtoad_card_receive_bytes(
     bytes: &[u8],
     count: &mut usize,
 ) -> i32
-    ensures empty { held_by card.old ≡ None → count.new ≡ count.old }
-    ensures receives { OnHandle (CardReceives bytes.now count.old count.new)
+    ensures { OnHandleOr (count.new ≡ count.old) (CardReceives bytes.now count.old count.new)
         (held_by card.old) result (held_by card.new) }
 {
     let Some(mut side) = card.take_out(alloc) else {

@@ -31,10 +31,8 @@ impl CardHeld {
         ensures { result.value ≡ Some value.value }
     {
         let Loose { at, alloc } = value;
-        CardHeld {
-            at: at as *mut u8,
-            alloc,
-        }
+        let at = at as *mut u8;
+        CardHeld { at, alloc }
     }
 
     pub(crate) fn into_loose(self) -> Loose<CardSide, Global>
@@ -42,10 +40,8 @@ impl CardHeld {
         ensures { Some result.value ≡ self.value }
     {
         let CardHeld { at, alloc } = self;
-        Loose {
-            at: at as *mut CardSide,
-            alloc,
-        }
+        let at = at as *mut CardSide;
+        Loose { at, alloc }
     }
 
     pub(crate) fn empty(alloc: Global) -> CardHeld

@@ -1,8 +1,9 @@
 //! What the handle of a card or a session holds.
-use crate::card_t1_side::CardT1Side;
 use crate::session_side::SessionSide;
 use object_card::{CardBuilder, ObjectCard};
 use t0_core::{CardEnd, PlanQueue};
+use t1_core::{Receiver, Reply};
+use t1_terminal::DataApplet;
 
 /// A card in one of four states.
 #[derive(Drop)]
@@ -15,4 +16,16 @@ pub enum CardSide {
     Joined(SessionSide),
     /// It speaks T=1, until its next reset.
     AtT1(CardT1Side),
+}
+
+/// A card at T=1, until its next reset.
+#[derive(Drop)]
+pub struct CardT1Side {
+    pub end: t1_core::CardEnd<DataApplet<ObjectCard>>,
+    /// The received bytes of the terminal's block.
+    pub block: Receiver,
+    /// The answer to its last block. `None` before the first, and after memory ran out at one.
+    pub reply: Option<Reply>,
+    /// The plans that the card follows at T=0 after its next reset.
+    pub plans: PlanQueue,
 }

@@ -1,8 +1,8 @@
 //! The export that gives a card a whole TPDU.
-ghost use Rattle.std.specs.Prelude.{◌≡◌, ◌+◌, ◌≤◌, length, true, None, IsSome};
+ghost use Rattle.std.specs.Prelude.{◌≡◌, ◌+◌, ◌≤◌, length, true, IsSome};
 ghost use Rattle.t0_core.specs.CardTpdu.{rests};
 ghost use Rattle.t0_core.specs.TpduBytes.{asked_in};
-ghost use Rattle.card_c.specs.Handles.{held_by, OnHandle};
+ghost use Rattle.card_c.specs.Handles.{held_by, OnHandleOr};
 ghost use Rattle.card_c.specs.CardTpduCalls.{CarriesOut, IsCarriedOut};
 
 use crate::card_held::GtCard;
@@ -14,17 +14,7 @@ use object_card::ObjectCard;
 use std::alloc::Global;
 use t0_core::{CardEnd, Gather, PlanQueue, WholeTpdu};
 
-/// Carries out a whole TPDU under the card's next plan, which is used up, and writes its answer:
-/// data, then the status.
-///
-/// # Errors
-/// The first that holds. Nothing is written, and except after the last nothing changes:
-/// - `STATE`: the card is not built, speaks T=1, is in a session, or has begun a TPDU.
-/// - `NO_TPDU`: the bytes are not a whole TPDU.
-/// - `BUFFER`: the array is too small for the longest answer to it.
-/// - `MEMORY`: memory ran out for the data of the answer.
-/// - the code of `WantsData` or `SendsData`: both ends would deadlock. The card is reset, and the
-///   plan is used up.
+/// Carries out a whole TPDU under the card's next plan, and writes its answer.
 #[unsafe(no_mangle)]
 pub extern "C" fn galliumtoad_card_tpdu(
     alloc: Global,
@@ -33,9 +23,8 @@ pub extern "C" fn galliumtoad_card_tpdu(
     answer: &mut [u8],
     len: &mut usize,
 ) -> i32
-    ensures empty { held_by card.old ≡ None
-        → (answer.new ≡ answer.old) × (len.new ≡ len.old) }
-    ensures carries_out { OnHandle (CarriesOut tpdu.now answer.old len.old answer.new len.new)
+    ensures { OnHandleOr ((answer.new ≡ answer.old) × (len.new ≡ len.old))
+        (CarriesOut tpdu.now answer.old len.old answer.new len.new)
         (held_by card.old) result (held_by card.new) }
 {
     let Some(mut side) = card.take_out(alloc) else {

@@ -2,9 +2,10 @@
 //!
 //! What a handle holds stays as it was after `EMPTY`, `STATE`, `ARGUMENT`, `BUSY` and `PLANS`.
 ghost use Rattle.std.specs.Prelude.{◌≡◌};
-ghost use Rattle.card_c.specs.Codes.{answer_code, atr_code, begin_code, builder_code, cause_code, command_code, line_code, outcome_number, pps_code, reason_code, tpdu_code};
+ghost use Rattle.card_c.specs.Codes.{atr_code, begin_code, builder_code, cause_code, command_code, line_code, outcome_number, pps_code, reason_code, tpdu_code};
 ghost use Rattle.card_c.specs.ExchangeCalls.{turn_code, taking_code};
 ghost use Rattle.card_c.specs.BufferCalls.{stop_code};
+ghost use Rattle.card_c.specs.TpduCalls.{answered_code};
 
 use apdu_core::ApduFault;
 use atr_core::{PpsFault, Reason as AtrReason};
@@ -15,11 +16,9 @@ use tlv_core::Reason;
 
 /// Success. Of a turn: the end listens.
 pub const OK: i32 = 0;
-
 /// Of a turn: the end sends a character. Of characters in a buffer: the buffer is full. At T=1: the
 /// received block is whole, or dropped.
 pub const SENDS: i32 = 1;
-
 /// The exchange or operation has ended with an answer. At T=1: there is no block to send.
 pub const DONE: i32 = 2;
 
@@ -27,37 +26,26 @@ pub const DONE: i32 = 2;
 
 /// The handle is empty, and stays empty.
 pub const EMPTY: i32 = -2;
-
 /// The call does not fit the state of the handle, which stays as it was.
 pub const STATE: i32 = -3;
-
 /// Memory ran out.
 pub const MEMORY: i32 = -4;
-
 /// An argument is invalid.
 pub const ARGUMENT: i32 = -5;
-
 /// The buffer is too small for the bytes. It is unchanged, except by `galliumtoad_objects`.
 pub const BUFFER: i32 = -6;
-
 /// A chain is pending at the card. No operation begins.
 pub const BUSY: i32 = -7;
-
 /// What the call asks for is not there, such as an object, an answer or a fault.
 pub const NOT_FOUND: i32 = -8;
-
 /// The exchange or operation has failed for good. At T=1: the end gave up.
 pub const FAILED: i32 = -9;
-
 /// The most plans wait already.
 pub const PLANS: i32 = -10;
-
 /// No whole TPDU or command is next: it has begun, ended or failed, or there is no operation.
 pub const NOT_DUE: i32 = -60;
-
 /// The answer does not end in a status word.
 pub const NO_STATUS: i32 = -61;
-
 /// The bytes are not a whole TPDU.
 pub const NO_TPDU: i32 = -64;
 
@@ -147,17 +135,18 @@ pub fn of_command(fault: ApduFault) -> i32
     }
 }
 
-/// Returns why a terminal refuses the answer to a whole TPDU or command. After -32 and -33 the
-/// exchange has failed for good; after any other nothing has changed.
-pub fn of_answer(fault: AnswerFault) -> i32
-    ensures { result ≡ answer_code fault }
+/// Returns whether the answer to a whole TPDU or command was taken, or why not. After -32 and -33
+/// the exchange has failed for good; after any other fault nothing has changed.
+pub fn of_answer(taken: Result<(), AnswerFault>) -> i32
+    ensures { result ≡ answered_code taken }
 {
-    match fault {
-        AnswerFault::NotDue => NOT_DUE,
-        AnswerFault::NotAsked => -62,
-        AnswerFault::TooMany => -63,
-        AnswerFault::TooLong => -32,
-        AnswerFault::Stalled => -33,
+    match taken {
+        Ok(()) => OK,
+        Err(AnswerFault::NotDue) => NOT_DUE,
+        Err(AnswerFault::NotAsked) => -62,
+        Err(AnswerFault::TooMany) => -63,
+        Err(AnswerFault::TooLong) => -32,
+        Err(AnswerFault::Stalled) => -33,
     }
 }
 

@@ -1,12 +1,8 @@
 //! The exports of a terminal's exchange of one command, character by character.
-ghost use Rattle.std.specs.Prelude.{◌≡◌, Some, None, IsSome, IfSome, IfOk, IfErr, true, false, ℕ, List, Option};
+ghost use Rattle.std.specs.Prelude.{◌≡◌, ⊤, IfOk, IfErr, None, Some};
 ghost use Rattle.card_terminal.specs.ExchangeSide.{response_limit};
-ghost use Rattle.apdu_core.specs.StatusWord.{StatusWord};
-ghost use Rattle.card_terminal.specs.ExchangeSteps.{IsAnswer};
-ghost use Rattle.card_c.specs.Codes.{gt_ok, gt_empty, gt_state};
-ghost use Rattle.card_c.specs.declared.exchange_side.ExchangeSide.{ExchangeSide};
-ghost use Rattle.card_c.specs.Handles.{exchange_in, OnHandle};
-ghost use Rattle.card_c.specs.ExchangeCalls.{IsRefused, HasBegun, Starts, ByTpdus, TurnsTo, TakesByte, TellsAnswerOf, TellsEnd};
+ghost use Rattle.card_c.specs.Handles.{exchange_in, OnHandle, OnHandleOr, OnLook};
+ghost use Rattle.card_c.specs.ExchangeCalls.{IsRefused, HasBegun, Starts, ByTpdus, TurnsTo, TakesByte, TellsAnswerOf};
 
 use crate::apdu_side::ApduSide;
 use crate::code;
@@ -21,14 +17,7 @@ use card_terminal::{OwnedExchange, RESPONSE_LIMIT, StartFault};
 use std::alloc::Global;
 use t0_core::HostTurn;
 
-/// Begins the exchange of a command in an empty handle. It goes neither by TPDUs nor by whole
-/// commands yet, and sends first.
-///
-/// # Errors
-/// In this order:
-/// - `STATE`: the handle is live, and stays as it was.
-/// - a code of [`code::of_command`]: the bytes are not a command; the handle stays empty.
-/// - `MEMORY`: memory ran out; the handle stays empty.
+/// Begins the exchange of a command in an empty handle.
 #[unsafe(no_mangle)]
 pub extern "C" fn galliumtoad_exchange_start(
     alloc: Global,
@@ -38,14 +27,10 @@ pub extern "C" fn galliumtoad_exchange_start(
     ensures { Starts command.now response_limit (exchange_in exchange.old) result
         (exchange_in exchange.new) }
 {
-    start(alloc, exchange, command, RESPONSE_LIMIT)
+    galliumtoad_exchange_start_within(alloc, exchange, command, RESPONSE_LIMIT)
 }
 
 /// Does the same for a response of at most `limit` bytes, from 0 to 16,384.
-///
-/// # Errors
-/// Those of `galliumtoad_exchange_start`, and before `MEMORY`
-/// - `ARGUMENT`: `limit` exceeds 16,384; the handle stays empty.
 #[unsafe(no_mangle)]
 pub extern "C" fn galliumtoad_exchange_start_within(
     alloc: Global,
@@ -53,13 +38,6 @@ pub extern "C" fn galliumtoad_exchange_start_within(
     command: &[u8],
     limit: usize,
 ) -> i32
-    ensures { Starts command.now limit (exchange_in exchange.old) result
-        (exchange_in exchange.new) }
-{
-    start(alloc, exchange, command, limit)
-}
-
-fn start(alloc: Global, exchange: &mut ExchangeHandle, command: &[u8], limit: usize) -> i32
     ensures { Starts command.now limit (exchange_in exchange.old) result
         (exchange_in exchange.new) }
 {
@@ -101,22 +79,15 @@ fn begun(alloc: Global, command: &[u8], limit: usize) -> Result<Box<ExchangeSide
     }
 }
 
-/// Returns what the terminal does next: `SENDS`, `OK` if it listens, or `DONE`. With `SENDS` the
-/// character is written to `byte`, and counts as sent. Nothing else changes `byte` or the exchange.
-///
-/// # Errors
-/// - `STATE`: the exchange goes by whole commands. Nothing changes.
-/// - `FAILED`: the exchange has failed for good. Nothing changes.
+/// Takes the terminal's turn. A character to send is written to `byte`, and counts as sent.
 #[unsafe(no_mangle)]
 pub extern "C" fn galliumtoad_exchange_next(
     alloc: Global,
     exchange: &mut ExchangeHandle,
     byte: &mut u8,
 ) -> i32
-    ensures empty { exchange_in exchange.old ≡ None → byte.new ≡ byte.old }
-    ensures still { (side : ExchangeSide) → exchange_in exchange.old ≡ Some side
-        → side.apdus.leads ≡ true → byte.new ≡ byte.old }
-    ensures turn { OnHandle (ByTpdus (TurnsTo byte.old byte.new))
+    ensures { OnHandleOr (byte.new ≡ byte.old)
+        (ByTpdus (byte.new ≡ byte.old) (TurnsTo byte.old byte.new))
         (exchange_in exchange.old) result (exchange_in exchange.new) }
 {
     let Some(mut side) = exchange.take_out(alloc) else {
@@ -127,10 +98,8 @@ pub extern "C" fn galliumtoad_exchange_next(
     answer
 }
 
-/// Takes the terminal's turn, and returns its code.
 fn turned(side: &mut ExchangeSide, byte: &mut u8) -> i32
-    ensures still { side.old.apdus.leads ≡ true → byte.new ≡ byte.old }
-    ensures does { ByTpdus (TurnsTo byte.old byte.new) side.old result side.new }
+    ensures { ByTpdus (byte.new ≡ byte.old) (TurnsTo byte.old byte.new) side.old result side.new }
 {
     if side.apdus.leads {
         return code::STATE;
@@ -143,37 +112,24 @@ fn turned(side: &mut ExchangeSide, byte: &mut u8) -> i32
 }
 
 /// Takes a character of the card. If it completes a status, the next TPDU begins, if one follows.
-///
-/// # Errors
-/// - `STATE`: the exchange goes by whole commands. Nothing changes.
-/// - a code of [`code::of_line`]: the exchange refuses the character, or has ended or failed.
 #[unsafe(no_mangle)]
 pub extern "C" fn galliumtoad_exchange_take(
     alloc: Global,
     exchange: &mut ExchangeHandle,
     byte: u8,
 ) -> i32
-    ensures { OnHandle (ByTpdus (TakesByte byte))
+    ensures { OnHandle (ByTpdus ⊤ (TakesByte byte))
         (exchange_in exchange.old) result (exchange_in exchange.new) }
 {
-    with(alloc, exchange, |side| taken(side, byte))
-}
-
-/// Takes a character of the card, and returns its code.
-fn taken(side: &mut ExchangeSide, byte: u8) -> i32
-    ensures { ByTpdus (TakesByte byte) side.old result side.new }
-{
-    if side.apdus.leads {
-        return code::STATE;
-    }
-    code::of_taking(side.exchange.take(byte))
+    with(alloc, exchange, |side| {
+        if side.apdus.leads {
+            return code::STATE;
+        }
+        code::of_taking(side.exchange.take(byte))
+    })
 }
 
 /// Writes the status and the data of an exchange that has ended. The exchange keeps them.
-///
-/// # Errors
-/// - `STATE`: it has no answer, since it is in progress or has failed. Nothing is written.
-/// - `BUFFER`: the data do not fit. Only `status` and `len` are written.
 #[unsafe(no_mangle)]
 pub extern "C" fn galliumtoad_exchange_answer(
     alloc: Global,
@@ -182,12 +138,11 @@ pub extern "C" fn galliumtoad_exchange_answer(
     content: &mut [u8],
     len: &mut usize,
 ) -> i32
-    ensures kept { exchange_in exchange.new ≡ exchange_in exchange.old }
-    ensures empty { exchange_in exchange.old ≡ None → (result ≡ gt_empty)
-        × (status.new ≡ status.old) × (content.new ≡ content.old) × (len.new ≡ len.old) }
-    ensures answer { (side : ExchangeSide) → exchange_in exchange.old ≡ Some side
-        → TellsAnswerOf side status.old content.old len.old
-        result status.new content.new len.new }
+    ensures { OnLook
+        ((status.new ≡ status.old) × (content.new ≡ content.old) × (len.new ≡ len.old))
+        (λ side code. TellsAnswerOf side status.old content.old len.old code
+        status.new content.new len.new) (exchange_in exchange.old) result
+        (exchange_in exchange.new) }
 {
     let Some(side) = exchange.take_out(alloc) else {
         return code::EMPTY;
@@ -197,7 +152,6 @@ pub extern "C" fn galliumtoad_exchange_answer(
     answer
 }
 
-/// Writes the answer, if there is one.
 fn given(side: &ExchangeSide, status: &mut u16, content: &mut [u8], len: &mut usize) -> i32
     ensures { TellsAnswerOf side.now status.old content.old len.old
         result status.new content.new len.new }
@@ -205,19 +159,7 @@ fn given(side: &ExchangeSide, status: &mut u16, content: &mut [u8], len: &mut us
     if side.apdus.leads {
         return ended(&side.apdus, status, content, len);
     }
-    ended_by_tpdus(&side.exchange, status, content, len)
-}
-
-fn ended_by_tpdus(
-    exchange: &OwnedExchange,
-    status: &mut u16,
-    content: &mut [u8],
-    len: &mut usize,
-) -> i32
-    ensures { (answer : Option (StatusWord × List ℕ)) × IsAnswer exchange.now answer
-        × TellsEnd answer status.old content.old len.old result status.new content.new len.new }
-{
-    let Some((word, bytes)) = exchange.answer() else {
+    let Some((word, bytes)) = side.exchange.answer() else {
         return code::STATE;
     };
     *status = u16::from_be_bytes([word.sw1(), word.sw2()]);

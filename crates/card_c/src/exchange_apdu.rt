@@ -14,13 +14,6 @@ use card_terminal::{OwnedExchange, Unsent};
 use std::alloc::Global;
 
 /// Writes the next whole command, its length, and the most data bytes of its response, 0 to 256.
-///
-/// # Errors
-/// Nothing is written.
-/// - `STATE`: the exchange goes by TPDUs: a character of it was sent, or an answer was taken.
-/// - `MEMORY`: memory ran out for whole commands. The exchange is unchanged.
-/// - `NOT_DUE`: the exchange has ended or failed.
-/// - `BUFFER`: the command does not fit.
 #[unsafe(no_mangle)]
 pub extern "C" fn galliumtoad_exchange_apdu(
     alloc: Global,
@@ -57,13 +50,7 @@ fn due(side: &mut ExchangeSide, apdu: &mut [u8], len: &mut usize, most: &mut usi
     told(side.apdus.terminal.apdu(), apdu, len, most)
 }
 
-/// Takes the response to that command: data, then the status. From the first one that is taken or
-/// fails the exchange, it goes by whole commands.
-///
-/// # Errors
-/// - `STATE`, `MEMORY`: those of `galliumtoad_exchange_apdu`.
-/// - `NO_STATUS`: the bytes end in no status. No response is taken.
-/// - a code of [`code::of_answer`]: the exchange refuses the response.
+/// Takes the response to that command. From the first one on, the exchange goes by commands.
 #[unsafe(no_mangle)]
 pub extern "C" fn galliumtoad_exchange_responded(
     alloc: Global,
@@ -73,16 +60,12 @@ pub extern "C" fn galliumtoad_exchange_responded(
     ensures { OnHandle (ByApdus (TakesResponse response.now))
         (exchange_in exchange.old) result (exchange_in exchange.new) }
 {
-    with(alloc, exchange, |side| taken(side, response))
-}
-
-fn taken(side: &mut ExchangeSide, response: &[u8]) -> i32
-    ensures { ByApdus (TakesResponse response.now) side.old result side.new }
-{
-    if side.apdus.leads {
-        return responded(&mut side.apdus, response);
-    }
-    responded_first(&mut side.apdus, unsent_of(&side.exchange), response)
+    with(alloc, exchange, |side| {
+        if side.apdus.leads {
+            return responded(&mut side.apdus, response);
+        }
+        responded_first(&mut side.apdus, unsent_of(&side.exchange), response)
+    })
 }
 
 /// Returns what an exchange has to send. `None` if a character or an answer of it has passed.

@@ -16,14 +16,7 @@ use tlv_core::{Objects, Tag, find_placed};
 /// The deepest level of an object. No longer path leads to one.
 const DEEPEST: usize = 16;
 
-/// Finds the first object, in the order of the bytes, whose tags from level 1 down to its own have
-/// these numbers. It is written to `object`.
-///
-/// # Errors
-/// `object` is unchanged; the first that holds:
-/// - `ARGUMENT`: a step is the number of no tag of one to three bytes.
-/// - a code of [`code::of_reason`]: the first fault of the bytes. Only its place is written.
-/// - `NOT_FOUND`: there is no such object, or the path is empty.
+/// Writes the first object, in the order of the bytes, on a path of tags from level 1 down.
 #[unsafe(no_mangle)]
 pub extern "C" fn galliumtoad_find(
     bytes: &[u8],

@@ -28,8 +28,8 @@ impl Handle for GtCard {
         if !self.live {
             return None;
         }
-        let held = CardHeld::empty(alloc);
-        let GtCard { live: _, held } = mem::replace(self, GtCard { live: false, held });
+        self.live = false;
+        let held = mem::replace(&mut self.held, CardHeld::empty(alloc));
         Some(held.into_loose().into_box())
     }
 
@@ -55,11 +55,8 @@ impl Handle for ExchangeHandle {
         if !self.live {
             return None;
         }
-        let held = HeldExchange::empty(alloc);
-        let ExchangeHandle { live: _, held } = mem::replace(
-            self,
-            ExchangeHandle { live: false, held },
-        );
+        self.live = false;
+        let held = mem::replace(&mut self.held, HeldExchange::empty(alloc));
         Some(held.into_loose().into_box())
     }
 
@@ -85,11 +82,8 @@ impl Handle for TerminalHandle {
         if !self.live {
             return None;
         }
-        let held = HeldTerminal::empty(alloc);
-        let TerminalHandle { live: _, held } = mem::replace(
-            self,
-            TerminalHandle { live: false, held },
-        );
+        self.live = false;
+        let held = mem::replace(&mut self.held, HeldTerminal::empty(alloc));
         Some(held.into_loose().into_box())
     }
 
@@ -115,8 +109,8 @@ impl Handle for T1Handle {
         if !self.live {
             return None;
         }
-        let held = HeldT1::empty(alloc);
-        let T1Handle { live: _, held } = mem::replace(self, T1Handle { live: false, held });
+        self.live = false;
+        let held = mem::replace(&mut self.held, HeldT1::empty(alloc));
         Some(held.into_loose().into_box())
     }
 

@@ -10,12 +10,7 @@ use crate::copied::copied;
 use crate::tag_number::tag_with;
 use tlv_core::head;
 
-/// Writes the tag with this number, and this length in its shortest spelling, 2 to 6 bytes, and
-/// their number to `len`.
-///
-/// # Errors
-/// - `ARGUMENT`: no tag has this number. Nothing is written.
-/// - `BUFFER`: the head does not fit. Only its size is written.
+/// Writes the tag with this number, this length in its shortest form, and the size of both.
 #[unsafe(no_mangle)]
 pub extern "C" fn galliumtoad_head(number: u32, size: u16, out: &mut [u8], len: &mut usize) -> i32
     ensures { ((tag : List ℕ) × IsTagNumber number tag

@@ -1,8 +1,7 @@
 //! The exports that record the characters of a session.
-ghost use Rattle.std.specs.Prelude.{◌≡◌, ◌≤◌, ◌++◌, drop, length, map, MatchOption};
-ghost use Rattle.card_c.specs.Codes.{gt_empty};
-ghost use Rattle.card_c.specs.Handles.{held_by, OnHandle};
-ghost use Rattle.card_c.specs.HeardCalls.{Listens, IsHeard, TellsHearing, TellsHeard, character_record};
+ghost use Rattle.std.specs.Prelude.{◌≡◌, ◌≤◌, ◌++◌, drop, length, map};
+ghost use Rattle.card_c.specs.Handles.{held_by, OnHandle, OnLook};
+ghost use Rattle.card_c.specs.HeardCalls.{Listens, IsHeard, TellsHeard, character_record};
 
 use crate::card_held::GtCard;
 use crate::card_side::CardSide;
@@ -15,9 +14,6 @@ use std::alloc::Global;
 use t0_core::End;
 
 /// Records the characters of each later operation, and drops those recorded before.
-///
-/// # Errors
-/// - `STATE`: the handle holds a card, not a session. Nothing changes.
 #[unsafe(no_mangle)]
 pub extern "C" fn galliumtoad_session_listen(alloc: Global, session: &mut GtCard) -> i32
     ensures { OnHandle Listens (held_by session.old) result (held_by session.new) }
@@ -42,13 +38,7 @@ fn hear(alloc: Global, joined: &mut SessionSide)
     joined.heard = Listener::new(alloc, true);
 }
 
-/// Writes the characters of the last operation that was carried out, each with its sender, and
-/// their number. It is 0 before the first one after `galliumtoad_session_listen`.
-///
-/// # Errors
-/// - `STATE`: the handle holds a card, not a session, or it does not record. Nothing is written.
-/// - `MEMORY`: memory ran out, so that some characters are lost. Nothing is written.
-/// - `BUFFER`: they do not all fit. Only their number is written.
+/// Writes the characters of the last operation, each with its sender, and their number.
 #[unsafe(no_mangle)]
 pub extern "C" fn galliumtoad_session_heard(
     alloc: Global,
@@ -56,10 +46,9 @@ pub extern "C" fn galliumtoad_session_heard(
     line: &mut [CharacterRecord],
     count: &mut usize,
 ) -> i32
-    ensures stays { held_by session.new ≡ held_by session.old }
-    ensures told { MatchOption (held_by session.old)
-        ((result ≡ gt_empty) × (line.new ≡ line.old) × (count.new ≡ count.old))
-        (λ side. TellsHeard line.old count.old line.new count.new side result) }
+    ensures { OnLook ((line.new ≡ line.old) × (count.new ≡ count.old))
+        (TellsHeard line.old count.old line.new count.new)
+        (held_by session.old) result (held_by session.new) }
 {
     let Some(side) = session.take_out(alloc) else {
         return code::EMPTY;
@@ -78,16 +67,10 @@ fn heard(side: &CardSide, line: &mut [CharacterRecord], count: &mut usize) -> i3
     if !joined.listens {
         return code::STATE;
     }
-    tell_hearing(&joined.heard, line, count)
-}
-
-fn tell_hearing(listener: &Listener, line: &mut [CharacterRecord], count: &mut usize) -> i32
-    ensures { TellsHearing listener.now line.old count.old line.new count.new result }
-{
-    if listener.lost() {
+    if joined.heard.lost() {
         return code::MEMORY;
     }
-    let heard = listener.heard();
+    let heard = joined.heard.heard();
     *count = heard.len();
     if heard.len() > line.len() {
         return code::BUFFER;

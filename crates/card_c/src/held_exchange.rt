@@ -31,10 +31,8 @@ impl HeldExchange {
         ensures { result.value ≡ Some value.value }
     {
         let Loose { at, alloc } = value;
-        HeldExchange {
-            at: at as *mut u8,
-            alloc,
-        }
+        let at = at as *mut u8;
+        HeldExchange { at, alloc }
     }
 
     pub(crate) fn into_loose(self) -> Loose<ExchangeSide, Global>
@@ -42,10 +40,8 @@ impl HeldExchange {
         ensures { Some result.value ≡ self.value }
     {
         let HeldExchange { at, alloc } = self;
-        Loose {
-            at: at as *mut ExchangeSide,
-            alloc,
-        }
+        let at = at as *mut ExchangeSide;
+        Loose { at, alloc }
     }
 
     pub(crate) fn empty(alloc: Global) -> HeldExchange

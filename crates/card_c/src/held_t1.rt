@@ -31,10 +31,8 @@ impl HeldT1 {
         ensures { result.value ≡ Some value.value }
     {
         let Loose { at, alloc } = value;
-        HeldT1 {
-            at: at as *mut u8,
-            alloc,
-        }
+        let at = at as *mut u8;
+        HeldT1 { at, alloc }
     }
 
     pub(crate) fn into_loose(self) -> Loose<T1Side, Global>
@@ -42,10 +40,8 @@ impl HeldT1 {
         ensures { Some result.value ≡ self.value }
     {
         let HeldT1 { at, alloc } = self;
-        Loose {
-            at: at as *mut T1Side,
-            alloc,
-        }
+        let at = at as *mut T1Side;
+        Loose { at, alloc }
     }
 
     pub(crate) fn empty(alloc: Global) -> HeldT1

@@ -31,10 +31,8 @@ impl HeldTerminal {
         ensures { result.value ≡ Some value.value }
     {
         let Loose { at, alloc } = value;
-        HeldTerminal {
-            at: at as *mut u8,
-            alloc,
-        }
+        let at = at as *mut u8;
+        HeldTerminal { at, alloc }
     }
 
     pub(crate) fn into_loose(self) -> Loose<TerminalSide, Global>
@@ -42,10 +40,8 @@ impl HeldTerminal {
         ensures { Some result.value ≡ self.value }
     {
         let HeldTerminal { at, alloc } = self;
-        Loose {
-            at: at as *mut TerminalSide,
-            alloc,
-        }
+        let at = at as *mut TerminalSide;
+        Loose { at, alloc }
     }
 
     pub(crate) fn empty(alloc: Global) -> HeldTerminal

@@ -1,7 +1,8 @@
 //! The static library for C, whose exports `galliumtoad_..` call the crates below.
 //!
 //! The header `bindings/c/include/galliumtoad.h` declares them. Its function `gt_..` of the same
-//! name tests for NULL, which no export can, and then calls the export.
+//! name tests for NULL, which no export can, and then calls the export. Its comment lists what the
+//! call takes, writes and returns, and the state after each code.
 //!
 //! - Without a handle: `objects` and `find` read data objects, `atr` and `pps` answers to reset.
 //! - [`card_held::GtCard`]: a card that C builds and drives, or a session with one.
@@ -9,10 +10,9 @@
 //! - [`held_terminal::TerminalHandle`]: a terminal, operation by operation.
 //! - [`held_t1::T1Handle`]: the terminal's end of a line at T=1.
 //!
-//! A call on a handle returns a code (`code`); the header lists those of each call, with the state
-//! after it. On an empty handle it returns `EMPTY`, and the handle stays empty, unless the call
-//! fills it. Comments of exports with one handle leave this out. Proved: each export does what the
-//! call below it does. README.md has the clauses.
+//! A call on a handle returns a code (`code`). On an empty handle that is `EMPTY`, and the handle
+//! stays empty, unless the call fills it. Proved: each export does what the call below it does.
+//! README.md has the clauses.
 #![tactic(auto)]
 
 mod apdu_side;
@@ -24,7 +24,6 @@ mod card_buffers;
 mod card_held;
 mod card_side;
 mod card_t1;
-mod card_t1_side;
 mod card_tpdu;
 mod character_record;
 mod code;
@@ -53,7 +52,6 @@ mod send;
 mod session;
 mod session_side;
 mod t1;
-mod t1_bytes;
 mod t1_side;
 mod tables;
 mod tag_number;

@@ -11,12 +11,7 @@ use crate::reader::ObjectRecord;
 use crate::tag_number::number;
 use tlv_core::{Obj, Objects};
 
-/// Writes the objects of all levels in the order of their bytes, as many as fit, and the number of
-/// all. With an empty array it only checks and counts them.
-///
-/// # Errors
-/// - `BUFFER`: some do not fit, and the array is not empty. It is full, and the number is written.
-/// - a code of [`code::of_reason`]: the first fault, with its place. Nothing else is written.
+/// Writes the objects of all levels in the order of their bytes, and the number of all.
 #[unsafe(no_mangle)]
 pub extern "C" fn galliumtoad_objects(
     bytes: &[u8],

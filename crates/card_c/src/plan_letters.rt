@@ -11,12 +11,6 @@ const PLAN_LIMIT: usize = 1_048_576;
 
 /// Reads the plan with these letters, `n`, `o` and `a`, and this cut, 1 to 256. `waiting` is the
 /// number of plans before it.
-///
-/// # Errors
-/// In this order:
-/// - `ARGUMENT`: another letter, or another cut.
-/// - `PLANS`: 1,048,576 plans wait already.
-/// - `MEMORY`: memory ran out.
 pub fn plan_of(alloc: Global, letters: &[u8], cut: u16, waiting: usize) -> Result<Plan, i32>
     ensures spelt { IfOk result (λ plan. IsSpelt letters.now cut plan) }
     ensures fits { IfOk result (λ _. waiting < plan_limit) }

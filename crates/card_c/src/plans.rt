@@ -13,11 +13,6 @@ use std::alloc::{AllocError, Global};
 use t0_core::Plan;
 
 /// Gives a card at T=0 one more plan, after those that wait. Each TPDU takes the next one.
-///
-/// # Errors
-/// The plans stay as they were.
-/// - `STATE`: the card is not built, speaks T=1 or is in a session.
-/// - `ARGUMENT`, `PLANS`, `MEMORY`: those of [`plan_of`], or memory for the list ran out.
 #[unsafe(no_mangle)]
 pub extern "C" fn galliumtoad_card_plan(
     alloc: Global,
@@ -46,11 +41,6 @@ fn queue_at_card(alloc: Global, side: &mut CardSide, steps: &[u8], cut: u16) -> 
 }
 
 /// Gives a session one more plan for a TPDU of its next operation, after those that wait.
-///
-/// # Errors
-/// The plans stay as they were.
-/// - `STATE`: the handle holds a card, not a session.
-/// - `ARGUMENT`, `PLANS`, `MEMORY`: those of [`plan_of`], or memory for the list ran out.
 #[unsafe(no_mangle)]
 pub extern "C" fn galliumtoad_session_plan(
     alloc: Global,

@@ -9,12 +9,7 @@ use atr_core::{Pps, agreed};
 /// The number for a missing character.
 const ABSENT: u16 = 256;
 
-/// Writes the request for this protocol, 0 to 15, with PPS1 to PPS3, and its length, 3 to 6. Each
-/// is a byte, or 256, which leaves it out.
-///
-/// # Errors
-/// - `ARGUMENT`: `t` is above 15, or one of the others above 256. Nothing is written.
-/// - `BUFFER`: the request does not fit. Only its length is written.
+/// Writes the request for this protocol, with PPS1 to PPS3 (256: without it), and its length.
 #[unsafe(no_mangle)]
 pub extern "C" fn galliumtoad_pps_request(
     t: u8,
@@ -49,12 +44,7 @@ fn given(number: u16) -> Option<u8>
     }
 }
 
-/// Returns 1 if the response accepts the request, and otherwise 0. It does if it names the same
-/// protocol, and repeats or leaves out each of PPS1 to PPS3. One that it leaves out is not agreed.
-///
-/// # Errors
-/// - `ARGUMENT`: `request` is not a PPS request, whatever `response` is.
-/// - a code of [`code::of_pps`]: `response` is not a PPS response.
+/// Returns 1 if the response accepts the request, and otherwise 0.
 #[unsafe(no_mangle)]
 pub extern "C" fn galliumtoad_pps_agreed(request: &[u8], response: &[u8]) -> i32
     ensures { AgreesPps request.now response.now result }

@@ -15,15 +15,7 @@ use object_card::is_agreed;
 use std::alloc::Global;
 use t0_core::Plans;
 
-/// Sends a command, which may begin or continue a chain, and never gets `BUSY`. The response has as
-/// much of the data as its Le asks for. The plans are used up, or dropped.
-///
-/// # Errors
-/// Nothing is sent, and the session stays as it was; the first that holds:
-/// - `STATE`: the handle holds a card, not a session.
-/// - a code of [`code::of_command`]: the bytes are not a command.
-/// - `ARGUMENT`: the command is not agreed with the card (`is_agreed` of `object_card`).
-/// - `MEMORY`: memory ran out before the command began.
+/// Sends a command, which may begin or continue a chain, and never gets `BUSY`.
 #[unsafe(no_mangle)]
 pub extern "C" fn galliumtoad_session_send(
     alloc: Global,

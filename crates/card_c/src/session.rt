@@ -1,9 +1,8 @@
 //! The exports of a session with a card, which carries out whole operations.
-ghost use Rattle.std.specs.Prelude.{◌≡◌, None, MatchOption};
+ghost use Rattle.std.specs.Prelude.{◌≡◌, ⊤, None};
 ghost use Rattle.card_terminal.specs.Operations.{operation_of};
 ghost use Rattle.object_card.specs.OneStep.{Put};
-ghost use Rattle.card_c.specs.Codes.{gt_empty};
-ghost use Rattle.card_c.specs.Handles.{held_by, OnHandle};
+ghost use Rattle.card_c.specs.Handles.{held_by, OnHandle, OnLook};
 ghost use Rattle.card_c.specs.SessionCalls.{Starts, Finishes, Joins, Parts, Performs, Selects, Gets, Puts, TellsAnswer, TellsIdle, IsReset, ResetsSession};
 
 use crate::card_held::GtCard;
@@ -21,14 +20,7 @@ use std::mem;
 use t0_core::{PlanQueue, Plans};
 use tlv_core::ObjectTag;
 
-/// Takes the card out of its handle, and begins a session with it. The card is reset, its data
-/// objects stay, and its plans are dropped. Nothing is recorded yet.
-///
-/// # Errors
-/// Both handles stay as they were; the first that holds:
-/// - `STATE`: `session` is live.
-/// - `EMPTY`: `card` is empty.
-/// - `STATE`: the card is not built, speaks T=1 or is in a session.
+/// Takes the card out of its handle, resets it, and begins a session with it.
 #[unsafe(no_mangle)]
 pub extern "C" fn galliumtoad_session_start(
     alloc: Global,
@@ -72,14 +64,7 @@ fn join(alloc: Global, side: &mut CardSide) -> bool
     true
 }
 
-/// Ends a session, and puts its card, reset, into `card`. `session` is empty then. The card speaks
-/// T=0 and keeps its data objects. Plans, the last answer and the recorded characters are dropped.
-///
-/// # Errors
-/// Both handles stay as they were; the first that holds:
-/// - `STATE`: `card` is live.
-/// - `EMPTY`: `session` is empty.
-/// - `STATE`: `session` holds a card, not a session.
+/// Ends a session, and puts its card, reset, into `card`. `session` is empty then.
 #[unsafe(no_mangle)]
 pub extern "C" fn galliumtoad_session_end(
     alloc: Global,
@@ -124,11 +109,7 @@ pub extern "C" fn galliumtoad_session_free(alloc: Global, session: &mut GtCard)
     drop(session.take_out(alloc));
 }
 
-/// Resets the card: nothing is selected or pending. Its data objects, the plans, the last answer
-/// and the recorded characters stay, and recording continues.
-///
-/// # Errors
-/// - `STATE`: the handle holds a card, not a session. Nothing changes.
+/// Resets the card: nothing is selected or pending. The rest of the session stays.
 #[unsafe(no_mangle)]
 pub extern "C" fn galliumtoad_session_reset(alloc: Global, session: &mut GtCard) -> i32
     ensures { OnHandle ResetsSession (held_by session.old) result (held_by session.new) }
@@ -152,15 +133,7 @@ fn reset_session(joined: &mut SessionSide)
     joined.session.reset();
 }
 
-/// Carries out SELECT of the application with this identifier, of 5 to 16 bytes. Its answer is the
-/// last answer then, with any status. The plans are used up, or dropped.
-///
-/// # Errors
-/// Nothing is sent, and the session stays as it was; the first that holds:
-/// - `STATE`: the handle holds a card, not a session.
-/// - `ARGUMENT`: `aid` is no identifier.
-/// - `BUSY`: a chain is pending.
-/// - `MEMORY`: memory ran out before the operation began.
+/// Carries out SELECT of the application with this identifier.
 #[unsafe(no_mangle)]
 pub extern "C" fn galliumtoad_session_select(alloc: Global, session: &mut GtCard, aid: &[u8]) -> i32
     ensures { OnHandle (Selects aid.now) (held_by session.old) result (held_by session.new) }
@@ -180,8 +153,7 @@ fn select(alloc: Global, side: &mut CardSide, aid: &[u8]) -> i32
     }
 }
 
-/// Carries out GET DATA of the object with this tag. Its errors are those of
-/// `galliumtoad_session_select`; `ARGUMENT` means that GET DATA can name no tag with this number.
+/// Carries out GET DATA of the object with this tag.
 #[unsafe(no_mangle)]
 pub extern "C" fn galliumtoad_session_get(alloc: Global, session: &mut GtCard, tag: u32) -> i32
     ensures { OnHandle (Gets tag) (held_by session.old) result (held_by session.new) }
@@ -201,8 +173,7 @@ fn get(alloc: Global, side: &mut CardSide, number: u32) -> i32
     }
 }
 
-/// Carries out PUT DATA of a copy of this value, in pieces of at most 255 bytes. Its errors are
-/// those of `galliumtoad_session_get`.
+/// Carries out PUT DATA of a copy of this value, in pieces of at most 255 bytes.
 #[unsafe(no_mangle)]
 pub extern "C" fn galliumtoad_session_put(
     alloc: Global,
@@ -240,13 +211,7 @@ fn store(alloc: Global, joined: &mut SessionSide, tag: ObjectTag, value: &[u8]) 
     }
 }
 
-/// Writes the status and the data of the last operation or command that was carried out. The
-/// session keeps them, also over a reset.
-///
-/// # Errors
-/// - `STATE`: the handle holds a card, not a session. Nothing is written.
-/// - `NOT_FOUND`: there was none. Nothing is written.
-/// - `BUFFER`: the data do not fit. Only `status` and `len` are written.
+/// Writes the status and the data of the last operation or command, which stay.
 #[unsafe(no_mangle)]
 pub extern "C" fn galliumtoad_session_answer(
     alloc: Global,
@@ -255,12 +220,10 @@ pub extern "C" fn galliumtoad_session_answer(
     content: &mut [u8],
     len: &mut usize,
 ) -> i32
-    ensures stays { held_by session.new ≡ held_by session.old }
-    ensures told { MatchOption (held_by session.old)
-        ((result ≡ gt_empty) × (status.new ≡ status.old) × (content.new ≡ content.old)
-        × (len.new ≡ len.old))
-        (λ side. TellsAnswer status.old content.old len.old status.new content.new len.new
-        side result) }
+    ensures { OnLook
+        ((status.new ≡ status.old) × (content.new ≡ content.old) × (len.new ≡ len.old))
+        (TellsAnswer status.old content.old len.old status.new content.new len.new)
+        (held_by session.old) result (held_by session.new) }
 {
     let Some(side) = session.take_out(alloc) else {
         return code::EMPTY;
@@ -286,33 +249,20 @@ fn tell(side: &CardSide, status: &mut u16, content: &mut [u8], len: &mut usize) 
 }
 
 /// Returns 1 if no chain is pending at the card, and otherwise 0.
-///
-/// # Errors
-/// - `STATE`: the handle holds a card, not a session.
 #[unsafe(no_mangle)]
 pub extern "C" fn galliumtoad_session_idle(alloc: Global, session: &mut GtCard) -> i32
-    ensures stays { held_by session.new ≡ held_by session.old }
-    ensures told { MatchOption (held_by session.old) (result ≡ gt_empty)
-        (λ side. TellsIdle side result) }
+    ensures { OnLook ⊤ TellsIdle (held_by session.old) result (held_by session.new) }
 {
-    with(alloc, session, |side| idle(side))
+    with(alloc, session, |side| {
+        let CardSide::Joined(joined) = side else {
+            return code::STATE;
+        };
+        if joined.session.is_idle() { 1 } else { 0 }
+    })
 }
 
-fn idle(side: &CardSide) -> i32
-    ensures { TellsIdle side.now result }
-{
-    let CardSide::Joined(joined) = side else {
-        return code::STATE;
-    };
-    if joined.session.is_idle() { 1 } else { 0 }
-}
-
-/// Carries out one operation, and drops the plans that are left.
-///
-/// # Errors
-/// Nothing is sent, and the session stays as it was; the first that holds:
-/// - `BUSY`: a chain is pending.
-/// - `MEMORY`: memory ran out for the response.
+/// Carries out one operation, and drops the plans that are left. With `BUSY` or `MEMORY` nothing is
+/// sent, and the session stays as it was.
 fn perform(alloc: Global, joined: &mut SessionSide, operation: Op) -> i32
     ensures { Performs (operation_of operation) joined.old result joined.new }
 {

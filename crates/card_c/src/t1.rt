@@ -1,8 +1,9 @@
-//! The exports of a terminal's end of a line at T=1.
-ghost use Rattle.std.specs.Prelude.{◌≡◌, Option, Some, None, is_some, MatchOption};
+//! The exports of a terminal's end of a line at T=1, which pass its blocks as bytes.
+ghost use Rattle.std.specs.Prelude.{◌≡◌, Option, Some, None, MatchOption};
 ghost use Rattle.t1_core.specs.declared.settings.Settings.{Settings};
-ghost use Rattle.card_c.specs.Handles.{t1_in, OnHandle};
-ghost use Rattle.card_c.specs.T1Calls.{HasBegun, IsTaken, HasSettings, Begins, Misses, Resets, TellsResponse, TellsFault};
+ghost use Rattle.t1_core.specs.BlockView.{said};
+ghost use Rattle.card_c.specs.Handles.{t1_in, OnHandle, OnHandleOr};
+ghost use Rattle.card_c.specs.T1Calls.{HasBegun, IsTaken, HasSettings, Begins, Misses, Resets, TellsResponse, TellsFault, SendsBlock, ReceivesBytes, waits_for};
 
 use crate::code;
 use crate::copied::copied;
@@ -10,23 +11,13 @@ use crate::handle::{Handle, with};
 use crate::held_t1::T1Handle;
 use crate::t1_side::T1Side;
 use std::alloc::Global;
-use t1_core::{Edc, Receiver, Settings, TerminalEnd};
+use t1_core::spelling::write;
+use t1_core::{Block, Control, Edc, Receiver, Settings, TerminalEnd};
 
 /// The number of LRC, an error detection code.
 const LRC: u8 = 1;
 
-/// Makes an end as after a reset, in an empty handle. `edc` is 1, which means LRC. `ifsc`, from 1
-/// to 254, is the most bytes in the field of a block to the card.
-///
-/// The end survives `tries` fruitless receptions since the last progress, where a request that it
-/// grants is not counted. It grants `extensions` requests of the card per command, and takes
-/// responses of at most `limit` bytes. These three have any value.
-///
-/// # Errors
-/// In this order:
-/// - `STATE`: the handle is live, and stays as it was.
-/// - `ARGUMENT`: `edc` or `ifsc` is out of its range; the handle stays empty.
-/// - `MEMORY`: memory ran out; the handle stays empty.
+/// Makes an end as after a reset, in an empty handle. `edc` is 1, which means LRC.
 #[unsafe(no_mangle)]
 pub extern "C" fn galliumtoad_t1_new(
     alloc: Global,
@@ -79,52 +70,32 @@ pub extern "C" fn galliumtoad_t1_free(alloc: Global, t1: &mut T1Handle)
 }
 
 /// Begins a command of any length, copies it, and drops the last response.
-///
-/// # Errors
-/// The end stays as it was.
-/// - `STATE`: a command is in progress, or the end gave up.
-/// - `MEMORY`: memory ran out.
 #[unsafe(no_mangle)]
 pub extern "C" fn galliumtoad_t1_begin(alloc: Global, t1: &mut T1Handle, apdu: &[u8]) -> i32
     ensures { OnHandle (Begins apdu.now) (t1_in t1.old) result (t1_in t1.new) }
 {
-    with(alloc, t1, |side| begin(side, apdu))
-}
-
-fn begin(side: &mut T1Side, apdu: &[u8]) -> i32
-    ensures { Begins apdu.now side.old result side.new }
-{
-    match side.end.begin(apdu) {
+    with(alloc, t1, |side| match side.end.begin(apdu) {
         Ok(()) => code::OK,
         Err(fault) => code::of_t1_begin(fault),
-    }
+    })
 }
 
-/// Reports that no valid block of the card arrived: none began in time, one stopped, or a character
-/// was damaged. This is a fruitless reception. The received part of the block is dropped.
-///
-/// # Errors
-/// - `STATE`: no block is expected: no command is in progress, or the end gave up. Nothing changes.
+/// Reports that no valid block of the card arrived. Its received part is dropped.
 #[unsafe(no_mangle)]
 pub extern "C" fn galliumtoad_t1_missed(alloc: Global, t1: &mut T1Handle) -> i32
     ensures { OnHandle Misses (t1_in t1.old) result (t1_in t1.new) }
 {
-    with(alloc, t1, |side| miss(side))
+    with(alloc, t1, |held| {
+        if held.end.has_stopped() {
+            return code::STATE;
+        }
+        held.end.timed_out();
+        held.block.clear();
+        code::OK
+    })
 }
 
-fn miss(side: &mut T1Side) -> i32
-    ensures { Misses side.old result side.new }
-{
-    if side.end.has_stopped() {
-        return code::STATE;
-    }
-    side.end.timed_out();
-    side.block.clear();
-    code::OK
-}
-
-/// Makes the end as it was at first, with the same settings, in any state. The command in progress,
-/// the last response, the fault and the received part of a block are dropped.
+/// Makes the end as it was at first, with the same settings, in any state.
 #[unsafe(no_mangle)]
 pub extern "C" fn galliumtoad_t1_reset(alloc: Global, t1: &mut T1Handle) -> i32
     ensures { OnHandle Resets (t1_in t1.old) result (t1_in t1.new) }
@@ -137,12 +108,7 @@ pub extern "C" fn galliumtoad_t1_reset(alloc: Global, t1: &mut T1Handle) -> i32
     })
 }
 
-/// Writes the response to the last command: data, then the status. It has no bytes before the first
-/// command. The end keeps it until the next command begins or a reset.
-///
-/// # Errors
-/// - `STATE`: a command is in progress, or the end gave up. Nothing is written.
-/// - `BUFFER`: the response does not fit. Only its length is written.
+/// Writes the response to the last command: data, then the status.
 #[unsafe(no_mangle)]
 pub extern "C" fn galliumtoad_t1_response(
     alloc: Global,
@@ -150,8 +116,8 @@ pub extern "C" fn galliumtoad_t1_response(
     response: &mut [u8],
     len: &mut usize,
 ) -> i32
-    ensures empty { t1_in t1.old ≡ None → (response.new ≡ response.old) × (len.new ≡ len.old) }
-    ensures told { OnHandle (TellsResponse response.old len.old response.new len.new)
+    ensures { OnHandleOr ((response.new ≡ response.old) × (len.new ≡ len.old))
+        (TellsResponse response.old len.old response.new len.new)
         (t1_in t1.old) result (t1_in t1.new) }
 {
     let Some(side) = t1.take_out(alloc) else {
@@ -171,11 +137,7 @@ fn told(side: &T1Side, response: &mut [u8], len: &mut usize) -> i32
     copied(side.end.response(), response, len)
 }
 
-/// Writes why the end gave up (`code::of_t1_cause`), and what is known of the command
-/// (`code::of_t1_outcome`). From then on a command begins only after a reset.
-///
-/// # Errors
-/// - `NOT_FOUND`: it did not give up. Nothing is written.
+/// Writes why the end gave up, and what is known of the command.
 #[unsafe(no_mangle)]
 pub extern "C" fn galliumtoad_t1_fault(
     alloc: Global,
@@ -183,8 +145,8 @@ pub extern "C" fn galliumtoad_t1_fault(
     cause: &mut i32,
     outcome: &mut i32,
 ) -> i32
-    ensures empty { t1_in t1.old ≡ None → (cause.new ≡ cause.old) × (outcome.new ≡ outcome.old) }
-    ensures told { OnHandle (TellsFault cause.old outcome.old cause.new outcome.new)
+    ensures { OnHandleOr ((cause.new ≡ cause.old) × (outcome.new ≡ outcome.old))
+        (TellsFault cause.old outcome.old cause.new outcome.new)
         (t1_in t1.old) result (t1_in t1.new) }
 {
     let Some(side) = t1.take_out(alloc) else {
@@ -204,4 +166,95 @@ fn fault(side: &T1Side, cause: &mut i32, outcome: &mut i32) -> i32
     *cause = code::of_t1_cause(fault.cause);
     *outcome = code::of_t1_outcome(fault.outcome);
     code::OK
+}
+
+/// Writes the next block, its length, and the card's time for its answer. The end is unchanged.
+#[unsafe(no_mangle)]
+pub extern "C" fn galliumtoad_t1_send_bytes(
+    alloc: Global,
+    t1: &mut T1Handle,
+    bytes: &mut [u8],
+    count: &mut usize,
+    waits: &mut u8,
+) -> i32
+    ensures { OnHandleOr
+        ((bytes.new ≡ bytes.old) × (count.new ≡ count.old) × (waits.new ≡ waits.old))
+        (SendsBlock bytes.old count.old waits.old bytes.new count.new waits.new)
+        (t1_in t1.old) result (t1_in t1.new) }
+{
+    let Some(side) = t1.take_out(alloc) else {
+        return code::EMPTY;
+    };
+    let answer = sent(alloc, &side, bytes, count, waits);
+    t1.put(side);
+    answer
+}
+
+fn sent(alloc: Global, side: &T1Side, bytes: &mut [u8], count: &mut usize, waits: &mut u8) -> i32
+    ensures { SendsBlock bytes.old count.old waits.old bytes.new count.new waits.new
+        side.now result side.now }
+{
+    let Some(block) = side.end.next() else {
+        return if side.end.is_ready() {
+            code::DONE
+        } else {
+            code::FAILED
+        };
+    };
+    match write(alloc, block) {
+        Ok(from) => {
+            *waits = waits_for(block);
+            copied(&from, bytes, count)
+        }
+        Err(_) => code::MEMORY,
+    }
+}
+
+/// Returns the card's time for its answer to a block, as a multiple of BWT. It is that of an S(WTX
+/// response), where 0 counts as 1. For any other block it is 1.
+fn waits_for(block: Block<'_>) -> u8
+    ensures { result ≡ waits_for (said block.entry) }
+{
+    match block {
+        Block::Response(Control::Wtx(multiple)) => { if multiple == 0 { 1 } else { multiple } }
+        _ => 1,
+    }
+}
+
+/// Takes bytes of the card up to the end of its block, and writes their number to `count`.
+#[unsafe(no_mangle)]
+pub extern "C" fn galliumtoad_t1_receive_bytes(
+    alloc: Global,
+    t1: &mut T1Handle,
+    bytes: &[u8],
+    count: &mut usize,
+) -> i32
+    ensures { OnHandleOr (count.new ≡ count.old) (ReceivesBytes bytes.now count.old count.new)
+        (t1_in t1.old) result (t1_in t1.new) }
+{
+    let Some(mut side) = t1.take_out(alloc) else {
+        return code::EMPTY;
+    };
+    let answer = received(&mut side, bytes, count);
+    t1.put(side);
+    answer
+}
+
+fn received(side: &mut T1Side, bytes: &[u8], count: &mut usize) -> i32
+    ensures { ReceivesBytes bytes.now count.old count.new side.old result side.new }
+{
+    if side.end.has_stopped() {
+        return code::STATE;
+    }
+    *count = side.block.take_bytes(bytes);
+    if !side.block.is_whole() {
+        return code::OK;
+    }
+    match side.end.take_bytes(side.block.bytes()) {
+        Ok(()) => {
+            side.block.clear();
+            code::SENDS
+        }
+        Err(_) => code::MEMORY,
+    }
 }

@@ -1,8 +1,7 @@
 //! The exports that read the tables of a card, alone or in a session.
-ghost use Rattle.std.specs.Prelude.{◌≡◌, MatchOption};
+ghost use Rattle.std.specs.Prelude.{◌≡◌};
 ghost use Rattle.object_card.specs.State.{entry_at};
-ghost use Rattle.card_c.specs.Codes.{gt_empty};
-ghost use Rattle.card_c.specs.Handles.{held_by};
+ghost use Rattle.card_c.specs.Handles.{held_by, OnLook};
 ghost use Rattle.card_c.specs.TableCalls.{TellsBytes, TellsAid, TellsEntry, TellsEntryAt, aid_at};
 
 use crate::card_held::GtCard;
@@ -14,13 +13,7 @@ use crate::tag_number::number_of;
 use object_card::{Aid, ObjectCard};
 use std::alloc::Global;
 
-/// Writes the identifier of the selected application, and its length. The handle holds a card in
-/// any state after its building, or a session.
-///
-/// # Errors
-/// - `STATE`: the card is not built. Nothing is written.
-/// - `NOT_FOUND`: none is selected. Nothing is written.
-/// - `BUFFER`: the identifier does not fit. Only its length is written.
+/// Writes the identifier of the selected application, and its length.
 #[unsafe(no_mangle)]
 pub extern "C" fn galliumtoad_card_selected(
     alloc: Global,
@@ -28,10 +21,9 @@ pub extern "C" fn galliumtoad_card_selected(
     aid: &mut [u8],
     len: &mut usize,
 ) -> i32
-    ensures stays { held_by card.new ≡ held_by card.old }
-    ensures told { MatchOption (held_by card.old)
-        ((result ≡ gt_empty) × (aid.new ≡ aid.old) × (len.new ≡ len.old))
-        (λ side. TellsAid (λ state. state.selected) aid.old len.old aid.new len.new side result) }
+    ensures { OnLook ((aid.new ≡ aid.old) × (len.new ≡ len.old))
+        (TellsAid (λ state. state.selected) aid.old len.old aid.new len.new)
+        (held_by card.old) result (held_by card.new) }
 {
     let Some(side) = card.take_out(alloc) else {
         return code::EMPTY;
@@ -52,11 +44,7 @@ fn selected(side: &CardSide, aid: &mut [u8], len: &mut usize) -> i32
     }
 }
 
-/// Writes the identifier of the application at this place, from 0 in the order of building, and its
-/// length.
-///
-/// # Errors
-/// Those of `galliumtoad_card_selected`; `NOT_FOUND` means that the place is past the last.
+/// Writes the identifier of the application at this place, and its length.
 #[unsafe(no_mangle)]
 pub extern "C" fn galliumtoad_card_app_at(
     alloc: Global,
@@ -65,10 +53,9 @@ pub extern "C" fn galliumtoad_card_app_at(
     aid: &mut [u8],
     len: &mut usize,
 ) -> i32
-    ensures stays { held_by card.new ≡ held_by card.old }
-    ensures told { MatchOption (held_by card.old)
-        ((result ≡ gt_empty) × (aid.new ≡ aid.old) × (len.new ≡ len.old))
-        (λ side. TellsAid (aid_at place) aid.old len.old aid.new len.new side result) }
+    ensures { OnLook ((aid.new ≡ aid.old) × (len.new ≡ len.old))
+        (TellsAid (aid_at place) aid.old len.old aid.new len.new)
+        (held_by card.old) result (held_by card.new) }
 {
     let Some(side) = card.take_out(alloc) else {
         return code::EMPTY;
@@ -98,14 +85,7 @@ fn tell(found: Option<Aid>, aid: &mut [u8], len: &mut usize) -> i32
     }
 }
 
-/// Writes the data object at a place of the application at a place, each from 0. It writes its tag,
-/// 1 if it is locked or 0, the length of its value, and the value. Objects are in the order of
-/// first storing.
-///
-/// # Errors
-/// - `STATE`: the card is not built. Nothing is written.
-/// - `NOT_FOUND`: a place is past the last. Nothing is written.
-/// - `BUFFER`: the value does not fit. Everything else is written.
+/// Writes the data object at a place of the application at a place: tag, lock, value, length.
 #[unsafe(no_mangle)]
 pub extern "C" fn galliumtoad_card_entry_at(
     alloc: Global,
@@ -117,12 +97,10 @@ pub extern "C" fn galliumtoad_card_entry_at(
     value: &mut [u8],
     len: &mut usize,
 ) -> i32
-    ensures stays { held_by card.new ≡ held_by card.old }
-    ensures told { MatchOption (held_by card.old)
-        ((result ≡ gt_empty) × (tag.new ≡ tag.old) × (locked.new ≡ locked.old)
-        × (value.new ≡ value.old) × (len.new ≡ len.old))
-        (λ side. TellsEntryAt app place tag.old locked.old value.old len.old
-        tag.new locked.new value.new len.new side result) }
+    ensures { OnLook ((tag.new ≡ tag.old) × (locked.new ≡ locked.old) × (value.new ≡ value.old)
+        × (len.new ≡ len.old))
+        (TellsEntryAt app place tag.old locked.old value.old len.old tag.new locked.new value.new
+        len.new) (held_by card.old) result (held_by card.new) }
 {
     let Some(side) = card.take_out(alloc) else {
         return code::EMPTY;
@@ -176,7 +154,8 @@ fn tell_entry(
     copied(bytes, value, len)
 }
 
-/// Does what `galliumtoad_card_selected` does, for the card of a session.
+/// Does what `galliumtoad_card_selected` does, for the card of a session. C passes no other handle;
+/// one of a card would do too.
 #[unsafe(no_mangle)]
 pub extern "C" fn galliumtoad_session_selected(
     alloc: Global,
@@ -184,15 +163,15 @@ pub extern "C" fn galliumtoad_session_selected(
     aid: &mut [u8],
     len: &mut usize,
 ) -> i32
-    ensures stays { held_by session.new ≡ held_by session.old }
-    ensures told { MatchOption (held_by session.old)
-        ((result ≡ gt_empty) × (aid.new ≡ aid.old) × (len.new ≡ len.old))
-        (λ side. TellsAid (λ state. state.selected) aid.old len.old aid.new len.new side result) }
+    ensures { OnLook ((aid.new ≡ aid.old) × (len.new ≡ len.old))
+        (TellsAid (λ state. state.selected) aid.old len.old aid.new len.new)
+        (held_by session.old) result (held_by session.new) }
 {
     galliumtoad_card_selected(alloc, session, aid, len)
 }
 
-/// Does what `galliumtoad_card_app_at` does, for the card of a session.
+/// Does what `galliumtoad_card_app_at` does, for the card of a session. C passes no other handle;
+/// one of a card would do too.
 #[unsafe(no_mangle)]
 pub extern "C" fn galliumtoad_session_app_at(
     alloc: Global,
@@ -201,15 +180,15 @@ pub extern "C" fn galliumtoad_session_app_at(
     aid: &mut [u8],
     len: &mut usize,
 ) -> i32
-    ensures stays { held_by session.new ≡ held_by session.old }
-    ensures told { MatchOption (held_by session.old)
-        ((result ≡ gt_empty) × (aid.new ≡ aid.old) × (len.new ≡ len.old))
-        (λ side. TellsAid (aid_at place) aid.old len.old aid.new len.new side result) }
+    ensures { OnLook ((aid.new ≡ aid.old) × (len.new ≡ len.old))
+        (TellsAid (aid_at place) aid.old len.old aid.new len.new)
+        (held_by session.old) result (held_by session.new) }
 {
     galliumtoad_card_app_at(alloc, session, place, aid, len)
 }
 
-/// Does what `galliumtoad_card_entry_at` does, for the card of a session.
+/// Does what `galliumtoad_card_entry_at` does, for the card of a session. C passes no other handle;
+/// one of a card would do too.
 #[unsafe(no_mangle)]
 pub extern "C" fn galliumtoad_session_entry_at(
     alloc: Global,
@@ -221,12 +200,10 @@ pub extern "C" fn galliumtoad_session_entry_at(
     value: &mut [u8],
     len: &mut usize,
 ) -> i32
-    ensures stays { held_by session.new ≡ held_by session.old }
-    ensures told { MatchOption (held_by session.old)
-        ((result ≡ gt_empty) × (tag.new ≡ tag.old) × (locked.new ≡ locked.old)
-        × (value.new ≡ value.old) × (len.new ≡ len.old))
-        (λ side. TellsEntryAt app place tag.old locked.old value.old len.old
-        tag.new locked.new value.new len.new side result) }
+    ensures { OnLook ((tag.new ≡ tag.old) × (locked.new ≡ locked.old) × (value.new ≡ value.old)
+        × (len.new ≡ len.old))
+        (TellsEntryAt app place tag.old locked.old value.old len.old tag.new locked.new value.new
+        len.new) (held_by session.old) result (held_by session.new) }
 {
     galliumtoad_card_entry_at(alloc, session, app, place, tag, locked, value, len)
 }

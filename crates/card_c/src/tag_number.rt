@@ -53,7 +53,7 @@ pub fn tag_of(number: u32) -> Option<ObjectTag>
     ObjectTag::new(tag_with(number)?)
 }
 
-/// Returns the number of a tag that they can name.
+/// Returns the number of a tag that GET DATA and PUT DATA can name.
 pub fn number_of(tag: ObjectTag) -> u32
     ensures { IsNumbered result tag }
 {

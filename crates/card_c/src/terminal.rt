@@ -1,16 +1,12 @@
 //! The exports of a terminal that carries out operations over any line.
-ghost use Rattle.std.specs.Prelude.{◌≡◌, Some, None, IfOk, IfErr, if◌then◌else◌, true, false, ℕ, List, Option};
+ghost use Rattle.std.specs.Prelude.{◌≡◌, ⊤, Some, None, IfOk, IfErr, if◌then◌else◌};
 ghost use Rattle.apdu_core.specs.declared.command.ApduFault.{ApduFault};
 ghost use Rattle.apdu_core.specs.CommandBytes.{IsCommand, command_bytes};
-ghost use Rattle.card_c.specs.Codes.{gt_empty, gt_state, command_code};
-ghost use Rattle.apdu_core.specs.StatusWord.{StatusWord};
-ghost use Rattle.card_c.specs.ExchangeCalls.{AreNone, TellsEnd};
+ghost use Rattle.card_c.specs.Codes.{gt_state, command_code};
+ghost use Rattle.card_c.specs.ExchangeCalls.{AreNone};
 ghost use Rattle.card_terminal.specs.ExchangeSide.{response_limit};
 ghost use Rattle.card_terminal.specs.TerminalSide.{KeepsLimit, is_going};
-ghost use Rattle.card_terminal.specs.TerminalSteps.{terminal_due, IsTerminalAnswer};
-ghost use Rattle.card_c.specs.TpduCalls.{TellsTpdu};
-ghost use Rattle.card_c.specs.declared.terminal_side.TerminalSide.{TerminalSide};
-ghost use Rattle.card_c.specs.Handles.{terminal_in, OnHandle};
+ghost use Rattle.card_c.specs.Handles.{terminal_in, OnHandle, OnHandleOr, OnLook};
 ghost use Rattle.card_c.specs.TerminalCalls.{HasBegun, KeepsRoom, OnBegin, OnTpdus, TellsTpduOf, BeginsSelect, BeginsGet, BeginsPut, BeginsSend, Resets, TakesTurn, TakesCharacter, TakesAnswer, TellsAnswer, begin_code};
 
 use crate::apdu_side::ApduSide;
@@ -29,25 +25,16 @@ use object_card::Aid;
 use std::alloc::Global;
 use t0_core::HostTurn;
 
-/// Makes a terminal that has begun no operation, in an empty handle, for responses of at most
-/// 16,384 bytes.
-///
-/// # Errors
-/// - `STATE`: the handle is live, and stays as it was.
-/// - `MEMORY`: memory ran out; the handle stays empty.
+/// Makes a terminal in an empty handle, for responses of at most 16,384 bytes.
 #[unsafe(no_mangle)]
 pub extern "C" fn galliumtoad_terminal_new(alloc: Global, terminal: &mut TerminalHandle) -> i32
     ensures { HasBegun response_limit (terminal_in terminal.old) result
         (terminal_in terminal.new) }
 {
-    make(alloc, terminal, RESPONSE_LIMIT)
+    galliumtoad_terminal_new_within(alloc, terminal, RESPONSE_LIMIT)
 }
 
 /// Does the same for responses of at most `limit` bytes, from 0 to 16,384.
-///
-/// # Errors
-/// Those of `galliumtoad_terminal_new`, and before `MEMORY`
-/// - `ARGUMENT`: `limit` exceeds 16,384; the handle stays empty.
 #[unsafe(no_mangle)]
 pub extern "C" fn galliumtoad_terminal_new_within(
     alloc: Global,
@@ -56,16 +43,10 @@ pub extern "C" fn galliumtoad_terminal_new_within(
 ) -> i32
     ensures { HasBegun limit (terminal_in terminal.old) result (terminal_in terminal.new) }
 {
-    make(alloc, terminal, limit)
-}
-
-fn make(alloc: Global, handle: &mut TerminalHandle, limit: usize) -> i32
-    ensures { HasBegun limit (terminal_in handle.old) result (terminal_in handle.new) }
-{
-    if handle.is_live() {
+    if terminal.is_live() {
         return code::STATE;
     }
-    let Ok(terminal) = Terminal::new_within(alloc, limit) else {
+    let Ok(tpdus) = Terminal::new_within(alloc, limit) else {
         return code::ARGUMENT;
     };
     let Ok(whole) = ApduTerminal::new_within(alloc, limit) else {
@@ -75,9 +56,15 @@ fn make(alloc: Global, handle: &mut TerminalHandle, limit: usize) -> i32
         terminal: whole,
         leads: false,
     };
-    match Box::new(alloc, TerminalSide { terminal, apdus }) {
+    match Box::new(
+        alloc,
+        TerminalSide {
+            terminal: tpdus,
+            apdus,
+        },
+    ) {
         Ok(side) => {
-            handle.put(side);
+            terminal.put(side);
             code::OK
         }
         Err(_) => code::MEMORY,
@@ -92,8 +79,7 @@ pub extern "C" fn galliumtoad_terminal_free(alloc: Global, terminal: &mut Termin
     drop(terminal.take_out(alloc));
 }
 
-/// Drops the last operation, in any state, with its answer, and frees its memory. The limit stays.
-/// It sends nothing to the card.
+/// Drops the last operation, with its answer, and frees its memory. The limit stays.
 #[unsafe(no_mangle)]
 pub extern "C" fn galliumtoad_terminal_reset(alloc: Global, terminal: &mut TerminalHandle) -> i32
     ensures { OnHandle Resets (terminal_in terminal.old) result (terminal_in terminal.new) }
@@ -106,14 +92,7 @@ pub extern "C" fn galliumtoad_terminal_reset(alloc: Global, terminal: &mut Termi
     })
 }
 
-/// Begins SELECT of the application with this identifier, of 5 to 16 bytes. The last answer is
-/// dropped. The operation goes neither by TPDUs nor by whole commands yet.
-///
-/// # Errors
-/// The operation and the last answer stay as they were; the first that holds:
-/// - `STATE`: an operation is in progress: it has neither ended nor failed.
-/// - `ARGUMENT`: `aid` is no identifier.
-/// - `MEMORY`: memory ran out.
+/// Begins SELECT of the application with this identifier, and drops the last answer.
 #[unsafe(no_mangle)]
 pub extern "C" fn galliumtoad_terminal_select(
     alloc: Global,
@@ -142,8 +121,7 @@ fn select(terminal: &mut Terminal, aid: &[u8]) -> i32
     }
 }
 
-/// Begins GET DATA of the object with this tag. Its errors are those of
-/// `galliumtoad_terminal_select`; `ARGUMENT` means that GET DATA can name no tag with this number.
+/// Begins GET DATA of the object with this tag.
 #[unsafe(no_mangle)]
 pub extern "C" fn galliumtoad_terminal_get(
     alloc: Global,
@@ -172,9 +150,7 @@ fn get(terminal: &mut Terminal, number: u32) -> i32
     }
 }
 
-/// Begins PUT DATA of a copy of this value, of any length. It is sent in pieces of at most 255
-/// bytes, up to the first whose status is not `9000`. Its errors are those of
-/// `galliumtoad_terminal_get`.
+/// Begins PUT DATA of a copy of this value, in pieces of at most 255 bytes.
 #[unsafe(no_mangle)]
 pub extern "C" fn galliumtoad_terminal_put(
     alloc: Global,
@@ -206,12 +182,6 @@ fn put(terminal: &mut Terminal, number: u32, value: &[u8]) -> i32
 }
 
 /// Begins the exchange of any one command, with a copy of its data. The last answer is dropped.
-///
-/// # Errors
-/// The operation and the last answer stay as they were; the first that holds:
-/// - `STATE`: an operation is in progress.
-/// - a code of [`code::of_command`]: the bytes are not a command.
-/// - `MEMORY`: memory ran out.
 #[unsafe(no_mangle)]
 pub extern "C" fn galliumtoad_terminal_send(
     alloc: Global,
@@ -275,22 +245,15 @@ fn refused(terminal: &Terminal, fault: i32) -> i32
     }
 }
 
-/// Returns what the terminal does next: `SENDS`, `OK` if it listens, or `DONE`. With `SENDS` the
-/// character is written to `byte`, and counts as sent. Nothing else changes `byte` or the terminal.
-///
-/// # Errors
-/// - `STATE`: no operation has begun, or it goes by whole commands. Nothing changes.
-/// - `FAILED`: the operation has failed for good. Nothing changes.
+/// Takes the terminal's turn. A character to send is written to `byte`, and counts as sent.
 #[unsafe(no_mangle)]
 pub extern "C" fn galliumtoad_terminal_next(
     alloc: Global,
     terminal: &mut TerminalHandle,
     byte: &mut u8,
 ) -> i32
-    ensures empty { terminal_in terminal.old ≡ None → byte.new ≡ byte.old }
-    ensures still { (side : TerminalSide) → terminal_in terminal.old ≡ Some side
-        → side.apdus.leads ≡ true → byte.new ≡ byte.old }
-    ensures turn { OnHandle (OnTpdus (TakesTurn byte.old byte.new))
+    ensures { OnHandleOr (byte.new ≡ byte.old)
+        (OnTpdus (byte.new ≡ byte.old) (TakesTurn byte.old byte.new))
         (terminal_in terminal.old) result (terminal_in terminal.new) }
 {
     let Some(mut side) = terminal.take_out(alloc) else {
@@ -302,8 +265,7 @@ pub extern "C" fn galliumtoad_terminal_next(
 }
 
 fn turned(side: &mut TerminalSide, byte: &mut u8) -> i32
-    ensures still { side.old.apdus.leads ≡ true → byte.new ≡ byte.old }
-    ensures does { OnTpdus (TakesTurn byte.old byte.new) side.old result side.new }
+    ensures { OnTpdus (byte.new ≡ byte.old) (TakesTurn byte.old byte.new) side.old result side.new }
 {
     if side.apdus.leads {
         return code::STATE;
@@ -319,41 +281,24 @@ fn turned(side: &mut TerminalSide, byte: &mut u8) -> i32
 }
 
 /// Takes a character of the card.
-///
-/// # Errors
-/// - `STATE`: the operation goes by whole commands. Nothing changes.
-/// - a code of [`code::of_line`]: the terminal refuses the character. It is that of `AfterEnd` if
-///   no operation has begun, or the last one has ended or failed.
 #[unsafe(no_mangle)]
 pub extern "C" fn galliumtoad_terminal_take(
     alloc: Global,
     terminal: &mut TerminalHandle,
     byte: u8,
 ) -> i32
-    ensures { OnHandle (OnTpdus (TakesCharacter byte))
+    ensures { OnHandle (OnTpdus ⊤ (TakesCharacter byte))
         (terminal_in terminal.old) result (terminal_in terminal.new) }
 {
-    with(alloc, terminal, |side| taken(side, byte))
+    with(alloc, terminal, |side| {
+        if side.apdus.leads {
+            return code::STATE;
+        }
+        code::of_taking(side.terminal.take(byte))
+    })
 }
 
-fn taken(side: &mut TerminalSide, byte: u8) -> i32
-    ensures { OnTpdus (TakesCharacter byte) side.old result side.new }
-{
-    if side.apdus.leads {
-        return code::STATE;
-    }
-    code::of_taking(side.terminal.take(byte))
-}
-
-/// Writes the next whole TPDU, its length, and the most data bytes of its answer, 0 to 256. The
-/// terminal is unchanged.
-///
-/// # Errors
-/// Nothing is written.
-/// - `STATE`: the operation goes by whole commands.
-/// - `NOT_DUE`: no operation has begun, a character of the TPDU was sent, or the operation has
-///   ended or failed.
-/// - `BUFFER`: the TPDU does not fit.
+/// Writes the next whole TPDU, its length, and the most data bytes of its answer, 0 to 256.
 #[unsafe(no_mangle)]
 pub extern "C" fn galliumtoad_terminal_tpdu(
     alloc: Global,
@@ -362,11 +307,9 @@ pub extern "C" fn galliumtoad_terminal_tpdu(
     len: &mut usize,
     most: &mut usize,
 ) -> i32
-    ensures kept { terminal_in terminal.new ≡ terminal_in terminal.old }
-    ensures empty { terminal_in terminal.old ≡ None → (result ≡ gt_empty)
-        × (tpdu.new ≡ tpdu.old) × (len.new ≡ len.old) × (most.new ≡ most.old) }
-    ensures told { (side : TerminalSide) → terminal_in terminal.old ≡ Some side
-        → TellsTpduOf side tpdu.old len.old most.old result tpdu.new len.new most.new }
+    ensures { OnLook ((tpdu.new ≡ tpdu.old) × (len.new ≡ len.old) × (most.new ≡ most.old))
+        (λ side code. TellsTpduOf side tpdu.old len.old most.old code tpdu.new len.new most.new)
+        (terminal_in terminal.old) result (terminal_in terminal.new) }
 {
     let Some(side) = terminal.take_out(alloc) else {
         return code::EMPTY;
@@ -377,11 +320,7 @@ pub extern "C" fn galliumtoad_terminal_tpdu(
 }
 
 fn due(side: &TerminalSide, tpdu: &mut [u8], len: &mut usize, most: &mut usize) -> i32
-    ensures refused { side.now.apdus.leads ≡ true → (result ≡ gt_state)
-        × (tpdu.new ≡ tpdu.old) × (len.new ≡ len.old) × (most.new ≡ most.old) }
-    ensures told { side.now.apdus.leads ≡ false → TellsTpdu
-        (terminal_due side.now.terminal.operation) tpdu.old len.old most.old
-        result tpdu.new len.new most.new }
+    ensures { TellsTpduOf side.now tpdu.old len.old most.old result tpdu.new len.new most.new }
 {
     if side.apdus.leads {
         return code::STATE;
@@ -390,44 +329,27 @@ fn due(side: &TerminalSide, tpdu: &mut [u8], len: &mut usize, most: &mut usize) 
 }
 
 /// Takes the answer to that TPDU: data, then the status. The next TPDU begins, if one follows.
-///
-/// # Errors
-/// - `STATE`: the operation goes by whole commands. Nothing changes.
-/// - `NO_STATUS`: the bytes end in no status. Nothing changes.
-/// - a code of [`code::of_answer`]: the terminal refuses the answer.
 #[unsafe(no_mangle)]
 pub extern "C" fn galliumtoad_terminal_answered(
     alloc: Global,
     terminal: &mut TerminalHandle,
     answer: &[u8],
 ) -> i32
-    ensures { OnHandle (OnTpdus (TakesAnswer answer.now))
+    ensures { OnHandle (OnTpdus ⊤ (TakesAnswer answer.now))
         (terminal_in terminal.old) result (terminal_in terminal.new) }
 {
-    with(alloc, terminal, |side| answered(side, answer))
+    with(alloc, terminal, |side| {
+        if side.apdus.leads {
+            return code::STATE;
+        }
+        let Some((bytes, status)) = answer_of(answer) else {
+            return code::NO_STATUS;
+        };
+        code::of_answer(side.terminal.answered(bytes, status))
+    })
 }
 
-fn answered(side: &mut TerminalSide, answer: &[u8]) -> i32
-    ensures { OnTpdus (TakesAnswer answer.now) side.old result side.new }
-{
-    if side.apdus.leads {
-        return code::STATE;
-    }
-    let Some((bytes, status)) = answer_of(answer) else {
-        return code::NO_STATUS;
-    };
-    match side.terminal.answered(bytes, status) {
-        Ok(()) => code::OK,
-        Err(fault) => code::of_answer(fault),
-    }
-}
-
-/// Writes the status and the data of the last command of an operation that has ended. The terminal
-/// keeps them until the next operation begins or a reset.
-///
-/// # Errors
-/// - `STATE`: no operation has begun, or it is in progress or has failed. Nothing is written.
-/// - `BUFFER`: the data do not fit. Only `status` and `len` are written.
+/// Writes the status and the data of the last command of an operation that has ended.
 #[unsafe(no_mangle)]
 pub extern "C" fn galliumtoad_terminal_answer(
     alloc: Global,
@@ -436,12 +358,11 @@ pub extern "C" fn galliumtoad_terminal_answer(
     content: &mut [u8],
     len: &mut usize,
 ) -> i32
-    ensures kept { terminal_in terminal.new ≡ terminal_in terminal.old }
-    ensures empty { terminal_in terminal.old ≡ None → (result ≡ gt_empty)
-        × (status.new ≡ status.old) × (content.new ≡ content.old) × (len.new ≡ len.old) }
-    ensures answer { (side : TerminalSide) → terminal_in terminal.old ≡ Some side
-        → TellsAnswer side status.old content.old len.old
-        result status.new content.new len.new }
+    ensures { OnLook
+        ((status.new ≡ status.old) × (content.new ≡ content.old) × (len.new ≡ len.old))
+        (λ side code. TellsAnswer side status.old content.old len.old code
+        status.new content.new len.new) (terminal_in terminal.old) result
+        (terminal_in terminal.new) }
 {
     let Some(side) = terminal.take_out(alloc) else {
         return code::EMPTY;
@@ -458,15 +379,7 @@ fn given(side: &TerminalSide, status: &mut u16, content: &mut [u8], len: &mut us
     if side.apdus.leads {
         return ended(&side.apdus, status, content, len);
     }
-    ended_by_tpdus(&side.terminal, status, content, len)
-}
-
-fn ended_by_tpdus(terminal: &Terminal, status: &mut u16, content: &mut [u8], len: &mut usize) -> i32
-    ensures { (answer : Option (StatusWord × List ℕ))
-        × IsTerminalAnswer terminal.now.operation answer
-        × TellsEnd answer status.old content.old len.old result status.new content.new len.new }
-{
-    let Some((word, bytes)) = terminal.answer() else {
+    let Some((word, bytes)) = side.terminal.answer() else {
         return code::STATE;
     };
     *status = u16::from_be_bytes([word.sw1(), word.sw2()]);

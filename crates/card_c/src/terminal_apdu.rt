@@ -15,13 +15,6 @@ use crate::whole_apdu::{opened, responded, responded_first, told};
 use std::alloc::Global;
 
 /// Writes the next whole command, its length, and the most data bytes of its response, 0 to 256.
-///
-/// # Errors
-/// Nothing is written.
-/// - `STATE`: no operation has begun, or it goes by TPDUs: a character or an answer has passed.
-/// - `MEMORY`: memory ran out for whole commands. The operation is unchanged.
-/// - `NOT_DUE`: the operation has ended or failed.
-/// - `BUFFER`: the command does not fit.
 #[unsafe(no_mangle)]
 pub extern "C" fn galliumtoad_terminal_apdu(
     alloc: Global,
@@ -58,13 +51,7 @@ fn due(side: &mut TerminalSide, apdu: &mut [u8], len: &mut usize, most: &mut usi
     told(side.apdus.terminal.apdu(), apdu, len, most)
 }
 
-/// Takes the response to that command: data, then the status. From the first one that is taken or
-/// fails the operation, it goes by whole commands.
-///
-/// # Errors
-/// - `STATE`, `MEMORY`: those of `galliumtoad_terminal_apdu`.
-/// - `NO_STATUS`: the bytes end in no status. No response is taken.
-/// - a code of [`code::of_answer`]: the terminal refuses the response.
+/// Takes the response to that command. From the first one on, the operation goes by commands.
 #[unsafe(no_mangle)]
 pub extern "C" fn galliumtoad_terminal_responded(
     alloc: Global,
@@ -74,17 +61,13 @@ pub extern "C" fn galliumtoad_terminal_responded(
     ensures { OnHandle (OnApdus (TakesResponse response.now))
         (terminal_in terminal.old) result (terminal_in terminal.new) }
 {
-    with(alloc, terminal, |side| taken(side, response))
-}
-
-fn taken(side: &mut TerminalSide, response: &[u8]) -> i32
-    ensures { OnApdus (TakesResponse response.now) side.old result side.new }
-{
-    let answer = passed_on(side, response);
-    if side.apdus.leads {
-        side.terminal.reset();
-    }
-    answer
+    with(alloc, terminal, |side| {
+        let answer = passed_on(side, response);
+        if side.apdus.leads {
+            side.terminal.reset();
+        }
+        answer
+    })
 }
 
 fn passed_on(side: &mut TerminalSide, response: &[u8]) -> i32

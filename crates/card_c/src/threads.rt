@@ -1,5 +1,4 @@
 //! Shows that a handle may move to another thread.
-
 use crate::card_held::GtCard;
 use crate::held_exchange::ExchangeHandle;
 use crate::held_t1::T1Handle;

@@ -1,5 +1,5 @@
 //! Whole commands and responses of an exchange or a terminal.
-ghost use Rattle.std.specs.Prelude.{◌≡◌, MatchOption, false, is_some, true, ℕ, List, Option};
+ghost use Rattle.std.specs.Prelude.{ℕ, List, Option};
 ghost use Rattle.apdu_core.specs.StatusWord.{StatusWord};
 ghost use Rattle.apdu_terminal.specs.ApduOperations.{IsOperationAnswer};
 ghost use Rattle.card_c.specs.ApduCalls.{TellsApdu, TakesResponse, IsOpened, Opens};
@@ -14,12 +14,8 @@ use apdu_terminal::write_command;
 use card_terminal::Unsent;
 use t0_core::AnswerFault;
 
-/// Writes the next command, its length, and the most bytes of its response.
-///
-/// # Errors
-/// Nothing is written.
-/// - `NOT_DUE`: there is no next command.
-/// - `BUFFER`: it does not fit.
+/// Writes the next command, its length, and the most bytes of its response. If it is missing or
+/// does not fit, nothing is written.
 pub fn told(due: Option<Command<'_>>, apdu: &mut [u8], len: &mut usize, most: &mut usize) -> i32
     ensures { TellsApdu due.entry apdu.old len.old most.old result apdu.new len.new most.new }
 {
@@ -38,10 +34,6 @@ pub fn told(due: Option<Command<'_>>, apdu: &mut [u8], len: &mut usize, most: &m
 
 /// Takes a response: data, then the status. If that succeeds, or fails the operation, the operation
 /// goes by whole commands from now on.
-///
-/// # Errors
-/// - `NO_STATUS`: the bytes end in no status. Nothing changes.
-/// - a code of [`code::of_answer`]: the terminal refuses the response.
 pub fn responded(side: &mut ApduSide, response: &[u8]) -> i32
     ensures { TakesResponse response.now side.old result side.new }
 {
@@ -57,19 +49,13 @@ pub fn responded(side: &mut ApduSide, response: &[u8]) -> i32
             if matches!(fault, AnswerFault::TooLong | AnswerFault::Stalled) {
                 side.leads = true;
             }
-            code::of_answer(fault)
+            code::of_answer(Err(fault))
         }
     }
 }
 
 /// Takes the first response of an operation, which begins by whole commands. `unsent` is the
-/// operation, if nothing of it was sent.
-///
-/// # Errors
-/// In this order:
-/// - `STATE`: `unsent` is `None`. Nothing changes.
-/// - `MEMORY`: memory ran out. Nothing changes.
-/// - a code of [`responded`]: `side.terminal` has begun the operation.
+/// operation, if nothing of it was sent. Nothing changes with `STATE` or `MEMORY`.
 pub fn responded_first(side: &mut ApduSide, unsent: Option<Unsent<'_>>, response: &[u8]) -> i32
     ensures { Opens (TakesResponse response.now) unsent.entry side.old result side.new }
 {
@@ -98,10 +84,6 @@ pub fn opened(side: &mut ApduSide, unsent: Option<Unsent<'_>>) -> Option<i32>
 }
 
 /// Writes the answer of an operation that goes by whole commands.
-///
-/// # Errors
-/// - `STATE`: it is in progress or has failed. Nothing is written.
-/// - `BUFFER`: the data do not fit. Only `status` and `len` are written.
 pub fn ended(side: &ApduSide, status: &mut u16, content: &mut [u8], len: &mut usize) -> i32
     ensures { (answer : Option (StatusWord × List ℕ))
         × IsOperationAnswer side.now.terminal.operation answer

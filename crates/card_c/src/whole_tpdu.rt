@@ -9,12 +9,8 @@ use crate::code;
 use apdu_core::Status;
 use t0_core::WholeTpdu;
 
-/// Writes the next TPDU, its length, and the most bytes of its answer.
-///
-/// # Errors
-/// Nothing is written.
-/// - `NOT_DUE`: there is no next TPDU.
-/// - `BUFFER`: it does not fit.
+/// Writes the next TPDU, its length, and the most bytes of its answer. If it is missing or does not
+/// fit, nothing is written.
 pub fn told(due: Option<WholeTpdu<'_>>, tpdu: &mut [u8], len: &mut usize, most: &mut usize) -> i32
     ensures { TellsTpdu (option_map asked_of due.entry) tpdu.old len.old most.old
         result tpdu.new len.new most.new }

@@ -2,10 +2,12 @@
 //! answer in hexadecimal digits.
 #![tactic(auto)]
 
+mod program_fault;
 mod say;
 
 use clap::error::ErrorKind;
 use clap::{Command, Error};
+use program_fault::ProgramFault;
 use say::say;
 use std::alloc::Global;
 use std::io::{BufRead, BufReader, Write};
@@ -26,14 +28,17 @@ fn main(rt: HostRuntime) -> ExitCode {
         Ok(()) => match all_said(&rt) {
             Ok(true) => 0,
             Ok(false) => 1,
-            Err(error) => {
-                let _ = io::writer(&rt.stderr()).writeln(&error);
-                1
-            }
+            Err(fault) => stopped(&rt, &fault),
         },
         Err(error) => answered(&rt, &error),
     };
     ExitCode::from(status)
+}
+
+/// Prints the fault in one line on standard error, and returns the exit status.
+fn stopped(rt: &HostRuntime, fault: &ProgramFault) -> u8 {
+    let _ = io::writer(&rt.stderr()).writeln(fault);
+    1
 }
 
 /// Parses the command line, which accepts only options for help and version.
@@ -56,13 +61,20 @@ fn parsed(rt: &HostRuntime) -> Result<(), Error> {
     Ok(())
 }
 
-/// Prints what the error of `parsed` says, and returns the exit status. It is 0 after help and the
-/// version, on the output, or 1 if that fails. It is 2 after any other error, on standard error.
+/// Prints what the error of `parsed` says, and returns the exit status:
+///
+/// - 0: help or the version, on the output.
+/// - 1: the output can't be written, or memory ran out. A line on standard error says which.
+/// - 2: any other error, on standard error.
 fn answered(rt: &HostRuntime, error: &Error) -> u8 {
     match error.kind() {
         ErrorKind::DisplayHelp | ErrorKind::DisplayVersion => {
-            u8::from(io::writer(rt).write_fmt(error).is_err())
+            match io::writer(rt).write_fmt(error) {
+                Ok(()) => 0,
+                Err(error) => stopped(rt, &ProgramFault::of_writing(error)),
+            }
         }
+        ErrorKind::OutOfMemory => stopped(rt, &ProgramFault::OutOfMemory),
         _ => {
             let _ = io::writer(&rt.stderr()).write_fmt(error);
             2
@@ -74,15 +86,15 @@ fn answered(rt: &HostRuntime, error: &Error) -> u8 {
 /// others are answers to reset.
 ///
 /// # Errors
-/// - `io::Error`: the input can't be read, the output can't be written, or memory ran out. What the
-///   lines before print may be written.
-fn all_said(rt: &HostRuntime) -> io::Result<bool> {
+/// - Those of `ProgramFault`: what the lines before print may be written.
+fn all_said(rt: &HostRuntime) -> Result<bool, ProgramFault> {
     let mut output = io::writer(rt);
     let mut well = true;
-    for line in BufReader::new(rt.alloc(), rt.reader())?.lines(rt.alloc()) {
-        let line = line?;
+    let input = BufReader::new(rt.alloc(), rt.reader()).map_err(|_| ProgramFault::OutOfMemory)?;
+    for line in input.lines(rt.alloc()) {
+        let line = line.map_err(ProgramFault::of_reading)?;
         if !line.trim().is_empty() {
-            well &= say(rt.alloc(), line.as_str(), &mut output)?;
+            well &= say(rt.alloc(), line.as_str(), &mut output).map_err(ProgramFault::of_writing)?;
         }
     }
     Ok(well)

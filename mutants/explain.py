@@ -20,8 +20,6 @@ FOLDERS = ("read", "follow", "describe", "write")
 LEFT_OUT = ("main", "main_status", "command_line", "help", *FOLDERS)
 # A copy is one flat module.
 PATH = re.compile(rf"\bcrate::(?:(?:{'|'.join(FOLDERS)})::)?")
-# The names of the forms, in the order of FORM_NAMES.
-FORMS = "angle angles arrow double TX TX: Tx: T: IFD IFD:".split()
 # The number of runs for a module's cases. A run may write a mebibyte at most.
 BATCHES = 3
 # Separates the cases in the program's input, and its outputs.
@@ -130,6 +128,7 @@ fn run{number}(rt: &HostRuntime, part: &[u8]) {{
         let said = str::from_utf8(parts.next().unwrap_or(&[])).unwrap_or("");
         let _ = ways.give(way, said);
     }}
+    let form = str::from_utf8(parts.next().unwrap_or(&[])).unwrap_or("");
     let medium = if part[0] == b'h' {{
         m{number}::layout::Medium::Html
     }} else {{
@@ -139,19 +138,14 @@ fn run{number}(rt: &HostRuntime, part: &[u8]) {{
     let is_summary = part[2] == b's';
     let layout = m{number}::layout::Layout {{ medium, is_summary }};
     let reading = m{number}::reading::Reading {{
-        form: match part[4] {{
-            b'-' => None,
-            digit => m{number}::form::Form::of_name(
-                m{number}::form::FORM_NAMES[usize::from(digit - b'0')],
-            ),
-        }},
-        swaps: part[5] == b'w',
-        unsigned: (part[6] == b'u').then_some(ways),
-        of_tpdus: part[6] == b't',
+        form: m{number}::form::Form::of_name(form),
+        swaps: part[4] == b'w',
+        unsigned: (part[5] == b'u').then_some(ways),
+        of_tpdus: part[5] == b't',
     }};
     let mut trace = &part[size + 1..];
-    let mask = if words.len() > 7 {{
-        let tags = str::from_utf8(&words[8..]).unwrap_or("");
+    let mask = if words.len() > 6 {{
+        let tags = str::from_utf8(&words[7..]).unwrap_or("");
         m{number}::mask::Mask::of(rt.alloc(), tags).unwrap()
     }} else {{
         m{number}::mask::Mask::none(rt.alloc())
@@ -213,13 +207,12 @@ def input_of(case):
         word[2] if word in case.words else "-" for word in ("--html", "--resume", "--summary")
     )
     words += "d" if "--diff" in case.words else "-"
-    words += form_of(case.words)
     words += "w" if "--swap" in case.words else "-"
     words += lines_of(case.words)
     if "--mask" in case.words:
         tags = case.words[case.words.index("--mask") + 1 :]
         words += "=" + "".join(tag for tag in tags[:1] if not tag.startswith("--"))
-    for word in ("--to-card", "--from-card"):
+    for word in ("--to-card", "--from-card", "--form"):
         words += "\x1b" + (case.words[case.words.index(word) + 1] if word in case.words else "")
     other = b"\x1c" + case.other if "--diff" in case.words else b""
     return MARK.encode() + words.encode() + b"\x1d" + case.given + other
@@ -230,13 +223,6 @@ def lines_of(words):
     if "--unsigned" in words:
         return "u"
     return "t" if "--tpdu" in words else "-"
-
-
-def form_of(words):
-    """Returns a character for the place of the named form, from `0` on, or `-` without one."""
-    if "--form" not in words:
-        return "-"
-    return chr(ord("0") + FORMS.index(words[words.index("--form") + 1]))
 
 
 def run_all(crate, folder):

@@ -7,17 +7,18 @@ use Rattle.std.specs.Io.KnownBytes.{Appends}
 use Rattle.std.specs.String.{string_bytes}
 use Rattle.trace_explain.specs.declared.explainer.Explainer.{Explainer}
 use Rattle.trace_explain.specs.declared.write.layout.Layout.{Layout}
+use Rattle.trace_explain.specs.declared.write.layout.Medium.{Medium}
 use Rattle.trace_explain.specs.declared.follow.listener.Listener.{Listener}
 use Rattle.trace_explain.specs.declared.describe.mask.Mask.{Mask}
 use Rattle.trace_explain.specs.declared.write.sheet.Sheet.{Sheet}
-use Rattle.trace_explain.specs.Account.{Account, AddsBox, AddsBoxes, AddsText, AreBoxes, Boxed, HasWritten, Manner, Out, Shows, ShowsReports, Writes, WritesOut, WritesReports, account_of, manner_of, number_after, out_with, parts_in, reports_in, writing}
+use Rattle.trace_explain.specs.Account.{Account, AddsBox, AddsBoxes, AddsText, AreBoxes, Boxed, HasWritten, InTurn, Manner, Out, Shows, ShowsReports, Writes, WritesOut, WritesReports, account_of, first_out, manner_of, number_after, out_with, reports_in, writing}
 use Rattle.trace_explain.specs.Boxes.{PutsBox}
 use Rattle.trace_explain.specs.Noted.{as_ended, bared, ended_by, is_bare}
 use Rattle.trace_explain.specs.Sheets.{Joins}
 use Rattle.trace_explain.specs.Reports.{Report, one_more, report_of}
-use Rattle.trace_explain.specs.Written.{InTurn}
-use Rattle.trace_explain.proofs.BoxLemmas.{in_turn_both}
+use Rattle.trace_explain.specs.Words.{IsWords}
 use Rattle.trace_explain.proofs.SheetLemmas.{adds_nothing}
+use Rattle.trace_explain.proofs.WordLemmas.{words_both}
 
 are_both : (w : Manner) (n : ℕ) (xs ys : List Boxed) → AreBoxes w n xs
     → AreBoxes w (number_after n xs) ys → AreBoxes w n (xs ++ ys)
@@ -29,16 +30,34 @@ number_both : (n : ℕ) (xs ys : List Boxed)
 number_both n [] ys = refl
 number_both n (x ∷ xs) ys = number_both (one_more n) xs ys
 
-parts_both : (xs ys : List Boxed) → parts_in (xs ++ ys) ≡ parts_in xs ++ parts_in ys
-parts_both [] ys = refl
-parts_both (x ∷ xs) ys = ap (λ t. x.parts ++ t) (parts_both xs ys)
-    ∙ sym (append_assoc x.parts (parts_in xs) (parts_in ys))
+-- more words before
+ahead : (m : Medium) (boxes : List Boxed) (text more : List ℕ) → IsWords m more
+    → InTurn m boxes text → InTurn m boxes (more ++ text)
+ahead m [] text more w h = words_both m more text w h
+ahead m (b ∷ boxes) text more w (before, rest, is, words, h) = (
+  more ++ before,
+  rest,
+  ap (λ t. more ++ t) is ∙ sym (append_assoc more before (b.text ++ rest)),
+  words_both m more before w words,
+  h,
+)
+
+in_turn_both : (m : Medium) (xs ys : List Boxed) (x y : List ℕ) → InTurn m xs x → InTurn m ys y
+    → InTurn m (xs ++ ys) (x ++ y)
+in_turn_both m [] ys x y h k = ahead m ys y x h k
+in_turn_both m (b ∷ xs) ys x y (before, rest, is, words, h) k = (
+  before,
+  rest ++ y,
+  ap (λ t. t ++ y) is ∙ append_assoc before (b.text ++ rest) y
+      ∙ ap (λ t. before ++ t) (append_assoc b.text rest y),
+  words,
+  in_turn_both m xs ys rest y h k,
+)
 
 shows_both : (w : Manner) (n k l : ℕ) (ts us : List Report) (x y : List ℕ)
     → ShowsReports w n ts x k → ShowsReports w k us y l → ShowsReports w n (ts ++ us) (x ++ y) l
 shows_both w n k l ts us x y h i =
     let P : ℕ → Type 0 = λ z. AreBoxes w z i.boxes in
-    let Q : List (List ℕ) → Type 0 = λ ps. InTurn ps (x ++ y) in
     record {
       boxes = h.boxes ++ i.boxes;
       are = are_both w n h.boxes i.boxes h.are (subst P h.after_is i.are);
@@ -47,8 +66,7 @@ shows_both w n k l ts us x y h i =
           ∙ sym (map-append (λ (b : Boxed). b.report) h.boxes i.boxes);
       after_is = i.after_is ∙ ap (λ z. number_after z i.boxes) h.after_is
           ∙ sym (number_both n h.boxes i.boxes);
-      has = subst Q (sym (parts_both h.boxes i.boxes))
-          (in_turn_both (parts_in h.boxes) (parts_in i.boxes) x y h.has i.has);
+      has = in_turn_both w.layout.medium h.boxes i.boxes x y h.has i.has;
     }
 
 same_manner : (a b : Account) → b.keeps ≡ a.keeps → b.mask ≡ a.mask
@@ -81,40 +99,56 @@ boxes_both {ts} {us} {a} {b} {c} h k = record {
 -- words alone
 pub boxes_none : {a b : Account} → b.keeps ≡ a.keeps → b.mask ≡ a.mask → b.number ≡ a.number
     → Joins a.sheet b.sheet → Shows [] a b
-boxes_none {a} {b} keeps mask number (more, joins) = record {
+boxes_none {a} {b} keeps mask number (more, words, joins) = record {
   manner = same_manner a b keeps mask joins.layout;
   adds = λ writes w. record {
     whole = joins.whole w;
     more = more;
     text_is = joins.text w;
-    shows = record { boxes = []; are = tt; reports_are = refl; after_is = number; has = tt };
+    shows = record { boxes = []; are = tt; reports_are = refl; after_is = number; has = words };
   };
 }
 
 pub boxes_stay : {a : Account} → Shows [] a a
-boxes_stay {a} = boxes_none {a = a} {b = a} refl refl refl ([], adds_nothing a.sheet)
+boxes_stay {a} = boxes_none {a = a} {b = a} refl refl refl
+    ([], ([], refl), adds_nothing a.sheet)
+
+pub none_written : (layout : Layout) (mask : Mask) (e : Explainer) → e.reading.of_tpdus ≡ false
+    → manner_of (account_of e.teller) ≡ writing layout mask → e.teller.story.number ≡ 0
+    → string_bytes e.teller.output.sheet.text ≡ [] → HasWritten (first_out layout mask) [] e
+none_written layout mask e hears manner number text = record {
+  hears = hears;
+  manner = manner;
+  shows = λ writes whole. record {
+    boxes = [];
+    are = tt;
+    reports_are = refl;
+    after_is = number;
+    has = ([], text);
+  };
+}
 
 -- one box, after it was counted
-pub boxes_one : (t : Report) (number line n : ℕ) {a c : Account} → n ≡ one_more a.number
-    → number ≡ n → AddsBox number line t (record a { number = n }) c → Shows (t ∷ []) a c
-boxes_one t number line n {a} {c} counted number_is h = record {
+pub boxes_one : (t : Report) (number line n : ℕ) (answer : List ℕ) {a c : Account}
+    → n ≡ one_more a.number → number ≡ n → AddsBox number line t answer (record a { number = n }) c
+    → Shows (t ∷ []) a c
+boxes_one t number line n answer {a} {c} counted number_is h = record {
   manner = h.manner;
   adds = λ writes w.
-      let P : ℕ → Type 0 = λ k. PutsBox a.mask k line t a.sheet c.sheet in
-      let (parts, is_box, puts) = subst P (number_is ∙ counted) (h.box writes) in
-      let (more, text_is, has) = puts.text w in
-      let one : Boxed = record { report = t; line = line; parts = parts } in
-      let Q : List (List ℕ) → Type 0 = λ ps. InTurn ps more in
+      let P : ℕ → Type 0 = λ k. PutsBox a.mask k line t answer a.sheet c.sheet in
+      let (more, (before, rest, is, words, (text, none, rest_is, is_box, none_is)), adds) =
+      subst P (number_is ∙ counted) (h.box writes) in
+      let one : Boxed = record { report = t; line = line; answer = answer; text = text } in
       record {
-        whole = puts.whole w;
+        whole = adds.whole w;
         more = more;
-        text_is = text_is;
+        text_is = adds.text w;
         shows = record {
           boxes = one ∷ [];
           are = (is_box, tt);
           reports_are = refl;
           after_is = h.counted ∙ counted;
-          has = subst Q (sym (append-nil parts)) has;
+          has = (before, none, is ∙ ap (λ t. before ++ t) rest_is, words, ([], none_is));
         };
       };
 }
@@ -157,7 +191,7 @@ pub boxes_cut : {T E : Type 0} {ts : List Report} {a b : Account} (r : Result T 
     → IfErr r (λ _. b.sheet.is_cut ≡ true) → Shows ts a b
 boxes_cut (Ok x) keeps mask joins failed h = absurd (let no : false ≡ true = failed in cc)
 boxes_cut {a = a} {b = b} (Err e) keeps mask joins failed h = record {
-  manner = same_manner a b keeps mask joins.1.layout;
+  manner = same_manner a b keeps mask joins.2.layout;
   adds = λ writes w. absurd (let no : false ≡ true = sym w ∙ h in cc);
 }
 
@@ -223,10 +257,3 @@ writes_reports front reports l layout mask old mid new a b manner_is first next 
       Appends-trans old mid new front.text (string_bytes b.teller.output.sheet.text) first next,
       subst Q (sym same) (subst P manner_is (λ x. last.shows x whole) (refl, all)),
     )
-
--- no writer got anything yet
-pub none_out : (first : Out) (reports : List Report) (e : Explainer) → HasWritten first reports e
-    → HasWritten (out_with first []) reports e
-none_out first reports e h =
-    let P : List ℕ → Type 0 = λ x. HasWritten (record first { text = x }) reports e in
-    subst P (sym (append-nil first.text)) h

@@ -17,6 +17,11 @@ adds_both x y a b c h k = record {
   stays = λ w. k.stays (h.cut w) ∙ h.stays w;
 }
 
+pub adds_five : {x y z l e : List ℕ} {a b c d f g : Sheet} → Adds a x b → Adds b y c → Adds c z d
+    → Adds d l f → Adds f e g → Adds a (x ++ y ++ z ++ l ++ e) g
+adds_five h i j k m =
+    adds_both _ _ _ _ _ (adds_both _ _ _ _ _ (adds_both _ _ _ _ _ (adds_both _ _ _ _ _ h i) j) k) m
+
 pub adds_nothing : (a : Sheet) → Adds a [] a
 adds_nothing a = record {
   layout = refl;

@@ -3,7 +3,6 @@ use Rattle.std.proofs.Common.{◌≡◌, ℕ, ◌+◌, ◌-◌, ◌^◌, min, �
 use Rattle.std.proofs.Math.Seq.{drop-cons}
 use Rattle.std.proofs.lemmas.Bool.{ne_eqb}
 use Rattle.std.proofs.lemmas.List.{drop_all, length-append}
-use Rattle.std.proofs.KnownBytes.{Consumes-trans}
 use Rattle.std.specs.Io.KnownBytes.{Consumes, IsAtEnd}
 use Rattle.std.specs.Str.Lines.{strip_carriage_return}
 use Rattle.std.specs.String.{string_bytes}
@@ -18,8 +17,7 @@ use Rattle.trace_explain.specs.Account.{HasWritten, Out, WritesOut, out_with}
 use Rattle.trace_explain.specs.Reports.{Report}
 use Rattle.trace_explain.specs.Lines.{LineLeads, Position, first_of_all}
 use Rattle.trace_explain.specs.Explained.{HasExplained, ExplainsLine, StopsAtLine, StopsIfAt, line_of, next_line, position_of}
-use Rattle.trace_explain.specs.Trace.{lines_from, IsReached, IsOfEnd, SayInTurn, SayAll, IsExplained, IsOver, KeepsLimit, StopsIn, StopsInLine}
-use Rattle.trace_explain.specs.UnderWay.{HasReceived, IsOfLines}
+use Rattle.trace_explain.specs.Trace.{HasReceived, IsExplained, IsOfEnd, IsOfLines, IsOfSink, IsOver, IsReached, IsReady, KeepsLimit, SayAll, SayInTurn, StopsIn, StopsInLine, lines_from}
 use Rattle.trace_explain.proofs.AccountLemmas.{written_more, written_out}
 
 -- The events of one more line follow the others.
@@ -67,12 +65,6 @@ pub fault_passed : {T E : Type 0} (r : Result T E) (e : E) (Q : E → Type 0)
 fault_passed (Ok x) e Q same h = absurd same
 fault_passed (Err f) e Q same h = subst Q (sym same) h
 
--- A conclusion from a fault.
-pub on_err_too : {T E : Type 0} (r : Result T E) (P Q : E → Type 0) → IfErr r P
-    → ((e : E) → P e → Q e) → IfErr r Q
-on_err_too (Ok x) P Q h next = tt
-on_err_too (Err e) P Q h next = next e h
-
 -- One more line is counted.
 counted_on : (n before all : ℕ) → n ≡ min (before + 1) (2 ^ 64 - 1) → all ≡ before + 1
     → min (n + 1) (2 ^ 64 - 1) ≡ min (all + 1) (2 ^ 64 - 1)
@@ -90,8 +82,7 @@ pub line_more : {front : Out} {reading : Reading} {all : List (List ℕ)} {line 
     → lines_from line bytes ≡ given ∷ lines_from next left → Explains given old new
     → HasReceived front reading all next left new
 line_more {front} {reading} given next left {old} new come counts ends explains =
-    let (more, at, leads, reports) = explains come.events come.reports come.explained in
-    let P : Position → Type 0 = λ s. LineLeads come.events (position_of old) given more s in
+    let (more, leads, reports) = explains come.events come.reports come.explained in
     record {
       before = come.before ++ given ∷ [];
       is_cut = come.is_cut ∙ ap (λ ls. come.before ++ ls) ends
@@ -101,7 +92,7 @@ line_more {front} {reading} given next left {old} new come counts ends explains 
           (length-append come.before (given ∷ []));
       events = come.events ++ more;
       says = say_more [] (first_of_all reading) (position_of old) (position_of new) come.before
-          given come.events more come.says (subst P (sym reports.position_is) leads);
+          given come.events more come.says leads;
       reports = come.reports ++ reports.reports;
       explained = reports.explained;
       written = written_more front come.reports reports.reports old new reports.explained.1.2
@@ -297,13 +288,12 @@ none_of_chunk {front} {reading} {all} {line} chunk left i {e} past come =
     subst P (drop_all i chunk past) come
 
 -- Before the first byte.
-pub all_received : {front : Out} {reading : Reading} (line left : List ℕ) {e : Explainer}
-    → line ≡ []
-    → HasExplained [] [] e → position_of e ≡ first_of_all reading → e.line ≡ 0
-    → HasWritten front [] e → HasReceived front reading (lines_from [] left) line left e
-all_received line left none h at first blank = record {
+pub is_ready : {front : Out} {reading : Reading} {e : Explainer} → HasExplained [] [] e
+    → position_of e ≡ first_of_all reading → e.line ≡ 0 → HasWritten front [] e
+    → IsReady front reading e
+is_ready h at first blank left = record {
   before = [];
-  is_cut = ap (λ l. lines_from l left) (sym none);
+  is_cut = refl;
   number_is = ap (λ n. min (n + 1) (2 ^ 64 - 1)) first;
   events = [];
   says = (refl, at);
@@ -337,48 +327,47 @@ of_known None b bytes P reads h = tt
 of_known (Some all) None bytes P reads h = absurd reads
 of_known (Some all) (Some left) bytes P reads h = subst P (sym reads) (h left)
 
-pub of_all : (a b : Option (List ℕ)) (bytes : List ℕ) (P : List ℕ → Type 0)
-    → Consumes a b bytes → IsAtEnd b → P (bytes ++ []) → IfSome a P
-of_all None b bytes P reads ends h = tt
-of_all (Some all) None bytes P reads ends h = absurd reads
-of_all (Some all) (Some left) bytes P reads ends h =
-    subst P (sym (reads ∙ ap (λ l. bytes ++ l) ends)) h
-
-pub all_read : (a b c : Option (List ℕ)) (n : ℕ) (bytes room : List ℕ) → n ≡ 0
-    → Consumes a b bytes → Consumes b c (take n room) → Consumes a c bytes
-all_read a b c n bytes room none reads last =
-    let P : List ℕ → Type 0 = λ bs. Consumes a c bs in
-    subst P (ap (λ m. bytes ++ take m room) none ∙ append-nil bytes)
-    (Consumes-trans a b c bytes (take n room) reads last)
-
-pub some_too : {A : Type 0} (a : Option A) (P Q : A → Type 0) → IfSome a P
-    → ((x : A) → P x → Q x) → IfSome a Q
-some_too None P Q h next = tt
-some_too (Some x) P Q h next = next x h
+pub of_all : (a b c : Option (List ℕ)) {n : ℕ} (bytes room : List ℕ) (P : List ℕ → Type 0)
+    → n ≡ 0 → Consumes a b bytes → Consumes b c (take n room) → IsAtEnd c → P (bytes ++ [])
+    → IfSome a P
+of_all None b c bytes room P none reads last ends h = tt
+of_all (Some all) None c bytes room P none reads last ends h = absurd reads
+of_all (Some all) (Some left) None bytes room P none reads last ends h = absurd last
+of_all (Some all) (Some left) (Some more) {n} bytes room P none reads last ends h =
+    subst P (sym (reads ∙ ap (λ l. bytes ++ l)
+    (last ∙ ap (λ l. take n room ++ l) ends ∙ ap (λ m. take m room ++ []) none))) h
 
 -- A trace keeps the limit.
+is_over : (f : ExplainFault) (bytes : List ℕ) → IsOfLines f → IsOver bytes f
+is_over fault.InputTooLong bytes of = absurd of
+is_over other bytes of = tt
+
 pub limit_kept : {T : Type 0} (r : Result T ExplainFault) (bytes : List ℕ) (size : ℕ)
     → size ≡ length bytes → size ≤ 1099511627776 → IfErr r IsOfLines
     → KeepsLimit (bytes ++ []) r
 limit_kept (Ok x) bytes size size_is within of =
     omega (arith, size_is, within, length-append bytes [])
-limit_kept (Err f) bytes size size_is within of = of_kind f of
-  where
-    of_kind : (g : ExplainFault) → IsOfLines g → IsOver (bytes ++ []) g
-    of_kind fault.InputTooLong h = absurd h
-    of_kind other h = tt
+limit_kept (Err f) bytes size size_is within of = is_over f (bytes ++ []) of
 
 pub limit_passed : {T : Type 0} (r : Result T ExplainFault) (f : ExplainFault)
     (a : Option (List ℕ)) → IsErrAnd r (λ x. x ≡ f) → IsOfLines f
     → IfSome a (λ bytes. KeepsLimit bytes r)
 limit_passed (Ok x) f a same h = absurd same
 limit_passed (Err g) f None same h = tt
-limit_passed (Err g) f (Some bytes) same h =
-    let P : ExplainFault → Type 0 = λ x. IsOfLines x in of_kind g (subst P (sym same) h)
-  where
-    of_kind : (x : ExplainFault) → IsOfLines x → IsOver bytes x
-    of_kind fault.InputTooLong k = absurd k
-    of_kind other k = tt
+limit_passed (Err g) f (Some bytes) same h = is_over g bytes (rw same h)
+
+-- Faults of lines, and those at the end, are not of the sink.
+pub lines_sink : (Fails : ExplainFault → Type 0) (f : ExplainFault) → IsOfLines f
+    → IsOfSink Fails f
+lines_sink Fails fault.Write h = absurd h
+lines_sink Fails fault.Closed h = absurd h
+lines_sink Fails other h = tt
+
+pub end_sink : (Fails : ExplainFault → Type 0) (has_characters : Bool) (f : ExplainFault)
+    → IsOfEnd f has_characters → IsOfSink Fails f
+end_sink Fails has_characters fault.Write h = absurd h
+end_sink Fails has_characters fault.Closed h = absurd h
+end_sink Fails has_characters other h = tt
 
 -- The result at the end of a trace is not a protocol error.
 pub ended_stops : {IsShown : List Report → Listener → Type 0} {reading : Reading}
@@ -388,6 +377,7 @@ ended_stops {at = at} fault.NoCharacters ended explained =
     (explained.events, at, explained.says, ended)
 ended_stops (fault.Resumed m c) ended explained = tt
 ended_stops (fault.BadPairs n m why) ended explained = tt
+ended_stops (fault.Skipped line place) ended explained = tt
 ended_stops other ended explained = absurd ended
 
 -- What is shown of the reports.

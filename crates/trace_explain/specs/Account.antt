@@ -4,6 +4,7 @@ use Rattle.std.specs.Io.KnownBytes.{Appends}
 use Rattle.std.specs.String.{string_bytes}
 use Rattle.trace_explain.specs.declared.explainer.Explainer.{Explainer}
 use Rattle.trace_explain.specs.declared.write.layout.Layout.{Layout}
+use Rattle.trace_explain.specs.declared.write.layout.Medium.{Medium}
 use Rattle.trace_explain.specs.declared.follow.listener.Listener.{Listener}
 use Rattle.trace_explain.specs.declared.describe.mask.Mask.{Mask}
 use Rattle.trace_explain.specs.declared.write.sheet.Sheet.{Sheet}
@@ -11,7 +12,7 @@ use Rattle.trace_explain.specs.declared.write.teller.Teller.{Teller}
 use Rattle.trace_explain.specs.Boxes.{IsBox, PutsBox}
 use Rattle.trace_explain.specs.Noted.{ended_by}
 use Rattle.trace_explain.specs.Reports.{Report, one_more, report_of}
-use Rattle.trace_explain.specs.Written.{InTurn}
+use Rattle.trace_explain.specs.Words.{IsWords}
 
 -- how a teller writes: whether it keeps the boxes, what it hides, and its layout
 pub record Manner : Type 0 where
@@ -30,12 +31,14 @@ Writes w = (w.keeps ≡ false) × (w.layout.is_summary ≡ false)
 pub record Boxed : Type 0 where
   pub report : Report
   pub line : ℕ
-  pub parts : List (List ℕ)
+  pub answer : List ℕ
+  pub text : List ℕ
 
 -- after n boxes, each has the next number, and shows its TPDU
 abbrev pub AreBoxes : Manner → ℕ → List Boxed → Type 0
 AreBoxes w n [] = Unit {0}
-AreBoxes w n (b ∷ boxes) = IsBox w.layout.medium w.mask (one_more n) b.line b.report b.parts
+AreBoxes w n (b ∷ boxes) =
+    IsBox w.mask (one_more n) b.line b.report b.answer w.layout.medium b.text
     × AreBoxes w (one_more n) boxes
 
 abbrev pub number_after : ℕ → List Boxed → ℕ
@@ -46,19 +49,20 @@ number_after n (b ∷ boxes) = number_after (one_more n) boxes
 abbrev pub reports_in : List Boxed → List Report
 reports_in boxes = map (λ (b : Boxed). b.report) boxes
 
-abbrev pub parts_in : List Boxed → List (List ℕ)
-parts_in [] = []
-parts_in (b ∷ boxes) = b.parts ++ parts_in boxes
+-- a text is these boxes, one after another, and words before, between and after them
+abbrev pub InTurn : Medium → List Boxed → List ℕ → Type 0
+InTurn m [] text = IsWords m text
+InTurn m (b ∷ boxes) text = (before rest : List ℕ) × (text ≡ before ++ (b.text ++ rest))
+    × IsWords m before × InTurn m boxes rest
 
--- After `number` boxes a text has others, one after another, with any words between. They show
--- these reports, in turn, and no others.
+-- After `number` boxes a text is others and words. They show these reports, in turn, and no others.
 pub record ShowsReports (w : Manner) (number : ℕ) (reports : List Report) (text : List ℕ)
     (after : ℕ) : Type 0 where
   pub boxes : List Boxed
   pub are : AreBoxes w number boxes
   pub reports_are : reports ≡ reports_in boxes
   pub after_is : after ≡ number_after number boxes
-  pub has : InTurn (parts_in boxes) text
+  pub has : InTurn w.layout.medium boxes text
 
 -- such a text was added
 pub record AddsText (w : Manner) (number : ℕ) (reports : List Report) (after : ℕ)
@@ -97,10 +101,17 @@ abbrev pub AddsBoxes : List Report → Teller → Teller → Type 0
 AddsBoxes reports old new = Shows reports (account_of old) (account_of new)
 
 -- the same for one box with this number, which is counted already
-pub record AddsBox (number line : ℕ) (t : Report) (old new : Account) : Type 0 where
+pub record AddsBox (number line : ℕ) (t : Report) (answer : List ℕ) (old new : Account)
+    : Type 0 where
   pub manner : manner_of new ≡ manner_of old
   pub counted : new.number ≡ old.number
-  pub box : Writes (manner_of old) → PutsBox old.mask number line t old.sheet new.sheet
+  pub box : Writes (manner_of old) → PutsBox old.mask number line t answer old.sheet new.sheet
+
+-- a text is that box after an empty sheet, unless that is of a summary
+abbrev pub HasBox : Mask → ℕ → ℕ → Report → List ℕ → Sheet → List ℕ → Type 0
+HasBox mask number line t answer empty text = empty.layout.is_summary ≡ false → (last : Sheet)
+    × (last.is_cut ≡ false) × (string_bytes last.text ≡ text)
+    × PutsBox mask number line t answer empty last
 
 -- the output is the same
 abbrev pub StaysWritten : Teller → Teller → Type 0

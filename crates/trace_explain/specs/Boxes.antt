@@ -1,9 +1,9 @@
--- The box of a TPDU: its proved parts, with any words between.
-use Rattle.std.specs.Prelude.{◌≡◌, ◌≢◌, ℕ, List, [], ◌∷◌, ◌++◌, codes, length, get_or, Bool, true, false, ◌==◌, ◌&&◌, if◌then◌else◌, Option, Some, None, IfSome}
+-- The box of a TPDU, part by part.
+use Rattle.std.specs.Prelude.{◌≡◌, ◌≢◌, ◌<◌, ℕ, List, [], ◌∷◌, ◌++◌, codes, length, get_or, Bool, true, false, ◌==◌, ◌&&◌, if◌then◌else◌, Option, Some, None, IfSome}
 use Rattle.std.specs.Fmt.{decimal}
-use Rattle.std.specs.String.{string_bytes}
 use Rattle.t0_core.specs.declared.direction.Direction.{Direction}
 use Rattle.t0_core.specs.declared.direction.Direction.TheVariants.{ToCard, FromCard}
+use Rattle.trace_explain.specs.declared.write.layout.Kind.{Kind}
 use Rattle.trace_explain.specs.declared.write.layout.Medium.{Medium}
 use Rattle.trace_explain.specs.declared.write.layout.Side.{Side}
 use Rattle.trace_explain.specs.declared.write.layout.Side.TheVariants as side
@@ -17,10 +17,11 @@ use Rattle.trace_explain.specs.declared.describe.mask.Shown.TheVariants.{All, Ob
 use Rattle.trace_explain.specs.declared.write.sheet.Sheet.{Sheet}
 use Rattle.trace_explain.specs.Noted.{are_status}
 use Rattle.trace_explain.specs.Secrets.{Shows}
-use Rattle.trace_explain.specs.Sheets.{Adds}
+use Rattle.trace_explain.specs.Sheets.{Adds, IsRow, Puts}
 use Rattle.trace_explain.specs.Reports.{IsOfCommand, Report}
 use Rattle.trace_explain.specs.Trees.{IsTree}
-use Rattle.trace_explain.specs.Written.{AreDigits, InTurn, data_row, header_row, hidden, line_text, lines_text, number_text, row, status_row}
+use Rattle.trace_explain.specs.Words.{IsWords}
+use Rattle.trace_explain.specs.Written.{AreDigits, box_end, header_row, hidden, lines_text, row, some_row, status_row, title_text}
 
 -- the end that sends data this way
 abbrev pub side_of : Direction → Side
@@ -59,44 +60,33 @@ abbrev pub HasAsker : List ℕ → Links → Type 0
 HasAsker header links = get_or header 1 0 ≢ 0xC0 → IfSome links.asker (IsOfCommand header)
 
 -- the row of data of a TPDU, if it moved any, after a whole header
-abbrev pub DataText : Medium → Mask → Option Direction → List ℕ → List ℕ → List ℕ → Type 0
-DataText m mask None header moved text = text ≡ []
-DataText m mask (Some way) header moved text = length header ≡ 5 → (shown : Shown)
+abbrev pub IsData : Mask → Option Direction → List ℕ → List ℕ → Medium → List ℕ → Type 0
+IsData mask None header moved m text = text ≡ []
+IsData mask (Some way) header moved m text = length header ≡ 5 → (shown : Shown)
     × IsShown mask way header shown × (may : Bool) × (way ≡ FromCard → may ≡ true)
     × (lines : List (List ℕ)) × ShowsData shown mask.tags.items may moved lines
-    × (text ≡ data_row m (side_of way) (lines_text lines))
-
--- The parts of a box: the number, the line where the TPDU begins, its header, data and status.
-pub record IsBox (m : Medium) (mask : Mask) (number line : ℕ) (t : Report) (parts : List (List ℕ))
-    : Type 0 where
-  pub moved : List ℕ
-  pub words : List ℕ
-  pub shows : DataText m mask t.way t.header t.moved moved
-  pub parts_are : parts ≡ number_text number ∷ line_text m line ∷ header_row m t.header
-      ∷ moved ∷ status_row m (status_side t.header t.status) t.status words ∷ []
-
--- Unless memory ran out, a text was added that has these parts in turn.
-pub record Puts (parts : List (List ℕ)) (old new : Sheet) : Type 0 where
-  pub layout : new.layout ≡ old.layout
-  pub whole : new.is_cut ≡ false → old.is_cut ≡ false
-  pub text : new.is_cut ≡ false → (more : List ℕ)
-      × (string_bytes new.text ≡ string_bytes old.text ++ more) × InTurn parts more
+    × (text ≡ some_row m (side_of way) (codes "data") (lines_text lines))
 
 -- the row of data was added
 abbrev pub PutsDataRow
     : Shown → List (List ℕ) → Side → Bool → List ℕ → Sheet → Sheet → Type 0
 PutsDataRow shown tags s may bytes old new = (lines : List (List ℕ))
     × ShowsData shown tags may bytes lines
-    × Adds old (data_row old.layout.medium s (lines_text lines)) new
+    × Adds old (some_row old.layout.medium s (codes "data") (lines_text lines)) new
 
-abbrev pub PutsDataOf : Mask → Option Direction → List ℕ → List ℕ → Sheet → Sheet → Type 0
-PutsDataOf mask way header moved old new = (text : List ℕ)
-    × DataText old.layout.medium mask way header moved text × Adds old text new
+-- the row of the data that the card returned beside those of the terminal, if any
+abbrev pub IsAnswer : Mask → List ℕ → List ℕ → Medium → List ℕ → Type 0
+IsAnswer mask header bytes m text = (length bytes ≡ 0 → text ≡ [])
+    × (0 < length bytes → IsData mask (Some FromCard) header bytes m text)
+
+-- the title: the number, words, and the line where the TPDU begins
+abbrev pub IsTitle : ℕ → ℕ → List ℕ → Medium → List ℕ → Type 0
+IsTitle number line status m text = (kind : Kind) × (words : List ℕ)
+    × (text ≡ title_text m kind number words status line)
 
 -- the row of a status, with words after it
-abbrev pub PutsStatus : Side → List ℕ → Sheet → Sheet → Type 0
-PutsStatus s status old new =
-    (words : List ℕ) × Adds old (status_row old.layout.medium s status words) new
+abbrev pub IsStatus : Side → List ℕ → Medium → List ℕ → Type 0
+IsStatus s status m text = (words : List ℕ) × (text ≡ status_row m s status words)
 
 -- the row of data that are shown together, after their size and the number of TPDUs
 abbrev pub size_words : ℕ → ℕ → List ℕ → List ℕ
@@ -107,13 +97,51 @@ whole_words whole.None size = []
 whole_words (whole.Response n) size = size_words size n (codes " parts:")
 whole_words (whole.Value n) size = size_words size n (codes " pieces:")
 
+abbrev pub together_row : Medium → Whole → List ℕ → List (List ℕ) → List ℕ
+together_row m whole bytes lines = row m side.Nobody (codes "together")
+    (whole_words whole (length bytes) ++ lines_text lines)
+
 abbrev pub PutsWhole : Whole → Shown → List (List ℕ) → List ℕ → Sheet → Sheet → Type 0
 PutsWhole whole shown tags bytes old new = (lines : List (List ℕ))
     × ShowsData shown tags true bytes lines
-    × Adds old (row old.layout.medium side.Nobody (codes "together")
-    (whole_words whole (length bytes) ++ lines_text lines)) new
+    × Adds old (together_row old.layout.medium whole bytes lines) new
 
--- the box of a TPDU was added
-abbrev pub PutsBox : Mask → ℕ → ℕ → Report → Sheet → Sheet → Type 0
-PutsBox mask number line t old new = (parts : List (List ℕ))
-    × IsBox old.layout.medium mask number line t parts × Puts parts old new
+-- the way of what is complete: the parts of a response, or the pieces of a value
+abbrev pub whole_way : Whole → Option Direction
+whole_way whole.None = None
+whole_way (whole.Response n) = Some FromCard
+whole_way (whole.Value n) = Some ToCard
+
+-- such a row, as the mask shows the data of that command, or nothing
+abbrev pub IsTogether : Mask → List ℕ → Medium → List ℕ → Type 0
+IsTogether mask header m text = text ≢ [] → (whole : Whole) × (way : Direction)
+    × (whole_way whole ≡ Some way) × (shown : Shown) × IsShown mask way header shown
+    × (bytes : List ℕ) × (lines : List (List ℕ)) × ShowsData shown mask.tags.items true bytes lines
+    × (text ≡ together_row m whole bytes lines)
+
+-- a text is one for which each of these holds in turn
+abbrev pub InOrder : List (Medium → List ℕ → Type 0) → Medium → List ℕ → Type 0
+InOrder [] m text = text ≡ []
+InOrder (Is ∷ others) m text =
+    (part rest : List ℕ) × (text ≡ part ++ rest) × Is m part × InOrder others m rest
+
+-- The box of a TPDU: its number, line, header, data and status, with rows of words between.
+abbrev pub IsBox : Mask → ℕ → ℕ → Report → List ℕ → Medium → List ℕ → Type 0
+IsBox mask number line t answer = InOrder
+    (IsTitle number line t.status
+    ∷ IsRow side.Nobody (codes "time")
+    ∷ IsRow side.Nobody (codes "before")
+    ∷ (λ m text. text ≡ header_row m t.header)
+    ∷ IsRow side.Card (codes "procedure")
+    ∷ IsData mask t.way t.header t.moved
+    ∷ IsRow side.Terminal (codes "Le")
+    ∷ IsAnswer mask t.header answer
+    ∷ IsStatus (status_side t.header t.status) t.status
+    ∷ IsRow side.Nobody (codes "after")
+    ∷ IsTogether mask t.header
+    ∷ (λ m text. text ≡ box_end m) ∷ [])
+
+-- the box of a TPDU was added, after words
+abbrev pub PutsBox : Mask → ℕ → ℕ → Report → List ℕ → Sheet → Sheet → Type 0
+PutsBox mask number line t answer =
+    Puts (InOrder (IsWords ∷ IsBox mask number line t answer ∷ []))

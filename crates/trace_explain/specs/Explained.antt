@@ -1,6 +1,6 @@
 -- What an explainer without `--resume` has explained, line by line.
-use Rattle.std.specs.Prelude.{◌≡◌, ◌<◌, ◌≤◌, ℕ, ◌+◌, ◌-◌, ◌^◌, min, List, [], ◌∷◌, ◌++◌, length, take, get_or, Bool, Option, Some, None, true, false, ◌==◌, ◌&&◌, not, is_some, Result, Ok, Err}
-use Rattle.std.specs.Result.{IsErrAnd}
+use Rattle.std.specs.Prelude.{◌≡◌, ◌<◌, ◌≤◌, ℕ, ◌+◌, ◌-◌, ◌^◌, min, List, [], ◌∷◌, ◌++◌, length, take, get_or, Bool, Option, Some, None, true, false, ◌==◌, ◌&&◌, not, is_some, Ok, Err}
+use Rattle.std.specs.Global.{Vec}
 use Rattle.t0_core.specs.declared.end.End.{End}
 use Rattle.t0_core.specs.History as history
 use Rattle.t0_core.specs.History.{Event}
@@ -13,7 +13,6 @@ use Rattle.trace_explain.specs.declared.follow.listener.Listener.{Listener}
 use Rattle.trace_explain.specs.declared.read.trace_line.LineFault.{LineFault}
 use Rattle.trace_explain.specs.declared.read.trace_line.LineFault.TheVariants as bad
 use Rattle.trace_explain.specs.declared.read.trace_line.Source.{Source}
-use Rattle.trace_explain.specs.declared.read.trace_line.TraceLine.{TraceLine}
 use Rattle.trace_explain.specs.declared.read.trace_line.TraceLine.TheVariants as trace_line
 use Rattle.trace_explain.specs.declared.follow.turn.TurnFault.{TurnFault}
 use Rattle.trace_explain.specs.declared.write.teller.Teller.{Teller}
@@ -41,33 +40,31 @@ position_of e = record {
   reading = e.reading;
 }
 
--- After these events more it has these reports more, has added their boxes, and is at this
--- position.
-pub record ExplainsMore (more : List Event) (at : Position) (events : List Event)
-    (before : List Report) (old new : Explainer) : Type 0 where
+-- After these events more it has these reports more, and has added their boxes.
+pub record ExplainsMore (more events : List Event) (before : List Report) (old new : Explainer)
+    : Type 0 where
   pub reports : List Report
   pub explained : HasExplained (events ++ more) (before ++ reports) new
-  pub position_is : position_of new ≡ at
   pub boxes : AddsBoxes reports old.teller new.teller
 
 -- The events are those of a character.
 abbrev pub ExplainsCharacter : End → ℕ → List Event → List Report → Explainer → Explainer → Type 0
-ExplainsCharacter from b events before old new = (more : List Event) × (at : Position)
-    × TakesCharacter events (position_of old) from b more at
-    × ExplainsMore more at events before old new
+ExplainsCharacter from b events before old new = (more : List Event)
+    × TakesCharacter events (position_of old) from b more (position_of new)
+    × ExplainsMore more events before old new
 
 -- The events are those of the characters of a line.
 abbrev pub ExplainsCharacters
     : Source → List ℕ → List Event → List Report → Explainer → Explainer → Type 0
-ExplainsCharacters source bytes events before old new = (more : List Event) × (at : Position)
-    × TakesCharacters source events (position_of old) bytes more at
-    × ExplainsMore more at events before old new
+ExplainsCharacters source bytes events before old new = (more : List Event)
+    × TakesCharacters source events (position_of old) bytes more (position_of new)
+    × ExplainsMore more events before old new
 
 -- The events are those of a line.
 abbrev pub ExplainsLine : List ℕ → List Event → List Report → Explainer → Explainer → Type 0
-ExplainsLine line events before old new = (more : List Event) × (at : Position)
-    × LineLeads events (position_of old) line more at
-    × ExplainsMore more at events before old new
+ExplainsLine line events before old new = (more : List Event)
+    × LineLeads events (position_of old) line more (position_of new)
+    × ExplainsMore more events before old new
 
 -- The card answers again with this character.
 abbrev pub answers_again : Opening → Listener → End → ℕ → Bool
@@ -125,22 +122,15 @@ next_line e = min (e.line + 1) (2 ^ 64 - 1)
 abbrev pub line_of : ExplainFault → Option ℕ
 line_of (fault.NoDialogue c) = Some c.line
 line_of (fault.NoTurn number place why) = Some number
-line_of (fault.BadHex number) = Some number
-line_of (fault.OtherForm number expected) = Some number
-line_of (fault.NoSign number) = Some number
-line_of (fault.Signed number) = Some number
+line_of (fault.BadLine number why) = Some number
 line_of (fault.LineTooLong number) = Some number
 line_of other = None
 
 -- A line says characters for which this holds.
-abbrev pub HoldsFor : (Source → Position → List ℕ → Type 0) → Position → TraceLine → Type 0
-HoldsFor Holds at (trace_line.Characters source bytes) =
-    Holds source (record at { reading = read_on source at.reading }) bytes.items
-HoldsFor Holds at other = ⊥
-
 abbrev pub HoldsIn : (Source → Position → List ℕ → Type 0) → Position → List ℕ → Type 0
-HoldsIn Holds at line =
-    (this : TraceLine) × Says at.reading line this × HoldsFor Holds at this
+HoldsIn Holds at line = (source : Source) × (bytes : Vec ℕ)
+    × Says at.reading line (trace_line.Characters source bytes)
+    × Holds source (record at { reading = read_on source at.reading }) bytes.items
 
 -- The fault is right for this line: for a character, or for the line itself. A line that is too
 -- long has at least as many bytes as the limit, without a CR right before its LF.
@@ -149,11 +139,8 @@ StopsRightly (fault.NoDialogue c) at line events before =
     HoldsIn (λ source from bytes. IsRight c source from bytes events before) at line
 StopsRightly (fault.NoTurn number place why) at line events before =
     HoldsIn (λ source from bytes. IsUnsent why place source from bytes events before) at line
-StopsRightly (fault.BadHex number) at line events before = IsBadLine bad.Hex at.reading line
-StopsRightly (fault.OtherForm number expected) at line events before =
-    IsBadLine (bad.OtherForm expected) at.reading line
-StopsRightly (fault.NoSign number) at line events before = IsBadLine bad.NoSign at.reading line
-StopsRightly (fault.Signed number) at line events before = IsBadLine bad.Signed at.reading line
+StopsRightly (fault.BadLine number bad.OutOfMemory) at line events before = ⊥
+StopsRightly (fault.BadLine number why) at line events before = IsBadLine why at.reading line
 StopsRightly (fault.LineTooLong number) at line events before = 4194304 ≤ length line
 StopsRightly other at line events before = ⊥
 
@@ -169,24 +156,12 @@ StopsAtLine f line old events before = StopsIfAt (line_of f) f line old events b
 
 -- The fault of a refused line.
 abbrev pub refused : ℕ → LineFault → ExplainFault
-refused number bad.Hex = fault.BadHex number
-refused number (bad.OtherForm expected) = fault.OtherForm number expected
-refused number bad.NoSign = fault.NoSign number
-refused number bad.Signed = fault.Signed number
 refused number bad.OutOfMemory = fault.OutOfMemory
+refused number why = fault.BadLine number why
 
 -- The lines have no signs, and so far nothing shows that the trace begins between two TPDUs.
 abbrev pub is_astray : Explainer → Bool
 is_astray e = is_some e.reading.unsigned && not e.teller.is_led
-
--- It stops with this protocol error, or because memory ran out.
-abbrev pub IsStop : ExplainFault → Complaint → Type 0
-IsStop fault.OutOfMemory c = Unit {0}
-IsStop (fault.NoDialogue given) c = given ≡ c
-IsStop other c = ⊥
-
-abbrev pub Stopped : {T : Type 0} → Result T ExplainFault → Complaint → Type 0
-Stopped result c = IsErrAnd result (λ f. IsStop f c)
 
 -- It has heard this character of the dialogue, and reported what ended with it; or no dialogue
 -- continues with it.

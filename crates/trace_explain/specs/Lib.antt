@@ -10,9 +10,9 @@ pub mod Pairs
 pub mod Logs
 pub mod Explained
 pub mod Trace
-pub mod UnderWay
 pub mod Secrets
 pub mod Written
+pub mod Words
 pub mod Trees
 pub mod Sheets
 pub mod Boxes

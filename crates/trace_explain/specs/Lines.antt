@@ -1,6 +1,7 @@
 -- The lines of a trace, with or without signs, and the events that each leads to.
 use Rattle.std.specs.Prelude.{◌≡◌, ◌≢◌, ◌⊎◌, ℕ, ◌+◌, ◌*◌, List, [], ◌∷◌, ◌++◌, take, drop, codes, length, eqb, Option, Some, None, Ok, Bool, true, false, not, nat_le, ◌==◌, ◌&&◌, ◌||◌, if◌then◌else◌}
 use Rattle.std.specs.List.{AllByRecursion, flat_map, starts_with}
+use Rattle.std.specs.Option.{MatchOption}
 use Rattle.hex.specs.Hex.{hex_digit_value, is_hex_digit}
 use Rattle.t0_core.specs.declared.end.End.{End}
 use Rattle.t0_core.specs.declared.end.End.TheVariants as end
@@ -23,28 +24,23 @@ use Rattle.trace_explain.specs.Times.{behind_clock, behind_time, place_of}
 use Rattle.trace_explain.specs.Reports.{Report}
 use Rattle.trace_explain.specs.Turns.{source_at}
 
--- The sign of each form before the characters of this end.
+-- The signs of each form, the terminal's first.
+abbrev pub signs_of : Form → List ℕ × List ℕ
+signs_of form.Angle = (codes ">", codes "<")
+signs_of form.Angles = (codes ">>", codes "<<")
+signs_of form.Arrow = (codes "->", codes "<-")
+signs_of form.Double = (codes "=>", codes "<=")
+signs_of form.Wire = (codes "TX", codes "RX")
+signs_of form.WireColon = (codes "TX:", codes "RX:")
+signs_of form.WireMixed = (codes "Tx:", codes "Rx:")
+signs_of form.Letter = (codes "T:", codes "C:")
+signs_of form.Device = (codes "IFD", codes "ICC")
+signs_of form.DeviceColon = (codes "IFD:", codes "ICC:")
+
+-- The sign before the characters of this end.
 abbrev pub sign_of : Form → End → List ℕ
-sign_of form.Angle end.Terminal = codes ">"
-sign_of form.Angle end.Card = codes "<"
-sign_of form.Angles end.Terminal = codes ">>"
-sign_of form.Angles end.Card = codes "<<"
-sign_of form.Arrow end.Terminal = codes "->"
-sign_of form.Arrow end.Card = codes "<-"
-sign_of form.Double end.Terminal = codes "=>"
-sign_of form.Double end.Card = codes "<="
-sign_of form.Wire end.Terminal = codes "TX"
-sign_of form.Wire end.Card = codes "RX"
-sign_of form.WireColon end.Terminal = codes "TX:"
-sign_of form.WireColon end.Card = codes "RX:"
-sign_of form.WireMixed end.Terminal = codes "Tx:"
-sign_of form.WireMixed end.Card = codes "Rx:"
-sign_of form.Letter end.Terminal = codes "T:"
-sign_of form.Letter end.Card = codes "C:"
-sign_of form.Device end.Terminal = codes "IFD"
-sign_of form.Device end.Card = codes "ICC"
-sign_of form.DeviceColon end.Terminal = codes "IFD:"
-sign_of form.DeviceColon end.Card = codes "ICC:"
+sign_of form end.Terminal = (signs_of form).0
+sign_of form end.Card = (signs_of form).1
 
 -- A line up to its first space, and the rest.
 abbrev pub first_word : List ℕ → List ℕ
@@ -150,13 +146,10 @@ SaysUnsigned ways line trace_line.Reset = behind_time line ≡ codes "reset"
 SaysUnsigned ways line (trace_line.Note note) = (is_digits (behind_clock line) ≡ false)
     × (is_signed (behind_time line) ≡ false) × (behind_time line ≢ codes "reset")
 
-abbrev pub SaysBy : Option Ways → Option Form → List ℕ → TraceLine → Type 0
-SaysBy None known line trace_line = SaysSigned known line trace_line
-SaysBy (Some ways) known line trace_line = SaysUnsigned ways line trace_line
-
 -- What a line says.
 abbrev pub Says : Reading → List ℕ → TraceLine → Type 0
-Says reading line trace_line = SaysBy reading.unsigned reading.form line trace_line
+Says reading line trace_line = MatchOption reading.unsigned
+    (SaysSigned reading.form line trace_line) (λ ways. SaysUnsigned ways line trace_line)
 
 -- These are not characters of an end in any form.
 abbrev pub SpellsNothing : List ℕ → Type 0
@@ -183,12 +176,9 @@ IsBadUnsigned bad.Signed line = is_signed (behind_time line) ≡ true
 IsBadUnsigned bad.OutOfMemory line = Unit {0}
 IsBadUnsigned other line = ⊥
 
-abbrev pub IsBadBy : Option Ways → LineFault → Option Form → List ℕ → Type 0
-IsBadBy None why known line = IsBadSigned why known line
-IsBadBy (Some ways) why known line = IsBadUnsigned why line
-
 abbrev pub IsBadLine : LineFault → Reading → List ℕ → Type 0
-IsBadLine why reading line = IsBadBy reading.unsigned why reading.form line
+IsBadLine why reading line = MatchOption reading.unsigned
+    (IsBadSigned why reading.form line) (λ ways. IsBadUnsigned why line)
 
 -- The state of a trace between two lines: the opening since it began or the card was reset; whether
 -- a character of either end was received; how its next lines are read.

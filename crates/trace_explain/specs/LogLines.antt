@@ -1,12 +1,13 @@
 -- The lines of a log of whole TPDUs or APDUs, and what each says.
 use Rattle.std.specs.Prelude.{◌≡◌, ℕ, ◌+◌, ◌-◌, ◌*◌, min, List, [], ◌∷◌, take, drop, codes, length, Option, Some, None, Bool, true, false, not, nat_lt, ◌==◌, ◌&&◌, ◌||◌, if◌then◌else◌}
+use Rattle.t0_core.specs.declared.end.End.{End}
 use Rattle.t0_core.specs.declared.end.End.TheVariants as end
 use Rattle.trace_explain.specs.declared.read.log_line.LineKind.{LineKind}
 use Rattle.trace_explain.specs.declared.read.log_line.LineKind.TheVariants as kind
 use Rattle.trace_explain.specs.declared.read.log_line.LogLine.{LogLine}
 use Rattle.trace_explain.specs.declared.read.log_line.LogLine.TheVariants as log_line
-use Rattle.trace_explain.specs.declared.read.log_line.Rest.{Rest}
-use Rattle.trace_explain.specs.declared.read.log_line.Rest.TheVariants as rest
+use Rattle.trace_explain.specs.declared.read.log_line.Open.{Open}
+use Rattle.trace_explain.specs.declared.read.log_line.Open.TheVariants as going
 use Rattle.trace_explain.specs.declared.read.trace_line.LineFault.{LineFault}
 use Rattle.trace_explain.specs.declared.read.trace_line.LineFault.TheVariants as bad
 use Rattle.trace_explain.specs.Lines.{begins_with, bytes_in, is_in}
@@ -15,12 +16,13 @@ use Rattle.trace_explain.specs.Times.{behind_time, place_of}
 -- An answer after its sign; words may follow it after a colon.
 abbrev pub cut_answer : List ℕ → LineKind × List ℕ
 cut_answer behind = if nat_lt (place_of 58 behind) (length behind)
-    then (kind.Answer, take (place_of 58 behind) behind) else (kind.OpenAnswer, behind)
+    then (kind.Bytes end.Card false, take (place_of 58 behind) behind)
+    else (kind.Bytes end.Card true, behind)
 
 -- A line with `>` or `<`, as scriptor and gt_pcsc write it.
 abbrev pub cut_signed : List ℕ → LineKind × List ℕ
 cut_signed line = if begins_with line (codes "> RESET") then (kind.Reset, line)
-    else if begins_with line (codes "> ") then (kind.Command, drop 2 line)
+    else if begins_with line (codes "> ") then (kind.Bytes end.Terminal false, drop 2 line)
     else if begins_with line (codes "< OK:") || begins_with line (codes "< KO:")
     then (kind.Note, line)
     else if begins_with line (codes "< ") then cut_answer (drop 2 line) else (kind.Bad, line)
@@ -40,21 +42,20 @@ text_in line = take (place_of 27 (behind_prefix line)) (behind_prefix line)
 
 -- A line of `pcscd --apdu`, or the head of a dump by OpenSC.
 abbrev pub cut_text : List ℕ → List ℕ → LineKind × List ℕ
-cut_text line text = if begins_with text (codes "APDU:") then (kind.Command, drop 5 text)
-    else if begins_with text (codes "SW:") then (kind.Answer, drop 3 text)
+cut_text line text =
+    if begins_with text (codes "APDU:") then (kind.Bytes end.Terminal false, drop 5 text)
+    else if begins_with text (codes "SW:") then (kind.Bytes end.Card false, drop 3 text)
     else if begins_with line (codes "Outgoing APDU (")
     then (kind.Dump end.Terminal, drop 15 line)
     else if begins_with line (codes "Incoming APDU (") then (kind.Dump end.Card, drop 15 line)
     else (kind.Note, line)
 
-abbrev pub is_reset : List ℕ → Bool
-is_reset line = begins_with line (codes "reset") && (length line == 5)
-
 -- What a line is, and the part of it that spells bytes or their number.
 abbrev pub cut_line : List ℕ → LineKind × List ℕ
 cut_line line = if begins_with (behind_time line) (codes ">")
     || begins_with (behind_time line) (codes "<") then cut_signed (behind_time line)
-    else if is_reset (behind_time line) then (kind.Reset, behind_time line)
+    else if begins_with (behind_time line) (codes "reset") && (length (behind_time line) == 5)
+    then (kind.Reset, behind_time line)
     else cut_text line (text_in line)
 
 -- A number of at most seven decimal digits.
@@ -79,20 +80,22 @@ abbrev pub IsBadSize : LineFault → List ℕ → Type 0
 IsBadSize bad.Hex text = size_in text ≡ None
 IsBadSize other text = ⊥
 
--- An answer without words after it may continue if it fills a line.
-abbrev pub SaysOpen : List ℕ → LogLine → Type 0
-SaysOpen bytes (log_line.Answer same) = (same.items ≡ bytes) × ((length bytes == 16) ≡ false)
-SaysOpen bytes (log_line.Front same) = (same.items ≡ bytes) × ((length bytes == 16) ≡ true)
-SaysOpen bytes other = ⊥
+-- What may continue: an answer, if its bytes fill a line and no words follow them; a dump with this
+-- many bytes left.
+abbrev pub open_if : Bool → Open
+open_if true = going.Answer
+open_if false = going.Nothing
+
+abbrev pub left_of : End → ℕ → Open
+left_of from left = if left == 0 then going.Nothing else going.Dump from left
 
 -- What a line of this kind says with this part.
 abbrev pub SaysPart : LineKind × List ℕ → LogLine → Type 0
-SaysPart (kind.Command, part) (log_line.Command bytes) = bytes_in part ≡ Some bytes.items
-SaysPart (kind.Answer, part) (log_line.Answer bytes) = bytes_in part ≡ Some bytes.items
-SaysPart (kind.OpenAnswer, part) line =
-    (bytes : List ℕ) × (bytes_in part ≡ Some bytes) × SaysOpen bytes line
-SaysPart (kind.Dump from, part) (log_line.Dump sender size) =
-    (sender ≡ from) × (size_in part ≡ Some size)
+SaysPart (kind.Bytes from may_continue, part) (log_line.Bytes sender bytes next) =
+    (sender ≡ from) × (bytes_in part ≡ Some bytes.items)
+    × (next ≡ open_if (may_continue && (length bytes.items == 16)))
+SaysPart (kind.Dump from, part) (log_line.Bytes sender bytes next) = (sender ≡ from)
+    × (bytes.items ≡ []) × (size : ℕ) × (size_in part ≡ Some size) × (next ≡ left_of from size)
 SaysPart (kind.Reset, part) log_line.Reset = Unit {0}
 SaysPart (kind.Note, part) log_line.Note = Unit {0}
 SaysPart (other, part) line = ⊥
@@ -102,9 +105,7 @@ SaysLog line log_line = SaysPart (cut_line line) log_line
 
 -- Its part can't be read.
 abbrev pub IsBadPart : LineKind × List ℕ → Type 0
-IsBadPart (kind.Command, part) = bytes_in part ≡ None
-IsBadPart (kind.Answer, part) = bytes_in part ≡ None
-IsBadPart (kind.OpenAnswer, part) = bytes_in part ≡ None
+IsBadPart (kind.Bytes from may_continue, part) = bytes_in part ≡ None
 IsBadPart (kind.Dump from, part) = size_in part ≡ None
 IsBadPart (kind.Bad, part) = Unit {0}
 IsBadPart (other, part) = ⊥
@@ -114,17 +115,17 @@ IsBadLogLine bad.Hex line = IsBadPart (cut_line line)
 IsBadLogLine bad.OutOfMemory line = Unit {0}
 IsBadLogLine other line = ⊥
 
--- The bytes that continue an answer, up to a colon with words after it.
-abbrev pub rest_in : List ℕ → Option (List ℕ)
-rest_in line = bytes_in (take (place_of 58 line) line)
+-- The bytes that continue an answer, up to a colon with words after it; none if it has ended
+-- before. Bytes that fill a line may be continued again.
+abbrev pub some_bytes : Option (List ℕ) → List ℕ
+some_bytes None = []
+some_bytes (Some bytes) = bytes
 
--- No bytes continue nothing. Bytes that fill a line may be continued again.
-abbrev pub SaysRest : List ℕ → Rest → Type 0
-SaysRest line rest.None = (bytes : List ℕ) → rest_in line ≡ Some bytes → bytes ≡ []
-SaysRest line (rest.Last bytes) = (rest_in line ≡ Some bytes.items)
-    × (((length bytes.items == 16) && (place_of 58 line == length line)) ≡ false)
-SaysRest line (rest.More bytes) = (rest_in line ≡ Some bytes.items)
-    × (((length bytes.items == 16) && (place_of 58 line == length line)) ≡ true)
+abbrev pub rest_in : List ℕ → List ℕ
+rest_in line = some_bytes (bytes_in (take (place_of 58 line) line))
+
+abbrev pub rest_open : List ℕ → Open
+rest_open line = open_if ((length (rest_in line) == 16) && (place_of 58 line == length line))
 
 -- The number of bytes in a line of a dump, if this many are left. A space follows each.
 abbrev pub row : ℕ → ℕ

@@ -1,18 +1,16 @@
 -- A log of whole TPDUs or APDUs, line by line: which command has which answer.
-use Rattle.std.specs.Prelude.{◌≡◌, ℕ, ◌-◌, List, [], ◌∷◌, ◌++◌, length, map, Option, Some, None, ◌==◌, if◌then◌else◌}
+use Rattle.std.specs.Prelude.{◌≡◌, ℕ, ◌-◌, List, [], ◌∷◌, ◌++◌, length, map, Option, Some, None, Bool, true, false, ◌==◌}
 use Rattle.t0_core.specs.declared.end.End.{End}
 use Rattle.t0_core.specs.declared.end.End.TheVariants as end
 use Rattle.trace_explain.specs.declared.read.log.Log.{Log}
 use Rattle.trace_explain.specs.declared.read.log.Logged.{Logged}
 use Rattle.trace_explain.specs.declared.read.log.Logged.TheVariants as logged
-use Rattle.trace_explain.specs.declared.read.log.Open.{Open}
-use Rattle.trace_explain.specs.declared.read.log.Open.TheVariants as going
+use Rattle.trace_explain.specs.declared.read.log_line.Open.{Open}
+use Rattle.trace_explain.specs.declared.read.log_line.Open.TheVariants as going
 use Rattle.trace_explain.specs.declared.read.log_line.LogLine.{LogLine}
 use Rattle.trace_explain.specs.declared.read.log_line.LogLine.TheVariants as log_line
-use Rattle.trace_explain.specs.declared.read.log_line.Rest.{Rest}
-use Rattle.trace_explain.specs.declared.read.log_line.Rest.TheVariants as left
 use Rattle.trace_explain.specs.declared.read.trace_line.LineFault.{LineFault}
-use Rattle.trace_explain.specs.LogLines.{IsBadDump, IsBadLogLine, SaysLog, SaysRest, dumped_in}
+use Rattle.trace_explain.specs.LogLines.{IsBadDump, IsBadLogLine, SaysLog, dumped_in, left_of, rest_in, rest_open}
 
 -- What a line adds.
 pub data LoggedOf : Type 0 where
@@ -79,12 +77,14 @@ closed at end.Terminal = record {
 closed at end.Card =
     answered (record { pending = going.Nothing; bytes = []; command = at.command }) at.bytes
 
--- This many bytes of a dump are left.
-abbrev pub continued : LogAt → End → ℕ → Step
-continued at from count = if count == 0 then closed at from else record {
-  gives = [];
-  at = record { pending = going.Dump from count; bytes = at.bytes; command = at.command };
-}
+-- More bytes of this end: the last ones, unless something may continue them.
+abbrev pub with_bytes : LogAt → List ℕ → Open → LogAt
+with_bytes at more next =
+    record { pending = next; bytes = at.bytes ++ more; command = at.command }
+
+abbrev pub continued : LogAt → End → List ℕ → Open → Step
+continued at from more going.Nothing = closed (with_bytes at more going.Nothing) from
+continued at from more next = record { gives = []; at = with_bytes at more next }
 
 -- These were added before.
 abbrev pub behind : List LoggedOf → Step → Step
@@ -103,38 +103,16 @@ begun at = record {
   at = record { pending = at.pending; bytes = at.bytes; command = None };
 }
 
--- The head of a dump.
-abbrev pub opened : LogAt → End → ℕ → Step
-opened at end.Terminal size = behind (begun at).gives (continued (begun at).at end.Terminal size)
-opened at end.Card size = continued at end.Card size
-
 -- What a line adds if nothing is pending.
 abbrev pub taken : LogAt → LogLine → Step
-taken at (log_line.Command bytes) = record {
-  gives = (begun at).gives;
-  at = record { pending = at.pending; bytes = at.bytes; command = Some bytes.items };
-}
-taken at (log_line.Answer bytes) = answered at bytes.items
-taken at (log_line.Front bytes) = record {
-  gives = [];
-  at = record { pending = going.Answer; bytes = bytes.items; command = at.command };
-}
-taken at (log_line.Dump from size) = opened at from size
+taken at (log_line.Bytes end.Terminal bytes next) =
+    behind (begun at).gives (continued (begun at).at end.Terminal bytes.items next)
+taken at (log_line.Bytes end.Card bytes next) = continued at end.Card bytes.items next
 taken at log_line.Reset = record {
   gives = unanswered at.command ++ Reset ∷ [];
   at = (given_up at).at;
 }
 taken at log_line.Note = record { gives = Note ∷ []; at = at }
-
--- More bytes of what is pending.
-abbrev pub with_bytes : LogAt → List ℕ → LogAt
-with_bytes at more = record { pending = at.pending; bytes = at.bytes ++ more; command = at.command }
-
--- What continues an answer.
-abbrev pub resumed : LogAt → Rest → Step
-resumed at left.None = record { gives = []; at = at }
-resumed at (left.More bytes) = record { gives = []; at = with_bytes at bytes.items }
-resumed at (left.Last bytes) = closed (with_bytes at bytes.items) end.Card
 
 -- What a line adds that ends an answer and does not continue it.
 abbrev pub behind_answer : LogAt → LogLine → Step
@@ -142,18 +120,18 @@ behind_answer at log_line =
     behind (closed at end.Card).gives (taken (closed at end.Card).at log_line)
 
 -- What the next line adds if an answer is pending: more of it, or the answer has ended before.
-abbrev pub TakesRest : LogAt → List ℕ → Rest → Step → Type 0
-TakesRest at line left.None step = (log_line : LogLine) × SaysLog line log_line
+abbrev pub TakesRest : Bool → LogAt → List ℕ → Step → Type 0
+TakesRest true at line step = (log_line : LogLine) × SaysLog line log_line
     × (step ≡ behind_answer at log_line)
-TakesRest at line other step = step ≡ resumed at other
+TakesRest false at line step = step ≡ continued at end.Card (rest_in line) (rest_open line)
 
 abbrev pub TakesIn : Open → LogAt → List ℕ → Step → Type 0
 TakesIn going.Nothing at line step = (log_line : LogLine) × SaysLog line log_line
     × (step ≡ taken at log_line)
-TakesIn going.Answer at line step = (rest : Rest) × SaysRest line rest × TakesRest at line rest step
+TakesIn going.Answer at line step = TakesRest (length (rest_in line) == 0) at line step
 TakesIn (going.Dump from count) at line step = (bytes : List ℕ)
     × (dumped_in count line ≡ Some bytes)
-    × (step ≡ continued (with_bytes at bytes) from (count - length bytes))
+    × (step ≡ continued at from bytes (left_of from (count - length bytes)))
 
 abbrev pub TakesLogLine : LogAt → List ℕ → Step → Type 0
 TakesLogLine at line step = TakesIn at.pending at line step
@@ -175,6 +153,4 @@ ended at = ended_in at.pending at
 -- The log has made this step, and its additions follow the others.
 pub record Took (step : Step) (before after : List Logged) (new : Log) : Type 0 where
   pub gives_is : map logged_of after ≡ map logged_of before ++ step.gives
-  pub pending_is : new.pending ≡ step.at.pending
-  pub bytes_are : new.bytes.items ≡ step.at.bytes
-  pub command_is : command_at new ≡ step.at.command
+  pub at_is : log_at new ≡ step.at

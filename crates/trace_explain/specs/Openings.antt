@@ -61,31 +61,17 @@ abbrev pub as_ts : Option Convention → Role
 as_ts (Some turned) = role.Ts turned
 as_ts None = role.Stray
 
--- and where a response may begin, too
-abbrev pub as_ppss : ℕ → Role
-as_ppss b = if b == 0xFF then role.ResponsePpss else as_ts (turned_by b)
-
-abbrev pub card_role : Stage → ℕ → Role
-card_role stage.Ready b = as_ts (turned_by b)
-card_role stage.Answer b = role.Answer
-card_role stage.Astray b = role.Stray
-card_role stage.Request b = as_ppss b
-card_role stage.Asked b = as_ppss b
-card_role stage.Response b = role.Response
-card_role stage.Begun b = role.Dialogue
-
--- a character of the terminal that may be the first of a request, or of the dialogue
-abbrev pub asks : Bool → ℕ → Role
-asks may_ask b = if may_ask && (b == 0xFF) then role.RequestPpss else role.Dialogue
-
-abbrev pub terminal_role : Stage → Bool → ℕ → Role
-terminal_role stage.Request may_ask b = role.Request
-terminal_role stage.Begun may_ask b = role.Dialogue
-terminal_role other may_ask b = asks may_ask b
-
+-- What a character of this end is. `may_ask`: a terminal may ask by PPS.
 abbrev pub role_at : Stage → Bool → End → ℕ → Role
-role_at at may_ask Terminal b = terminal_role at may_ask b
-role_at at may_ask Card b = card_role at b
+role_at stage.Begun may_ask from b = role.Dialogue
+role_at stage.Request may_ask Terminal b = role.Request
+role_at other may_ask Terminal b =
+    if may_ask && (b == 0xFF) then role.RequestPpss else role.Dialogue
+role_at stage.Ready may_ask Card b = as_ts (turned_by b)
+role_at stage.Answer may_ask Card b = role.Answer
+role_at stage.Astray may_ask Card b = role.Stray
+role_at stage.Response may_ask Card b = role.Response
+role_at other may_ask Card b = if b == 0xFF then role.ResponsePpss else as_ts (turned_by b)
 
 abbrev pub is_direct : Convention → Bool
 is_direct Direct = true

@@ -6,7 +6,7 @@ use Rattle.trace_explain.specs.declared.follow.pair.PairFault.{PairFault}
 use Rattle.trace_explain.specs.declared.follow.pair.PairFault.TheVariants as bad
 use Rattle.trace_explain.specs.declared.follow.tpdu.Tpdu.{Tpdu}
 use Rattle.trace_explain.specs.Noted.{are_status}
-use Rattle.trace_explain.specs.Reports.{report_of, uncounted}
+use Rattle.trace_explain.specs.Reports.{uncounted}
 
 -- A short command (ISO/IEC 7816-4, 5.1): CLA INS P1 P2 and P3, the terminal's data, and Le if it
 -- follows them.
@@ -15,26 +15,24 @@ pub record Command : Type 0 where
   pub sent : List ℕ
   pub le : Option ℕ
 
+abbrev pub command_of : List ℕ → ℕ → List ℕ → Option ℕ → Option Command
+command_of header p3 sent le =
+    Some (record { header = header ++ p3 ∷ []; sent = sent; le = le })
+
 -- P3 is Le if nothing follows it (case 2). Otherwise it is Lc, which is not 00: as many data follow
 -- (case 3), and perhaps Le (case 4).
 abbrev pub with_p3 : List ℕ → ℕ → List ℕ → Option Command
-with_p3 header p3 rest = if length rest == 0
-    then Some (record { header = header ++ p3 ∷ []; sent = []; le = None })
+with_p3 header p3 rest = if length rest == 0 then command_of header p3 [] None
     else if p3 == 0 then None
-    else if length rest == p3
-    then Some (record { header = header ++ p3 ∷ []; sent = rest; le = None })
-    else if length rest == p3 + 1 then Some (record {
-      header = header ++ p3 ∷ [];
-      sent = take p3 rest;
-      le = Some (slice_index rest p3);
-    })
+    else if length rest == p3 then command_of header p3 rest None
+    else if length rest == p3 + 1
+    then command_of header p3 (take p3 rest) (Some (slice_index rest p3))
     else None
 
 -- CLA INS P1 P2 alone (case 1) have P3 00 (ISO/IEC 7816-3, 12.2).
 abbrev pub command_in : List ℕ → Option Command
 command_in command = if nat_lt (length command) 4 then None
-    else if length command == 4
-    then Some (record { header = command ++ 0 ∷ []; sent = []; le = None })
+    else if length command == 4 then command_of command 0 [] None
     else with_p3 (take 4 command) (slice_index command 4) (drop 5 command)
 
 -- Extended length fields: 00 in the place of P3, and at least two bytes after it.
@@ -65,13 +63,11 @@ beside (b ∷ sent) brought = brought
 -- The TPDU consists of the command, these data of the card and this status, without procedure
 -- bytes.
 pub record ReportsPair (c : Command) (brought status : List ℕ) (t : Tpdu) : Type 0 where
-  pub report_is : report_of t ≡ record {
-    header = c.header;
-    tally = uncounted;
-    way = way_of c.sent brought;
-    moved = moved_of c.sent brought;
-    status = status;
-  }
+  pub header_is : t.header.items ≡ c.header
+  pub tally_is : t.tally ≡ uncounted
+  pub way_is : t.way ≡ way_of c.sent brought
+  pub moved_is : t.moved.items ≡ moved_of c.sent brought
+  pub status_is : t.status.items ≡ status
   pub beside_is : t.answer.items ≡ beside c.sent brought
   pub le_is : t.le ≡ c.le
 

@@ -54,29 +54,31 @@ tally_of segments = fold counted uncounted segments
 abbrev pub no_report : Report
 no_report = record { header = []; tally = uncounted; way = None; moved = []; status = [] }
 
--- The report of a header, segments and data.
-pub record ReportsBody (t : Report) (b : Body) : Type 0 where
-  pub header_is : t.header ≡ header_bytes b.header ++ b.p3 ∷ []
-  pub tally_is : t.tally ≡ tally_of b.segments
-  pub moved_is : t.moved ≡ b.moved
-
--- The report of some characters of a header.
-pub record ReportsHeader (t : Report) (bytes : List ℕ) : Type 0 where
-  pub header_is : t.header ≡ bytes
-  pub tally_is : t.tally ≡ uncounted
-  pub moved_is : t.moved ≡ []
+-- The report of a header, segments, data and the characters of a status, if data showed this way.
+abbrev pub reported_body : Option Direction → Body → List ℕ → Report
+reported_body way b status = record {
+  header = header_bytes b.header ++ b.p3 ∷ [];
+  tally = tally_of b.segments;
+  way = way;
+  moved = b.moved;
+  status = status;
+}
 
 -- The report of the first characters of a dialogue.
+abbrev pub reported : Option Direction → Front → Report
+reported way (In_header bytes) = record no_report { header = bytes; way = way }
+reported way (In_body b) = reported_body way b []
+reported way (After_first b sw1) = reported_body way b (sw1 ∷ [])
+
 abbrev pub ReportsFront : Report → Front → Type 0
-ReportsFront t (In_header bytes) = ReportsHeader t bytes × (t.status ≡ [])
-ReportsFront t (In_body b) = ReportsBody t b × (t.status ≡ [])
-ReportsFront t (After_first b sw1) = ReportsBody t b × (t.status ≡ sw1 ∷ [])
+ReportsFront t front = t ≡ reported t.way front
 
 -- The report of a whole dialogue.
-pub record Reports (t : Report) (d : Dialogue) : Type 0 where
-  pub body : ReportsBody t d.body
-  pub way : Shows t.way d.body.direction d.body.moved
-  pub status_is : t.status ≡ d.status.0 ∷ d.status.1 ∷ []
+abbrev pub reported_whole : Option Direction → Dialogue → Report
+reported_whole way d = reported_body way d.body (d.status.0 ∷ d.status.1 ∷ [])
+
+abbrev pub Reports : Report → Dialogue → Type 0
+Reports t d = (t ≡ reported_whole t.way d) × Shows t.way d.body.direction d.body.moved
 
 -- The report with one more character.
 abbrev pub noted : Report → Heard → ℕ → Report

@@ -1,9 +1,12 @@
 -- What a call adds to a sheet.
 use Rattle.std.specs.Prelude.{◌≡◌, ℕ, List, [], ◌∷◌, ◌++◌, Bool, true, false}
 use Rattle.std.specs.String.{string_bytes}
+use Rattle.trace_explain.specs.declared.write.layout.Medium.{Medium}
+use Rattle.trace_explain.specs.declared.write.layout.Side.{Side}
 use Rattle.trace_explain.specs.declared.write.sheet.Sheet.{Sheet}
 use Rattle.trace_explain.specs.Trees.{IsValue}
-use Rattle.trace_explain.specs.Written.{lines_text}
+use Rattle.trace_explain.specs.Words.{IsWords}
+use Rattle.trace_explain.specs.Written.{lines_text, some_row}
 
 -- Exactly this was added, unless memory ran out. Once it ran out, nothing is added.
 pub record Adds (old : Sheet) (more : List ℕ) (new : Sheet) : Type 0 where
@@ -13,9 +16,17 @@ pub record Adds (old : Sheet) (more : List ℕ) (new : Sheet) : Type 0 where
   pub cut : old.is_cut ≡ true → new.is_cut ≡ true
   pub stays : old.is_cut ≡ true → string_bytes new.text ≡ string_bytes old.text
 
--- some words were added
+-- a text was added that is such, in the medium of the sheet
+abbrev pub Puts : (Medium → List ℕ → Type 0) → Sheet → Sheet → Type 0
+Puts Is old new = (text : List ℕ) × Is old.layout.medium text × Adds old text new
+
+-- a row with this label, or nothing
+abbrev pub IsRow : Side → List ℕ → Medium → List ℕ → Type 0
+IsRow side label m text = (own : List ℕ) × (text ≡ some_row m side label own)
+
+-- words were added
 abbrev pub Joins : Sheet → Sheet → Type 0
-Joins old new = (more : List ℕ) × Adds old more new
+Joins old new = Puts IsWords old new
 
 -- the text is this, unless memory ran out
 abbrev pub HasText : Sheet → List ℕ → Type 0

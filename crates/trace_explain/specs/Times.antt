@@ -23,45 +23,36 @@ abbrev pub is_stamp : List ℕ → Bool
 is_stamp [] = false
 is_stamp (b ∷ rest) = nat_le 48 b && nat_le b 57 && are_of_time rest
 
--- Such a word in brackets; the second bracket is left out.
-abbrev pub is_bracketed : List ℕ → Bool
-is_bracketed [] = false
-is_bracketed (b ∷ rest) = (b == 91) && is_stamp (behind_spaces rest)
-
--- Such a word after `+`; its unit is a word of its own.
-abbrev pub is_shift : List ℕ → Bool
-is_shift [] = false
-is_shift (b ∷ rest) = (b == 43) && is_stamp rest
-
 abbrev pub is_unit : List ℕ → Bool
 is_unit [] = false
 is_unit (b ∷ []) = b == 115
 is_unit (b ∷ c ∷ []) = ((b == 109) || (b == 117)) && (c == 115)
 is_unit (b ∷ c ∷ d ∷ rest) = false
 
--- The length of a time of each kind before the sign; 0 without such a time.
+-- The length of a time of each kind before the sign; 0 without such a time. Of a time in brackets
+-- and of one after `+` the first byte precedes the rest.
 abbrev pub stamp_len : List ℕ → ℕ
 stamp_len line = if is_stamp (take (place_of 32 line) line) then place_of 32 line else 0
 
 abbrev pub bracket_len : List ℕ → ℕ
-bracket_len line = if nat_lt (place_of 93 line) (length line)
-    && is_bracketed (take (place_of 93 line) line) then place_of 93 line + 1 else 0
+bracket_len rest = if nat_lt (place_of 93 rest) (length rest)
+    && is_stamp (behind_spaces (take (place_of 93 rest) rest)) then place_of 93 rest + 2 else 0
 
 abbrev pub unit_behind : List ℕ → List ℕ
-unit_behind line = behind_spaces (drop (place_of 32 line) line)
+unit_behind rest = behind_spaces (drop (place_of 32 rest) rest)
 
 abbrev pub unit_end : List ℕ → List ℕ → ℕ
-unit_end line unit = length line - length unit + place_of 32 unit
+unit_end rest unit = length rest - length unit + place_of 32 unit + 1
 
 abbrev pub shift_len : List ℕ → ℕ
-shift_len line = if is_shift (take (place_of 32 line) line)
-    && is_unit (take (place_of 32 (unit_behind line)) (unit_behind line))
-    then unit_end line (unit_behind line) else 0
+shift_len rest = if is_stamp (take (place_of 32 rest) rest)
+    && is_unit (take (place_of 32 (unit_behind rest)) (unit_behind rest))
+    then unit_end rest (unit_behind rest) else 0
 
 abbrev pub time_len : List ℕ → ℕ
 time_len [] = 0
-time_len (b ∷ rest) = if b == 91 then bracket_len (b ∷ rest)
-    else if b == 43 then shift_len (b ∷ rest) else stamp_len (b ∷ rest)
+time_len (b ∷ rest) = if b == 91 then bracket_len rest
+    else if b == 43 then shift_len rest else stamp_len (b ∷ rest)
 
 -- The time before a line's sign, and what follows it and its spaces.
 abbrev pub time_in : List ℕ → List ℕ

@@ -4,9 +4,11 @@ use Rattle.std.specs.Str.Lines.{strip_carriage_return}
 use Rattle.t0_core.specs.History.{Event}
 use Rattle.trace_explain.specs.declared.explain_fault.ExplainFault.{ExplainFault}
 use Rattle.trace_explain.specs.declared.explain_fault.ExplainFault.TheVariants as fault
+use Rattle.trace_explain.specs.declared.explainer.Explainer.{Explainer}
 use Rattle.trace_explain.specs.declared.follow.listener.Listener.{Listener}
 use Rattle.trace_explain.specs.declared.read.reading.Reading.{Reading}
-use Rattle.trace_explain.specs.Explained.{StopsRightly, line_of}
+use Rattle.trace_explain.specs.Account.{HasWritten, Out}
+use Rattle.trace_explain.specs.Explained.{HasExplained, StopsRightly, line_of, next_line, position_of}
 use Rattle.trace_explain.specs.Lines.{LineLeads, Position, first_of_all}
 use Rattle.trace_explain.specs.Noted.{HasNoted}
 use Rattle.trace_explain.specs.Reports.{Report}
@@ -95,10 +97,12 @@ abbrev pub KeepsLimit : {T : Type 0} → List ℕ → Result T ExplainFault → 
 KeepsLimit bytes (Ok x) = length bytes ≤ 1099511627776
 KeepsLimit bytes (Err f) = IsOver bytes f
 
--- The faults at the end of a trace: it resumed after another, or no character was received.
+-- The faults at the end of a trace: it resumed after another, passed over characters of an unknown
+-- sender, or received none.
 abbrev pub IsOfEnd : ExplainFault → Bool → Type 0
 IsOfEnd (fault.Resumed complaints first) has_characters = Unit {0}
 IsOfEnd (fault.BadPairs complaints line why) has_characters = Unit {0}
+IsOfEnd (fault.Skipped line place) has_characters = Unit {0}
 IsOfEnd fault.NoCharacters has_characters = has_characters ≡ false
 IsOfEnd other has_characters = ⊥
 
@@ -108,7 +112,39 @@ IsOfWriting fault.Write = Unit {0}
 IsOfWriting fault.Closed = Unit {0}
 IsOfWriting other = ⊥
 
+-- The sink has failed so, if it is a fault of the writer.
+abbrev pub IsOfSink : (ExplainFault → Type 0) → ExplainFault → Type 0
+IsOfSink Fails fault.Write = Fails fault.Write
+IsOfSink Fails fault.Closed = Fails fault.Closed
+IsOfSink Fails other = Unit {0}
+
 -- The exit status of a fault: 1, but 0 if nobody reads the output any more.
 abbrev pub status_of : ExplainFault → ℕ
 status_of fault.Closed = 0
 status_of other = 1
+
+-- The lines so far were explained. These bytes of the next one were received, and these are left.
+-- This text was written out.
+pub record HasReceived (front : Out) (reading : Reading) (all : List (List ℕ))
+    (line left : List ℕ) (e : Explainer) : Type 0 where
+  pub before : List (List ℕ)
+  pub is_cut : all ≡ before ++ lines_from line left
+  pub number_is : next_line e ≡ number_behind before
+  pub events : List Event
+  pub says : SayAll reading before events (position_of e)
+  pub reports : List Report
+  pub explained : HasExplained events reports e
+  pub written : HasWritten front reports e
+
+-- No byte was received yet, whatever comes.
+abbrev pub IsReady : Out → Reading → Explainer → Type 0
+IsReady front reading e = (left : List ℕ) → HasReceived front reading (lines_of left) [] left e
+
+-- The faults of lines and their characters.
+abbrev pub IsOfLines : ExplainFault → Type 0
+IsOfLines fault.Read = ⊥
+IsOfLines fault.Write = ⊥
+IsOfLines fault.Closed = ⊥
+IsOfLines fault.InputTooLong = ⊥
+IsOfLines fault.NoCharacters = ⊥
+IsOfLines other = Unit {0}

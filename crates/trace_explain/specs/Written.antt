@@ -1,19 +1,17 @@
--- The parts of a box, in either format. Any words may be between them.
-use Rattle.std.specs.Prelude.{◌≡◌, ◌<◌, ℕ, ◌-◌, List, [], ◌∷◌, ◌++◌, codes, length, take, drop, get_or, flat_map, Option, Some, None, Bool, true, false, nat_le, nat_lt, ◌==◌, ◌&&◌, if◌then◌else◌}
+-- The parts of a box, in either format.
+use Rattle.std.specs.Prelude.{◌≡◌, ◌<◌, ℕ, ◌-◌, List, [], ◌∷◌, ◌++◌, codes, length, take, drop, get_or, flat_map, Bool, true, false, nat_le, nat_lt, ◌==◌, ◌&&◌, if◌then◌else◌}
 use Rattle.std.specs.Char.{encode_utf8}
 use Rattle.std.specs.Fmt.{decimal}
 use Rattle.std.specs.List.{repeat}
 use Rattle.hex.specs.Hex.{encode_upper}
+use Rattle.trace_explain.specs.declared.write.layout.Anchor.{Anchor}
+use Rattle.trace_explain.specs.declared.write.layout.Anchor.TheVariants as anchor
+use Rattle.trace_explain.specs.declared.write.layout.Kind.{Kind}
+use Rattle.trace_explain.specs.declared.write.layout.Kind.TheVariants.{Well, Warning, Failed, CutOff, Error}
 use Rattle.trace_explain.specs.declared.write.layout.Medium.{Medium}
 use Rattle.trace_explain.specs.declared.write.layout.Medium.TheVariants.{Text, Html}
 use Rattle.trace_explain.specs.declared.write.layout.Side.{Side}
 use Rattle.trace_explain.specs.declared.write.layout.Side.TheVariants.{Terminal, Card, Nobody}
-
--- a text has these parts, one after another, with any words before, between and after them
-abbrev pub InTurn : List (List ℕ) → List ℕ → Type 0
-InTurn [] text = Unit {0}
-InTurn (part ∷ parts) text =
-    (before rest : List ℕ) × (text ≡ before ++ (part ++ rest)) × InTurn parts rest
 
 -- every line ends with LF
 abbrev pub newline : List ℕ
@@ -22,6 +20,49 @@ newline = 10 ∷ []
 abbrev pub spaces : ℕ → List ℕ
 spaces n = repeat n (codes " ")
 
+-- Text in a row, title or note: each further line is below the first one, after an indent. On a
+-- page nothing in it is markup.
+abbrev pub letter : Medium → List ℕ → ℕ → List ℕ
+letter Text indent b = if b == 10 then newline ++ indent else encode_utf8 b
+letter Html indent b = if b == 60 then codes "&lt;" else if b == 62 then codes "&gt;"
+    else if b == 38 then codes "&amp;" else encode_utf8 b
+
+abbrev pub letters : Medium → List ℕ → List ℕ → List ℕ
+letters m indent text = flat_map (letter m indent) text
+
+-- the class of a box on a page, and of the status in its title
+abbrev pub class_of : Kind → List ℕ
+class_of Well = codes "well"
+class_of Warning = codes "warning"
+class_of Failed = codes "failed"
+class_of CutOff = codes "cut"
+class_of Error = codes "error"
+
+-- the name of a box in links
+abbrev pub name_of : Anchor → List ℕ
+name_of anchor.None = []
+name_of (anchor.Tpdu number) = codes "t" ++ decimal number
+name_of (anchor.Error number) = codes "e" ++ decimal number
+
+abbrev pub id_text : Anchor → List ℕ
+id_text anchor.None = []
+id_text (anchor.Tpdu number) = codes " id=\"" ++ name_of (anchor.Tpdu number) ++ codes "\""
+id_text (anchor.Error number) = codes " id=\"" ++ name_of (anchor.Error number) ++ codes "\""
+
+-- a box is folded if it shows a success
+abbrev pub fold_text : Kind → List ℕ
+fold_text Well = codes "><summary>"
+fold_text kind = codes " open><summary>"
+
+abbrev pub box_begin : Medium → Kind → Anchor → List ℕ
+box_begin Text kind anchor = []
+box_begin Html kind anchor = codes "<details class=\"" ++ class_of kind ++ codes "\""
+    ++ id_text anchor ++ fold_text kind
+
+abbrev pub box_end : Medium → List ℕ
+box_end Text = []
+box_end Html = codes "</details>" ++ newline
+
 -- the title of a TPDU begins with its number, and a space
 abbrev pub number_text : ℕ → List ℕ
 number_text n = codes "#" ++ decimal n ++ codes " "
@@ -29,7 +70,7 @@ number_text n = codes "#" ++ decimal n ++ codes " "
 -- and ends with the line where it began
 abbrev pub line_before : Medium → List ℕ
 line_before Text = codes "(line "
-line_before Html = codes "<small>line "
+line_before Html = codes " <small>line "
 
 abbrev pub line_behind : Medium → List ℕ
 line_behind Text = codes ")" ++ newline
@@ -37,6 +78,21 @@ line_behind Html = codes "</small></summary>" ++ newline
 
 abbrev pub line_text : Medium → ℕ → List ℕ
 line_text m line = line_before m ++ decimal line ++ line_behind m
+
+-- between them are words, and on a page a whole status
+abbrev pub whole_mark : Kind → List ℕ → List ℕ
+whole_mark kind status = if length status == 2 then
+    codes " <b class=\"" ++ class_of kind ++ codes "\">" ++ encode_upper status ++ codes "</b>"
+    else []
+
+abbrev pub mark_text : Medium → Kind → List ℕ → List ℕ
+mark_text Text kind status = []
+mark_text Html kind status = whole_mark kind status
+
+abbrev pub title_text : Medium → Kind → ℕ → List ℕ → List ℕ → ℕ → List ℕ
+title_text m kind number words status line = box_begin m kind (anchor.Tpdu number)
+    ++ number_text number ++ letters m (codes "    ") words ++ mark_text m kind status
+    ++ line_text m line
 
 -- A row begins with the sign of its end, and a label, which takes eleven columns of a text.
 abbrev pub label_before : Medium → Side → List ℕ
@@ -60,16 +116,16 @@ behind Html Terminal = codes "</pre><i></i></div>" ++ newline
 behind Html Card = codes "</pre><i></i></div>" ++ newline
 behind Html Nobody = codes "</pre></div>" ++ newline
 
--- Between them is its text. Each further line of it is below the first one; on a page nothing in it
--- is markup. Plain text has no medium.
-abbrev pub letter : Option Medium → ℕ → List ℕ
-letter None b = encode_utf8 b
-letter (Some Text) b = if b == 10 then newline ++ codes "               " else encode_utf8 b
-letter (Some Html) b = if b == 60 then codes "&lt;" else if b == 62 then codes "&gt;"
-    else if b == 38 then codes "&amp;" else encode_utf8 b
+abbrev pub row_indent : List ℕ
+row_indent = codes "               "
 
 abbrev pub row : Medium → Side → List ℕ → List ℕ → List ℕ
-row m side label text = before m side label ++ flat_map (letter (Some m)) text ++ behind m side
+row m side label text = before m side label ++ letters m row_indent text ++ behind m side
+
+-- Lines, each after an LF, except the first one of a row. Without lines there is no row.
+abbrev pub some_row : Medium → Side → List ℕ → List ℕ → List ℕ
+some_row m side label [] = []
+some_row m side label (b ∷ text) = row m side label text
 
 -- the characters of a header, each after its name on a page
 abbrev pub character_text : List ℕ → List ℕ → ℕ → List ℕ
@@ -95,15 +151,11 @@ status_digits (b ∷ status) = encode_upper (b ∷ status) ++ codes " "
 
 abbrev pub status_row : Medium → Side → List ℕ → List ℕ → List ℕ
 status_row m side status words =
-    (before m side (codes "status") ++ status_digits status) ++ words ++ behind m side
+    (before m side (codes "status") ++ status_digits status) ++ letters m row_indent words
+    ++ behind m side
 
--- Data are lines, each after an LF, except the first one of a row. Without data there is no row.
 abbrev pub lines_text : List (List ℕ) → List ℕ
 lines_text lines = flat_map (λ line. 10 ∷ line) lines
-
-abbrev pub data_row : Medium → Side → List ℕ → List ℕ
-data_row m side [] = []
-data_row m side (b ∷ text) = row m side (codes "data") text
 
 -- what is shown in place of hidden data
 abbrev pub hidden : List ℕ
@@ -112,7 +164,7 @@ hidden = codes "**"
 -- digits, with text in quotes beside them if they are text
 abbrev pub beside : Bool → List ℕ → List ℕ
 beside false line = []
-beside true line = codes " \"" ++ flat_map (letter None) line ++ codes "\""
+beside true line = codes " \"" ++ letters Text [] line ++ codes "\""
 
 abbrev pub content : Bool → List ℕ → List ℕ
 content in_text line = encode_upper line ++ beside in_text line

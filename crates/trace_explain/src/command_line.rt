@@ -106,37 +106,37 @@ fn command<'a>(alloc: Global) -> Result<Command<'a>, AllocError> {
         .about(help::PROGRAM)
         .after_help(help::TRACE)
         .arg(
-            valued(alloc, "diff", help::DIFF)
+            valued(alloc, "diff")
                 .value_names(["A", "B"].as_slice())
                 .num_args(2..=2)
                 .conflicts_with("html")?
                 .conflicts_with("summary")?,
         )?
-        .arg(flag(alloc, "html", help::HTML))?
+        .arg(flag(alloc, "html"))?
         .arg(
-            valued(alloc, "mask", help::MASK)
+            valued(alloc, "mask")
                 .value_name("TAGS")
                 .num_args(0..=1)
                 .default_missing_value(""),
         )?
-        .arg(flag(alloc, "resume", help::RESUME))?
+        .arg(flag(alloc, "resume"))?
         .arg(
-            valued(alloc, "form", help::FORM)
+            valued(alloc, "form")
                 .action(ArgAction::Set)
                 .value_name("FORM")
                 .value_parser(FORM_NAMES.as_slice()),
         )?
-        .arg(flag(alloc, "swap", help::SWAP))?
+        .arg(flag(alloc, "swap"))?
         .arg(
-            flag(alloc, "unsigned", help::UNSIGNED)
+            flag(alloc, "unsigned")
                 .conflicts_with("form")?
                 .conflicts_with("swap")?,
         )?
-        .arg(way(alloc, "to-card", help::TO_CARD)?)?
-        .arg(way(alloc, "from-card", help::FROM_CARD)?)?
-        .arg(flag(alloc, "summary", help::SUMMARY))?
+        .arg(way(alloc, "to-card")?)?
+        .arg(way(alloc, "from-card")?)?
+        .arg(flag(alloc, "summary"))?
         .arg(
-            flag(alloc, "tpdu", help::TPDU)
+            flag(alloc, "tpdu")
                 .conflicts_with("form")?
                 .conflicts_with("resume")?
                 .conflicts_with("swap")?
@@ -145,19 +145,19 @@ fn command<'a>(alloc: Global) -> Result<Command<'a>, AllocError> {
 }
 
 /// An option that lists instructions.
-fn way<'a>(alloc: Global, name: &'a str, about: &'a str) -> Result<Arg<'a>, AllocError> {
-    valued(alloc, name, about)
+fn way<'a>(alloc: Global, name: &'a str) -> Result<Arg<'a>, AllocError> {
+    valued(alloc, name)
         .action(ArgAction::Set)
         .value_name("INS")
         .requires_arg("unsigned")
 }
 
 /// An option without a value.
-fn flag<'a>(alloc: Global, name: &'a str, about: &'a str) -> Arg<'a> {
-    valued(alloc, name, about).action(ArgAction::SetTrue)
+fn flag<'a>(alloc: Global, name: &'a str) -> Arg<'a> {
+    valued(alloc, name).action(ArgAction::SetTrue)
 }
 
 /// An option with its help.
-fn valued<'a>(alloc: Global, name: &'a str, about: &'a str) -> Arg<'a> {
-    Arg::new(alloc, name).long(name).help(about)
+fn valued<'a>(alloc: Global, name: &'a str) -> Arg<'a> {
+    Arg::new(alloc, name).long(name).help(help::about(name))
 }

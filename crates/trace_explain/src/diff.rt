@@ -59,17 +59,7 @@ pub fn diff<R: Read, S: Read, W: Write>(
     let mut a = Trace::new(alloc, "A", other, resumes, reading, reader_a);
     let mut b = Trace::new(alloc, "B", mask, resumes, reading, reader_b);
     let mut text = Sheet::new(alloc, LAYOUT);
-    let outcome = compare(&mut a, &mut b, &mut text);
-    written(outcome, &mut text, writer)
-}
-
-/// Writes the text of a comparison that ended without an error.
-fn written<W: Write>(
-    outcome: Result<bool, DiffFault>,
-    text: &mut Sheet,
-    writer: &mut W,
-) -> Result<bool, DiffFault> {
-    let alike = outcome?;
+    let alike = compare(&mut a, &mut b, &mut text)?;
     text.is_whole()?;
     match writer.write_all(text.as_str().as_bytes()) {
         Ok(()) => Ok(alike),

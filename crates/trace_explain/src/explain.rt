@@ -5,10 +5,8 @@ ghost use Rattle.std.specs.String.{string_bytes};
 ghost use Rattle.std.specs.Str.Lines.{strip_carriage_return};
 ghost use Rattle.trace_explain.specs.declared.read.reading.Reading.{Reading};
 ghost use Rattle.trace_explain.specs.Account.{HasWritten, Out, WritesOut, WritesReports, out_with};
-ghost use Rattle.trace_explain.specs.Explained.{HasExplained, position_of};
-ghost use Rattle.trace_explain.specs.Lines.{first_of_all};
-ghost use Rattle.trace_explain.specs.Trace.{IsExplained, IsOfWriting, IsWhole, KeepsLimit, StopsIn, lines_of};
-ghost use Rattle.trace_explain.specs.UnderWay.{HasReceived, IsOfLines};
+ghost use Rattle.trace_explain.specs.Explained.{position_of};
+ghost use Rattle.trace_explain.specs.Trace.{HasReceived, IsExplained, IsOfLines, IsOfSink, IsOfWriting, IsReady, IsWhole, KeepsLimit, StopsIn, lines_of};
 
 use crate::describe::mask::Mask;
 use crate::explain_fault::ExplainFault;
@@ -17,8 +15,9 @@ use crate::read::digits::push;
 use crate::read::reading::Reading;
 use crate::write::layout::Layout;
 use crate::write::sheet::Sheet;
+use crate::write::sink::Sink;
 use std::alloc::Global;
-use std::io::{Read, Write};
+use std::io::Read;
 
 /// The most bytes of a trace (this project's profile).
 pub const TRACE_LIMIT: usize = 1_099_511_627_776;
@@ -34,10 +33,10 @@ pub const CHUNK: usize = 16_384;
 ///
 /// # Errors
 ///
-/// The first fault; `Resumed` and `BadPairs` come only after the whole trace. But if the writer
-/// then fails, or memory runs out, it is that. What precedes the fault is written, with the last
-/// block, unless the writer failed or memory ran out.
-pub fn explain<R: Read, W: Write>(
+/// The first fault; `Resumed`, `BadPairs` and `Skipped` come only after the whole trace. But if the
+/// writer then fails, or memory runs out, it is that. What precedes the fault is written, with the
+/// last block, unless the writer failed or memory ran out.
+pub fn explain<R: Read, W: Sink>(
     alloc: Global,
     layout: Layout,
     mask: Mask,
@@ -53,6 +52,7 @@ pub fn explain<R: Read, W: Write>(
     ensures stops { resumes ≡ false → reading.of_tpdus ≡ false → IfErr result (λ fault.
         IfSome (R.remaining reader.old) (λ bytes. StopsIn reading (lines_of bytes) fault)) }
     ensures limited { IfSome (R.remaining reader.old) (λ bytes. KeepsLimit bytes result) }
+    ensures fails { IfErr result (IsOfSink W.fails) }
 {
     let mut explainer = Explainer::new(alloc, layout, mask, resumes, reading);
     let outcome = explain_chunks(alloc, &mut explainer, reader, writer);
@@ -64,27 +64,23 @@ pub fn explain<R: Read, W: Write>(
 }
 
 /// Reads the trace, and explains it line by line.
-fn explain_chunks<R: Read, W: Write>(
+fn explain_chunks<R: Read, W: Sink>(
     alloc: Global,
     explainer: &mut Explainer,
     reader: &mut R,
     writer: &mut W,
 ) -> Result<(), ExplainFault>
-    ensures explained { (first : Out) (reading : Reading) →
-        HasExplained [] [] explainer.old →
-        position_of explainer.old ≡ first_of_all reading → explainer.old.line ≡ 0 →
-        HasWritten first [] explainer.old →
+    ensures explained { (first : Out) (reading : Reading) → IsReady first reading explainer.old →
         OnOk result (IfSome (R.remaining reader.old) (λ bytes. IsExplained
         (λ reports listener. (listener ≡ explainer.new.listener) × (more : List ℕ)
         × Appends (W.contents writer.old) (W.contents writer.new) more
         × HasWritten (out_with first more) reports explainer.new)
         reading (lines_of bytes) (position_of explainer.new))) }
-    ensures stops { (first : Out) (reading : Reading) →
-        HasExplained [] [] explainer.old →
-        position_of explainer.old ≡ first_of_all reading → explainer.old.line ≡ 0 →
-        HasWritten first [] explainer.old → IfErr result (λ fault.
-        IfSome (R.remaining reader.old) (λ bytes. StopsIn reading (lines_of bytes) fault)) }
+    ensures stops { (first : Out) (reading : Reading) → IsReady first reading explainer.old →
+        IfErr result (λ fault. IfSome (R.remaining reader.old)
+        (λ bytes. StopsIn reading (lines_of bytes) fault)) }
     ensures limited { IfSome (R.remaining reader.old) (λ bytes. KeepsLimit bytes result) }
+    ensures fails { IfErr result (IsOfSink W.fails) }
 {
     let mut chunk = [0; CHUNK];
     let mut line = Vec::new(alloc);
@@ -174,16 +170,14 @@ fn without_return(line: &[u8]) -> &[u8]
 }
 
 /// Writes the text of a sheet, and clears it.
-fn write_output<W: Write>(sheet: &mut Sheet, writer: &mut W) -> Result<(), ExplainFault>
+fn write_output<W: Sink>(sheet: &mut Sheet, writer: &mut W) -> Result<(), ExplainFault>
     ensures out { WritesOut sheet.old sheet.new }
     ensures written { OnOk result (Appends (W.contents writer.old) (W.contents writer.new)
         (string_bytes sheet.old.text)) }
     ensures fault { IfErr result IsOfWriting }
+    ensures fails { IfErr result (IsOfSink W.fails) }
 {
-    let outcome = writer.write_all(sheet.as_str().as_bytes());
+    let outcome = writer.put(sheet.as_str().as_bytes());
     sheet.clear();
-    match outcome {
-        Ok(()) => Ok(()),
-        Err(error) => Err(ExplainFault::of_writing(&error)),
-    }
+    outcome
 }

@@ -1,11 +1,11 @@
 //! Why the explanation of a trace stopped, or what it met, with the texts of these faults.
-
-ghost use Rattle.trace_explain.specs.Trace.{IsOfWriting};
+ghost use Rattle.std.specs.Prelude.{⊤};
+ghost use Rattle.trace_explain.specs.Trace.{IsOfSink, IsOfWriting};
 
 use crate::describe::complaint::Complaint;
 use crate::follow::pair::PairFault;
 use crate::follow::turn::TurnFault;
-use crate::read::form::Form;
+use crate::read::trace_line::LineFault;
 use std::alloc::AllocError;
 use std::io;
 use thiserror::Error;
@@ -14,31 +14,12 @@ use thiserror::Error;
 /// `Closed`. Lines are counted from 1, places in a line from 0.
 #[derive(Debug, Drop, Error)]
 pub enum ExplainFault {
-    /// A line can't be read: it begins as one with bytes, or continues a dump, and does not spell
-    /// bytes. The lines before it were explained.
-    #[error("line {line}: bad hex")]
-    BadHex {
-        line: u64,
-    },
-    /// The sign of a line has another form than this one, which `--form` or a line before gave. The
-    /// lines before it were explained.
-    #[error("line {line}: a sign of another form than {form}")]
-    OtherForm {
-        line: u64,
-        form: Form,
-    },
-    /// A line contains digits alone, no line before has a sign, and `--form` is missing. The lines
-    /// before it were explained.
-    #[error("line {line}: no sign says which end sent these digits, and no line before has one: \
-        `--unsigned` reads such lines")]
-    NoSign {
-        line: u64,
-    },
-    /// A line begins with a sign, and `--unsigned` expects none. The lines before it were
+    /// A line is refused for this reason, which is not `OutOfMemory`. The lines before it were
     /// explained.
-    #[error("line {line}: a sign, and with `--unsigned` lines have none")]
-    Signed {
+    #[error("line {line}: {why}")]
+    BadLine {
         line: u64,
+        why: LineFault,
     },
     /// In a trace without signs the sender of a character is unknown. What precedes it was
     /// explained.
@@ -62,6 +43,13 @@ pub enum ExplainFault {
     Resumed {
         complaints: u64,
         first: Complaint,
+    },
+    /// The explanation passed over characters after an invalid answer to reset, whose sender is
+    /// unknown, and continued at the next line `reset`. This is the first of them.
+    #[error("line {line}, character {}: {} (skipped)", .place.saturating_add(1), TurnFault::Answer)]
+    Skipped {
+        line: u64,
+        place: usize,
     },
     /// Commands or answers of a log are not those of a TPDU. The explanation continued, to the end.
     /// The first such command began in `line`, and `complaints` is their number.
@@ -97,7 +85,8 @@ pub enum ExplainFault {
 impl ExplainFault {
     /// Returns the fault for an error of the writer.
     pub fn of_writing(error: &io::Error) -> ExplainFault
-        ensures { IsOfWriting result }
+        ensures kind { IsOfWriting result }
+        ensures sink { IsOfSink (λ _. ⊤) result }
     {
         match error.kind() {
             io::ErrorKind::BrokenPipe => ExplainFault::Closed,

@@ -1,19 +1,16 @@
 //! Explains a trace line by line: finds who sent each character, hears it, and lets a `Teller`
 //! print what ends with it.
-
-ghost use Rattle.std.specs.Prelude.{◌≡◌, ◌∷◌, ◌==◌, ◌&&◌, List, [], None, true, false, get_or, length, OnOk, IfErr, IfOk};
-ghost use Rattle.std.specs.Result.{IsErrAnd};
+ghost use Rattle.std.specs.Prelude.{◌≡◌, ◌∷◌, ◌==◌, ◌&&◌, List, [], None, true, false, length, OnOk, IfErr, IfOk};
 ghost use Rattle.t0_core.specs.History.{Event, Reset};
 ghost use Rattle.t0_core.specs.TapSide.{due_at};
 ghost use Rattle.trace_explain.specs.Account.{AddsBoxes, HasWritten, first_out};
-ghost use Rattle.trace_explain.specs.Explained.{HasExplained, ExplainsCharacters, ExplainsLine, ExplainsMore, StopsAmong, StopsAtLine, Stopped, TakesOrStops, is_astray, next_line, refused, position_of};
+ghost use Rattle.trace_explain.specs.Explained.{HasExplained, ExplainsCharacters, ExplainsLine, ExplainsMore, StopsAmong, StopsAtLine, TakesOrStops, is_astray, next_line, refused, position_of};
 ghost use Rattle.trace_explain.specs.Lines.{first_of_all};
 ghost use Rattle.trace_explain.specs.Noted.{ended_by};
 ghost use Rattle.trace_explain.specs.Openings.{begins_answer, opening_of, unopened};
 ghost use Rattle.trace_explain.specs.Reports.{Report, report_of};
-ghost use Rattle.trace_explain.specs.Trace.{IsOfEnd};
+ghost use Rattle.trace_explain.specs.Trace.{IsOfEnd, IsOfLines};
 ghost use Rattle.trace_explain.specs.Turns.{source_at};
-ghost use Rattle.trace_explain.specs.UnderWay.{IsOfLines};
 
 use crate::describe::complaint::{Complaint, Seen};
 use crate::describe::mask::Mask;
@@ -23,7 +20,6 @@ use crate::follow::opening::begins_answer;
 use crate::follow::preface::Preface;
 use crate::follow::turn::{TurnFault, turn_before, turn_within};
 use crate::read::log::Log;
-use crate::read::log_line::time_of;
 use crate::read::reading::Reading;
 use crate::read::time::cut_time;
 use crate::read::trace_line::{LineFault, Source, TraceLine, read_line};
@@ -40,6 +36,7 @@ use t0_core::End;
 pub struct Explainer {
     alloc: Global,
     reading: Reading,
+    /// What `--resume` passes over.
     resuming: Resuming,
     has_characters: bool,
     line: u64,
@@ -52,6 +49,7 @@ pub struct Explainer {
 
 impl Explainer {
     /// Starts before the first line. If it resumes, it continues after an unexpected character.
+    #[tactic(auto, using(crate::proofs::AccountLemmas::none_written))]
     pub fn new(
         alloc: Global,
         layout: Layout,
@@ -90,10 +88,7 @@ impl Explainer {
     ///
     /// # Errors
     ///
-    /// - `BadHex`: characters are not digits of bytes, or the line of a log can't be read.
-    /// - `OtherForm`: its sign has another form than `--form` or the signs before.
-    /// - `NoSign`: it contains digits alone, no line before has a sign, and `--form` is missing.
-    /// - `Signed`: it has a sign, and `--unsigned` expects none.
+    /// - `BadLine`: it can't be read.
     /// - `NoTurn`: who sends a character is unknown. If it resumes, it skips what follows an
     ///   invalid answer to reset instead.
     /// - `NoDialogue`: no dialogue continues with a character, and it does not resume.
@@ -108,12 +103,13 @@ impl Explainer {
         ensures counts { OnOk result (self.new.line ≡ next_line self.old) }
         ensures of_lines { IfErr result IsOfLines }
     {
+        self.line = self.line.saturating_add(1);
+        let (time, rest) = cut_time(line);
+        self.teller
+            .pass(self.line, self.reading.counted(time, rest))?;
         if self.reading.of_tpdus {
             return self.log_line(line);
         }
-        self.line = self.line.saturating_add(1);
-        let (time, rest) = cut_time(line);
-        self.teller.pass(self.line, self.reading.counted(time))?;
         match read_line(self.alloc, &self.reading, line, time, rest) {
             Ok(TraceLine::Characters(source, bytes)) => {
                 self.reading = self.reading.with(&source);
@@ -143,6 +139,7 @@ impl Explainer {
         ensures counts { OnOk result (self.new.line ≡ self.old.line) }
         ensures of_lines { IfErr result IsOfLines }
     {
+        let line = self.line;
         if self.is_passed_over(source, bytes) {
             return Ok(());
         }
@@ -151,10 +148,22 @@ impl Explainer {
                 Ok(from) => {
                     let stops = self.character(from, bytes[place], &bytes[place..])?;
                     if stops {
-                        return self.stop(source, from, bytes, place);
+                        let complaint = self.complaint(from, bytes[place], place);
+                        self.teller.complain(complaint, &mut self.listener)?;
+                        if self.resuming.resumes {
+                            self.resume(source, bytes, complaint)?;
+                            return Ok(());
+                        }
+                        return Err(ExplainFault::NoDialogue(complaint));
                     }
                 }
-                Err(why) => return self.stop_unsent(place, why),
+                Err(why) => {
+                    if self.resuming.resumes && why == TurnFault::Answer {
+                        self.resuming.pass_unsent(line, place);
+                        return Ok(());
+                    }
+                    return Err(ExplainFault::NoTurn { line, place, why });
+                }
             }
         }
         Ok(())
@@ -196,12 +205,12 @@ impl Explainer {
         match source {
             Source::Sign(_, from) => Ok(self.reading.sender(*from)),
             Source::Turn(ways) => {
-                let stage = self.preface.stage();
+                let stage = self.preface.stage;
                 if stage.has_begun() {
                     turn_within(
                         ways,
                         self.listener.expected(),
-                        self.listener.under_way(),
+                        &self.listener.under_way,
                         byte,
                     )
                 } else {
@@ -220,7 +229,7 @@ impl Explainer {
         ensures counts { OnOk result (self.new.line ≡ self.old.line) }
     {
         self.has_characters = true;
-        let begun = self.preface.stage().has_begun();
+        let begun = self.preface.stage.has_begun();
         let opens = self.teller.open(&mut self.preface, from, byte, rest)?;
         if opens {
             return Ok(false);
@@ -244,100 +253,77 @@ impl Explainer {
         ensures { result ≡ (begun && begins_answer from byte
             && (length self.now.listener.under_way.header.items == 0)) }
     {
-        begun && begins_answer(from, byte) && self.listener.under_way().is_empty()
+        begun && begins_answer(from, byte) && self.listener.under_way.is_empty()
     }
 
-    /// Stops at a character with an unknown sender, or passes over what follows an invalid answer.
-    fn stop_unsent(&mut self, place: usize, why: TurnFault) -> Result<(), ExplainFault>
-        ensures stopped { self.old.resuming.resumes ≡ false → IsErrAnd result (λ fault. fault
-            ≡ ExplainFault.NoTurn self.old.line place why) }
-        ensures counts { OnOk result (self.new.line ≡ self.old.line) }
-        ensures of_lines { IfErr result IsOfLines }
-    {
-        let line = self.line;
-        if self.resuming.resumes && why == TurnFault::Answer {
-            self.resuming.pass(line, place);
-            return Ok(());
-        }
-        Err(ExplainFault::NoTurn { line, place, why })
-    }
-
-    /// Reports the unexpected character at this place of a line, and stops, or passes over what
-    /// follows.
-    fn stop(
-        &mut self,
-        source: &Source,
-        from: End,
-        bytes: &[u8],
-        place: usize,
-    ) -> Result<(), ExplainFault>
-        ensures stopped { self.old.resuming.resumes ≡ false → Stopped result (record {
-          line = self.old.line;
+    /// Returns the protocol error of an unexpected byte at this place of the line.
+    fn complaint(&self, from: End, byte: u8, place: usize) -> Complaint
+        ensures { result ≡ record {
+          line = self.now.line;
           place = place;
-          expected = due_at self.old.listener.tap;
+          expected = due_at self.now.listener.tap;
           from = from;
-          received = record {
-            byte = get_or bytes.now place 0;
-            hides = self.old.teller.mask.hides;
-          };
-          is_astray = is_astray self.old;
-        }) }
-        ensures counts { OnOk result (self.new.line ≡ self.old.line) }
-        ensures of_lines { IfErr result IsOfLines }
+          received = record { byte = byte; hides = self.now.teller.mask.hides };
+          is_astray = is_astray self.now;
+        } }
     {
-        let complaint = Complaint {
+        Complaint {
             line: self.line,
             place,
             expected: self.listener.expected(),
             from,
             received: Seen {
-                byte: bytes.get(place).copied().unwrap_or(0),
+                byte,
                 hides: self.teller.mask.hides(),
             },
             is_astray: self.reading.unsigned.is_some() && !self.teller.is_led,
-        };
-        self.teller.complain(complaint, &mut self.listener)?;
-        if !self.resuming.resumes {
-            return Err(ExplainFault::NoDialogue(complaint));
         }
+    }
+
+    /// Continues after a protocol error: this line is a header, or what follows is passed over.
+    fn resume(
+        &mut self,
+        source: &Source,
+        bytes: &[u8],
+        complaint: Complaint,
+    ) -> Result<(), AllocError>
+        ensures counts { OnOk result (self.new.line ≡ self.old.line) }
+    {
         self.resuming.first = Some(self.resuming.first.unwrap_or(complaint));
         if self.may_begin(source, bytes) {
             self.teller.begin_if(true);
-            self.listener.hear_header(bytes)?;
+            self.listener.hear_header(bytes)
         } else {
-            self.resuming.pass(self.line, place);
+            self.resuming.pass(complaint.line, complaint.place);
+            Ok(())
         }
-        Ok(())
     }
 
     /// Explains a reset.
     fn reset(&mut self) -> Result<(), AllocError>
         ensures explained { (events : List Event) (before : List Report) →
             HasExplained events before self.old →
-            OnOk result (ExplainsMore (Reset ∷ []) (record (position_of self.old) {
-              opening = unopened;
-            }) events before self.old self.new) }
+            OnOk result (ExplainsMore (Reset ∷ []) events before self.old self.new) }
+        ensures position { OnOk result
+            (position_of self.new ≡ record (position_of self.old) { opening = unopened }) }
         ensures counts { OnOk result (self.new.line ≡ self.old.line) }
     {
         tell_passed(self.resuming.end(), &mut self.teller.output.page);
         self.teller.reset(&mut self.preface, &mut self.listener)
     }
 
-    /// Explains the next line of a log of whole TPDUs.
+    /// Explains a line of a log of whole TPDUs.
     fn log_line(&mut self, line: &[u8]) -> Result<(), ExplainFault>
-        ensures counts { OnOk result (self.new.line ≡ next_line self.old) }
+        ensures counts { OnOk result (self.new.line ≡ self.old.line) }
         ensures of_lines { IfErr result IsOfLines }
     {
-        self.line = self.line.saturating_add(1);
-        self.teller.pass(self.line, time_of(line))?;
         let mut logged = Vec::new(self.alloc);
         let taken = self.log.take(line, &mut logged);
         self.has_characters = self.has_characters || self.log.has_begun();
         self.teller.tell_logged(logged.as_slice(), line)?;
         match taken {
             Ok(()) => Ok(()),
-            Err(LineFault::OutOfMemory) => Err(ExplainFault::OutOfMemory),
-            Err(_) => Err(ExplainFault::BadHex { line: self.line }),
+            Err(why) => Err(refused(self.line, why)),
         }
     }
 
@@ -348,6 +334,7 @@ impl Explainer {
     ///
     /// - `BadPairs`: commands or answers of a log are not those of a TPDU.
     /// - `Resumed`: it continued after unexpected characters.
+    /// - `Skipped`: it passed over what follows an invalid answer to reset.
     /// - `NoCharacters`: no line has a character of either end.
     pub fn outcome(&self) -> Result<(), ExplainFault>
         ensures has_characters { OnOk result (self.now.has_characters ≡ true) }
@@ -361,10 +348,11 @@ impl Explainer {
                 why,
             });
         }
-        match self.resuming.first {
-            None if self.has_characters => Ok(()),
-            None => Err(ExplainFault::NoCharacters),
-            Some(first) => Err(ExplainFault::Resumed { complaints, first }),
+        match (self.resuming.first, self.resuming.first_unsent) {
+            (Some(first), _) => Err(ExplainFault::Resumed { complaints, first }),
+            (None, Some((line, place))) => Err(ExplainFault::Skipped { line, place }),
+            (None, None) if self.has_characters => Ok(()),
+            (None, None) => Err(ExplainFault::NoCharacters),
         }
     }
 
@@ -379,19 +367,12 @@ impl Explainer {
             return Ok(());
         }
         if self.reading.of_tpdus {
-            return self.end_log();
+            let mut logged = Vec::new(self.alloc);
+            self.log.end(&mut logged)?;
+            self.teller.tell_logged(logged.as_slice(), &[])?;
+            return self.teller.end(&self.preface, &mut self.listener);
         }
         tell_passed(self.resuming.end(), &mut self.teller.output.page);
-        self.teller.end(&self.preface, &mut self.listener)
-    }
-
-    /// Explains what the end of a log cuts off, and writes the last block.
-    fn end_log(&mut self) -> Result<(), AllocError>
-        ensures { OnOk result (position_of self.new ≡ position_of self.old) }
-    {
-        let mut logged = Vec::new(self.alloc);
-        self.log.end(&mut logged)?;
-        self.teller.tell_logged(logged.as_slice(), &[])?;
         self.teller.end(&self.preface, &mut self.listener)
     }
 }
@@ -401,10 +382,7 @@ fn refused(line: u64, why: LineFault) -> ExplainFault
     ensures { result ≡ refused line why }
 {
     match why {
-        LineFault::Hex => ExplainFault::BadHex { line },
-        LineFault::OtherForm(form) => ExplainFault::OtherForm { line, form },
-        LineFault::NoSign => ExplainFault::NoSign { line },
-        LineFault::Signed => ExplainFault::Signed { line },
         LineFault::OutOfMemory => ExplainFault::OutOfMemory,
+        _ => ExplainFault::BadLine { line, why },
     }
 }

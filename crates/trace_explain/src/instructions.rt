@@ -1,5 +1,4 @@
 //! The instructions that the program knows: one table for names, ways of data, P1-P2 and secrets.
-
 ghost use Rattle.std.specs.Prelude.{◌≡◌};
 ghost use Rattle.trace_explain.specs.Secrets.{is_secret};
 ghost use Rattle.trace_explain.specs.WaysOf.{by_standard, everywhere, interindustry, own_way, payment, sim, way_in};
@@ -38,8 +37,11 @@ pub enum Parts {
 /// The name of an instruction, which way its data go if it has any, and what P1 and P2 mean.
 pub type Instruction = (&'static str, Direction, Parts);
 
-/// Returns the instruction with this INS: of the standard of its class, or else one that is read
-/// alike in every class. Returns `None` if the program does not know it.
+/// Returns the instruction with this CLA and INS; `None` if the program does not know it.
+///
+/// CLA `00` to `7F` are the classes of ISO/IEC 7816-4, `80` to `8F` those of EMV, and `A0` is that
+/// of a SIM card. If the class has no such INS, SELECT, GET RESPONSE, GET DATA and PUT DATA are
+/// read alike in every class (profile).
 pub fn instruction(cla: u8, ins: u8) -> Option<Instruction>
     ensures { way_in result ≡ by_standard cla ins }
 {
@@ -61,8 +63,9 @@ fn of_class(cla: u8, ins: u8) -> Option<Instruction>
     }
 }
 
-/// Returns an instruction of ISO/IEC 7816-4 (7, and table 4 for its other parts). With an odd INS
-/// the terminal also sends data to read: they name the part that it wants.
+/// Returns an instruction of ISO/IEC 7816-4 (7, and table 4 for its other parts); `everywhere` has
+/// four more. With an odd INS the terminal also sends data to read: they name the part that it
+/// wants.
 fn interindustry(ins: u8) -> Option<Instruction>
     ensures { way_in result ≡ interindustry ins }
 {
@@ -74,8 +77,7 @@ fn interindustry(ins: u8) -> Option<Instruction>
         0x10 => ("PERFORM SCQL OPERATION", ToCard, Others),
         0x12 => ("PERFORM TRANSACTION OPERATION", ToCard, Others),
         0x14 => ("PERFORM USER OPERATION", ToCard, Others),
-        0x20 => ("VERIFY", ToCard, Reference),
-        0x21 => ("VERIFY", ToCard, Reference),
+        0x20 | 0x21 => ("VERIFY", ToCard, Reference),
         0x22 => ("MANAGE SECURITY ENVIRONMENT", ToCard, Others),
         0x24 => ("CHANGE REFERENCE DATA", ToCard, Reference),
         0x26 => ("DISABLE VERIFICATION REQUIREMENT", ToCard, Reference),
@@ -90,25 +92,19 @@ fn interindustry(ins: u8) -> Option<Instruction>
         0x86 => ("GENERAL AUTHENTICATE", ToCard, Reference),
         0x87 => ("GENERAL AUTHENTICATE", ToCard, Others),
         0x88 => ("INTERNAL AUTHENTICATE", ToCard, Reference),
-        0xA0 => ("SEARCH BINARY", ToCard, Others),
-        0xA1 => ("SEARCH BINARY", ToCard, Others),
+        0xA0 | 0xA1 => ("SEARCH BINARY", ToCard, Others),
         0xA2 => ("SEARCH RECORD", ToCard, Others),
-        0xA4 => ("SELECT", ToCard, Selected),
         0xB0 => ("READ BINARY", FromCard, Place),
         0xB1 => ("READ BINARY", ToCard, Others),
         0xB2 => ("READ RECORD", FromCard, Records),
         0xB3 => ("READ RECORD", ToCard, Others),
-        0xC0 => ("GET RESPONSE", FromCard, Others),
-        0xC2 => ("ENVELOPE", ToCard, Others),
-        0xC3 => ("ENVELOPE", ToCard, Others),
-        0xCA => ("GET DATA", FromCard, Object),
+        0xC2 | 0xC3 => ("ENVELOPE", ToCard, Others),
         0xCB => ("GET DATA", ToCard, Others),
         0xD0 => ("WRITE BINARY", ToCard, Place),
         0xD1 => ("WRITE BINARY", ToCard, Others),
         0xD2 => ("WRITE RECORD", ToCard, Records),
         0xD6 => ("UPDATE BINARY", ToCard, Place),
         0xD7 => ("UPDATE BINARY", ToCard, Others),
-        0xDA => ("PUT DATA", ToCard, Object),
         0xDB => ("PUT DATA", ToCard, Others),
         0xDC => ("UPDATE RECORD", ToCard, Records),
         0xDD => ("UPDATE RECORD", ToCard, Others),
@@ -179,11 +175,6 @@ fn everywhere(ins: u8) -> Option<Instruction>
     })
 }
 
-/// Whether the class is one of ISO/IEC 7816-4: bit 8 of CLA is 0.
-pub fn is_interindustry(header: Header) -> bool {
-    header.cla & 0x80 == 0
-}
-
 /// Whether the data of commands with this INS may be secret, in any class. These are VERIFY, CHANGE
 /// REFERENCE DATA, DISABLE and ENABLE VERIFICATION REQUIREMENT, and RESET RETRY COUNTER.
 pub fn is_secret(ins: u8) -> bool
@@ -193,9 +184,9 @@ pub fn is_secret(ins: u8) -> bool
 }
 
 /// Whether `63CX` counts the remaining tries after such a command: one of reference data, or
-/// EXTERNAL AUTHENTICATE. Its class must be one of ISO/IEC 7816-4.
+/// EXTERNAL AUTHENTICATE. Its class must be one of ISO/IEC 7816-4: bit 8 of CLA is 0.
 pub fn counts_tries(header: Header) -> bool {
-    is_interindustry(header) && (is_secret(header.ins) || header.ins == 0x82)
+    header.cla & 0x80 == 0 && (is_secret(header.ins) || header.ins == 0x82)
 }
 
 /// Whether the terminal's data may be objects: not a name or a path, nor reference data, unless bit

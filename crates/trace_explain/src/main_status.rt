@@ -72,17 +72,9 @@ fn diff_files<D: Files, W: Write>(
     output: &mut W,
 ) -> Result<bool, DiffFault> {
     let (path_a, path_b) = paths;
-    let mut a = opened(files, path_a, "A")?;
-    let mut b = opened(files, path_b, "B")?;
+    let mut a = File::open(files, path_a).map_err(|_| DiffFault::Open("A"))?;
+    let mut b = File::open(files, path_b).map_err(|_| DiffFault::Open("B"))?;
     diff(alloc, mask, resumes, reading, (&mut a, &mut b), output)
-}
-
-/// Opens the file of a trace.
-fn opened<D: Files>(files: &D, path: &str, name: &'static str) -> Result<D::File, DiffFault> {
-    match File::open(files, path) {
-        Ok(file) => Ok(file),
-        Err(_) => Err(DiffFault::Open(name)),
-    }
 }
 
 /// The status for an error of the parser. Help goes to `output`, and a refusal to `faults`.
@@ -91,19 +83,15 @@ fn answered<W: Write, F: Write>(error: &Error, output: &mut W, faults: &mut F) -
 {
     match error.kind() {
         ErrorKind::OutOfMemory => print_fault(&ExplainFault::OutOfMemory, faults),
-        ErrorKind::DisplayHelp | ErrorKind::DisplayVersion => status(&shown(error, output), faults),
+        ErrorKind::DisplayHelp | ErrorKind::DisplayVersion => {
+            let outcome = output.write_fmt(error);
+            let outcome = outcome.map_err(|error| ExplainFault::of_writing(&error));
+            status(&outcome, faults)
+        }
         _ => {
             let _ = faults.write_fmt(error);
             2
         }
-    }
-}
-
-/// Writes the help.
-fn shown<W: Write>(error: &Error, output: &mut W) -> Result<(), ExplainFault> {
-    match output.write_fmt(error) {
-        Ok(()) => Ok(()),
-        Err(error) => Err(ExplainFault::of_writing(&error)),
     }
 }
 

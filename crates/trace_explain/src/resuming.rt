@@ -1,6 +1,5 @@
 //! What `--resume` passes over: an unexpected character, or one after an invalid answer to reset,
 //! and what follows it.
-
 ghost use Rattle.std.specs.Prelude.{◌≡◌, None};
 
 use crate::describe::complaint::Complaint;
@@ -25,6 +24,9 @@ pub struct Resuming {
     pub passed: Option<Passed>,
     /// The first protocol error after which it continued.
     pub first: Option<Complaint>,
+    /// The line and place of the first character after an invalid answer to reset, if it passed
+    /// over any. Its sender is unknown.
+    pub first_unsent: Option<(u64, usize)>,
 }
 
 impl Resuming {
@@ -37,6 +39,7 @@ impl Resuming {
             resumes,
             passed: None,
             first: None,
+            first_unsent: None,
         }
     }
 
@@ -44,6 +47,12 @@ impl Resuming {
     pub fn pass(&mut self, line: u64, place: usize) {
         let last = line;
         self.passed = Some(Passed { line, place, last });
+    }
+
+    /// The same for a character whose sender is unknown.
+    pub fn pass_unsent(&mut self, line: u64, place: usize) {
+        self.pass(line, place);
+        self.first_unsent = self.first_unsent.or(Some((line, place)));
     }
 
     /// Ends that, and returns what was passed over; `None` if nothing was.

@@ -66,7 +66,8 @@ impl Clock {
         }
     }
 
-    /// Takes the time of the next line: the text, which is empty if the line has none.
+    /// Takes the time of the next line: the text, which is empty if the line has none. Returns
+    /// `AllocError` if memory ran out: the line counts as one without a time.
     pub fn pass(&mut self, time: &[u8]) -> Result<(), AllocError> {
         self.has_begun = false;
         self.text.clear();

@@ -1,9 +1,9 @@
 //! What a mask hides of a trace, so that the explanation can be passed on.
-
-ghost use Rattle.std.specs.Prelude.{◌≡◌, ◌↔◌, ℕ, List, [], None, false, length, true, IfOk, IfSome, IsSome, IsTrue};
+ghost use Rattle.std.specs.Prelude.{◌≡◌, ◌↔◌, ℕ, List, [], None, Some, false, length, true, IfOk, IfSome, IsSome, IsTrue};
 ghost use Rattle.std.specs.List.{Contains};
-ghost use Rattle.t0_core.specs.declared.direction.Direction.TheVariants.{ToCard};
-ghost use Rattle.trace_explain.specs.Secrets.{Names, Shows, ShowsTagged, ShowsValue, is_name, may_be_cut, whole_or_nothing};
+ghost use Rattle.t0_core.specs.declared.direction.Direction.TheVariants.{FromCard, ToCard};
+ghost use Rattle.trace_explain.specs.Boxes.{whole_way};
+ghost use Rattle.trace_explain.specs.Secrets.{Names, Shows, ShowsValue, is_name, may_be_cut, whole_or_nothing};
 ghost use Rattle.trace_explain.specs.Reports.{IsOfCommand};
 
 use crate::follow::links::{Links, Whole};
@@ -21,7 +21,11 @@ use tlv_core::{ObjectTag, Tag};
 pub const HIDDEN: &str = "**";
 
 /// What is hidden: nothing; or reference data, bytes of unknown meaning, and objects with these
-/// tags. With tags it also hides data that may be part of such an object.
+/// tags.
+///
+/// With tags it also hides data that may be part of such an object: parts of longer data, and data
+/// that are not a list of objects. It still shows the name of SELECT, and what GET DATA and PUT
+/// DATA move under another tag of a primitive object.
 #[derive(Drop)]
 pub struct Mask {
     hides: bool,
@@ -78,7 +82,13 @@ impl Origin {
     }
 
     /// The origin of the data that the card returned in one exchange with data of the terminal.
-    pub fn of_answer(tpdu: &Tpdu, links: Links) -> Option<Origin> {
+    /// `None` if the header of the TPDU is cut off.
+    pub fn of_answer(tpdu: &Tpdu, links: Links) -> Option<Origin>
+        ensures way { IfSome result (λ origin. origin.way ≡ FromCard) }
+        ensures asked { IfSome links.asker (IsOfCommand tpdu.now.header.items) →
+            IfSome result (λ origin. IsOfCommand tpdu.now.header.items origin.header) }
+        ensures whole { length tpdu.now.header.items ≡ 5 → IsSome result }
+    {
         let origin = Origin::of(tpdu, links, Direction::FromCard)?;
         let continues = links.answer_continues;
         Some(Origin {
@@ -87,8 +97,15 @@ impl Origin {
         })
     }
 
-    /// The origin of the data that are shown together with a TPDU, if there are any.
-    pub fn of_whole(tpdu: &Tpdu, links: Links) -> Option<Origin> {
+    /// The origin of the data that are shown together with a TPDU: those of `Links::whole`. `None`
+    /// without such data, or if the header of the TPDU is cut off.
+    pub fn of_whole(tpdu: &Tpdu, links: Links) -> Option<Origin>
+        ensures way { IfSome result (λ origin. whole_way links.whole ≡ Some origin.way) }
+        ensures own { IfSome result (λ origin. origin.way ≡ ToCard →
+            IsOfCommand tpdu.now.header.items origin.header) }
+        ensures asked { IfSome links.asker (IsOfCommand tpdu.now.header.items) →
+            IfSome result (λ origin. IsOfCommand tpdu.now.header.items origin.header) }
+    {
         let way = match links.whole {
             Whole::None => return None,
             Whole::Value(_) => Direction::ToCard,
@@ -125,8 +142,9 @@ impl Mask {
         }
     }
 
-    /// The mask that hides reference data, and objects with the tags in `words`. Tags are
-    /// hexadecimal digits, separated by commas. An empty text has no tag.
+    /// The mask that hides reference data and bytes of unknown meaning. With tags in `words` it
+    /// also hides objects with these, and what may be part of one. Tags are hexadecimal digits,
+    /// separated by commas. An empty text has no tag.
     ///
     /// # Errors
     ///
@@ -147,7 +165,7 @@ impl Mask {
         Ok(Mask { hides: true, tags })
     }
 
-    /// A copy.
+    /// Returns a copy, or `AllocError` if memory ran out.
     pub fn copied(&self, alloc: Global) -> Result<Mask, AllocError>
         ensures { IfOk result (λ mask. (mask.hides ≡ self.now.hides)
             × (mask.tags.items ≡ self.now.tags.items)) }
@@ -178,7 +196,8 @@ impl Mask {
         false
     }
 
-    /// How much is shown of data of this origin.
+    /// How much is shown of data of this origin. Data that are not a list of objects are hidden if
+    /// the result is `Objects`.
     pub fn shown(&self, origin: Origin) -> Shown
         ensures { Shows self.now.hides self.now.tags.items origin result }
     {
@@ -191,13 +210,6 @@ impl Mask {
         if self.tags.is_empty() {
             return Shown::All;
         }
-        self.shown_by_tags(origin)
-    }
-
-    /// How much the tags show of data that are not secret.
-    fn shown_by_tags(&self, origin: Origin) -> Shown
-        ensures { ShowsTagged self.now.tags.items origin result }
-    {
         if is_name(origin.header.ins, origin.way) {
             return Shown::All;
         }

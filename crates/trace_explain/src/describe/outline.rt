@@ -1,5 +1,4 @@
 //! A TPDU without its data, from which the words for it are made. So no word can show hidden data.
-
 ghost use Rattle.std.specs.Prelude.{◌≡◌, ◌≢◌, [], get_or};
 
 use crate::follow::story::{header_of, sent, status_of};

@@ -20,7 +20,16 @@ pub fn push_command(text: &mut Sheet, header: Header, sent: &[u8]) {
     match instruction(header.cla, header.ins) {
         Some((name, _, parts)) => {
             text.push_str(name);
-            push_parts(text, parts, header, sent);
+            match parts {
+                Parts::Selected => push_selected(text, header, sent),
+                Parts::Object => push_object(text, header),
+                Parts::Place => push_place(text, header),
+                Parts::Records => push_records(text, header),
+                Parts::Reference => push_reference(text, header),
+                Parts::Channel => push_channel(text, header),
+                Parts::Cryptogram => push_cryptogram(text, header),
+                Parts::Others => push_others(text, header),
+            }
         }
         None => {
             let ins = header.ins;
@@ -31,20 +40,6 @@ pub fn push_command(text: &mut Sheet, header: Header, sent: &[u8]) {
     match header.cla {
         0x00 | 0x10 => {}
         cla => write!(text, ", class {cla:02X}"),
-    }
-}
-
-/// Adds what P1 and P2 mean.
-fn push_parts(text: &mut Sheet, parts: Parts, header: Header, sent: &[u8]) {
-    match parts {
-        Parts::Selected => push_selected(text, header, sent),
-        Parts::Object => push_object(text, header),
-        Parts::Place => push_place(text, header),
-        Parts::Records => push_records(text, header),
-        Parts::Reference => push_reference(text, header),
-        Parts::Channel => push_channel(text, header),
-        Parts::Cryptogram => push_cryptogram(text, header),
-        Parts::Others => push_others(text, header),
     }
 }
 

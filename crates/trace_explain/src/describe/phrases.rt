@@ -1,5 +1,4 @@
 //! Words for a TPDU and its place among others.
-
 ghost use Rattle.trace_explain.specs.Boxes.{size_words, whole_words};
 ghost use Rattle.trace_explain.specs.Sheets.{Adds};
 

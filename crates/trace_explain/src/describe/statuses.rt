@@ -52,7 +52,9 @@ pub fn of_word(word: u16) -> Option<&'static str> {
     })
 }
 
-/// The meaning of a word in class `A0` of a SIM card (3GPP TS 51.011, 9.4; GSM 11.11, 9.4).
+/// The meaning of a word in class `A0` of a SIM card (3GPP TS 51.011, 9.4; GSM 11.11, 9.4). `None`
+/// for any other word: also for one that contains a number, such as `9FXX`, and for one that other
+/// classes have too, such as `9000`.
 pub fn of_sim(word: u16) -> Option<&'static str> {
     Some(match word {
         0x9240 => "memory problem",

@@ -1,5 +1,4 @@
 //! A tap that keeps what it has heard of the current TPDU.
-
 ghost use Rattle.std.specs.Prelude.{◌≡◌, ◌++◌, ◌∷◌, [], List, true, IfOk, IfErr};
 ghost use Rattle.t0_core.specs.declared.end.End.TheVariants.{Terminal};
 ghost use Rattle.t0_core.specs.History.{Event, Passed, Reset};
@@ -12,7 +11,8 @@ use std::alloc::{AllocError, Global};
 use std::mem;
 use t0_core::{Due, End, Heard, Tap, TapFault};
 
-/// Why a character was not taken.
+/// Why a listener has not taken a character. It is unchanged after `NoDialogue`. Don't use it any
+/// more after `OutOfMemory`.
 #[derive(Clone, Copy)]
 pub enum ListenerFault {
     /// No dialogue continues with it.
@@ -37,7 +37,8 @@ impl From<AllocError> for ListenerFault {
 pub struct Listener {
     alloc: Global,
     tap: Tap,
-    under_way: Tpdu,
+    /// What was heard of the current TPDU.
+    pub under_way: Tpdu,
 }
 
 impl Listener {
@@ -58,13 +59,6 @@ impl Listener {
         ensures { result ≡ due_at self.now.tap }
     {
         self.tap.due()
-    }
-
-    /// Returns what was heard of the current TPDU.
-    pub fn under_way(&self) -> &Tpdu
-        ensures { result.now ≡ self.now.under_way }
-    {
-        &self.under_way
     }
 
     /// Hears a character, and returns the TPDU that ends with it or has ended before it.

@@ -2,7 +2,7 @@
 //! neither.
 ghost use Rattle.std.specs.Prelude.{◌≡◌};
 ghost use Rattle.atr_core.specs.FirstFault.{first_fault};
-ghost use Rattle.trace_explain.specs.Openings.{after_answer, as_ts, begins_answer, card_role, has_begun, is_dialogue, is_direct, is_full, is_short, role_at, terminal_role, turned_by};
+ghost use Rattle.trace_explain.specs.Openings.{after_answer, as_ts, begins_answer, has_begun, is_dialogue, is_direct, is_full, is_short, role_at, turned_by};
 
 use atr_core::{Atr, AtrFault, Convention, Pps, Reason};
 use t0_core::End;
@@ -89,35 +89,16 @@ impl Stage {
 pub fn role_at(stage: Stage, may_ask: bool, from: End, byte: u8) -> Role
     ensures { result ≡ role_at stage may_ask from byte }
 {
-    match from {
-        End::Terminal => terminal_role(stage, may_ask, byte),
-        End::Card => card_role(stage, byte),
-    }
-}
-
-/// Returns what a character of the card is.
-fn card_role(stage: Stage, byte: u8) -> Role
-    ensures { result ≡ card_role stage byte }
-{
-    match stage {
-        Stage::Request | Stage::Asked if byte == PPSS => Role::ResponsePpss,
-        Stage::Ready | Stage::Request | Stage::Asked => as_ts(byte),
-        Stage::Answer => Role::Answer,
-        Stage::Astray => Role::Stray,
-        Stage::Response => Role::Response,
-        Stage::Begun => Role::Dialogue,
-    }
-}
-
-/// Returns what a character of the terminal is.
-fn terminal_role(stage: Stage, may_ask: bool, byte: u8) -> Role
-    ensures { result ≡ terminal_role stage may_ask byte }
-{
-    match stage {
-        Stage::Request => Role::Request,
-        Stage::Begun => Role::Dialogue,
-        _ if may_ask && byte == PPSS => Role::RequestPpss,
-        _ => Role::Dialogue,
+    match (from, stage) {
+        (_, Stage::Begun) => Role::Dialogue,
+        (End::Terminal, Stage::Request) => Role::Request,
+        (End::Terminal, _) if may_ask && byte == PPSS => Role::RequestPpss,
+        (End::Terminal, _) => Role::Dialogue,
+        (End::Card, Stage::Answer) => Role::Answer,
+        (End::Card, Stage::Astray) => Role::Stray,
+        (End::Card, Stage::Response) => Role::Response,
+        (End::Card, Stage::Request | Stage::Asked) if byte == PPSS => Role::ResponsePpss,
+        (End::Card, _) => as_ts(byte),
     }
 }
 

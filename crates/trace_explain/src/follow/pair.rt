@@ -1,10 +1,10 @@
 //! A command and its answer as one TPDU (ISO/IEC 7816-4, 5.1; ISO/IEC 7816-3, 12).
-
 ghost use Rattle.std.specs.Prelude.{◌≡◌, [], ◌∷◌, ◌++◌, Some, IfOk, IfErr};
 ghost use Rattle.trace_explain.specs.Pairs.{Command, IsBadCommand, IsBadPair, IsBadRest, IsCommand, IsPair, ReportsPair, beside, command_in, moved_of, way_of, with_p3};
 
 use crate::follow::tally::Tally;
 use crate::follow::tpdu::{Tpdu, are_status};
+use crate::read::digits::push;
 use std::alloc::{AllocError, Global};
 use std::fmt;
 use t0_core::Direction;
@@ -127,7 +127,6 @@ fn with_p3(
 
 /// Returns the TPDU with this header, the terminal's data, Le after them, the card's data and the
 /// status.
-#[tactic(auto, using(crate::proofs::PairLemmas::reports))]
 fn whole(
     alloc: Global,
     header: &[u8],
@@ -144,8 +143,10 @@ fn whole(
     }) brought.now status.now) }
 {
     let (way, moved, answer) = parts(sent, brought);
+    let mut header = copied(alloc, header)?;
+    push(&mut header, p3)?;
     Ok(Tpdu {
-        header: with_byte(alloc, header, p3)?,
+        header,
         tally: Tally::NONE,
         way,
         moved: copied(alloc, moved)?,
@@ -166,15 +167,6 @@ fn parts<'a>(sent: &'a [u8], brought: &'a [u8]) -> (Option<Direction>, &'a [u8],
         ([], _) => (Some(Direction::FromCard), brought, sent),
         _ => (Some(Direction::ToCard), sent, brought),
     }
-}
-
-/// Returns the bytes and one more.
-fn with_byte(alloc: Global, bytes: &[u8], byte: u8) -> Result<Vec<u8>, AllocError>
-    ensures { IfOk result (λ all. all.items ≡ bytes.now ++ byte ∷ []) }
-{
-    let mut all = copied(alloc, bytes)?;
-    all.extend_from_slice(&[byte])?;
-    Ok(all)
 }
 
 /// Returns a copy of the bytes.

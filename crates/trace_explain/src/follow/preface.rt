@@ -11,7 +11,8 @@ use t0_core::End;
 /// The characters since the trace began or the card was reset, up to the dialogue.
 #[derive(Drop)]
 pub struct Preface {
-    stage: Stage,
+    /// How far it is.
+    pub stage: Stage,
     /// What turned the answer's characters: the inverse convention if a receiver of the direct one
     /// read an answer of the inverse one.
     pub turned: Convention,
@@ -40,13 +41,6 @@ impl Preface {
         }
     }
 
-    /// Returns the stage.
-    pub fn stage(&self) -> Stage
-        ensures { result ≡ self.now.stage }
-    {
-        self.stage
-    }
-
     /// Whether an answer has begun since the last reset, and the dialogue has not.
     pub fn has_answered(&self) -> bool
         ensures { result ≡ has_answered (opening_of self.now) }
@@ -63,7 +57,8 @@ impl Preface {
     }
 
     /// Takes a character of this line, in this role. TS of an answer, and each character of the
-    /// dialogue, clear the characters before it.
+    /// dialogue, clear the characters before it. Returns `AllocError` if memory ran out: the
+    /// character is missing; drop the preface.
     pub fn take(&mut self, role: Role, byte: u8, line: u64) -> Result<(), AllocError>
         ensures { OnOk result (opening_of self.new ≡ opens (opening_of self.old) role byte) }
     {

@@ -80,7 +80,8 @@ impl PendingResponse {
         }
     }
 
-    /// Takes the data that a command brought.
+    /// Takes the data that a command brought. Returns `AllocError` if memory ran out: nothing has
+    /// changed.
     pub fn take(&mut self, part: &[u8]) -> Result<(), AllocError> {
         if part.is_empty() {
             return Ok(());

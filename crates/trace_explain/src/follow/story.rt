@@ -1,5 +1,4 @@
 //! What several TPDUs share: their numbers, chains, and responses in parts.
-
 ghost use Rattle.std.specs.Prelude.{◌≡◌, ◌≢◌, length, None, Some, IfOk, IfSome, IsSome};
 ghost use Rattle.trace_explain.specs.Boxes.{HasAsker};
 ghost use Rattle.trace_explain.specs.Reports.{IsOfCommand, one_more};
@@ -33,7 +32,8 @@ impl Story {
     }
 
     /// Counts a TPDU, and returns how it is linked to those before it. One that is cut off changes
-    /// neither the chain nor the response.
+    /// neither the chain nor the response. Returns `AllocError` if memory ran out: the TPDU is
+    /// counted, and its data may be missing; drop the story.
     pub fn tell(&mut self, tpdu: &Tpdu) -> Result<Links, AllocError>
         ensures next { self.new.number ≡ one_more self.old.number }
         ensures number { IfOk result (λ links. links.number ≡ self.new.number) }
@@ -88,7 +88,10 @@ impl Story {
         ensures number { result.number ≡ self.now.number }
         ensures asker { header.ins ≢ 0xC0 → result.asker ≡ Some header }
     {
-        let is_asked = self.response.link_of(header, le) != Link::None;
+        let (is_asked, link) = match self.response.link_of(header, le) {
+            Link::None => (false, self.chain.link_of(header)),
+            asked => (true, asked),
+        };
         let asker = match header.ins {
             0xC0 if is_asked => self.response.asker,
             _ => Some(header),
@@ -102,15 +105,7 @@ impl Story {
             asker,
             continues,
             answer_continues,
-            ..self.with(self.link_of(header, le))
-        }
-    }
-
-    /// Returns how a command with this header, and this P3 or Le, continues those before it.
-    fn link_of(&self, header: Header, le: u8) -> Link {
-        match self.response.link_of(header, le) {
-            Link::None => self.chain.link_of(header),
-            asked => asked,
+            ..self.with(link)
         }
     }
 

@@ -1,5 +1,4 @@
 //! The number of procedure bytes of each kind in a TPDU.
-
 ghost use Rattle.std.specs.Prelude.{◌≡◌};
 
 use t0_core::Step;

@@ -1,5 +1,4 @@
 //! What was heard of one TPDU.
-
 ghost use Rattle.std.specs.Prelude.{◌≡◌, ◌==◌, length, true, OnOk};
 ghost use Rattle.trace_explain.specs.Reports.{report_of, no_report, noted};
 ghost use Rattle.trace_explain.specs.Noted.{AreStatus, are_status, as_ended, bared, is_bare};
@@ -45,7 +44,7 @@ impl Tpdu {
         }
     }
 
-    /// Returns a copy.
+    /// Returns a copy, or `AllocError` if memory ran out.
     pub fn copied(&self) -> Result<Tpdu, AllocError> {
         Ok(Tpdu {
             header: self.header.clone()?,
@@ -56,7 +55,8 @@ impl Tpdu {
         })
     }
 
-    /// Notes one more character.
+    /// Notes one more character: `byte`, which a tap took for this. Returns `AllocError` if memory
+    /// ran out: `byte` is missing.
     pub fn note(&mut self, heard: &Heard, byte: u8) -> Result<(), AllocError>
         ensures { OnOk result (report_of self.new ≡ noted (report_of self.old) heard.now byte) }
     {

@@ -1,7 +1,7 @@
 //! Whose turn it is, for traces without signs.
-ghost use Rattle.std.specs.Prelude.{◌≡◌, get_or};
+ghost use Rattle.std.specs.Prelude.{◌≡◌, ◌==◌, get_or};
 ghost use Rattle.trace_explain.specs.Reports.{report_of};
-ghost use Rattle.trace_explain.specs.Turns.{between, card_if, data_at, sent, turn_before, turn_within, with_p3_00};
+ghost use Rattle.trace_explain.specs.Turns.{between, card_if, data_at, turn_before, turn_within};
 
 use crate::follow::opening::{PPSS, Stage, turned_by};
 use crate::follow::tpdu::Tpdu;
@@ -71,7 +71,7 @@ pub fn turn_within(ways: &Ways, expected: Due, under_way: &Tpdu, byte: u8) -> Re
             let cla = at(under_way, 0);
             let ins = at(under_way, 1);
             let count = under_way.moved.len();
-            data_at(seen, ways.of(cla, ins), at(under_way, 4), ins, count)
+            data_at(at(under_way, 4), seen, ways.of(cla, ins), ins, count)
         }
     }
 }
@@ -98,44 +98,21 @@ fn card_if(holds: bool) -> End
     if holds { End::Card } else { End::Terminal }
 }
 
-/// Returns who sends data that go this way.
-fn sent(way: Direction) -> End
-    ensures { result ≡ sent way }
-{
-    match way {
-        Direction::ToCard => End::Terminal,
-        Direction::FromCard => End::Card,
-    }
-}
-
 /// Returns who sends a character after a procedure byte. `seen` is the way of the data so far,
-/// `known` the way of the instruction, and `count` the number of data so far.
+/// `known` the way of the instruction, and `count` the number of data so far. If P3 is `00`, these
+/// are the card's 256 data, or its status if the data go to it.
 fn data_at(
+    p3: u8,
     seen: Option<Direction>,
     known: Option<Direction>,
-    p3: u8,
     ins: u8,
     count: usize,
 ) -> Result<End, TurnFault>
-    ensures { result ≡ data_at seen known p3 ins count }
+    ensures { result ≡ data_at (p3 == 0) seen known ins count }
 {
-    if p3 == 0 {
-        return with_p3_00(known, ins, count);
-    }
-    match (seen, known) {
-        (Some(way), _) | (None, Some(way)) => Ok(sent(way)),
-        (None, None) => Err(TurnFault::Way(ins)),
-    }
-}
-
-/// The same if P3 is `00`: these are the card's 256 data, or its status if the data go to it.
-fn with_p3_00(known: Option<Direction>, ins: u8, count: usize) -> Result<End, TurnFault>
-    ensures { result ≡ with_p3_00 known ins count }
-{
-    match known {
+    match (if p3 == 0 { known } else { seen.or(known) }) {
         Some(Direction::FromCard) => Ok(End::Card),
-        Some(Direction::ToCard) if count < 2 => Ok(End::Card),
-        Some(Direction::ToCard) => Ok(End::Terminal),
+        Some(Direction::ToCard) => Ok(card_if(p3 == 0 && count < 2)),
         None => Err(TurnFault::Way(ins)),
     }
 }

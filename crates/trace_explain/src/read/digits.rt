@@ -38,7 +38,7 @@ pub fn bytes_of(alloc: Global, digits: &[u8]) -> Result<Vec<u8>, LineFault>
     }
 }
 
-/// Appends a byte.
+/// Appends a byte. Returns `AllocError` if memory ran out: `bytes` is unchanged.
 pub fn push(bytes: &mut Vec<u8>, byte: u8) -> Result<(), AllocError>
     ensures { OnOk result (bytes.new.items ≡ bytes.old.items ++ byte ∷ []) }
 {

@@ -6,8 +6,9 @@ ghost use Rattle.trace_explain.specs.Lines.{sign_of};
 use std::fmt;
 use t0_core::End;
 
-/// The two signs of a trace, as in `signs`. The first line with a sign decides, unless `--form`
-/// does.
+/// The two signs of a trace. The first line with a sign decides, unless `--form` does. The proof
+/// compares `Sign::of_word` with `signs_of`; `checks/explain` tries each name and each text of
+/// `Display`, which repeat the signs.
 #[derive(Clone, Copy, Debug, PartialEq, Eq)]
 pub enum Form {
     Angle,
@@ -40,28 +41,23 @@ impl Form {
             sign => Some(Sign::of_word(sign.as_bytes())?.form),
         }
     }
-
-    /// Returns its two signs, the terminal's first.
-    fn signs(self) -> [&'static str; 2] {
-        match self {
-            Form::Angle => [">", "<"],
-            Form::Angles => [">>", "<<"],
-            Form::Arrow => ["->", "<-"],
-            Form::Double => ["=>", "<="],
-            Form::Wire => ["TX", "RX"],
-            Form::WireColon => ["TX:", "RX:"],
-            Form::WireMixed => ["Tx:", "Rx:"],
-            Form::Letter => ["T:", "C:"],
-            Form::Device => ["IFD", "ICC"],
-            Form::DeviceColon => ["IFD:", "ICC:"],
-        }
-    }
 }
 
+/// Its two signs, the terminal's first.
 impl fmt::Display for Form {
     fn fmt<W: fmt::Write>(&self, f: &mut fmt::Formatter<W>) -> fmt::Result {
-        let [terminal, card] = self.signs();
-        write!(f, "{terminal} and {card}")
+        f.write_str(match self {
+            Form::Angle => "> and <",
+            Form::Angles => ">> and <<",
+            Form::Arrow => "-> and <-",
+            Form::Double => "=> and <=",
+            Form::Wire => "TX and RX",
+            Form::WireColon => "TX: and RX:",
+            Form::WireMixed => "Tx: and Rx:",
+            Form::Letter => "T: and C:",
+            Form::Device => "IFD and ICC",
+            Form::DeviceColon => "IFD: and ICC:",
+        })
     }
 }
 

@@ -1,10 +1,10 @@
 //! A log of whole TPDUs or APDUs, read line by line: pairs each command with its answer.
-ghost use Rattle.std.specs.Prelude.{◌≡◌, ◌++◌, ◌∷◌, ◌-◌, [], IfErr, List, OnOk, Some, length, map, ℕ};
-ghost use Rattle.trace_explain.specs.LogLines.{IsBadDump, IsBadLogLine, SaysLog, dumped_in};
-ghost use Rattle.trace_explain.specs.declared.read.log.Open.TheVariants.{Nothing};
-ghost use Rattle.trace_explain.specs.Logs.{IsBadIn, Step, TakesLogLine, Took, answered, at_first, begun, behind_answer, logged_of, closed, ended, given_up, continued, log_at, opened, resumed, taken, with_bytes};
+ghost use Rattle.std.specs.Prelude.{◌≡◌, ◌++◌, ◌∷◌, [], IfErr, OnOk, map};
+ghost use Rattle.trace_explain.specs.LogLines.{IsBadLogLine, SaysLog};
+ghost use Rattle.trace_explain.specs.declared.read.log_line.Open.TheVariants.{Nothing};
+ghost use Rattle.trace_explain.specs.Logs.{IsBadIn, Step, TakesLogLine, Took, answered, at_first, begun, behind_answer, closed, continued, ended, given_up, log_at, logged_of, taken};
 
-use crate::read::log_line::{LogLine, Rest, read_dump, read_log_line, read_rest};
+use crate::read::log_line::{LogLine, Open, left_of, read_dump, read_log_line, read_rest};
 use crate::read::trace_line::LineFault;
 use std::alloc::{AllocError, Global};
 use std::mem;
@@ -27,24 +27,6 @@ pub enum Logged {
     Reset,
     /// The line contains something else.
     Note,
-}
-
-impl Logged {
-    /// Whether the card was reset.
-    pub fn is_reset(&self) -> bool {
-        matches!(self, Logged::Reset)
-    }
-}
-
-/// What the next line may continue.
-#[derive(Clone, Copy)]
-pub enum Open {
-    /// Nothing.
-    Nothing,
-    /// An answer.
-    Answer,
-    /// A dump of a command or an answer, with the number of bytes left.
-    Dump(End, usize),
 }
 
 /// A log: what may continue, and the last command if it has no answer yet.
@@ -89,12 +71,19 @@ impl Log {
         ensures refused { IfErr result (λ why. IsBadIn self.old.pending why line.now) }
     {
         match self.pending {
-            Open::Dump(from, left) => self.take_dump(from, left, line, logged),
-            Open::Answer => match read_rest(self.alloc, line)? {
-                Rest::None => self.take_behind_answer(line, logged),
-                rest => Ok(self.take_rest(rest, logged)?),
-            },
             Open::Nothing => self.take_line(line, logged),
+            Open::Answer => {
+                let (bytes, next) = read_rest(self.alloc, line)?;
+                if bytes.is_empty() {
+                    return self.take_behind_answer(line, logged);
+                }
+                Ok(self.take_bytes(End::Card, bytes, next, logged)?)
+            }
+            Open::Dump(from, left) => {
+                let bytes = read_dump(self.alloc, left, line)?;
+                let next = left_of(from, left.saturating_sub(bytes.len()));
+                Ok(self.take_bytes(from, bytes, next, logged)?)
+            }
         }
     }
 
@@ -116,107 +105,51 @@ impl Log {
             × Took (taken (log_at self.old) log_line) logged.old.items logged.new.items self.new) }
         ensures refused { IfErr result (λ why. IsBadLogLine why line.now) }
     {
-        let log_line = read_log_line(self.alloc, line)?;
-        Ok(self.take_log_line(log_line, logged)?)
-    }
-
-    /// Takes the content of a line while nothing is open.
-    fn take_log_line(
-        &mut self,
-        log_line: LogLine,
-        logged: &mut Vec<Logged>,
-    ) -> Result<(), AllocError>
-        ensures { OnOk result
-            (Took (taken (log_at self.old) log_line) logged.old.items logged.new.items self.new) }
-    {
-        self.has_begun = self.has_begun || !matches!(&log_line, LogLine::Reset | LogLine::Note);
-        match log_line {
-            LogLine::Command(bytes) => {
-                self.begin(logged)?;
-                self.command = Some(bytes);
-                Ok(())
-            }
-            LogLine::Answer(bytes) => self.answer(bytes, logged),
-            LogLine::Front(bytes) => {
-                self.pending = Open::Answer;
-                self.bytes = bytes;
-                Ok(())
-            }
-            LogLine::Dump(from, size) => self.open_dump(from, size, logged),
+        match read_log_line(self.alloc, line)? {
+            LogLine::Bytes(from, bytes, next) => { Ok(self.take_first(from, bytes, next, logged)?) }
             LogLine::Reset => {
                 self.cut_off(logged)?;
-                push(logged, Logged::Reset)
+                Ok(push(logged, Logged::Reset)?)
             }
-            LogLine::Note => push(logged, Logged::Note),
+            LogLine::Note => Ok(push(logged, Logged::Note)?),
         }
     }
 
-    /// Opens a dump of `size` bytes.
-    fn open_dump(
+    /// Takes the first bytes of a command or an answer.
+    fn take_first(
         &mut self,
         from: End,
-        size: usize,
+        bytes: Vec<u8>,
+        next: Open,
         logged: &mut Vec<Logged>,
     ) -> Result<(), AllocError>
-        ensures { OnOk result (Took (opened (log_at self.old) from size) logged.old.items
-            logged.new.items self.new) }
+        ensures { OnOk result (Took (taken (log_at self.old) (LogLine.Bytes from bytes next))
+            logged.old.items logged.new.items self.new) }
     {
+        self.has_begun = true;
         if from == End::Terminal {
             self.begin(logged)?;
         }
-        self.continue_dump(from, size, logged)
+        self.take_bytes(from, bytes, next, logged)
     }
 
-    /// Continues a dump with `left` more bytes; closes it if that is 0.
-    fn continue_dump(
+    /// Takes bytes of a command or an answer. They are the last ones if it is not open.
+    fn take_bytes(
         &mut self,
         from: End,
-        left: usize,
+        bytes: Vec<u8>,
+        next: Open,
         logged: &mut Vec<Logged>,
     ) -> Result<(), AllocError>
-        ensures { OnOk result (Took (continued (log_at self.old) from left) logged.old.items
-            logged.new.items self.new) }
-    {
-        if left == 0 {
-            return self.close(from, logged);
-        }
-        self.pending = Open::Dump(from, left);
-        Ok(())
-    }
-
-    /// Takes a line of a dump with `left` more bytes.
-    fn take_dump(
-        &mut self,
-        from: End,
-        left: usize,
-        line: &[u8],
-        logged: &mut Vec<Logged>,
-    ) -> Result<(), LineFault>
-        ensures takes { OnOk result ((bytes : List ℕ) × (dumped_in left line.now ≡ Some bytes)
-            × Took (continued (with_bytes (log_at self.old) bytes) from (left - length bytes))
+        ensures { OnOk result (Took (continued (log_at self.old) from bytes.items next)
             logged.old.items logged.new.items self.new) }
-        ensures refused { IfErr result (λ why. IsBadDump why left line.now) }
     {
-        let bytes = read_dump(self.alloc, left, line)?;
         self.bytes.extend_from_slice(bytes.as_slice())?;
-        Ok(self.continue_dump(from, left.saturating_sub(bytes.len()), logged)?)
-    }
-
-    /// Takes more of the open answer.
-    fn take_rest(&mut self, rest: Rest, logged: &mut Vec<Logged>) -> Result<(), AllocError>
-        ensures { OnOk result (Took (resumed (log_at self.old) rest) logged.old.items
-            logged.new.items self.new) }
-    {
-        match rest {
-            Rest::None => Ok(()),
-            Rest::More(bytes) => {
-                self.bytes.extend_from_slice(bytes.as_slice())?;
-                Ok(())
-            }
-            Rest::Last(bytes) => {
-                self.bytes.extend_from_slice(bytes.as_slice())?;
-                self.close(End::Card, logged)
-            }
+        self.pending = next;
+        match next {
+            Open::Nothing => self.close(from, logged),
+            Open::Answer => Ok(()),
+            Open::Dump(_, _) => Ok(()),
         }
     }
 
@@ -277,7 +210,8 @@ impl Log {
     }
 
     /// Ends the log, and appends what that adds to `logged`. An open answer is then whole, an open
-    /// dump is cut off, and the last command may have no answer.
+    /// dump is cut off, and the last command may have no answer. Returns `AllocError` if memory ran
+    /// out: `logged` may lack some of it.
     pub fn end(&mut self, logged: &mut Vec<Logged>) -> Result<(), AllocError>
         ensures { OnOk result (map logged_of logged.new.items
             ≡ map logged_of logged.old.items ++ ended (log_at self.old)) }

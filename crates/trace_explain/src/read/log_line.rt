@@ -1,6 +1,6 @@
 //! The lines of a log of whole TPDUs or APDUs, as PC/SC programs write them.
 ghost use Rattle.std.specs.Prelude.{◌≡◌, Some, IfOk, IfErr};
-ghost use Rattle.trace_explain.specs.LogLines.{IsBadDump, IsBadLogLine, IsBadSize, SaysLog, SaysOpen, SaysRest, behind_prefix, cut_answer, cut_line, cut_signed, cut_text, dumped_in, is_of_prefix, is_reset, number_in, size_in};
+ghost use Rattle.trace_explain.specs.LogLines.{IsBadDump, IsBadLogLine, IsBadSize, SaysLog, behind_prefix, cut_answer, cut_line, cut_signed, cut_text, dumped_in, is_of_prefix, left_of, number_in, open_if, rest_in, rest_open, size_in};
 
 use crate::read::digits::bytes_of;
 use crate::read::time::{cut_time, place_of};
@@ -14,14 +14,22 @@ const ROW: usize = 16;
 /// ESC, which begins a colour.
 const ESC: u8 = 0x1B;
 
+/// What the next line may continue.
+#[derive(Clone, Copy)]
+pub enum Open {
+    /// Nothing.
+    Nothing,
+    /// An answer.
+    Answer,
+    /// A dump of a command or an answer, with the number of bytes left.
+    Dump(End, usize),
+}
+
 /// What a line is, by its first characters.
 #[derive(Clone, Copy)]
 pub enum LineKind {
-    Command,
-    /// An answer that ends in this line.
-    Answer,
-    /// An answer that may continue in the next line.
-    OpenAnswer,
+    /// Bytes of a command or an answer, and whether the next line may continue it.
+    Bytes(End, bool),
     /// The head of a dump of a command or an answer.
     Dump(End),
     Reset,
@@ -34,27 +42,13 @@ pub enum LineKind {
 /// The content of a line.
 #[derive(Drop)]
 pub enum LogLine {
-    Command(Vec<u8>),
-    Answer(Vec<u8>),
-    /// An answer that the next line may continue.
-    Front(Vec<u8>),
-    /// The head of a dump of this many bytes: of a command or an answer.
-    Dump(End, usize),
+    /// The first bytes of a command or an answer, and what the next line may continue. The head of
+    /// a dump has none.
+    Bytes(End, Vec<u8>, Open),
     /// The card was reset.
     Reset,
     /// Something else.
     Note,
-}
-
-/// How a line continues an answer.
-#[derive(Drop)]
-pub enum Rest {
-    /// Not at all: the answer has ended before.
-    None,
-    /// With its last bytes.
-    Last(Vec<u8>),
-    /// With more bytes, which the next line may continue.
-    More(Vec<u8>),
 }
 
 /// Reads a line while neither an answer nor a dump is open.
@@ -69,50 +63,63 @@ pub fn read_log_line(alloc: Global, line: &[u8]) -> Result<LogLine, LineFault>
 {
     let (kind, part) = cut_line(line);
     match kind {
-        LineKind::Command => Ok(LogLine::Command(bytes_of(alloc, part)?)),
-        LineKind::Answer => Ok(LogLine::Answer(bytes_of(alloc, part)?)),
-        LineKind::OpenAnswer => Ok(open_answer(bytes_of(alloc, part)?)),
-        LineKind::Dump(from) => Ok(LogLine::Dump(from, size_of_dump(part)?)),
+        LineKind::Bytes(from, may_continue) => {
+            let bytes = bytes_of(alloc, part)?;
+            let next = open_if(may_continue && bytes.len() == ROW);
+            Ok(LogLine::Bytes(from, bytes, next))
+        }
+        LineKind::Dump(from) => {
+            let size = size_of_dump(part)?;
+            Ok(LogLine::Bytes(from, Vec::new(alloc), left_of(from, size)))
+        }
         LineKind::Reset => Ok(LogLine::Reset),
         LineKind::Note => Ok(LogLine::Note),
         LineKind::Bad => Err(LineFault::Hex),
     }
 }
 
-/// Returns the content of a line with these bytes of an answer and no words after them.
-fn open_answer(bytes: Vec<u8>) -> LogLine
-    ensures { SaysOpen bytes.items result }
+/// Returns what an answer leaves open: itself, or nothing.
+fn open_if(may_continue: bool) -> Open
+    ensures { result ≡ open_if may_continue }
 {
-    if bytes.len() == ROW {
-        LogLine::Front(bytes)
+    if may_continue {
+        Open::Answer
     } else {
-        LogLine::Answer(bytes)
+        Open::Nothing
     }
 }
 
-/// Reads a line while an answer is open: bytes alone, or bytes before a colon. 16 bytes without a
-/// colon may continue in the next line. Any other line is no part of the answer.
+/// Returns what a dump with `left` more bytes leaves open.
+pub fn left_of(from: End, left: usize) -> Open
+    ensures { result ≡ left_of from left }
+{
+    if left == 0 {
+        Open::Nothing
+    } else {
+        Open::Dump(from, left)
+    }
+}
+
+/// Reads a line while an answer is open, and returns its bytes with what they leave open: bytes
+/// alone, or bytes before a colon. 16 bytes without a colon may continue in the next line. Any
+/// other line is no part of the answer, and has no bytes.
 ///
 /// # Errors
 ///
 /// - `OutOfMemory`: memory ran out.
-pub fn read_rest(alloc: Global, line: &[u8]) -> Result<Rest, LineFault>
-    ensures says { IfOk result (λ rest. SaysRest line.now rest) }
+pub fn read_rest(alloc: Global, line: &[u8]) -> Result<(Vec<u8>, Open), LineFault>
+    ensures says { IfOk result (λ rest. (rest.0.items ≡ rest_in line.now)
+        × (rest.1 ≡ rest_open line.now)) }
     ensures wants { IfErr result (λ why. why ≡ LineFault.OutOfMemory) }
 {
     let end = place_of(b':', line);
     let bytes = match bytes_of(alloc, &line[..end]) {
         Ok(bytes) => bytes,
         Err(LineFault::OutOfMemory) => return Err(LineFault::OutOfMemory),
-        Err(_) => return Ok(Rest::None),
+        Err(_) => Vec::new(alloc),
     };
-    if bytes.is_empty() {
-        Ok(Rest::None)
-    } else if bytes.len() == ROW && end == line.len() {
-        Ok(Rest::More(bytes))
-    } else {
-        Ok(Rest::Last(bytes))
-    }
+    let next = open_if(bytes.len() == ROW && end == line.len());
+    Ok((bytes, next))
 }
 
 /// Reads a line of a dump with `left` more bytes: 16 of them, or all if fewer are left. A space
@@ -147,18 +154,11 @@ fn cut_line(line: &[u8]) -> (LineKind, &[u8])
     if rest.starts_with(b">") || rest.starts_with(b"<") {
         return cut_signed(rest);
     }
-    if is_reset(rest) {
+    if rest.starts_with(b"reset") && rest.len() == 5 {
         return (LineKind::Reset, rest);
     }
     let text = behind_prefix(line);
     cut_text(line, &text[..place_of(ESC, text)])
-}
-
-/// Whether the line is `reset` alone.
-fn is_reset(rest: &[u8]) -> bool
-    ensures { result ≡ is_reset rest.now }
-{
-    rest.starts_with(b"reset") && rest.len() == 5
 }
 
 /// Cuts a line with `>` or `<`, as `scriptor` and `gt_pcsc` write it.
@@ -169,7 +169,7 @@ fn cut_signed(rest: &[u8]) -> (LineKind, &[u8])
     if rest.starts_with(b"> RESET") {
         (LineKind::Reset, rest)
     } else if rest.starts_with(b"> ") {
-        (LineKind::Command, &rest[2..])
+        (LineKind::Bytes(End::Terminal, false), &rest[2..])
     } else if rest.starts_with(b"< OK:") || rest.starts_with(b"< KO:") {
         (LineKind::Note, rest)
     } else if rest.starts_with(b"< ") {
@@ -186,9 +186,9 @@ fn cut_answer(behind: &[u8]) -> (LineKind, &[u8])
 {
     let end = place_of(b':', behind);
     if end < behind.len() {
-        (LineKind::Answer, &behind[..end])
+        (LineKind::Bytes(End::Card, false), &behind[..end])
     } else {
-        (LineKind::OpenAnswer, behind)
+        (LineKind::Bytes(End::Card, true), behind)
     }
 }
 
@@ -198,9 +198,9 @@ fn cut_text<'a>(line: &'a [u8], text: &'a [u8]) -> (LineKind, &'a [u8])
     ensures part { result.1.now ≡ (cut_text line.now text.now).1 }
 {
     if text.starts_with(b"APDU:") {
-        (LineKind::Command, &text[5..])
+        (LineKind::Bytes(End::Terminal, false), &text[5..])
     } else if text.starts_with(b"SW:") {
-        (LineKind::Answer, &text[3..])
+        (LineKind::Bytes(End::Card, false), &text[3..])
     } else if line.starts_with(b"Outgoing APDU (") {
         (LineKind::Dump(End::Terminal), &line[15..])
     } else if line.starts_with(b"Incoming APDU (") {
@@ -256,13 +256,4 @@ fn number_of(digits: &[u8]) -> Option<usize>
         number = number * 10 + usize::from(digit - b'0');
     }
     Some(number)
-}
-
-/// Returns the time before the sign of a line, or before `reset`; of any other line, nothing.
-pub fn time_of(line: &[u8]) -> &[u8] {
-    let (time, rest) = cut_time(line);
-    match rest {
-        [b'>' | b'<', ..] | b"reset" => time,
-        _ => &line[..0],
-    }
 }

@@ -1,5 +1,4 @@
 //! How the lines of a trace are read.
-
 ghost use Rattle.std.specs.Prelude.{◌≡◌};
 ghost use Rattle.t0_core.specs.TapSide.{other_end};
 ghost use Rattle.trace_explain.specs.Lines.{read_on};
@@ -25,7 +24,8 @@ pub struct Reading {
 }
 
 impl Reading {
-    /// The same after a line of characters of this source, whose sign decides the form.
+    /// The same after a line of characters of this source: the form is that of its sign, whatever
+    /// it was before. Without a sign nothing changes.
     pub fn with(self, source: &Source) -> Reading
         ensures { result ≡ read_on source.now self }
     {
@@ -38,13 +38,15 @@ impl Reading {
         }
     }
 
-    /// Returns the time that counts: without signs, digits alone are bytes and no time.
-    pub fn counted<'a>(&self, time: &'a [u8]) -> &'a [u8] {
-        if self.unsigned.is_some() && are_decimal(time) {
-            &[]
+    /// Returns the time that counts, before this rest of a line. Without signs, digits alone are
+    /// bytes. In a log a time precedes a sign or `reset`.
+    pub fn counted<'a>(&self, time: &'a [u8], rest: &[u8]) -> &'a [u8] {
+        let counts = if self.of_tpdus {
+            matches!(rest, [b'>' | b'<', ..] | b"reset")
         } else {
-            time
-        }
+            self.unsigned.is_none() || !are_decimal(time)
+        };
+        if counts { time } else { &[] }
     }
 
     /// Returns the end whose characters follow this end's sign.

@@ -1,6 +1,6 @@
 //! The time before the sign of a line, or before digits without one.
-ghost use Rattle.std.specs.Prelude.{◌≡◌, ◌≤◌, length};
-ghost use Rattle.trace_explain.specs.Times.{are_decimal, are_of_time, behind_clock, behind_spaces, behind_time, bracket_len, is_bracketed, is_shift, is_stamp, is_unit, place_of, shift_len, stamp_len, time_in, time_len};
+ghost use Rattle.std.specs.Prelude.{◌≡◌, ◌≤◌, ◌+◌, length};
+ghost use Rattle.trace_explain.specs.Times.{are_decimal, are_of_time, behind_clock, behind_spaces, behind_time, bracket_len, is_stamp, is_unit, place_of, shift_len, stamp_len, time_in, time_len};
 
 /// Returns the time that a line begins with, and what follows it and its spaces. Without a time the
 /// first is empty, and the second is the whole line.
@@ -44,8 +44,8 @@ fn time_len(line: &[u8]) -> usize
     ensures within { result ≤ length line.now }
 {
     match line {
-        [b'[', ..] => bracket_len(line),
-        [b'+', ..] => shift_len(line),
+        [b'[', rest @ ..] => bracket_len(rest),
+        [b'+', rest @ ..] => shift_len(rest),
         _ => stamp_len(line),
     }
 }
@@ -59,29 +59,30 @@ fn stamp_len(line: &[u8]) -> usize
     if is_stamp(&line[..size]) { size } else { 0 }
 }
 
-/// The same for such digits in brackets, perhaps with spaces before them.
-fn bracket_len(line: &[u8]) -> usize
-    ensures value { result ≡ bracket_len line.now }
-    ensures within { result ≤ length line.now }
+/// The same for such digits in brackets, perhaps with spaces before them. `rest` is the line behind
+/// the first bracket.
+fn bracket_len(rest: &[u8]) -> usize
+    ensures value { result ≡ bracket_len rest.now }
+    ensures within { result ≤ length rest.now + 1 }
 {
-    let size = place_of(b']', line);
-    if size < line.len() && is_bracketed(&line[..size]) {
-        size + 1
+    let size = place_of(b']', rest);
+    if size < rest.len() && is_stamp(behind_spaces(&rest[..size])) {
+        size + 2
     } else {
         0
     }
 }
 
-/// The same for `+`, digits and a unit.
-fn shift_len(line: &[u8]) -> usize
-    ensures value { result ≡ shift_len line.now }
-    ensures within { result ≤ length line.now }
+/// The same for `+`, digits and a unit. `rest` is the line behind `+`.
+fn shift_len(rest: &[u8]) -> usize
+    ensures value { result ≡ shift_len rest.now }
+    ensures within { result ≤ length rest.now + 1 }
 {
-    let (shift, rest) = line.split_at(place_of(b' ', line));
-    let unit = behind_spaces(rest);
+    let (shift, behind) = rest.split_at(place_of(b' ', rest));
+    let unit = behind_spaces(behind);
     let size = place_of(b' ', unit);
-    if is_shift(shift) && is_unit(&unit[..size]) {
-        line.len() - unit.len() + size
+    if is_stamp(shift) && is_unit(&unit[..size]) {
+        rest.len() - unit.len() + size + 1
     } else {
         0
     }
@@ -119,26 +120,6 @@ fn is_stamp(word: &[u8]) -> bool
 {
     match word {
         [b'0'..=b'9', rest @ ..] => are_of_time(rest),
-        _ => false,
-    }
-}
-
-/// Whether the bytes are a bracket, spaces and such a word.
-fn is_bracketed(front: &[u8]) -> bool
-    ensures { result ≡ is_bracketed front.now }
-{
-    match front {
-        [b'[', rest @ ..] => is_stamp(behind_spaces(rest)),
-        _ => false,
-    }
-}
-
-/// Whether the word is `+` and then such a word.
-fn is_shift(word: &[u8]) -> bool
-    ensures { result ≡ is_shift word.now }
-{
-    match word {
-        [b'+', rest @ ..] => is_stamp(rest),
         _ => false,
     }
 }

@@ -1,6 +1,6 @@
 //! The lines of a trace of characters, with or without signs.
 ghost use Rattle.std.specs.Prelude.{◌≡◌, IfOk, IfErr};
-ghost use Rattle.trace_explain.specs.Lines.{Says, SaysSigned, SaysUnsigned, SpellsNothing, IsBadLine, IsBadSigned, IsBadUnsigned, begins_with_word, ends_word, is_signed};
+ghost use Rattle.trace_explain.specs.Lines.{Says, SaysSigned, SaysUnsigned, IsBadLine, IsBadSigned, IsBadUnsigned, ends_word, is_signed};
 ghost use Rattle.trace_explain.specs.Times.{behind_time, time_in};
 
 use crate::read::digits::{bytes_of, is_digits};
@@ -10,6 +10,7 @@ use crate::read::time::{behind_clock, place_of};
 use crate::read::ways::Ways;
 use std::alloc::{AllocError, Global};
 use t0_core::End;
+use thiserror::Error;
 
 /// Who sends the characters of a line.
 #[derive(Clone, Copy)]
@@ -32,20 +33,26 @@ pub enum TraceLine<'a> {
 }
 
 /// Why a line is refused.
-#[derive(Clone, Copy)]
+#[derive(Clone, Copy, Debug, Error)]
 pub enum LineFault {
     /// It begins with a sign, and something other than a space and two digits for each byte
     /// follows. A sign alone is valid. With `--unsigned`: it has not two digits for each byte. In a
     /// log: it begins as one with bytes, or continues a dump, and does not spell bytes.
+    #[error("bad hex")]
     Hex,
     /// Its sign has another form than this one, which `--form` or a line before gave.
+    #[error("a sign of another form than {0}")]
     OtherForm(Form),
     /// It contains digits alone, perhaps after a time. No line before has a sign, and `--form` is
     /// missing.
+    #[error("no sign says which end sent these digits, and no line before has one: \
+        `--unsigned` reads such lines")]
     NoSign,
     /// It begins with a sign, and `--unsigned` expects none.
+    #[error("a sign, and with `--unsigned` lines have none")]
     Signed,
     /// Memory ran out.
+    #[error("out of memory")]
     OutOfMemory,
 }
 
@@ -98,7 +105,14 @@ fn read_signed<'a>(
 {
     let (word, digits) = rest.split_at(place_of(b' ', rest));
     let Some(sign) = Sign::of_word(word) else {
-        return without_sign(known, line, rest);
+        if is_signed(rest) {
+            return Err(LineFault::Hex);
+        }
+        return match rest {
+            b"reset" => Ok(TraceLine::Reset),
+            _ if known.is_none() && (is_digits(line) || is_digits(rest)) => Err(LineFault::NoSign),
+            _ => Ok(TraceLine::Note(line)),
+        };
     };
     let bytes = bytes_of(alloc, digits)?;
     match known {
@@ -138,50 +152,17 @@ fn read_unsigned<'a>(
     })
 }
 
-/// Reads a line whose first word is not a sign. `behind` is what follows its time.
-fn without_sign<'a>(
-    known: Option<Form>,
-    line: &'a [u8],
-    behind: &[u8],
-) -> Result<TraceLine<'a>, LineFault>
-    requires { behind.now ≡ behind_time line.now }
-    ensures says { IfOk result (λ trace_line. SaysSigned known line.now trace_line) }
-    ensures refused { IfErr result (λ why.
-        SpellsNothing line.now → IsBadSigned why known line.now) }
-{
-    if is_signed(behind) {
-        return Err(LineFault::Hex);
-    }
-    match behind {
-        b"reset" => Ok(TraceLine::Reset),
-        _ if known.is_none() && (is_digits(line) || is_digits(behind)) => Err(LineFault::NoSign),
-        _ => Ok(TraceLine::Note(line)),
-    }
-}
-
 /// Whether the line begins with a sign. A sign of letters alone must be a whole word.
 fn is_signed(line: &[u8]) -> bool
     ensures { result ≡ is_signed line.now }
 {
-    line.starts_with(b">")
-        || line.starts_with(b"<")
-        || line.starts_with(b"->")
-        || line.starts_with(b"=>")
-        || line.starts_with(b"Tx:")
-        || line.starts_with(b"Rx:")
-        || line.starts_with(b"T:")
-        || line.starts_with(b"C:")
-        || begins_with_word(line, b"TX")
-        || begins_with_word(line, b"RX")
-        || begins_with_word(line, b"IFD")
-        || begins_with_word(line, b"ICC")
-}
-
-/// Whether the line begins with this word.
-fn begins_with_word(line: &[u8], word: &[u8]) -> bool
-    ensures { result ≡ begins_with_word line.now word.now }
-{
-    line.starts_with(word) && ends_word(&line[word.len()..])
+    match line {
+        [b'>' | b'<', ..] | [b'-' | b'=', b'>', ..] => true,
+        [b'T' | b'R', b'x', b':', ..] | [b'T' | b'C', b':', ..] => true,
+        [b'T' | b'R', b'X', rest @ ..] => ends_word(rest),
+        [b'I', b'F', b'D', rest @ ..] | [b'I', b'C', b'C', rest @ ..] => ends_word(rest),
+        _ => false,
+    }
 }
 
 /// Whether a word ends before these bytes: the first is not a letter or digit.

@@ -39,7 +39,10 @@ impl Ways {
     /// - `Both`: this instruction has the other way already.
     pub fn give(&mut self, way: Direction, words: &str) -> Result<(), WaysFault> {
         for word in words.split(',') {
-            let ins = ins_of(word.as_bytes()).ok_or(WaysFault::Form)?;
+            let [high, low] = word.as_bytes() else {
+                return Err(WaysFault::Form);
+            };
+            let ins = byte_of(*high, *low).ok_or(WaysFault::Form)?;
             let place = usize::from(ins);
             let before = self.given[place];
             if before.is_some() && before != Some(way) {
@@ -50,8 +53,9 @@ impl Ways {
         Ok(())
     }
 
-    /// Returns which way the data of an instruction go: as the options give it, or else as the
-    /// standards do. Returns `None` if neither does.
+    /// Returns which way the data of an instruction go. The options' way of this INS counts in
+    /// every class. Without one it is the way of `instruction`, by class and INS. Returns `None` if
+    /// that does not know the instruction either.
     pub fn of(&self, cla: u8, ins: u8) -> Option<Direction>
         ensures { result ≡ way_of self.now cla ins }
     {
@@ -71,13 +75,5 @@ impl fmt::Display for WaysFault {
             }
             WaysFault::Both(ins) => write!(f, "both ways are said of {ins:02X}"),
         }
-    }
-}
-
-/// Returns the INS that two digits spell.
-fn ins_of(word: &[u8]) -> Option<u8> {
-    match word {
-        [high, low] => byte_of(*high, *low),
-        _ => None,
     }
 }

@@ -1,5 +1,4 @@
 //! The box of an answer to reset.
-
 ghost use Rattle.std.specs.Prelude.{◌≡◌};
 ghost use Rattle.atr_core.specs.Values.{protocols_of};
 ghost use Rattle.trace_explain.specs.Openings.{unread};
@@ -8,7 +7,7 @@ use crate::describe::mask::Mask;
 use crate::follow::opening::{is_direct, is_short};
 use crate::follow::preface::Preface;
 use crate::write::ascii::{push_digits, push_hex_lines};
-use crate::write::layout::{Kind, Side};
+use crate::write::layout::{Anchor, Kind, Side};
 use crate::write::page::Page;
 use crate::write::sheet::Sheet;
 use atr_core::{Atr, AtrFault, Category, Fi, di};
@@ -18,7 +17,8 @@ use atr_core::{Atr, AtrFault, Category, Fi, di};
 pub fn tell_answer(mask: &Mask, preface: &Preface, page: &mut Page) {
     let bytes = preface.answer.as_slice();
     let read = Atr::read(bytes);
-    page.open_titled(kind_of(&read), "answer to reset", preface.line);
+    let kind = kind_of(&read);
+    page.open(kind, Anchor::None, "answer to reset", preface.line);
     if read.is_err() {
         mask.push_unknown(&mut page.lines, bytes);
     } else {

@@ -1,9 +1,9 @@
 //! Bytes as lines of hexadecimal digits, with their text beside them if they are printable.
-
 ghost use Rattle.std.specs.Prelude.{◌≡◌, ◌<◌, ◌∷◌, ◌++◌, drop, length, take};
 ghost use Rattle.trace_explain.specs.Sheets.{Adds, PutsLines};
 ghost use Rattle.trace_explain.specs.Written.{AreDigits, AreLines, are_printable, beside, content, is_text, spaces, width};
 
+use crate::write::layout::Medium;
 use crate::write::row::push_letters;
 use crate::write::sheet::Sheet;
 
@@ -96,7 +96,7 @@ pub fn cut(bytes: &[u8], width: usize) -> (&[u8], &[u8])
     }
 }
 
-/// Adds bytes as digits, with their text in quotes beside them if `is_text`.
+/// Adds bytes as digits in one line, without LF. Their text is in quotes beside them if `is_text`.
 pub fn push_content(lines: &mut Sheet, is_text: bool, bytes: &[u8])
     ensures { Adds lines.old (content is_text bytes.now) lines.new }
 {
@@ -110,7 +110,7 @@ fn push_beside(lines: &mut Sheet, is_text: bool, bytes: &[u8])
 {
     if is_text {
         lines.push_str(" \"");
-        push_letters(lines, None, bytes);
+        push_letters(lines, Medium::Text, "", bytes);
         lines.push_str("\"");
     }
 }

@@ -3,13 +3,13 @@
 use crate::describe::complaint::{ASTRAY, Complaint, end_text, expected_text};
 use crate::describe::mask::Mask;
 use crate::follow::pair::PairFault;
-use crate::write::layout::{Anchor, Head, Kind, Side};
+use crate::write::layout::{Anchor, Kind, Side};
 use crate::write::page::Page;
 
 /// Adds the box of the protocol error with this number, an unexpected byte.
 pub fn tell_complaint(number: u64, complaint: Complaint, page: &mut Page) {
-    page.lines.push_str("unexpected byte");
-    page.open(head(number, complaint.line));
+    let anchor = Anchor::Error(number);
+    page.open(Kind::Error, anchor, "unexpected byte", complaint.line);
     let character = complaint.place.saturating_add(1);
     writeln!(page.lines, "line {}, character {character}", complaint.line);
     page.row(Side::Nobody, "place");
@@ -40,8 +40,8 @@ pub fn tell_bad_pair(
     mask: &Mask,
     page: &mut Page,
 ) {
-    page.lines.push_str("unexpected command or answer");
-    page.open(head(number, line));
+    let anchor = Anchor::Error(number);
+    page.open(Kind::Error, anchor, "unexpected command or answer", line);
     writeln!(page.lines, "{why}");
     page.row(Side::Nobody, "fault");
     mask.push_unknown(&mut page.lines, command);
@@ -52,14 +52,4 @@ pub fn tell_bad_pair(
     }
     page.row(Side::Card, "answer");
     page.close();
-}
-
-/// The head of the box of the protocol error with this number.
-fn head(number: u64, line: u64) -> Head<'static> {
-    Head {
-        kind: Kind::Error,
-        line,
-        status: &[],
-        anchor: Anchor::Error(number),
-    }
 }

@@ -56,13 +56,15 @@ impl Counts {
         self.complaints
     }
 
-    /// Counts a protocol error in this line.
+    /// Counts a protocol error in this line. Returns `AllocError` if memory ran out: the error is
+    /// counted, and its line may be missing.
     pub fn complain(&mut self, line: u64) -> Result<(), AllocError> {
         self.complaints = self.complaints.saturating_add(1);
         push_first(&mut self.error_lines, line)
     }
 
-    /// Counts a TPDU.
+    /// Counts a TPDU. Returns `AllocError` if memory ran out: the TPDU is counted; its command or
+    /// status may be missing.
     pub fn take(&mut self, tpdu: &Tpdu) -> Result<(), AllocError> {
         self.tpdus = self.tpdus.saturating_add(1);
         self.take_command(tpdu)?;
@@ -96,7 +98,7 @@ impl Counts {
     /// Adds the last block. Its time is the sum of the clock's steps, so that it may exceed a day.
     /// If one step is unknown, so is the time.
     pub fn tell(&self, clock: &Clock, page: &mut Page) {
-        page.open_block("summary");
+        page.open_block();
         write!(page.lines, "{}", self.tpdus);
         if self.cut_off > 0 {
             write!(page.lines, " (cut off: {})", self.cut_off);
@@ -110,8 +112,8 @@ impl Counts {
         page.row(Side::Nobody, "protocol");
         clock.push_whole(&mut page.lines);
         page.row(Side::Nobody, "time");
-        let (lines, unwell) = (self.error_lines.as_slice(), self.first_unwell.as_slice());
-        page.links(lines, self.complaints, unwell, self.unwell);
+        page.link_errors(self.error_lines.as_slice(), self.complaints);
+        page.link_statuses(self.first_unwell.as_slice(), self.unwell);
         page.close_block();
     }
 

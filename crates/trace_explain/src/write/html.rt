@@ -1,44 +1,41 @@
 //! Parts of a page of HTML. The page needs no other file, no script and no network.
+ghost use Rattle.std.specs.Prelude.{◌≡◌};
+ghost use Rattle.trace_explain.specs.Sheets.{Adds};
+ghost use Rattle.trace_explain.specs.Written.{box_begin, box_end, class_of, fold_text, id_text, mark_text, name_of, whole_mark};
 
-use crate::write::layout::{Anchor, Head, Kind};
+use crate::write::layout::{Anchor, Kind, Medium};
 use crate::write::sheet::Sheet;
 
-/// The end of the page.
-pub const END: &str = "</main>\n</body>\n</html>\n";
-
-/// The end of a box.
-pub const BOX_END: &str = "</details>\n";
-
-/// The end of the last block.
-pub const BLOCK_END: &str = "</section>\n";
-
-/// Begins a box, up to its title. It is folded if it shows a success.
-pub fn begin(out: &mut Sheet, head: Head<'_>) {
-    let class = class_of(head.kind);
-    write!(out, "<details class=\"{class}\"");
-    match head.anchor {
-        Anchor::None => {}
-        Anchor::Tpdu(number) => write!(out, " id=\"t{number}\""),
-        Anchor::Error(number) => write!(out, " id=\"e{number}\""),
+/// Adds the start of a box on a page, up to its title.
+pub fn push_box(sheet: &mut Sheet, kind: Kind, anchor: Anchor)
+    ensures { Adds sheet.old (box_begin sheet.old.layout.medium kind anchor) sheet.new }
+{
+    match sheet.layout().medium {
+        Medium::Text => {}
+        Medium::Html => {
+            sheet.push_str("<details class=\"");
+            sheet.push_str(class_of(kind));
+            sheet.push_str("\"");
+            push_id(sheet, anchor);
+            sheet.push_str(fold_of(kind));
+        }
     }
-    if head.kind != Kind::Well {
-        out.push_str(" open");
-    }
-    out.push_str("><summary>");
 }
 
-/// Adds the title of a box, the status after it if it is whole, and a space.
-pub fn push_title(out: &mut Sheet, title: &str, head: Head<'_>) {
-    push_escaped(out, title);
-    if let [sw1, sw2] = head.status {
-        let class = class_of(head.kind);
-        write!(out, " <b class=\"{class}\">{sw1:02X}{sw2:02X}</b>");
+/// Adds the end of a box. Text has none.
+pub fn push_box_end(sheet: &mut Sheet)
+    ensures { Adds sheet.old (box_end sheet.old.layout.medium) sheet.new }
+{
+    match sheet.layout().medium {
+        Medium::Text => {}
+        Medium::Html => sheet.push_str("</details>\n"),
     }
-    out.push(' ');
 }
 
 /// The CSS class of a box, and of the status in its title.
-fn class_of(kind: Kind) -> &'static str {
+fn class_of(kind: Kind) -> &'static str
+    ensures { result.now ≡ class_of kind }
+{
     match kind {
         Kind::Well => "well",
         Kind::Warning => "warning",
@@ -48,52 +45,66 @@ fn class_of(kind: Kind) -> &'static str {
     }
 }
 
-/// Adds links to the first of `all` protocol errors, which are in these lines, and how many more
-/// there are. Adds nothing if there are no lines.
-pub fn error_links(out: &mut Sheet, lines: &[u64], all: u64) {
-    if lines.is_empty() {
-        return;
+/// The end of the start of a box. It is folded if it shows a success.
+fn fold_of(kind: Kind) -> &'static str
+    ensures { result.now ≡ fold_text kind }
+{
+    match kind {
+        Kind::Well => "><summary>",
+        _ => " open><summary>",
     }
-    out.push_str("<p>protocol errors in");
-    let mut number: u64 = 0;
-    for line in lines {
-        number = number.saturating_add(1);
-        write!(out, " <a href=\"#e{number}\">line {line}</a>");
-    }
-    push_more(out, all.saturating_sub(number));
 }
 
-/// Adds links to the first of `all` TPDUs with a status other than `9000`, `61XX` and `6CXX`. Each
-/// is a number and a status. Adds how many more there are, or nothing if `tpdus` is empty.
-pub fn status_links(out: &mut Sheet, tpdus: &[(u64, u16)], all: u64) {
-    if tpdus.is_empty() {
-        return;
-    }
-    out.push_str("<p>statuses other than 9000, 61XX and 6CXX:");
-    let mut told: u64 = 0;
-    for (number, word) in tpdus {
-        told = told.saturating_add(1);
-        write!(out, " <a href=\"#t{number}\">#{number} {word:04X}</a>");
-    }
-    push_more(out, all.saturating_sub(told));
-}
-
-/// Adds how many more there are, and the end of the links.
-fn push_more(out: &mut Sheet, more: u64) {
-    if more > 0 {
-        write!(out, " and {more} more");
-    }
-    out.push_str("</p>\n");
-}
-
-/// Adds text, with `<`, `>` and `&` escaped, so that it is no markup.
-pub fn push_escaped(out: &mut Sheet, text: &str) {
-    for letter in text.chars() {
-        match letter {
-            '<' => out.push_str("&lt;"),
-            '>' => out.push_str("&gt;"),
-            '&' => out.push_str("&amp;"),
-            _ => out.push(letter),
+/// Adds the name of a box, if links lead to it.
+fn push_id(sheet: &mut Sheet, anchor: Anchor)
+    ensures { Adds sheet.old (id_text anchor) sheet.new }
+{
+    match anchor {
+        Anchor::None => {}
+        _ => {
+            sheet.push_str(" id=\"");
+            push_name(sheet, anchor);
+            sheet.push_str("\"");
         }
+    }
+}
+
+/// Adds the name of a box.
+pub fn push_name(sheet: &mut Sheet, anchor: Anchor)
+    ensures { Adds sheet.old (name_of anchor) sheet.new }
+{
+    match anchor {
+        Anchor::None => {}
+        Anchor::Tpdu(number) => {
+            sheet.push_str("t");
+            sheet.push_number(number);
+        }
+        Anchor::Error(number) => {
+            sheet.push_str("e");
+            sheet.push_number(number);
+        }
+    }
+}
+
+/// Adds the status in a title, if it is whole. Text has none.
+pub fn push_mark(sheet: &mut Sheet, kind: Kind, status: &[u8])
+    ensures { Adds sheet.old (mark_text sheet.old.layout.medium kind status.now) sheet.new }
+{
+    match sheet.layout().medium {
+        Medium::Text => {}
+        Medium::Html => push_whole_mark(sheet, kind, status),
+    }
+}
+
+/// Adds the status in a title of a page, if it is whole.
+fn push_whole_mark(sheet: &mut Sheet, kind: Kind, status: &[u8])
+    ensures { Adds sheet.old (whole_mark kind status.now) sheet.new }
+{
+    if status.len() == 2 {
+        sheet.push_str(" <b class=\"");
+        sheet.push_str(class_of(kind));
+        sheet.push_str("\">");
+        sheet.push_hex(status);
+        sheet.push_str("</b>");
     }
 }

@@ -54,16 +54,3 @@ pub enum Anchor {
     /// The protocol error of this number, counted from 1.
     Error(u64),
 }
-
-/// The head of a box, without its title.
-#[derive(Clone, Copy)]
-pub struct Head<'a> {
-    /// The kind of the box.
-    pub kind: Kind,
-    /// The line of the trace in which it begins, counted from 1.
-    pub line: u64,
-    /// SW1 and SW2 of a whole TPDU. SW1 alone if the TPDU is cut off after it. Otherwise empty.
-    pub status: &'a [u8],
-    /// Its name in links.
-    pub anchor: Anchor,
-}

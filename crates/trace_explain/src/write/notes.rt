@@ -1,5 +1,4 @@
 //! Notes between boxes: lines without characters, bytes outside of TPDUs, and skipped lines.
-
 ghost use Rattle.std.specs.Prelude.{◌<◌};
 
 use crate::describe::mask::{Mask, push_hidden_line};

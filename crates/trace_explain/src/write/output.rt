@@ -1,11 +1,11 @@
-//! The output: proved rows of TPDUs, joined with words.
-
+//! The output: proved boxes of TPDUs, joined with words.
 ghost use Rattle.std.specs.Prelude.{◌≡◌, [], true, false, IfErr, OnOk};
 ghost use Rattle.std.specs.String.{string_bytes};
-ghost use Rattle.trace_explain.specs.Sheets.{Joins};
+ghost use Rattle.trace_explain.specs.Sheets.{IsRow, Joins, Puts};
 
-use crate::write::layout::Layout;
+use crate::write::layout::{Layout, Side};
 use crate::write::page::Page;
+use crate::write::row::{ROW_INDENT, push_row_of};
 use crate::write::sheet::Sheet;
 use std::alloc::{AllocError, Global};
 
@@ -34,9 +34,17 @@ impl Output {
     pub fn join(&mut self)
         ensures { Joins self.old.sheet self.new.sheet }
     {
-        let is_cut = self.page.is_cut();
-        self.sheet.join(self.page.as_str(), is_cut);
+        self.page.write_to(&mut self.sheet);
         self.page.clear();
+    }
+
+    /// Adds the lines of the page as a row of a TPDU with this label. Adds nothing without lines.
+    pub fn row(&mut self, side: Side, label: &str)
+        ensures { Puts (IsRow side label.now) self.old.sheet self.new.sheet }
+    {
+        self.page.wrap(ROW_INDENT.len());
+        push_row_of(&mut self.sheet, side, label, &self.page.text);
+        self.page.text.clear();
     }
 
     /// Joins the words. Returns an error if memory ran out, now or before.
@@ -47,12 +55,5 @@ impl Output {
     {
         self.join();
         self.sheet.is_whole()
-    }
-
-    /// Returns the whole text, with the words, or `AllocError` if memory ran out.
-    pub fn into_text(self) -> Result<String, AllocError> {
-        let mut output = self;
-        output.join();
-        output.sheet.into_text()
     }
 }

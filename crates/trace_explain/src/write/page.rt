@@ -1,11 +1,13 @@
-//! The words of an explanation, in either format, with one call for each part.
+//! The words of an explanation, with one call for each part.
+ghost use Rattle.std.specs.Prelude.{◌≡◌, true};
+ghost use Rattle.trace_explain.specs.Sheets.{Joins};
+ghost use Rattle.trace_explain.specs.Words.{has_own, is_own};
 
-use crate::write::head::HEAD;
-use crate::write::html;
-use crate::write::layout::{Anchor, Head, Kind, Layout, Medium, Side};
-use crate::write::row::{ROW_INDENT, between, marks, push_before};
+use crate::write::layout::{Anchor, Kind, Layout, Medium, Side};
+use crate::write::row::ROW_INDENT;
 use crate::write::sheet::Sheet;
-use crate::write::shown::push_line;
+use crate::write::style::STYLE;
+use crate::write::words::{Form, Piece, push_pieces};
 use std::alloc::Global;
 
 /// The most columns of a line of text.
@@ -16,7 +18,11 @@ const COLUMNS: usize = 100;
 #[derive(Drop)]
 pub struct Page {
     layout: Layout,
-    out: Sheet,
+    pieces: Vec<Piece>,
+    /// The texts of the pieces, one after another, or that of a row in the box of a TPDU.
+    pub text: Sheet,
+    /// Where the text of the next piece begins.
+    begins: usize,
     /// The text of the next part: the title of a box, or the lines of a row or a note.
     pub lines: Sheet,
 }
@@ -26,24 +32,35 @@ impl Page {
     pub fn new(alloc: Global, layout: Layout) -> Page {
         Page {
             layout,
-            out: Sheet::new(alloc, layout),
+            pieces: Vec::new(alloc),
+            text: Sheet::new(alloc, layout),
+            begins: 0,
             lines: Sheet::new(alloc, layout),
         }
     }
 
-    /// The words since the last call of `clear`.
-    pub fn as_str(&self) -> &str {
-        self.out.as_str()
+    /// Adds the words since the last call of `clear` to a sheet. If memory ran out for them, it has
+    /// for the sheet.
+    pub fn write_to(&self, sheet: &mut Sheet)
+        ensures { Joins sheet.old sheet.new }
+    {
+        if self.is_cut() {
+            sheet.cut();
+        } else {
+            push_pieces(sheet, self.pieces.as_slice(), self.text.as_str().as_bytes());
+        }
     }
 
     /// Clears the words.
     pub fn clear(&mut self) {
-        self.out.clear();
+        self.pieces.clear();
+        self.text.clear();
+        self.begins = 0;
     }
 
     /// Whether memory ran out.
     pub fn is_cut(&self) -> bool {
-        self.out.is_cut() || self.lines.is_cut()
+        self.text.is_cut() || self.lines.is_cut()
     }
 
     /// Whether the next part is added.
@@ -51,138 +68,165 @@ impl Page {
         !self.layout.is_summary && !self.lines.is_cut()
     }
 
-    /// Whether it is HTML, and the next part is added.
-    fn marks(&self) -> bool {
-        matches!(self.layout.medium, Medium::Html) && self.prints()
+    /// Adds a piece with the text after that of the last one.
+    fn add(&mut self, form: Form)
+        requires own { has_own form ≡ true }
+    {
+        let end = self.text.as_str().len();
+        let size = end.saturating_sub(self.begins);
+        self.begins = end;
+        if self.pieces.push(Piece { form, size }).is_err() {
+            self.text.cut();
+        }
     }
 
     /// Adds the start of a page of HTML. Text has none.
     pub fn begin(&mut self) {
         if matches!(self.layout.medium, Medium::Html) {
-            self.out.push_str(HEAD);
+            self.text.push_str(STYLE);
+            self.add(Form::Style);
         }
     }
 
-    /// Adds the end of a page of HTML. Text has none.
-    pub fn end(&mut self) {
-        self.mark(html::END);
-    }
-
-    /// Adds this text if it is HTML.
-    fn mark(&mut self, mark: &str) {
-        if self.marks() {
-            self.out.push_str(mark);
-        }
-    }
-
-    /// Opens a box. The lines are its title.
-    pub fn open(&mut self, head: Head<'_>) {
-        self.begin_box(head);
-        self.push_title(0, head);
+    /// Opens a box with this title.
+    pub fn open(&mut self, kind: Kind, anchor: Anchor, title: &'static str, line: u64)
+        requires own { is_own title.now ≡ true }
+    {
         if self.prints() {
-            push_line(&mut self.out, head.line);
+            self.add(Form::Box(kind, anchor, title, line));
         }
     }
 
-    /// Opens a box with this title, to which no link leads.
-    pub fn open_titled(&mut self, kind: Kind, title: &str, line: u64) {
-        self.lines.push_str(title);
-        self.open(Head {
-            kind,
-            line,
-            status: &[],
-            anchor: Anchor::None,
-        });
-    }
-
-    /// Begins a box, up to its title.
-    pub fn begin_box(&mut self, head: Head<'_>) {
-        if self.marks() {
-            html::begin(&mut self.out, head);
-        }
-    }
-
-    /// Adds the title of a TPDU after its number. The lines are the title.
-    pub fn push_numbered(&mut self, number: u64, head: Head<'_>) {
-        self.push_title("# ".len().saturating_add(digits(number)), head);
-    }
-
-    /// Adds a title that begins in this column, and the space before its line number.
-    fn push_title(&mut self, begins: usize, head: Head<'_>) {
-        if self.marks() {
-            html::push_title(&mut self.out, self.lines.as_str(), head);
-        } else if self.prints() {
-            let column = push_wrapped(&mut self.out, self.lines.as_str(), begins, "\n    ");
-            let width = "  (line )".len().saturating_add(digits(head.line));
-            let is_long = column.saturating_add(width) > COLUMNS;
-            self.out.push_str(if is_long { "\n    " } else { "  " });
-        }
-        self.lines.clear();
-    }
-
-    /// Adds the lines as the text of a row, after the digits of this number of bytes.
-    pub fn push_rest(&mut self, bytes: usize) {
+    /// Closes the box, which matters on a page of HTML alone.
+    pub fn close(&mut self) {
         if self.prints() {
-            let space = usize::from(bytes > 0);
-            let begins = ROW_INDENT.saturating_add(bytes.saturating_mul(2).saturating_add(space));
-            let between = between(self.layout.medium);
-            push_words(&mut self.out, self.lines.as_str(), begins, between);
+            self.add(Form::BoxEnd);
         }
-        self.lines.clear();
     }
 
     /// Adds the lines as a row with this label. Adds nothing if there are no lines.
-    pub fn row(&mut self, side: Side, label: &str) {
-        if self.prints() && !self.lines.is_empty() {
-            push_before(&mut self.out, side, label);
-            self.push_rest(0);
-            self.out.push_str(marks(self.layout.medium, side).1);
+    pub fn row(&mut self, side: Side, label: &'static str)
+        requires own { is_own label.now ≡ true }
+    {
+        if self.prints() {
+            self.wrap(ROW_INDENT.len());
+            self.add(Form::Row(side, label));
+        }
+        self.lines.clear();
+    }
+
+    /// Adds the lines that are not empty to the text, each after LF. The first begins in this
+    /// column.
+    pub fn wrap(&mut self, begins: usize) {
+        let mut begins = begins;
+        for line in self.lines.as_str().lines() {
+            if !line.is_empty() {
+                self.text.push('\n');
+                push_wrapped(&mut self.text, line, begins, "\n", ROW_INDENT.len());
+                begins = ROW_INDENT.len();
+            }
+        }
+        self.clear_lines();
+    }
+
+    /// Adds the lines to the text as the title of the TPDU with this number, which began in this
+    /// line.
+    pub fn wrap_title(&mut self, number: u64, line: u64) {
+        let begins = "# ".len().saturating_add(digits(number));
+        let column = push_wrapped(&mut self.text, self.lines.as_str(), begins, "\n", 4);
+        if matches!(self.layout.medium, Medium::Text) {
+            let width = "  (line )".len().saturating_add(digits(line));
+            let is_long = column.saturating_add(width) > COLUMNS;
+            self.text.push_str(if is_long { "\n" } else { "  " });
+        }
+        self.clear_lines();
+    }
+
+    /// Clears the lines. If memory ran out for them, it has for the text.
+    fn clear_lines(&mut self) {
+        if self.lines.is_cut() {
+            self.text.cut();
         }
         self.lines.clear();
     }
 
     /// Adds a row of the program with this label, and this text after the lines.
-    pub fn line_row(&mut self, label: &str, line: &str) {
+    pub fn line_row(&mut self, label: &'static str, line: &str)
+        requires own { is_own label.now ≡ true }
+    {
         self.lines.push_str(line);
         self.row(Side::Nobody, label);
     }
 
-    /// Closes the box, which matters on a page of HTML alone.
-    pub fn close(&mut self) {
-        self.mark(html::BOX_END);
-    }
-
     /// Opens the last block, which is always written. A page shows it first.
-    pub fn open_block(&mut self, title: &str) {
+    pub fn open_block(&mut self) {
         self.layout.is_summary = false;
-        if self.prints() {
-            self.mark("</div><section><h2>");
-            self.out.push_str(title);
-            self.mark("</h2>");
-            self.out.push('\n');
-        }
+        self.add(Form::Block);
     }
 
-    /// Adds links to the lines of the first of `errors` protocol errors. Adds links to the first of
-    /// `all` TPDUs with a status other than `9000`, `61XX` and `6CXX`. Text has no links.
-    pub fn links(&mut self, lines: &[u64], errors: u64, tpdus: &[(u64, u16)], all: u64) {
-        if self.marks() {
-            html::error_links(&mut self.out, lines, errors);
-            html::status_links(&mut self.out, tpdus, all);
-        }
-    }
-
-    /// Closes the last block.
+    /// Closes the last block, and ends a page.
     pub fn close_block(&mut self) {
-        self.mark(html::BLOCK_END);
+        self.add(Form::BlockEnd);
+    }
+
+    /// Adds links to the lines of the first of `all` protocol errors, and how many more there are.
+    /// Text has no links.
+    pub fn link_errors(&mut self, lines: &[u64], all: u64) {
+        let mut number: u64 = 0;
+        self.begin_links("protocol errors in", lines.is_empty());
+        for line in lines {
+            number = number.saturating_add(1);
+            write!(self.text, "line {line}");
+            self.add(Form::Link(Anchor::Error(number)));
+        }
+        self.end_links(number, all);
+    }
+
+    /// Adds links to the first of `all` TPDUs with a status other than `9000`, `61XX` and `6CXX`.
+    /// Each is a number and a status. Text has no links.
+    pub fn link_statuses(&mut self, tpdus: &[(u64, u16)], all: u64) {
+        let mut told: u64 = 0;
+        self.begin_links("statuses other than 9000, 61XX and 6CXX:", tpdus.is_empty());
+        for (number, word) in tpdus {
+            told = told.saturating_add(1);
+            write!(self.text, "#{number} {word:04X}");
+            self.add(Form::Link(Anchor::Tpdu(*number)));
+        }
+        self.end_links(told, all);
+    }
+
+    /// Adds the start of a paragraph of links, unless it has none.
+    fn begin_links(&mut self, words: &str, is_empty: bool) {
+        if !is_empty {
+            self.text.push_str(words);
+            self.add(Form::Links);
+        }
+    }
+
+    /// Adds how many of `all` have no link, and the end of the paragraph, unless it has no link.
+    fn end_links(&mut self, linked: u64, all: u64) {
+        if linked > 0 {
+            let more = all.saturating_sub(linked);
+            if more > 0 {
+                write!(self.text, " and {more} more");
+            }
+            self.add(Form::More);
+        }
     }
 
     /// Adds the lines as a note.
     pub fn note(&mut self) {
-        if self.prints() {
-            self.mark("<pre class=\"note\">");
-            push_note(&mut self.out, self.lines.as_str());
-            self.mark("</pre>\n");
+        if self.prints() && !self.lines.is_empty() {
+            match self.layout.medium {
+                Medium::Html => self.text.push_str(self.lines.as_str()),
+                Medium::Text => {
+                    for line in self.lines.as_str().lines() {
+                        self.text.push('\n');
+                        push_wrapped(&mut self.text, line, 2, "\n  ", 4);
+                    }
+                }
+            }
+            self.add(Form::Note);
         }
         self.lines.clear();
     }
@@ -194,62 +238,25 @@ impl Page {
     }
 }
 
-/// Adds the lines of `words` that are not empty, with `between` between them. The first begins in
-/// column `begins`.
-fn push_words(out: &mut Sheet, words: &str, begins: usize, between: &str) {
-    let mut begins = begins;
-    let mut is_first = true;
-    for line in words.lines() {
-        if !line.is_empty() {
-            if !is_first {
-                out.push_str(between);
-                begins = between.len().saturating_sub(1);
-            }
-            push_line_of(out, line, begins, between);
-            is_first = false;
-        }
-    }
-}
-
-/// Adds a line of words that begins in this column.
-fn push_line_of(out: &mut Sheet, words: &str, begins: usize, wrap: &str) {
-    match out.layout().medium {
-        Medium::Text => {
-            push_wrapped(out, words, begins, wrap);
-        }
-        Medium::Html => html::push_escaped(out, words),
-    }
-}
-
-/// Adds the lines of a note.
-fn push_note(out: &mut Sheet, note: &str) {
-    match out.layout().medium {
-        Medium::Text => {
-            for line in note.lines() {
-                out.push_str("| ");
-                push_wrapped(out, line, 2, "\n|   ");
-                out.push('\n');
-            }
-        }
-        Medium::Html => html::push_escaped(out, note),
-    }
-}
-
 /// Adds words that begin in this column, counted from 0. Where a line of text is full, `wrap`
-/// replaces a space. Returns the column after the words.
-fn push_wrapped(out: &mut Sheet, words: &str, begins: usize, wrap: &str) -> usize {
+/// replaces a space, and the words continue in column `indent`. Returns the column after the words.
+fn push_wrapped(out: &mut Sheet, words: &str, begins: usize, wrap: &str, indent: usize) -> usize {
+    let columns = match out.layout().medium {
+        Medium::Text => COLUMNS,
+        Medium::Html => usize::MAX,
+    };
     let mut column = begins;
     let mut is_first = true;
     for word in words.split(' ') {
         let behind = column.saturating_add(word.len());
         if is_first {
             column = behind;
-        } else if behind < COLUMNS {
+        } else if behind < columns {
             out.push(' ');
             column = behind.saturating_add(1);
         } else {
             out.push_str(wrap);
-            column = wrap.len().saturating_add(word.len()).saturating_sub(1);
+            column = indent.saturating_add(word.len());
         }
         out.push_str(word);
         is_first = false;

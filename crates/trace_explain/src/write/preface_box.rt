@@ -10,13 +10,13 @@ use crate::write::pps::tell_pps;
 /// Adds the box of the part that ends before a character of this role, if any.
 pub fn tell_before(role: Role, preface: &Preface, mask: &Mask, page: &mut Page) {
     if !role.continues() {
-        tell_part(preface.stage(), preface, mask, page);
+        tell_part(preface.stage, preface, mask, page);
     }
 }
 
 /// Adds the box of the part that ended with a character of this role, if any.
 pub fn tell_after(role: Role, preface: &Preface, mask: &Mask, page: &mut Page) {
-    match (role, preface.stage()) {
+    match (role, preface.stage) {
         (Role::Answer, Stage::Ready | Stage::Astray) => tell_answer(mask, preface, page),
         (Role::Response, Stage::Ready) => tell_pps(mask, preface, page),
         _ => {}

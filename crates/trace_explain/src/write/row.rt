@@ -1,22 +1,13 @@
 //! Rows, by one table of the text before, between and after the lines of each.
-
 ghost use Rattle.std.specs.Prelude.{◌≡◌, ℕ, List, flat_map};
 ghost use Rattle.trace_explain.specs.Sheets.{Adds, HasText};
-ghost use Rattle.trace_explain.specs.Written.{before, behind, data_row, label_before, letter, row};
+ghost use Rattle.trace_explain.specs.Written.{before, behind, label_before, letter, letters, row, some_row};
 
 use crate::write::layout::{Medium, Side};
 use crate::write::sheet::Sheet;
 
-/// The number of columns before the lines of a row of text.
-pub const ROW_INDENT: usize = 15;
-
-/// The text between two lines of a row.
-pub fn between(medium: Medium) -> &'static str {
-    match medium {
-        Medium::Text => "\n               ",
-        Medium::Html => "\n",
-    }
-}
+/// What precedes each further line of a row of text.
+pub const ROW_INDENT: &str = "               ";
 
 /// Adds the start of a row: the sign of its end, if it is of one, and its label.
 pub fn push_before(sheet: &mut Sheet, side: Side, label: &str)
@@ -52,44 +43,55 @@ fn push_row(sheet: &mut Sheet, side: Side, label: &str, text: &[u8])
 {
     let medium = sheet.layout().medium;
     push_before(sheet, side, label);
-    push_letters(sheet, Some(medium), text);
+    push_letters(sheet, medium, ROW_INDENT, text);
     sheet.push_str(marks(medium, side).1);
 }
 
-/// Adds each byte as a character. In a row of text, LF also indents the next line; in a row of
-/// HTML, `<`, `>` and `&` are escaped. `None`: the bytes are not a row, and stay as they are.
-pub fn push_letters(sheet: &mut Sheet, medium: Option<Medium>, text: &[u8])
-    ensures { Adds sheet.old (flat_map (letter medium) text.now) sheet.new }
+/// Adds each byte as a character. In text, `indent` follows LF. On a page of HTML, `<`, `>` and `&`
+/// are escaped.
+pub fn push_letters(sheet: &mut Sheet, medium: Medium, indent: &str, text: &[u8])
+    ensures { Adds sheet.old (letters medium indent.now text.now) sheet.new }
 {
     for &byte in text {
-        push_letter(sheet, medium, byte);
+        push_letter(sheet, medium, indent, byte);
     }
 }
 
 /// Adds a byte as text.
-fn push_letter(sheet: &mut Sheet, medium: Option<Medium>, byte: u8)
-    ensures { Adds sheet.old (letter medium byte) sheet.new }
+fn push_letter(sheet: &mut Sheet, medium: Medium, indent: &str, byte: u8)
+    ensures { Adds sheet.old (letter medium indent.now byte) sheet.new }
 {
     match (medium, byte) {
-        (Some(Medium::Text), b'\n') => sheet.push_str("\n               "),
-        (Some(Medium::Html), b'<') => sheet.push_str("&lt;"),
-        (Some(Medium::Html), b'>') => sheet.push_str("&gt;"),
-        (Some(Medium::Html), b'&') => sheet.push_str("&amp;"),
+        (Medium::Text, b'\n') => {
+            sheet.push_str("\n");
+            sheet.push_str(indent);
+        }
+        (Medium::Html, b'<') => sheet.push_str("&lt;"),
+        (Medium::Html, b'>') => sheet.push_str("&gt;"),
+        (Medium::Html, b'&') => sheet.push_str("&amp;"),
         _ => sheet.push(char::from(byte)),
     }
 }
 
-/// Adds lines as the row of data. Each line begins with LF; the first LF is left out. Adds nothing
-/// if there are no lines. If memory ran out for them, it has for the sheet.
-pub fn push_data_row(sheet: &mut Sheet, side: Side, lines: &Sheet)
-    ensures { (text : List ℕ) → HasText lines.now text →
-        Adds sheet.old (data_row sheet.old.layout.medium side text) sheet.new }
+/// Adds lines as a row with this label. Each line begins with LF; the first LF is left out. Adds
+/// nothing if there are no lines.
+pub fn push_some_row(sheet: &mut Sheet, side: Side, label: &str, lines: &[u8])
+    ensures { Adds sheet.old (some_row sheet.old.layout.medium side label.now lines.now) sheet.new }
 {
-    let text = lines.as_str().as_bytes();
+    if !lines.is_empty() {
+        push_row(sheet, side, label, &lines[1..]);
+    }
+}
+
+/// The same for lines of a sheet. If memory ran out for them, it has for the sheet.
+pub fn push_row_of(sheet: &mut Sheet, side: Side, label: &str, lines: &Sheet)
+    ensures { (text : List ℕ) → HasText lines.now text →
+        Adds sheet.old (some_row sheet.old.layout.medium side label.now text) sheet.new }
+{
     if lines.is_cut() {
         sheet.cut();
-    } else if !text.is_empty() {
-        push_row(sheet, side, "data", &text[1..]);
+    } else {
+        push_some_row(sheet, side, label, lines.as_str().as_bytes());
     }
 }
 

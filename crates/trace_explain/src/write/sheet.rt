@@ -1,11 +1,10 @@
 //! A text with proved contents: the contract of each call says what it adds.
-
-ghost use Rattle.std.specs.Prelude.{◌≡◌, ℕ, List, [], true, false, IfErr, OnOk};
+ghost use Rattle.std.specs.Prelude.{◌≡◌, ℕ, List, [], true, false, IfErr, IfOk, OnOk};
 ghost use Rattle.std.specs.String.{string_bytes};
 ghost use Rattle.std.specs.Char.{encode_utf8};
 ghost use Rattle.std.specs.Fmt.{decimal};
 ghost use Rattle.hex.specs.Hex.{encode_upper};
-ghost use Rattle.trace_explain.specs.Sheets.{Adds, Joins};
+ghost use Rattle.trace_explain.specs.Sheets.{Adds};
 ghost use Rattle.trace_explain.specs.Written.{spaces};
 
 use crate::write::layout::Layout;
@@ -106,16 +105,6 @@ impl Sheet {
         }
     }
 
-    /// Adds words of another text, and notes whether memory ran out there.
-    pub fn join(&mut self, words: &str, is_cut: bool)
-        ensures { Joins self.old self.new }
-    {
-        self.push_str(words);
-        if is_cut {
-            self.is_cut = true;
-        }
-    }
-
     /// Notes that memory ran out elsewhere, so that a part is missing.
     pub fn cut(&mut self)
         ensures { (more : List ℕ) → Adds self.old more self.new }
@@ -160,7 +149,9 @@ impl Sheet {
     }
 
     /// Returns the text, or `AllocError` if memory ran out.
-    pub fn into_text(self) -> Result<String, AllocError> {
+    pub fn into_text(self) -> Result<String, AllocError>
+        ensures { IfOk result (λ text. (self.is_cut ≡ false) × (text ≡ self.text)) }
+    {
         if self.is_cut {
             Err(AllocError)
         } else {

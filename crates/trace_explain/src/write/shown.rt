@@ -1,16 +1,45 @@
 //! The number, line, header and status of a TPDU.
-
-ghost use Rattle.std.specs.Prelude.{◌≡◌, ◌++◌, codes};
-ghost use Rattle.trace_explain.specs.Sheets.{Adds};
-ghost use Rattle.trace_explain.specs.Written.{before, character_text, header_row, header_text, line_before, line_behind, line_text, named, number_text, status_digits};
+ghost use Rattle.std.specs.Prelude.{◌≡◌, ◌++◌, ℕ, List, codes, drop};
+ghost use Rattle.trace_explain.specs.Sheets.{Adds, HasText};
+ghost use Rattle.trace_explain.specs.Written.{before, character_text, header_row, header_text, line_before, line_behind, line_text, named, number_text, status_digits, status_row, title_text};
 
 use crate::write::ascii::cut;
-use crate::write::layout::{Medium, Side};
-use crate::write::row::{marks, push_before};
+use crate::write::html::{push_box, push_mark};
+use crate::write::layout::{Anchor, Kind, Medium, Side};
+use crate::write::row::{ROW_INDENT, marks, push_before, push_letters};
 use crate::write::sheet::Sheet;
 
+/// What precedes each further line of a title in text.
+const TITLE_INDENT: &str = "    ";
+
+/// Adds the title of a TPDU, with these words after its number. If memory ran out for them, it has
+/// for the sheet.
+pub fn push_title(
+    sheet: &mut Sheet,
+    kind: Kind,
+    number: u64,
+    words: &Sheet,
+    status: &[u8],
+    line: u64,
+)
+    ensures { (text : List ℕ) → HasText words.now text →
+        Adds sheet.old (title_text sheet.old.layout.medium kind number text status.now line)
+        sheet.new }
+{
+    if words.is_cut() {
+        sheet.cut();
+    } else {
+        let medium = sheet.layout().medium;
+        push_box(sheet, kind, Anchor::Tpdu(number));
+        push_number(sheet, number);
+        push_letters(sheet, medium, TITLE_INDENT, words.as_str().as_bytes());
+        push_mark(sheet, kind, status);
+        push_line(sheet, line);
+    }
+}
+
 /// Adds the number of a TPDU, and a space.
-pub fn push_number(sheet: &mut Sheet, number: u64)
+fn push_number(sheet: &mut Sheet, number: u64)
     ensures { Adds sheet.old (number_text number) sheet.new }
 {
     sheet.push_str("#");
@@ -35,7 +64,7 @@ fn line_marks(medium: Medium) -> (&'static str, &'static str)
 {
     match medium {
         Medium::Text => ("(line ", ")\n"),
-        Medium::Html => ("<small>line ", "</small></summary>\n"),
+        Medium::Html => (" <small>line ", "</small></summary>\n"),
     }
 }
 
@@ -82,8 +111,30 @@ fn push_character(sheet: &mut Sheet, name: &str, header: &[u8], place: usize)
     }
 }
 
+/// Adds the row of a status, with words after its characters. Each line of them begins with LF; the
+/// first LF is left out. If memory ran out for them, it has for the sheet.
+pub fn push_status(sheet: &mut Sheet, side: Side, status: &[u8], words: &Sheet)
+    ensures { (text : List ℕ) → HasText words.now text →
+        Adds sheet.old (status_row sheet.old.layout.medium side status.now (drop 1 text))
+        sheet.new }
+{
+    if words.is_cut() {
+        sheet.cut();
+    } else {
+        let medium = sheet.layout().medium;
+        push_status_digits(sheet, side, status);
+        push_letters(
+            sheet,
+            medium,
+            ROW_INDENT,
+            cut(words.as_str().as_bytes(), 1).1,
+        );
+        sheet.push_str(marks(medium, side).1);
+    }
+}
+
 /// Adds the start of the row of a status: its characters, and a space if there are any.
-pub fn push_status(sheet: &mut Sheet, side: Side, status: &[u8])
+fn push_status_digits(sheet: &mut Sheet, side: Side, status: &[u8])
     ensures { Adds sheet.old (before sheet.old.layout.medium side (codes "status")
         ++ status_digits status.now) sheet.new }
 {

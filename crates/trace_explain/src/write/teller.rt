@@ -1,9 +1,8 @@
 //! Writes an explanation: the boxes of TPDUs in turn, notes between them, and the counts.
-
 ghost use Rattle.std.specs.Prelude.{◌≡◌, ◌∷◌, ◌++◌, List, [], false, not, IfOk, OnOk};
 ghost use Rattle.std.specs.String.{string_bytes};
 ghost use Rattle.t0_core.specs.History.{Event, Reset};
-ghost use Rattle.trace_explain.specs.Account.{AddsBox, AddsBoxes, StaysWritten, account_of};
+ghost use Rattle.trace_explain.specs.Account.{AddsBox, AddsBoxes, HasBox, StaysWritten, account_of};
 ghost use Rattle.trace_explain.specs.Boxes.{HasAsker};
 ghost use Rattle.trace_explain.specs.Explained.{Hears};
 ghost use Rattle.trace_explain.specs.Noted.{HasNoted, ended_by};
@@ -90,7 +89,8 @@ impl Teller {
         }
     }
 
-    /// Begins this line, with its time. The time is empty if the line has none.
+    /// Begins this line, with its time. The time is empty if the line has none. Returns
+    /// `AllocError` if memory ran out: drop the teller.
     pub fn pass(&mut self, line: u64, time: &[u8]) -> Result<(), AllocError>
         ensures { StaysWritten self.old self.new }
     {
@@ -100,7 +100,8 @@ impl Teller {
 
     /// Takes a character, and writes the parts of an opening that end before or with it. `rest` is
     /// the line from that character. Returns false if the character is part of the dialogue: the
-    /// opening has then ended, and the character is still to be heard.
+    /// opening has then ended, and the character is still to be heard. Returns `AllocError` if
+    /// memory ran out: use neither the teller nor the preface any more.
     pub fn open(
         &mut self,
         preface: &mut Preface,
@@ -140,7 +141,8 @@ impl Teller {
     }
 
     /// Writes a reset without a line `reset`, and takes the first character after it, as `open`
-    /// does. Reset the listener first.
+    /// does. Reset the listener first. Returns `AllocError` if memory ran out: use neither the
+    /// teller nor the preface any more.
     pub fn answer_again(
         &mut self,
         preface: &mut Preface,
@@ -172,20 +174,18 @@ impl Teller {
 
     /// Hears a character of the dialogue, and writes the TPDU that ends with it or before it.
     /// Returns whether a dialogue continues with it. If none does, the listener has not changed,
-    /// and no TPDU is written.
-    ///
-    /// # Errors
-    /// - `AllocError`: memory ran out. Use neither the teller nor the listener any more.
+    /// and no TPDU is written. Returns `AllocError` if memory ran out: use neither the teller nor
+    /// the listener any more.
     pub fn hear(&mut self, listener: &mut Listener, from: End, byte: u8) -> Result<bool, AllocError>
         ensures { (events : List Event) (before : List Report) →
             HasNoted events before listener.old → IfOk result (λ continues.
             Hears continues from byte events before listener.old listener.new self.old self.new) }
     {
-        self.begin_if(from == End::Terminal && listener.under_way().is_empty());
+        self.begin_if(from == End::Terminal && listener.under_way.is_empty());
         match listener.hear(from, byte) {
             Ok(None) => Ok(true),
             Ok(Some(tpdu)) => {
-                self.tell_whole(&tpdu, !listener.under_way().is_empty())?;
+                self.tell_whole(&tpdu, !listener.under_way.is_empty())?;
                 Ok(true)
             }
             Err(ListenerFault::NoDialogue(_)) => Ok(false),
@@ -226,7 +226,7 @@ impl Teller {
     fn tell(&mut self, tpdu: &Tpdu, links: Links) -> Result<(), AllocError>
         requires asker { HasAsker tpdu.now.header.items links }
         ensures { OnOk result (AddsBox links.number self.old.began (report_of tpdu.now)
-            (account_of self.old) (account_of self.new)) }
+            tpdu.now.answer.items (account_of self.old) (account_of self.new)) }
     {
         if self.keeping.is_on {
             let empty = Output::new(self.alloc, self.output.sheet.layout());
@@ -242,11 +242,13 @@ impl Teller {
     /// A TPDU with its box alone.
     fn kept_of(&self, tpdu: &Tpdu, links: Links, empty: Output) -> Result<Kept, AllocError>
         requires asker { HasAsker tpdu.now.header.items links }
+        ensures { IfOk result (λ kept. HasBox self.now.mask links.number self.now.began
+            (report_of tpdu.now) tpdu.now.answer.items empty.sheet (string_bytes kept.text)) }
     {
         let mut output = empty;
         let (clock, story, mask) = (&self.clock, &self.story, &self.mask);
         tell_box(tpdu, links, self.began, clock, story, mask, &mut output);
-        let text = output.into_text()?;
+        let text = output.sheet.into_text()?;
         let tpdu = tpdu.copied()?;
         Ok(Kept { tpdu, text })
     }
@@ -266,7 +268,8 @@ impl Teller {
         self.tell_one(&part)
     }
 
-    /// Writes what a reset cuts off, and the reset.
+    /// Writes what a reset cuts off, and the reset. `preface` and `listener` start again. Returns
+    /// `AllocError` if memory ran out: drop the teller.
     pub fn reset(
         &mut self,
         preface: &mut Preface,
@@ -291,11 +294,12 @@ impl Teller {
     fn tell_part(&mut self, preface: &Preface)
         ensures { StaysWritten self.old self.new }
     {
-        let stage = preface.stage();
+        let stage = preface.stage;
         tell_part(stage, preface, &self.mask, &mut self.output.page);
     }
 
-    /// Counts an unexpected byte, and writes what it cuts off and its box.
+    /// Counts an unexpected byte, and writes what it cuts off and its box. `listener` drops the
+    /// TPDU in progress. Returns `AllocError` if memory ran out: drop the teller.
     pub fn complain(
         &mut self,
         complaint: Complaint,
@@ -309,7 +313,8 @@ impl Teller {
         self.output.outcome()
     }
 
-    /// Writes a line without characters.
+    /// Writes a line without characters, as `tell_note`: nothing if it is empty. Returns
+    /// `AllocError` if memory ran out: drop the teller.
     pub fn note(&mut self, note: &[u8]) -> Result<(), AllocError>
         ensures { OnOk result (AddsBoxes [] self.old self.new) }
     {
@@ -317,7 +322,8 @@ impl Teller {
         self.output.outcome()
     }
 
-    /// Writes what this line of a log completes. At the end of the log `line` is empty.
+    /// Writes what this line of a log completes. At the end of the log `line` is empty. Returns
+    /// `AllocError` if memory ran out: drop the teller.
     pub fn tell_logged(&mut self, logged: &[Logged], line: &[u8]) -> Result<(), AllocError> {
         for one in logged {
             match one {
@@ -390,7 +396,8 @@ impl Teller {
         Ok(())
     }
 
-    /// Writes what the end of the trace cuts off, and the last block.
+    /// Writes what the end of the trace cuts off, and the last block. Returns `AllocError` if
+    /// memory ran out: drop the teller.
     pub fn end(&mut self, preface: &Preface, listener: &mut Listener) -> Result<(), AllocError>
         ensures { OnOk result
             (AddsBoxes (ended_by (report_of listener.old.under_way)) self.old self.new) }
@@ -398,7 +405,6 @@ impl Teller {
         self.tell_part(preface);
         self.cut_off(listener)?;
         self.counts.tell(&self.clock, &mut self.output.page);
-        self.output.page.end();
         self.output.outcome()
     }
 }

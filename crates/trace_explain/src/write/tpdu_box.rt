@@ -1,10 +1,9 @@
 //! The box of a TPDU, row by row.
-
-ghost use Rattle.std.specs.Prelude.{◌≡◌, ◌∷◌, ℕ, List, [], false};
-ghost use Rattle.trace_explain.specs.Boxes.{HasAsker, Puts, PutsBox, PutsDataOf, PutsDataRow, PutsStatus, PutsWhole, ShowsData, side_of, status_side};
-ghost use Rattle.trace_explain.specs.Sheets.{Joins, PutsLines};
+ghost use Rattle.std.specs.Prelude.{◌≡◌, ◌∷◌, [], false};
+ghost use Rattle.trace_explain.specs.Boxes.{HasAsker, IsAnswer, IsData, IsStatus, IsTitle, IsTogether, PutsBox, PutsDataRow, PutsWhole, ShowsData, side_of, status_side};
+ghost use Rattle.trace_explain.specs.Sheets.{Puts, PutsLines};
 ghost use Rattle.trace_explain.specs.Reports.{report_of};
-ghost use Rattle.trace_explain.specs.Written.{hidden, line_text, number_text};
+ghost use Rattle.trace_explain.specs.Written.{hidden};
 
 use crate::describe::clock::Clock;
 use crate::describe::mask::{Mask, Origin, Shown};
@@ -16,12 +15,13 @@ use crate::follow::story::Story;
 use crate::follow::tpdu::{Tpdu, are_status};
 use crate::instructions::may_have_objects;
 use crate::write::ascii::push_digits;
-use crate::write::layout::{Anchor, Head, Kind, Side};
+use crate::write::html::push_box_end;
+use crate::write::layout::{Kind, Side};
 use crate::write::output::Output;
 use crate::write::page::Page;
-use crate::write::row::{marks, push_data_row, push_lines_row};
+use crate::write::row::{ROW_INDENT, push_lines_row, push_row_of};
 use crate::write::sheet::Sheet;
-use crate::write::shown::{push_header, push_line, push_number, push_status};
+use crate::write::shown::{push_header, push_status, push_title};
 use crate::write::tree_row::push_tree;
 use t0_core::Direction;
 
@@ -39,23 +39,32 @@ pub fn tell_box(
     requires asker { HasAsker tpdu.now.header.items links }
     ensures layout { output.new.sheet.layout ≡ output.old.sheet.layout }
     ensures puts { output.old.sheet.layout.is_summary ≡ false →
-        PutsBox mask.now links.number began (report_of tpdu.now) output.old.sheet
-        output.new.sheet }
+        PutsBox mask.now links.number began (report_of tpdu.now) tpdu.now.answer.items
+        output.old.sheet output.new.sheet }
 {
     if output.sheet.layout().is_summary {
         return;
     }
+    output.join();
     let outline = Outline::of(tpdu);
     let status = tpdu.status.as_slice();
     tell_title(&outline, name_of(tpdu), status, links, began, output);
-    tell_time(links, clock, output);
+    clock.push_begin(&mut output.page.lines);
+    output.row(Side::Nobody, "time");
+    output.page.lines.push_str(dropped(links.drops_before));
+    output.row(Side::Nobody, "before");
     push_header(&mut output.sheet, tpdu.header.as_slice());
-    tell_procedure(&outline, output);
+    phrases::push_procedure(&mut output.page.lines, outline.tally);
+    output.row(Side::Card, "procedure");
     tell_data(tpdu, links, mask, output);
+    phrases::push_most(&mut output.page.lines, tpdu.le);
+    output.row(Side::Terminal, "Le");
     tell_answer(tpdu, links, mask, output);
     tell_status(&outline, status_side(tpdu), status, output);
-    let all = story.whole(links.whole);
-    tell_end(links, Origin::of_whole(tpdu, links), all, mask, output);
+    output.page.lines.push_str(dropped(links.drops_after));
+    output.row(Side::Nobody, "after");
+    tell_together(tpdu, links, story.whole(links.whole), mask, output);
+    push_box_end(&mut output.sheet);
 }
 
 /// Adds the title of the box. `name` is the name or path of SELECT.
@@ -67,23 +76,21 @@ fn tell_title(
     began: u64,
     output: &mut Output,
 )
-    ensures { Puts (number_text links.number
-        ∷ line_text output.old.sheet.layout.medium began ∷ []) output.old.sheet output.new.sheet }
+    ensures { Puts (IsTitle links.number began status.now) output.old.sheet output.new.sheet }
 {
-    let head = Head {
-        kind: kind_of(outline),
-        line: began,
-        status,
-        anchor: Anchor::Tpdu(links.number),
-    };
-    output.page.begin_box(head);
-    output.join();
-    push_number(&mut output.sheet, links.number);
     phrases::push_title(&mut output.page.lines, outline, name);
     phrases::push_links(&mut output.page.lines, links);
-    output.page.push_numbered(links.number, head);
-    output.join();
-    push_line(&mut output.sheet, began);
+    output.page.wrap_title(links.number, began);
+    let (kind, number) = (kind_of(outline), links.number);
+    push_title(
+        &mut output.sheet,
+        kind,
+        number,
+        &output.page.text,
+        status,
+        began,
+    );
+    output.page.text.clear();
 }
 
 /// The kind of the box, by the status.
@@ -98,34 +105,15 @@ fn kind_of(outline: &Outline) -> Kind {
     }
 }
 
-/// Adds the rows of the time, and of a chain that the command drops.
-fn tell_time(links: Links, clock: &Clock, output: &mut Output)
-    ensures { Joins output.old.sheet output.new.sheet }
-{
-    clock.push_begin(&mut output.page.lines);
-    output.page.row(Side::Nobody, "time");
-    output.page.line_row("before", dropped(links.drops_before));
-    output.join();
-}
-
 /// The text of the row of a dropped chain, if it is.
 fn dropped(drops: bool) -> &'static str {
     if drops { "the chain is dropped\n" } else { "" }
 }
 
-/// Adds the row of the procedure bytes.
-fn tell_procedure(outline: &Outline, output: &mut Output)
-    ensures { Joins output.old.sheet output.new.sheet }
-{
-    phrases::push_procedure(&mut output.page.lines, outline.tally);
-    output.page.row(Side::Card, "procedure");
-    output.join();
-}
-
 /// Adds the row of the data: as a tree if they may be objects and are some.
 fn tell_data(tpdu: &Tpdu, links: Links, mask: &Mask, output: &mut Output)
     requires asker { HasAsker tpdu.now.header.items links }
-    ensures { PutsDataOf mask.now tpdu.now.way tpdu.now.header.items tpdu.now.moved.items
+    ensures { Puts (IsData mask.now tpdu.now.way tpdu.now.header.items tpdu.now.moved.items)
         output.old.sheet output.new.sheet }
 {
     let Some(way) = tpdu.way else {
@@ -164,7 +152,7 @@ fn tell_row(
 {
     output.page.lines.clear();
     push_shown(&mut output.page.lines, shown, may_be_objects, bytes, mask);
-    push_data_row(&mut output.sheet, side, &output.page.lines);
+    push_row_of(&mut output.sheet, side, "data", &output.page.lines);
     output.page.lines.clear();
 }
 
@@ -196,31 +184,39 @@ fn push_hidden(lines: &mut Sheet)
     lines.push_str("\n**");
 }
 
-/// Adds the rows of Le after the data of a command APDU, and of the data that the card returned.
+/// Adds the row of the data that the card returned beside those of the terminal, if any.
 fn tell_answer(tpdu: &Tpdu, links: Links, mask: &Mask, output: &mut Output)
-    ensures { Joins output.old.sheet output.new.sheet }
+    requires asker { HasAsker tpdu.now.header.items links }
+    ensures { Puts (IsAnswer mask.now tpdu.now.header.items tpdu.now.answer.items)
+        output.old.sheet output.new.sheet }
 {
-    phrases::push_most(&mut output.page.lines, tpdu.le);
-    output.page.row(Side::Terminal, "Le");
-    output.join();
     let bytes = tpdu.answer.as_slice();
-    if let Some(origin) = Origin::of_answer(tpdu, links)
-        && !bytes.is_empty()
-    {
+    if bytes.is_empty() {
+        return;
+    }
+    if let Some(origin) = Origin::of_answer(tpdu, links) {
         tell_row(mask.shown(origin), Side::Card, true, bytes, mask, output);
     }
 }
 
 /// Adds the row of the status, or of the cut.
 fn tell_status(outline: &Outline, side: Side, status: &[u8], output: &mut Output)
-    ensures { PutsStatus side status.now output.old.sheet output.new.sheet }
+    ensures { Puts (IsStatus side status.now) output.old.sheet output.new.sheet }
 {
-    let medium = output.sheet.layout().medium;
-    push_status(&mut output.sheet, side, status);
     push_status_words(outline, &mut output.page);
-    output.page.push_rest(status.len());
-    output.join();
-    output.sheet.push_str(marks(medium, side).1);
+    output.page.wrap(status_columns(status.len()));
+    push_status(&mut output.sheet, side, status, &output.page.text);
+    output.page.text.clear();
+}
+
+/// The column after a status of this many bytes.
+fn status_columns(bytes: usize) -> usize {
+    let space = usize::from(bytes > 0);
+    let digits = bytes.saturating_mul(2);
+    ROW_INDENT
+        .len()
+        .saturating_add(digits)
+        .saturating_add(space)
 }
 
 /// The end that sends the status: neither if it is cut off.
@@ -243,32 +239,18 @@ fn push_status_words(outline: &Outline, page: &mut Page) {
     push_meaning(&mut page.lines, header, status);
 }
 
-/// Adds the rows of a dropped chain, and of data that are shown together, and ends the box.
-fn tell_end(links: Links, origin: Option<Origin>, all: &[u8], mask: &Mask, output: &mut Output)
-    ensures { Joins output.old.sheet output.new.sheet }
-{
-    output.page.line_row("after", dropped(links.drops_after));
-    output.join();
-    tell_together(links.whole, origin, all, mask, output);
-    output.page.close();
-    output.join();
-}
-
 /// Adds the row of data that are shown together, if there are any.
-fn tell_together(
-    whole: Whole,
-    origin: Option<Origin>,
-    bytes: &[u8],
-    mask: &Mask,
-    output: &mut Output,
-)
-    ensures { Joins output.old.sheet output.new.sheet }
+fn tell_together(tpdu: &Tpdu, links: Links, bytes: &[u8], mask: &Mask, output: &mut Output)
+    requires asker { HasAsker tpdu.now.header.items links }
+    ensures { Puts (IsTogether mask.now tpdu.now.header.items) output.old.sheet output.new.sheet }
 {
-    if let Some(origin) = origin
-        && !bytes.is_empty()
-    {
-        tell_whole(whole, mask.shown(origin), bytes, mask, output);
+    if bytes.is_empty() {
+        return;
     }
+    let Some(origin) = Origin::of_whole(tpdu, links) else {
+        return;
+    };
+    tell_whole(links.whole, mask.shown(origin), bytes, mask, output);
 }
 
 /// Adds the row of data that are shown together, after their size.

@@ -1,5 +1,4 @@
 //! The lines of a list of objects, as a tree.
-
 ghost use Rattle.std.specs.Prelude.{◌≡◌, ◌<◌, ◌∷◌};
 ghost use Rattle.trace_explain.specs.Sheets.{Adds, PutsAny, PutsValue};
 ghost use Rattle.trace_explain.specs.Trees.{AreTree, IsTree, indent, object, value_width};

@@ -1,7 +1,7 @@
 use Rattle.std.proofs.Common.{◌++◌, ◌∙◌, ◌+◌, ℕ, List, sym, ap, subst, drop, arith}
 use Rattle.std.proofs.lemmas.Bool.{ne_eqb}
 use Rattle.std.specs.Str.Lines.{strip_carriage_return}
-use Rattle.trace_explain.specs.UnderWay.{HasReceived}
+use Rattle.trace_explain.specs.Trace.{HasReceived}
 use Rattle.trace_explain.proofs.TraceLemmas.{line_fed, byte_more, next_byte, fed_stops, too_long, none_of_chunk}
 use Rattle.trace_explain.proofs.explain.explain_chunk.Goals as goal
 use Rattle.trace_explain.proofs.explain.explain_chunk.Goals.{then-byte-eq10+in_ok-line, else-byte-eq10+then-len-lt-LINE_LIMIT+in_ok-push}

@@ -1,7 +1,7 @@
 use Rattle.std.proofs.Common.{◌++◌, ℕ, List, drop}
 use Rattle.trace_explain.specs.declared.read.reading.Reading.{Reading}
 use Rattle.trace_explain.specs.Account.{Out}
-use Rattle.trace_explain.specs.UnderWay.{HasReceived}
+use Rattle.trace_explain.specs.Trace.{HasReceived}
 use Rattle.trace_explain.proofs.explain.explain_chunk.Given as goal
 
 -- wherever the chunk began, what is left of it is still to come

@@ -9,5 +9,5 @@ returns-then-is_err-clause-adds c = λ chars.
     (sym c.is_err.ensures.value ∙ c.if-is_err.true) c.outcome.ensures.cut
 
 pub returns-clause-adds : goal.returns-clause-adds
-returns-clause-adds c = λ chars. on_ok_too c.end-2.result _ _ c.end-2.ensures
+returns-clause-adds c = λ chars. on_ok_too c.end-3.result _ _ c.end-3.ensures
     (λ h. boxes_both (boxes_none refl refl refl c.outcome.ensures.joins) h)

@@ -1,14 +1,44 @@
+use Rattle.std.proofs.Common.{◌≡◌, List, ℕ, codes, refl, subst}
+use Rattle.trace_explain.specs.declared.write.layout.Side.{Side}
+use Rattle.trace_explain.specs.declared.write.layout.Side.TheVariants.{Terminal, Card, Nobody}
+use Rattle.trace_explain.specs.Boxes.{IsAnswer, IsBox, IsData, IsStatus, IsTitle, IsTogether, status_side}
 use Rattle.trace_explain.specs.Reports.{report_of}
-use Rattle.trace_explain.proofs.BoxLemmas.{boxed}
+use Rattle.trace_explain.specs.Sheets.{Adds, IsRow, Puts}
+use Rattle.trace_explain.specs.Words.{IsWords}
+use Rattle.trace_explain.specs.Written.{box_end, header_row}
+use Rattle.trace_explain.proofs.BoxLemmas.{put_first, put_none}
 use Rattle.trace_explain.proofs.write.tpdu_box.tell_box.Goals as goal
 
 pub returns-clause-puts : goal.returns-clause-puts
 returns-clause-puts c = λ whole.
-    boxed c.args.mask.now c.args.links.number c.args.began (report_of c.args.tpdu.now)
-    c.as_slice.result.now c.as_slice-status.result.now c.status_side.result
-    c.args.output.now.sheet c.tell_title.new.output.sheet c.tell_time.new.output.sheet
-    c.push_header.new.sheet c.tell_procedure.new.output.sheet c.tell_data.new.output.sheet
-    c.tell_answer.new.output.sheet c.tell_status.new.output.sheet c.tell_end.new.output.sheet
-    c.as_slice.ensures.value c.as_slice-status.ensures.value c.status_side.ensures
-    c.tell_title.ensures c.tell_time.ensures c.push_header.ensures c.tell_procedure.ensures
-    c.tell_data.ensures c.tell_answer.ensures c.tell_status.ensures c.tell_end.ensures
+    let number = c.args.links.number in
+    let line = c.args.began in
+    let mask = c.args.mask.now in
+    let answer = c.args.tpdu.now.answer.items in
+    let t = report_of c.args.tpdu.now in
+    let s = status_side t.header t.status in
+    let T : List ℕ → Type 0 = λ x. Puts (IsTitle number line x) c.join.new.self.sheet
+    c.tell_title.new.output.sheet in
+    let H : List ℕ → Type 0 = λ x. Adds c.row-2.new.self.sheet
+    (header_row c.row-2.new.self.sheet.layout.medium x) c.push_header.new.sheet in
+    let E : List ℕ → Type 0 = λ x. Puts (IsStatus c.status_side.result x)
+    c.tell_answer.new.output.sheet c.tell_status.new.output.sheet in
+    let S : Side → Type 0 = λ x. Puts (IsStatus x t.status)
+    c.tell_answer.new.output.sheet c.tell_status.new.output.sheet in
+    (put_first IsWords c.join.ensures (put_first (IsBox mask number line t answer)
+    (put_first (IsTitle number line t.status)
+    (subst T c.as_slice-status.ensures.value c.tell_title.ensures)
+    (put_first (IsRow Nobody (codes "time")) c.row.ensures
+    (put_first (IsRow Nobody (codes "before")) c.row-2.ensures
+    (put_first (λ m text. text ≡ header_row m t.header)
+    (_, refl, subst H c.as_slice.ensures.value c.push_header.ensures)
+    (put_first (IsRow Card (codes "procedure")) c.row-3.ensures
+    (put_first (IsData mask t.way t.header t.moved) c.tell_data.ensures
+    (put_first (IsRow Terminal (codes "Le")) c.row-4.ensures
+    (put_first (IsAnswer mask t.header answer) c.tell_answer.ensures
+    (put_first (IsStatus s t.status)
+    (subst S c.status_side.ensures (subst E c.as_slice-status.ensures.value c.tell_status.ensures))
+    (put_first (IsRow Nobody (codes "after")) c.row-5.ensures
+    (put_first (IsTogether mask t.header) c.tell_together.ensures
+    (put_first (λ m text. text ≡ box_end m) (_, refl, c.push_box_end.ensures)
+    put_none)))))))))))).puts put_none)).puts

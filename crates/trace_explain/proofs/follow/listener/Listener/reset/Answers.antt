@@ -1,6 +1,5 @@
-use Rattle.std.proofs.Common.{◌∙◌, ap, subst}
-use Rattle.trace_explain.specs.declared.follow.tpdu.Tpdu.{Tpdu}
-use Rattle.trace_explain.specs.Noted.{AreStatus, is_bare}
+use Rattle.std.proofs.Common.{◌∙◌, ap}
+use Rattle.trace_explain.specs.Noted.{is_bare}
 use Rattle.trace_explain.specs.Reports.{report_of}
 use Rattle.trace_explain.proofs.BareLemmas.{reset_noted}
 use Rattle.trace_explain.proofs.follow.listener.Listener.reset.Goals as goal
@@ -9,6 +8,5 @@ pub returns-clause-noted : goal.returns-clause-noted
 returns-clause-noted c = λ events reports noted.
     reset_noted events reports c.args.self.now c.cut.new.self
     noted (c.cut.ensures.tap ∙ c.reset.ensures.afresh) c.cut.ensures.left
-    (λ is. let P : Tpdu → Type 0 = λ t. AreStatus t.moved.items in
-    subst P c.cut.ensures.cut
+    (λ is. rw c.cut.ensures.cut at
     (c.as_ended.ensures.status (ap (λ t. is_bare (report_of t)) c.cut.ensures.cut ∙ is)))

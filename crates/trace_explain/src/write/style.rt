@@ -1,14 +1,7 @@
-//! The start of a page of HTML. It contains the style, so that the page needs no other file.
+//! The style of a page of HTML. The page contains it, so that it needs no other file.
 
-/// The page up to its first box.
-pub const HEAD: &str = "\
-<!DOCTYPE html>
-<html lang=\"en\">
-<head>
-<meta charset=\"utf-8\">
-<meta name=\"viewport\" content=\"width=device-width, initial-scale=1\">
-<title>A trace, explained</title>
-<style>
+/// The rules of the style.
+pub const STYLE: &str = "\
 :root { color-scheme: light dark; --ink: #1b2430; --soft: #5b6776; --page: #f5f6f8;
   --box: #ffffff; --line: #ccd3db; --to: #0b5fae; --from: #1d7a46; --bad: #b3261e;
   --warn: #8a5a00; }
@@ -70,6 +63,21 @@ pre.note { margin: .4rem 0; padding: 0 .8rem; color: var(--soft);
 @media print { body { background: none; } .ends { position: static; }
   details { content-visibility: visible; }
   details::details-content { content-visibility: visible; } }
+";
+
+/// The page before its style.
+pub const STYLE_BEGIN: &str = "\
+<!DOCTYPE html>
+<html lang=\"en\">
+<head>
+<meta charset=\"utf-8\">
+<meta name=\"viewport\" content=\"width=device-width, initial-scale=1\">
+<title>A trace, explained</title>
+<style>
+";
+
+/// The page from its style to its first box.
+pub const STYLE_END: &str = "\
 </style>
 </head>
 <body>

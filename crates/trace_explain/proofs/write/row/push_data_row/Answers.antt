@@ -1,6 +1,0 @@
-use Rattle.trace_explain.specs.Written.{data_row}
-use Rattle.trace_explain.proofs.write.row.push_data_row.Goals as goal
-
-pub returns-then-is_cut : goal.returns-then-is_cut
-returns-then-is_cut c =
-    λ text has. c.cut.ensures (data_row c.args.sheet.now.layout.medium c.args.side text)

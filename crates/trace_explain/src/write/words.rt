@@ -1,0 +1,123 @@
+//! Words: what is written between the boxes of TPDUs. One function writes each piece, so that none
+//! looks like a box of a TPDU, or like a row of one.
+ghost use Rattle.std.specs.Prelude.{◌≡◌, true};
+ghost use Rattle.trace_explain.specs.Sheets.{Adds, Joins};
+ghost use Rattle.trace_explain.specs.Words.{gap, has_own, link_text, marked, piece_text};
+
+use crate::write::ascii::cut;
+use crate::write::html::{push_box, push_box_end, push_name};
+use crate::write::layout::{Anchor, Kind, Medium, Side};
+use crate::write::row::{push_letters, push_some_row};
+use crate::write::sheet::Sheet;
+use crate::write::shown::push_line;
+use crate::write::style::{STYLE_BEGIN, STYLE_END};
+
+/// What a piece is. Text has neither a style nor links.
+#[derive(Clone, Copy)]
+pub enum Form {
+    /// The start of a box that is no TPDU's: its kind, name, title, and the line where it begins.
+    Box(Kind, Anchor, &'static str, u64),
+    /// The end of such a box.
+    BoxEnd,
+    /// A row with a label.
+    Row(Side, &'static str),
+    /// A note.
+    Note,
+    /// The start of the last block.
+    Block,
+    /// The end of the last block and of a page.
+    BlockEnd,
+    /// The start of a page, with its style.
+    Style,
+    /// The start of a paragraph of links.
+    Links,
+    /// A link to a box.
+    Link(Anchor),
+    /// The end of a paragraph of links.
+    More,
+}
+
+/// A piece with a title or label of its own, if it has one.
+#[derive(Clone, Copy)]
+pub struct Piece {
+    /// What it is.
+    pub form: Form,
+    /// The size of its text.
+    pub size: usize,
+    ghost own: { has_own form ≡ true },
+}
+
+/// Adds pieces. Their texts are one after another in `text`.
+pub fn push_pieces(sheet: &mut Sheet, pieces: &[Piece], text: &[u8])
+    ensures { Joins sheet.old sheet.new }
+{
+    let mut rest = text;
+    'pieces: for piece in pieces {
+        let (own, others) = cut(rest, piece.size);
+        push_piece(sheet, piece.form, own);
+        rest = others;
+    }
+}
+
+/// Adds a piece with its text.
+fn push_piece(sheet: &mut Sheet, form: Form, text: &[u8])
+    ensures { Adds sheet.old (piece_text sheet.old.layout.medium form text.now) sheet.new }
+{
+    let medium = sheet.layout().medium;
+    match (medium, form) {
+        (_, Form::Box(kind, anchor, title, line)) => {
+            push_box(sheet, kind, anchor);
+            sheet.push_str(title);
+            sheet.push_str(gap(medium));
+            push_line(sheet, line);
+        }
+        (_, Form::BoxEnd) => push_box_end(sheet),
+        (_, Form::Row(side, label)) => push_some_row(sheet, side, label, text),
+        (Medium::Text, Form::Note) => {
+            sheet.push_str("| ");
+            push_letters(sheet, Medium::Text, "| ", cut(text, 1).1);
+            sheet.push_str("\n");
+        }
+        (Medium::Text, Form::Block) => sheet.push_str("summary\n"),
+        (Medium::Text, _) => {}
+        (Medium::Html, Form::Note) => push_marked(sheet, "<pre class=\"note\">", text, "</pre>\n"),
+        (Medium::Html, Form::Block) => sheet.push_str("</div><section><h2>summary</h2>\n"),
+        (Medium::Html, Form::BlockEnd) => {
+            sheet.push_str("</section>\n</main>\n</body>\n</html>\n");
+        }
+        (Medium::Html, Form::Style) => push_marked(sheet, STYLE_BEGIN, text, STYLE_END),
+        (Medium::Html, Form::Links) => push_marked(sheet, "<p>", text, ""),
+        (Medium::Html, Form::Link(anchor)) => push_link(sheet, anchor, text),
+        (Medium::Html, Form::More) => push_marked(sheet, "", text, "</p>\n"),
+    }
+}
+
+/// Adds text of a page between two pieces of markup.
+fn push_marked(sheet: &mut Sheet, before: &str, text: &[u8], behind: &str)
+    ensures { Adds sheet.old (marked before.now text.now behind.now) sheet.new }
+{
+    sheet.push_str(before);
+    push_letters(sheet, Medium::Html, "", text);
+    sheet.push_str(behind);
+}
+
+/// Adds a link to a box.
+fn push_link(sheet: &mut Sheet, anchor: Anchor, text: &[u8])
+    ensures { Adds sheet.old (link_text anchor text.now) sheet.new }
+{
+    sheet.push_str(" <a href=\"#");
+    push_name(sheet, anchor);
+    sheet.push_str("\">");
+    push_letters(sheet, Medium::Html, "", text);
+    sheet.push_str("</a>");
+}
+
+/// What is between a title and its line.
+fn gap(medium: Medium) -> &'static str
+    ensures { result.now ≡ gap medium }
+{
+    match medium {
+        Medium::Text => "  ",
+        Medium::Html => "",
+    }
+}

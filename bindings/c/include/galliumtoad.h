@@ -839,8 +839,9 @@ GT_MUST_CHECK int32_t gt_exchange_tpdu(gt_exchange *e, uint8_t tpdu[GT_TPDU_LIMI
     return galliumtoad_exchange_tpdu(e, tpdu, GT_TPDU_LIMIT, n, most);
 }
 
-/* Takes the answer to that TPDU. The exchange continues as after the characters of any TPDU that
- * brings these data and this status: another TPDU follows, or it has ended.
+/* Takes the answer to the TPDU of `gt_exchange_tpdu`. The exchange continues as after the
+ * characters of any TPDU that brings these data and this status: another TPDU follows, or it has
+ * ended.
  *
  * - GT_OK: it is taken.
  * - GT_NO_STATUS: there are fewer than two bytes, or the last two are not a status word (6X except
@@ -873,8 +874,8 @@ GT_MUST_CHECK int32_t gt_exchange_apdu(gt_exchange *e, uint8_t apdu[GT_APDU_LIMI
     return galliumtoad_exchange_apdu(e, apdu, GT_APDU_LIMIT, n, most);
 }
 
-/* Takes the response to that command: data, and then SW1 SW2. Another command follows, or the
- * exchange has ended.
+/* Takes the response to the command of `gt_exchange_apdu`: data, and then SW1 SW2. Another command
+ * follows, or the exchange has ended.
  *
  * - GT_OK: it is taken.
  * - GT_MEMORY: see `gt_exchange_apdu`. Nothing has changed.
@@ -1019,8 +1020,9 @@ GT_MUST_CHECK int32_t gt_terminal_tpdu(gt_terminal *t, uint8_t tpdu[GT_TPDU_LIMI
     return galliumtoad_terminal_tpdu(t, tpdu, GT_TPDU_LIMIT, n, most);
 }
 
-/* Takes the answer to that TPDU, as `gt_exchange_answered`. After GT_TOO_LONG and GT_STALLED the
- * operation has failed for good. GT_NOT_DUE: also if no operation has started. */
+/* Takes the answer to the TPDU of `gt_terminal_tpdu`, as `gt_exchange_answered`. After GT_TOO_LONG
+ * and GT_STALLED the operation has failed for good. GT_NOT_DUE: also if no operation has
+ * started. */
 GT_MUST_CHECK int32_t gt_terminal_answered(gt_terminal *t, const uint8_t *answer, size_t n) {
     if (!t || (!answer && n)) return GT_NULL;
     return galliumtoad_terminal_answered(t, gt_bytes_(answer), n);
@@ -1034,8 +1036,9 @@ GT_MUST_CHECK int32_t gt_terminal_apdu(gt_terminal *t, uint8_t apdu[GT_APDU_LIMI
     return galliumtoad_terminal_apdu(t, apdu, GT_APDU_LIMIT, n, most);
 }
 
-/* Takes the response to that command, as `gt_exchange_responded`. After GT_TOO_LONG and GT_STALLED
- * the operation has failed for good. GT_STATE: also if no operation has started. */
+/* Takes the response to the command of `gt_terminal_apdu`, as `gt_exchange_responded`. After
+ * GT_TOO_LONG and GT_STALLED the operation has failed for good. GT_STATE: also if no operation has
+ * started. */
 GT_MUST_CHECK int32_t gt_terminal_responded(gt_terminal *t, const uint8_t *response, size_t n) {
     if (!t || (!response && n)) return GT_NULL;
     return galliumtoad_terminal_responded(t, gt_bytes_(response), n);

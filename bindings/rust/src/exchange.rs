@@ -145,7 +145,10 @@ pub(crate) fn answer(handle: &Handle, copies: Copies) -> Result<Answer, Error> {
 /// 12).
 ///
 /// Ask it for its [`next`](Exchange::next) character, send that or wait for one of the card, and
-/// hand that to [`take`](Exchange::take), until it is done.
+/// hand that to [`take`](Exchange::take), until it is done. Or carry whole TPDUs
+/// ([`tpdu`](Exchange::tpdu), [`answered`](Exchange::answered)), or whole commands
+/// ([`apdu_into`](Exchange::apdu_into), [`responded`](Exchange::responded)). Commands don't mix
+/// with the other two.
 ///
 /// An exchange may be several TPDUs. If the card answers `6CXX` to one that asks for data, it sends
 /// that again with XX, once, unless XX is more than it still wants. If the card answers `61XX`, and

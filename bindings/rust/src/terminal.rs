@@ -166,7 +166,8 @@ impl Terminal {
         whole::due_into(&self.0, raw::galliumtoad_terminal_tpdu, room).ok()?
     }
 
-    /// Takes the answer to that TPDU: data, and then SW1 SW2.
+    /// Takes the answer to the TPDU of [`tpdu`](Terminal::tpdu): data, and then SW1 SW2. Another
+    /// TPDU follows, or the operation has ended.
     ///
     /// # Errors
     ///
@@ -197,7 +198,8 @@ impl Terminal {
         whole::due_into(&self.0, raw::galliumtoad_terminal_apdu, room)
     }
 
-    /// Takes the response to that command: data, and then SW1 SW2.
+    /// Takes the response to the command of [`apdu_into`](Terminal::apdu_into): data, and then SW1
+    /// SW2. Another command follows, or the operation has ended.
     ///
     /// # Errors
     ///

@@ -75,6 +75,8 @@ pub trait Transport {
 
     /// Sends a TPDU or a command, and returns how many bytes came back: data, and then SW1 SW2.
     /// They are at the front of `answer`, which has [`ANSWER_LIMIT`] bytes, all 0 before the call.
+    /// [`Terminal::run`] ends with [`Error::NoStatus`] if these don't end in a status word, and
+    /// with [`Error::TooMany`] if their number is above [`ANSWER_LIMIT`].
     ///
     /// # Errors
     ///

@@ -93,8 +93,9 @@ impl Exchange {
         due_into(&self.0, raw::galliumtoad_exchange_tpdu, room).ok()?
     }
 
-    /// Takes the answer to that TPDU: data, and then SW1 SW2. The exchange continues as after the
-    /// characters of any TPDU that brings these: another TPDU follows, or it has ended.
+    /// Takes the answer to the TPDU of [`tpdu`](Exchange::tpdu): data, and then SW1 SW2. The
+    /// exchange continues as after the characters of any TPDU that brings these: another TPDU
+    /// follows, or it has ended.
     ///
     /// # Errors
     ///
@@ -130,8 +131,8 @@ impl Exchange {
         due_into(&self.0, raw::galliumtoad_exchange_apdu, room)
     }
 
-    /// Takes the response to that command: data, and then SW1 SW2. Another command follows, or the
-    /// exchange has ended.
+    /// Takes the response to the command of [`apdu_into`](Exchange::apdu_into): data, and then SW1
+    /// SW2. Another command follows, or the exchange has ended.
     ///
     /// # Errors
     ///

@@ -221,7 +221,8 @@ impl<A: Allocator + Copy> ApduTerminal<A> {
         }
     }
 
-    /// Returns what `answer` does as an `Answer`, in memory of its size, and drops the terminal.
+    /// Returns what `answer` does as an `Answer`, and drops the terminal. Room that the data don't
+    /// take is freed.
     pub fn into_answer(self) -> Option<Answer<A>>
         ensures { IsOperationAnswer self.operation
             (option_map (λ a. (a.status, a.content)) result) }

@@ -35,8 +35,10 @@ pub fn a_whole_operation_by_commands_is_done()
         × (o.exchange.gather.bytes ≡ answer.content) }
 {}
 
-/// An operation that a terminal of TPDUs has begun, and sent nothing of, is the same operation at a
-/// terminal of whole commands.
+/// Take what is unsent of an operation at a terminal of TPDUs (`Unsent`). An operation at a
+/// terminal of whole commands that begins with it carries out the same commands, and no pair has
+/// passed yet. Each command must have a valid INS, at most 255 bytes of data, and no Le or one of 1
+/// to 256.
 pub fn an_unsent_operation_begins_by_commands()
     ensures { (t : Option OperationOf) (unsent : Unsent) (o : ApduOperationOf)
         (commands : List Command) (came : List Character) → IsUnsent t (Some unsent) →

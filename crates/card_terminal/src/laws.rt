@@ -1,6 +1,5 @@
 //! Laws of exchanges, over the definitions alone: each function's contract is one. For the proof:
 //! the bodies are empty.
-
 ghost use Rattle.std.specs.Prelude.{◌≡◌, ◌⊎◌, ◌≤◌, ◌<◌, ◌+◌, ◌*◌, ◌++◌, ◌∷◌, [], ℕ, List, length, Option, true};
 ghost use Rattle.std.specs.List.{AllByRecursion, flat_map};
 ghost use Rattle.apdu_core.specs.StatusWord.{StatusWord};

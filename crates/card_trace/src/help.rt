@@ -38,7 +38,7 @@ The lines after them are carried out in order:
   put TAG VALUE      stores a data object
   send HEX           sends one command, of the case that goes with its INS
   plan STEPS CUT     how the card answers one TPDU of the next operation or send
-  reset              resets the card
+  reset              resets the card, and prints `reset`
   table              prints what the card holds
 
 HEX is one or more pairs of hexadecimal digits. TAG is one byte, 40 to FE except
@@ -90,7 +90,7 @@ The lines after them are carried out in order:
   > HEX              sends these characters to the card
   <                  prints the characters that the card sends, until it listens
   < N                the same, but at most N of them, 1 to 65,535
-  reset              resets the card
+  reset              resets the card, and prints `reset`
   table              prints what the card holds
 
 HEX is one or more pairs of hexadecimal digits. TAG is one byte, 40 to FE except

@@ -20,6 +20,10 @@ use tlv_core::{ObjectTag, Objects};
 
 /// Returns the lines of an operation. Each longest run of characters from one end is a line, after
 /// `> ` for the terminal or `< ` for the card. The last is the status and the data, after `= `.
+///
+/// # Errors
+///
+/// - `AllocError`: memory ran out; there is no text.
 pub fn operation_text<A: Allocator + Copy, B: Allocator>(
     alloc: A,
     characters: &[(End, u8)],
@@ -34,6 +38,10 @@ pub fn operation_text<A: Allocator + Copy, B: Allocator>(
 }
 
 /// Returns the line of the characters that a card's end handed out; `<` alone if it has none.
+///
+/// # Errors
+///
+/// - `AllocError`: memory ran out; there is no text.
 pub fn handed_out_text<A: Allocator + Copy>(
     alloc: A,
     characters: &[u8],
@@ -127,6 +135,10 @@ fn push_spaced<A: Allocator + Copy>(
 
 /// Returns the lines of a card's applications, each followed by those of its entries: tag, value or
 /// `-`, and `locked` if no command changes it.
+///
+/// # Errors
+///
+/// - `AllocError`: memory ran out; there is no text.
 pub fn table_text<A: Allocator + Copy, B: Allocator>(
     alloc: A,
     card: &ObjectCard<B>,
@@ -207,6 +219,10 @@ fn push_mark<A: Allocator>(text: &mut Vec<u8, A>, locked: bool) -> Result<(), Al
 
 /// Appends the lines of objects that are `below` levels below the first. The list must be at level
 /// `below` + 1.
+///
+/// # Errors
+///
+/// - `AllocError`: memory ran out; `text` may lack some of them.
 pub fn push_objects<A: Allocator + Copy>(
     alloc: A,
     text: &mut Vec<u8, A>,

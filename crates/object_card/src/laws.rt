@@ -20,8 +20,9 @@ pub fn p1p2_name_the_tag()
 {}
 
 /// A TPDU under any cut, and a reset, leave a sound state sound. In one, identifiers and tags are
-/// distinct, values are sound, and each number keeps to its limit. The selected application exists,
-/// a chain keeps to the limit, and a pending response has at least one byte.
+/// distinct, values are sound, and each number keeps to its limit. The selected application exists.
+/// A chain is pending only if one is selected, with at most `VALUE_LIMIT` bytes. A pending response
+/// has 1 to `VALUE_LIMIT` and `HEAD_LIMIT` bytes together.
 pub fn a_card_state_stays_one()
     ensures step { (old new : CardState) (cut : ℕ) (tpdu : Tpdu) → Does old cut tpdu new →
         IsCardState old → IsCardState new }

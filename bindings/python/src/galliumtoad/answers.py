@@ -99,8 +99,8 @@ def head(tag: int, length: int) -> bytes:
     """Returns how an object begins: its tag, and the length of its value in the shortest form, 2 to
     6 bytes.
 
-    Raises `CallError` if no tag has this number, and `ValueError` for a tag above 0xFFFFFF or a
-    length above 65,535.
+    Raises `CallError`, GT_ARGUMENT, if no tag has this number. Raises `ValueError` for a tag not
+    from 0 to 0xFFFFFF, or a length not from 0 to 65,535.
 
     >>> import galliumtoad
     >>> galliumtoad.head(0x5F20, 200).hex()
@@ -124,7 +124,10 @@ class Answer(NamedTuple):
 
     def object(self, tag: int) -> Optional[Object]:
         """Returns the object if the data are exactly one, with this tag; else None. Some cards
-        answer a get with the value alone."""
+        answer a get with the value alone.
+
+        Raises `ValueError` for a tag below 0 or above 0xFFFFFF.
+        """
         is_it = lib.gt_is_object(*readable(self.data), tag_number(tag))
         return find(self.data, tag) if is_it else None
 

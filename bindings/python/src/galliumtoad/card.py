@@ -155,7 +155,11 @@ class Character(NamedTuple):
 class Session(Holder):
     """Takes a card, resets it, and carries out operations with it. The card's plans are dropped.
 
-    The card's own handle is empty from then on: `end` returns a new one.
+    The card's own handle is empty from then on: `end` returns a new one. Errors, after which there
+    is no session, and the card is as before:
+    - TypeError: it is not a `Card`.
+    - CallError, GT_EMPTY: the card is closed, or in a session.
+    - RuntimeError: another thread is in a call of the card.
 
     >>> from galliumtoad import Card, Get, Select, Session
     >>> aid = bytes.fromhex("A0000000031010")
@@ -177,6 +181,7 @@ class Session(Holder):
         Errors, after which nothing was sent:
         - CallError, GT_ARGUMENT: an identifier not of 5 to 16 bytes, or a tag that no command can
           name. Or the data of a `Send` move the other way at the card.
+        - ValueError: a tag below 0 or above 0xFFFFFF.
         - CallError, GT_BUSY: a chain of `Send` is pending. `Send` never gets it.
         - CommandError: the bytes of `Send` are not a command.
         - TypeError: it is not an operation.

@@ -48,6 +48,8 @@ class LineError(Error):
 
     - GT_BAD_PROCEDURE, GT_TOO_LONG, GT_STALLED: the exchange or operation has failed for good.
     - GT_NOT_LISTENING, GT_AFTER_END: nothing has changed.
+
+    `place` is that of the character in `receive_bytes`, and None if an answer does not fit.
     """
 
 
@@ -56,7 +58,7 @@ class ObjectsError(Error):
 
 
 class CommandError(Error):
-    """The bytes are not a command."""
+    """The bytes are not a command. Nothing has changed."""
 
 
 class TransportError(Error):
@@ -65,7 +67,11 @@ class TransportError(Error):
 
 
 class AtrError(Error):
-    """The bytes are not an answer to reset."""
+    """The bytes are not an answer to reset. This is their first fault from the left.
+
+    `place` counts from 0 for TS. If a byte is missing, it is the number of bytes, and it is 33 with
+    GT_ATR_TOO_LONG. After GT_ATR_CUT or GT_ATR_CHECK_MISSING one more byte may mend them.
+    """
 
 
 class PpsError(Error):

@@ -122,7 +122,8 @@ class Machine(Handle):
         return self._due("tpdu", lib.GT_TPDU_LIMIT)
 
     def answered(self, answer: Bytes) -> None:
-        """Takes the answer to that TPDU: data and SW1 SW2.
+        """Takes the answer to the TPDU of `tpdu`: data and SW1 SW2. Another TPDU follows, or the
+        exchange or operation has ended.
 
         Errors:
         - TransportError: it does not fit, or no TPDU is next; nothing has changed.
@@ -142,7 +143,8 @@ class Machine(Handle):
         return self._due("apdu", lib.GT_APDU_LIMIT)
 
     def responded(self, response: Bytes) -> None:
-        """Takes the response to that command: data and SW1 SW2. Errors as `answered` and `apdu`."""
+        """Takes the response to the command of `apdu`: data and SW1 SW2. Another command follows,
+        or the exchange or operation has ended. Errors as `answered` and `apdu`."""
         self._call("responded", *readable(response))
 
     def _due(self, name: str, room: int) -> Optional[Due]:
@@ -163,7 +165,10 @@ class Machine(Handle):
 
 
 class Exchange(Machine):
-    """Begins the terminal's end of one command. `limit`, 0 to 16,384, bounds the response's data.
+    """Begins the terminal's end of one command.
+
+    `limit`, 0 to 16,384, is the most bytes of data that the response may bring. At the first one
+    beyond, the exchange fails for good: GT_TOO_LONG.
 
     With Le 00 it fetches the whole response, with another Le at most that many bytes, without Le
     none. Errors, after which there is no exchange:
@@ -187,9 +192,15 @@ class Exchange(Machine):
 
 
 class Terminal(Machine, Lasting):
-    """Carries out one operation after another. `limit`, 0 to 16,384, bounds a response's data.
+    """Carries out one operation after another.
 
-    Raises `CallError`, GT_ARGUMENT, or `ValueError` for another limit.
+    `limit`, 0 to 16,384, is the most bytes of data that a response may bring. At the first one
+    beyond, the operation fails for good: GT_TOO_LONG.
+
+    Errors, after which there is no terminal:
+    - CallError, GT_ARGUMENT: `limit` is above 16,384.
+    - ValueError: `limit` is below 0 or above 2^63.
+    - OutOfMemory: memory ran out.
 
     No chain may be pending at the card when an operation begins. One may be after a fault: a put
     under the same tag would continue it. So reset the card after a fault.
@@ -213,6 +224,7 @@ class Terminal(Machine, Lasting):
         - CallError, GT_STATE: an operation is in progress: it has neither ended nor failed.
         - CallError, GT_ARGUMENT: an identifier not of 5 to 16 bytes, or a tag that no command can
           name.
+        - ValueError: a tag below 0 or above 0xFFFFFF.
         - CommandError: the bytes of `Send` are not a command.
         - TypeError: it is not an operation.
         - OutOfMemory: memory ran out.
@@ -248,8 +260,11 @@ class T1(Lasting):
     """A terminal's end of a line at T=1 (ISO/IEC 7816-3, clause 11), as a transport.
 
     It carries whole commands as blocks over a line that may damage and lose them. `edc` and `ifsc`
-    are those of `Atr.t1`. Raises `CallError` for an EDC other than LRC, or an IFSC of 0 or 255, and
-    `ValueError` for a number above 255.
+    are those of `Atr.t1`. Errors, after which there is no end:
+    - CallError, GT_ARGUMENT: an EDC other than LRC, or an IFSC of 0 or 255.
+    - ValueError: one of both is below 0 or above 255.
+    - TypeError: the line is not callable.
+    - OutOfMemory: memory ran out.
 
     It gives up after more than 4 fruitless receptions since the last progress, or more than 16
     requests of the card in one command. A granted request is not fruitless.

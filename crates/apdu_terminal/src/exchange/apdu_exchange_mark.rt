@@ -162,7 +162,8 @@ impl<A: Allocator + Copy> ApduExchangeMark<A> {
         }
     }
 
-    /// Returns what `answer` does as an `Answer`, in memory of its size.
+    /// Returns what `answer` does as an `Answer`, and drops the mark. Room that the data don't take
+    /// is freed.
     pub fn into_answer(self) -> Option<Answer<A>>
         ensures { answer_of self ≡ option_map (λ a. (a.status, a.content)) result }
     {

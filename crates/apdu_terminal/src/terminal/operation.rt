@@ -176,7 +176,8 @@ impl<A: Allocator + Copy> ApduOperation<A> {
         self.exchange.answer()
     }
 
-    /// Returns what `answer` does as an `Answer`, in memory of its size.
+    /// Returns what `answer` does as an `Answer`, and drops the operation. Room that the data don't
+    /// take is freed.
     pub fn into_answer(self) -> Option<Answer<A>>
         ensures { answer_of self.exchange ≡ option_map (λ a. (a.status, a.content)) result }
     {

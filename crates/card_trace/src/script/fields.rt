@@ -21,8 +21,12 @@ use std::alloc::{AllocError, Allocator};
 use t0_core::{Plan, Step};
 use tlv_core::{ObjectTag, Tag};
 
-/// Reads HEX: an even number of hexadecimal digits, at least two, in either case. Any other text is
-/// `BadHex`.
+/// Reads HEX: an even number of hexadecimal digits, at least two, in either case.
+///
+/// # Errors
+///
+/// - `BadHex`: it is another text.
+/// - `OutOfMemory`: memory ran out.
 pub fn read_hex<A: Allocator>(alloc: A, text: &[u8]) -> Result<Vec<u8, A>, Refusal>
     ensures ok { IfOk result (λ bytes. IsHexText text.now bytes.items) }
     ensures refused { IfErr result (λ refusal. OnReason refusal (λ _.
@@ -38,8 +42,13 @@ pub fn read_hex<A: Allocator>(alloc: A, text: &[u8]) -> Result<Vec<u8, A>, Refus
     }
 }
 
-/// Reads an application identifier in HEX. A text that is not HEX is `BadHex`; one with fewer than
-/// 5 or more than 16 bytes is `BadAid`.
+/// Reads an application identifier in HEX, of 5 to 16 bytes.
+///
+/// # Errors
+///
+/// - `BadHex`: the text is not HEX.
+/// - `BadAid`: it has fewer than 5 or more than 16 bytes.
+/// - `OutOfMemory`: memory ran out.
 pub fn read_aid<A: Allocator>(alloc: A, text: &[u8]) -> Result<Aid, Refusal>
     ensures ok { IfOk result (λ aid. IsAidText text.now aid) }
     ensures refused { IfErr result (λ refusal. OnReason refusal (λ _.
@@ -50,8 +59,13 @@ pub fn read_aid<A: Allocator>(alloc: A, text: &[u8]) -> Result<Aid, Refusal>
     Ok(aid)
 }
 
-/// Reads TAG. A text that is not HEX is `BadHex`. HEX that is no tag that GET DATA can name, of one
-/// or two bytes, is `BadTag`.
+/// Reads TAG: in HEX, a tag of one or two bytes that GET DATA can name.
+///
+/// # Errors
+///
+/// - `BadHex`: the text is not HEX.
+/// - `BadTag`: the bytes are no such tag.
+/// - `OutOfMemory`: memory ran out.
 pub fn read_tag<A: Allocator>(alloc: A, text: &[u8]) -> Result<ObjectTag, Refusal>
     ensures ok { IfOk result (λ tag. IsTagText text.now tag) }
     ensures refused { IfErr result (λ refusal. OnReason refusal (λ _.
@@ -75,8 +89,12 @@ fn object_tag(bytes: &[u8]) -> Option<ObjectTag>
     }
 }
 
-/// Reads VALUE: `-` for no bytes, HEX, or `HH*N` for N times the byte HH. Any other text is
-/// `BadHex`.
+/// Reads VALUE: `-` for no bytes, HEX, or `HH*N` for N times the byte HH. N is 1 to 65,535.
+///
+/// # Errors
+///
+/// - `BadHex`: it is another text.
+/// - `OutOfMemory`: memory ran out.
 pub fn read_value<A: Allocator>(alloc: A, text: &[u8]) -> Result<Vec<u8, A>, Refusal>
     ensures ok { IfOk result (λ value. IsValueText text.now value.items) }
     ensures refused { IfErr result (λ refusal. OnReason refusal (λ _.
@@ -115,8 +133,12 @@ pub fn read_number(text: &[u8]) -> Option<u16>
     }
 }
 
-/// Reads STEPS and CUT: `-` or the letters `n`, `o` and `a`; and a number of 1 to 256. Any other
-/// text is `BadPlan`.
+/// Reads STEPS and CUT: `-` or the letters `n`, `o` and `a`; and a number of 1 to 256.
+///
+/// # Errors
+///
+/// - `BadPlan`: one of both is another text.
+/// - `OutOfMemory`: memory ran out.
 pub fn read_plan<A: Allocator>(alloc: A, steps: &[u8], cut: &[u8]) -> Result<Plan<A>, Refusal>
     ensures ok { IfOk result (λ plan. IsPlanText steps.now cut.now plan) }
     ensures refused { IfErr result (λ refusal. OnReason refusal (λ _.

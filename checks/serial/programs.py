@@ -99,7 +99,7 @@ def in_time(test, fault=AssertionError):
 
 
 def must_end(seconds, least, most):
-    """A program that ended after so many seconds ended neither too early nor too late."""
+    """A program that ended after these seconds ended neither too early nor too late."""
     assert least <= seconds, f"it ends after {seconds:.2f} s"
     if seconds >= most:
         raise Late(f"it ends after {seconds:.2f} s")

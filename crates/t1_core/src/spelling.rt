@@ -49,22 +49,12 @@ fn write_control(alloc: Global, response: bool, control: Control) -> Result<Vec<
     ensures { IfOk result (λ v. v.items
         ≡ spelled (Supervisory response (subject_of control)) (field_of control)) }
 {
-    let subject = subject_of(control);
-    let pcb = Pcb::Supervisory { response, subject };
+    let pcb = |subject| Pcb::Supervisory { response, subject };
     match control {
-        Control::Ifs(byte) | Control::Wtx(byte) => spell(alloc, pcb, &[byte]),
-        _ => spell(alloc, pcb, &[]),
-    }
-}
-
-fn subject_of(control: Control) -> Subject
-    ensures { result ≡ subject_of control }
-{
-    match control {
-        Control::Resynch => Subject::Resynch,
-        Control::Ifs(_) => Subject::Ifs,
-        Control::Abort => Subject::Abort,
-        Control::Wtx(_) => Subject::Wtx,
+        Control::Resynch => spell(alloc, pcb(Subject::Resynch), &[]),
+        Control::Ifs(size) => spell(alloc, pcb(Subject::Ifs), &[size]),
+        Control::Abort => spell(alloc, pcb(Subject::Abort), &[]),
+        Control::Wtx(multiple) => spell(alloc, pcb(Subject::Wtx), &[multiple]),
     }
 }
 

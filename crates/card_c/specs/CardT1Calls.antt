@@ -5,11 +5,9 @@ use Rattle.t0_core.specs.CardTpdu.{rests}
 use Rattle.t0_core.specs.Plan.{Cursor}
 use Rattle.t1_core.specs.declared.applet.Applet.{Ghosts}
 use Rattle.t1_core.specs.declared.card.Reply.{Reply}
-use Rattle.t1_core.specs.BlockBytes.{block_of, bytes_of}
-use Rattle.t1_core.specs.CardReplies.{replies}
-use Rattle.t1_core.specs.CardSide.{card_after, card_damaged, card_hears, forgets}
+use Rattle.t1_core.specs.BlockBytes.{block_of, bytes_of, is_whole}
+use Rattle.t1_core.specs.CardSide.{card_after, card_damaged, card_hears, forgets, replies}
 use Rattle.t1_core.specs.Doing.{Goes, Keeps, Steps}
-use Rattle.t1_core.specs.Receiving.{is_whole}
 use Rattle.object_card.specs.State.{CardState}
 use Rattle.object_card.specs.CardMeaning.{Does}
 use Rattle.object_card.specs.CardView.{CardView}

@@ -6,8 +6,7 @@ use Rattle.t1_core.specs.declared.settings.Edc.TheVariants.{Lrc}
 use Rattle.t1_core.specs.declared.settings.Settings.{Settings}
 use Rattle.t1_core.specs.declared.terminal.Fault.{Fault}
 use Rattle.t1_core.specs.Block.{Block, I, R, Request, Response}
-use Rattle.t1_core.specs.BlockBytes.{block_of, bytes_of}
-use Rattle.t1_core.specs.Receiving.{is_whole}
+use Rattle.t1_core.specs.BlockBytes.{block_of, bytes_of, is_whole}
 use Rattle.t1_core.specs.Settings as settings
 use Rattle.t1_core.specs.TerminalSide.{Terminal, begins, fault_of, fresh, has_stopped, is_ready, sends, takes}
 use Rattle.card_c.specs.declared.t1_side.T1Side.{T1Side}

@@ -45,3 +45,17 @@ where
     handle.put(held);
     answer
 }
+
+/// Does what `with` does, for a call that also writes to what the caller lent.
+macro_rules! on {
+    ($alloc:ident, $handle:ident, $side:ident => $call:expr) => {{
+        let Some(mut $side) = $handle.take_out($alloc) else {
+            return code::EMPTY;
+        };
+        let answer = $call;
+        $handle.put($side);
+        answer
+    }};
+}
+
+pub(crate) use on;

@@ -12,7 +12,7 @@ ghost use Rattle.card_c.specs.TerminalCalls.{HasBegun, KeepsRoom, OnBegin, OnTpd
 use crate::apdu_side::ApduSide;
 use crate::code;
 use crate::copied::copied;
-use crate::handle::{Handle, with};
+use crate::handle::{Handle, on, with};
 use crate::held_terminal::TerminalHandle;
 use crate::tag_number::tag_of;
 use crate::terminal_side::TerminalSide;
@@ -256,12 +256,7 @@ pub extern "C" fn galliumtoad_terminal_next(
         (OnTpdus (byte.new ≡ byte.old) (TakesTurn byte.old byte.new))
         (terminal_in terminal.old) result (terminal_in terminal.new) }
 {
-    let Some(mut side) = terminal.take_out(alloc) else {
-        return code::EMPTY;
-    };
-    let answer = turned(&mut side, byte);
-    terminal.put(side);
-    answer
+    on!(alloc, terminal, side => turned(&mut side, byte))
 }
 
 fn turned(side: &mut TerminalSide, byte: &mut u8) -> i32
@@ -311,12 +306,7 @@ pub extern "C" fn galliumtoad_terminal_tpdu(
         (λ side code. TellsTpduOf side tpdu.old len.old most.old code tpdu.new len.new most.new)
         (terminal_in terminal.old) result (terminal_in terminal.new) }
 {
-    let Some(side) = terminal.take_out(alloc) else {
-        return code::EMPTY;
-    };
-    let answer = due(&side, tpdu, len, most);
-    terminal.put(side);
-    answer
+    on!(alloc, terminal, side => due(&side, tpdu, len, most))
 }
 
 fn due(side: &TerminalSide, tpdu: &mut [u8], len: &mut usize, most: &mut usize) -> i32
@@ -364,12 +354,7 @@ pub extern "C" fn galliumtoad_terminal_answer(
         status.new content.new len.new) (terminal_in terminal.old) result
         (terminal_in terminal.new) }
 {
-    let Some(side) = terminal.take_out(alloc) else {
-        return code::EMPTY;
-    };
-    let answer = given(&side, status, content, len);
-    terminal.put(side);
-    answer
+    on!(alloc, terminal, side => given(&side, status, content, len))
 }
 
 fn given(side: &TerminalSide, status: &mut u16, content: &mut [u8], len: &mut usize) -> i32

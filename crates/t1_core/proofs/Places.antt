@@ -453,12 +453,18 @@ module _ (m : Meaning) (before : List (List ℕ)) where
   sends_some k (Sent true got rest) tries extensions = (_, refl)
   sends_some k _ tries extensions = (_, refl)
 
+  -- nothing arrives if nothing was sent
+  silent : (up : Fate) → arrives up None ≡ None
+  silent Delivers = refl
+  silent _ = refl
+
   lost : (up : Fate) (k : Kept) (s : Spot) (tries extensions : ℕ)
       → After Loses up (Going k s tries extensions)
       ≡ world_of (misses (out_at k s) k s tries extensions)
   lost up k s tries extensions =
       ap (exchanged m (record { down = Loses; up = up })
       (world_at (out_at k s) k s tries extensions)) (sends_some k s tries extensions).1
+      ∙ ap (took (out_at k s) k s tries extensions) (silent up)
       ∙ missed (out_at k s) k tries extensions s
 
   -- the card replies to a damaged block with this one

@@ -3,8 +3,7 @@
 use Rattle.std.specs.Prelude.{◌≡◌, ◌<◌, ◌^◌, List, ℕ, [], ◌∷◌, ◌++◌, length, map, Option, Some, None}
 use Rattle.t1_core.specs.declared.applet.Applet.{Ghosts}
 use Rattle.t1_core.specs.declared.card.Reply.{Reply}
-use Rattle.t1_core.specs.CardReplies.{replies}
-use Rattle.t1_core.specs.CardSide.{Card, Did, Meaning, Turn, turn, no_requests}
+use Rattle.t1_core.specs.CardSide.{Card, Did, Meaning, Turn, turn, no_requests, replies}
 
 abbrev pub commands_of : List Did → List (List ℕ)
 commands_of dids = map (λ (d : Did). d.command) dids

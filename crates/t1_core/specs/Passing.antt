@@ -6,8 +6,7 @@ use Rattle.t1_core.specs.declared.card.Reply.{Reply}
 use Rattle.t1_core.specs.declared.line.Fate.{Fate}
 use Rattle.t1_core.specs.declared.line.Fates.{Fates}
 use Rattle.t1_core.specs.Block.{Block, are_filled}
-use Rattle.t1_core.specs.CardReplies.{replies}
-use Rattle.t1_core.specs.CardSide.{Card, Did, Meaning, card_meets}
+use Rattle.t1_core.specs.CardSide.{Card, Did, Meaning, card_meets, replies}
 use Rattle.t1_core.specs.Doing.{EndOf, after, DoesSome, IsOfSome, ran_with}
 use Rattle.t1_core.specs.TerminalSide.{Terminal, sends, takes}
 use Rattle.t1_core.specs.World.{arrives}

@@ -1,9 +1,8 @@
 //! The bytes of a block: NAD 00, PCB, LEN, the field and the LRC.
 ghost use Rattle.std.specs.Prelude.{◌≡◌, ◌≤◌, ◌<◌, ◌++◌, ◌∷◌, [], List, ℕ, true, length, IfOk, IfSome, Some, None};
 ghost use Rattle.std.specs.Option.{option_map};
-ghost use Rattle.t1_core.specs.Block.{is_filled};
-ghost use Rattle.t1_core.specs.BlockView.{said};
-ghost use Rattle.t1_core.specs.BlockBytes.{lrc, spelled, parts_of, block_of, block_in, bytes_of, info_of, control_of, field_of, subject_of, Sent, Reads};
+ghost use Rattle.t1_core.specs.Block.{Block as Sent, is_filled, said};
+ghost use Rattle.t1_core.specs.BlockBytes.{lrc, spelled, parts_of, block_of, block_in, bytes_of, info_of, control_of, field_of, subject_of};
 ghost use Rattle.t1_core.specs.declared.pcb.Pcb.{Pcb};
 ghost use Rattle.t1_core.specs.declared.pcb.Pcb.TheVariants.{Supervisory};
 
@@ -99,7 +98,7 @@ fn read_whole(bytes: &[u8]) -> Option<Block<'_>>
 /// `None` if there are fewer than 4 bytes, NAD is not `00`, the PCB is invalid, LEN is `FF` or not
 /// the size of the field, or the LRC is wrong.
 pub fn parts(bytes: &[u8]) -> Option<(Pcb, &[u8])>
-    ensures exact { Reads (λ b. (b.0, b.1.now)) result (parts_of bytes.now) }
+    ensures exact { option_map (λ b. (b.0, b.1.now)) result ≡ parts_of bytes.now }
 
     // A block that was decoded is written again, byte for byte.
     ensures spelled { IfSome result (λ b. (length b.1.now ≤ 254)

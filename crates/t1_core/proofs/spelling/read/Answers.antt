@@ -3,7 +3,7 @@ use Rattle.std.specs.Option.{option_map}
 use Rattle.t1_core.specs.declared.block.Block as declared
 use Rattle.t1_core.specs.Block.{are_filled, is_filled}
 use Rattle.t1_core.specs.BlockBytes.{block_of}
-use Rattle.t1_core.specs.BlockView.{said}
+use Rattle.t1_core.specs.Block.{said}
 use Rattle.t1_core.proofs.BlockBytesFacts.{reads_written, read_is_filled}
 use Rattle.t1_core.proofs.spelling.read.Goals as goal
 

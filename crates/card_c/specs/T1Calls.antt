@@ -1,7 +1,7 @@
 -- What the calls on the handle of a terminal's end at T=1 do to it. A refusal changes nothing.
 use Rattle.std.specs.Prelude.{◌≡◌, ◌⊎◌, ℕ, ℤ, ◌+◌, ◌≤◌, ◌<◌, ◌==◌, Bool, true, false, List, [], ◌++◌, take, length, Option, Some, None, MatchOption, pos, if◌then◌else◌}
-use Rattle.t1_core.specs.declared.control.Control.{Control}
-use Rattle.t1_core.specs.declared.control.Control.TheVariants.{Resynch, Ifs, Abort, Wtx}
+use Rattle.t1_core.specs.declared.block.Control.{Control}
+use Rattle.t1_core.specs.declared.block.Control.TheVariants.{Resynch, Ifs, Abort, Wtx}
 use Rattle.t1_core.specs.declared.settings.Edc.TheVariants.{Lrc}
 use Rattle.t1_core.specs.declared.settings.Settings.{Settings}
 use Rattle.t1_core.specs.declared.terminal.Fault.{Fault}

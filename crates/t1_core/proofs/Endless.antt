@@ -1,7 +1,7 @@
 -- A terminal stops, whatever any peer sends.
-use Rattle.std.proofs.Common.{◌≡◌, refl, sym, ap, subst, ℕ, zero, suc, ◌+◌, ◌*◌, ◌≤◌, ◌<◌, Bool, true, false, List, [], ◌∷◌, length, length-append, length-drop, nat_lt, Option, Some, None, cond, ◌==◌, arith, ◌⊎◌, inl, inr}
-use Rattle.t1_core.specs.declared.control.Control.{Control}
-use Rattle.t1_core.specs.declared.control.Control.TheVariants.{Resynch, Ifs, Abort, Wtx}
+use Rattle.std.proofs.Common.{◌≡◌, refl, ap, subst, ℕ, zero, suc, ◌+◌, ◌*◌, ◌≤◌, ◌<◌, Bool, true, false, List, [], ◌∷◌, length, length-append, length-drop, nat_lt, Option, Some, None, cond, ◌==◌, arith, ◌⊎◌, inl, inr}
+use Rattle.t1_core.specs.declared.block.Control.{Control}
+use Rattle.t1_core.specs.declared.block.Control.TheVariants.{Resynch, Ifs, Abort, Wtx}
 use Rattle.t1_core.specs.declared.terminal.Out.{Out}
 use Rattle.t1_core.specs.declared.terminal.Out.TheVariants.{Own, Asks}
 use Rattle.t1_core.specs.declared.terminal.Phase.{Phase}

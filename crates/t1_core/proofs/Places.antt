@@ -2,7 +2,7 @@
 use Rattle.std.proofs.Common.{◌≡◌, refl, ap, ◌∙◌, ℕ, zero, suc, Bool, true, false, List, [], ◌∷◌, ◌++◌, length, ◌+◌, nat_lt, take, drop, Option, Some, None, append_assoc, cond}
 use Rattle.std.proofs.lemmas.Bool.{eq-eqb}
 use Rattle.t1_core.specs.declared.applet.Requests.{Requests}
-use Rattle.t1_core.specs.declared.control.Control.TheVariants.{Ifs, Wtx}
+use Rattle.t1_core.specs.declared.block.Control.TheVariants.{Ifs, Wtx}
 use Rattle.t1_core.specs.declared.line.Fate.{Fate}
 use Rattle.t1_core.specs.declared.line.Fate.TheVariants.{Delivers, Damages, Loses}
 use Rattle.t1_core.specs.declared.settings.Settings.{Settings}

@@ -6,8 +6,7 @@ ghost use Rattle.t1_core.specs.BlockBytes.{lrc, spelled, parts_of, block_of, blo
 ghost use Rattle.t1_core.specs.declared.pcb.Pcb.{Pcb};
 ghost use Rattle.t1_core.specs.declared.pcb.Pcb.TheVariants.{Supervisory};
 
-use crate::block::Block;
-use crate::control::Control;
+use crate::block::{Block, Control};
 use crate::pcb::{Pcb, Reason, Subject};
 use std::alloc::{AllocError, Global};
 

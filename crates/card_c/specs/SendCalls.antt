@@ -37,10 +37,6 @@ SendsAgreed c old code new =
 
 -- the command that these bytes are
 abbrev pub SendsBytes : List ℕ → CardSide → ℤ → CardSide → Type 0
-SendsBytes bytes (Building applications) code new =
-    (code ≡ gt_state) × (new ≡ Building applications)
-SendsBytes bytes (Standing end plans) code new = (code ≡ gt_state) × (new ≡ Standing end plans)
-SendsBytes bytes (AtT1 at) code new = (code ≡ gt_state) × (new ≡ AtT1 at)
 SendsBytes bytes (Joined session) code new =
     ((fault : ApduFault) × AreNone bytes fault × (code ≡ command_code fault)
     × (new ≡ Joined session))
@@ -48,3 +44,4 @@ SendsBytes bytes (Joined session) code new =
     × (¬ IsAgreed MayReceive MaySend c) × (code ≡ gt_argument) × (new ≡ Joined session))
     ⊎ ((c : Command) × (next : SessionSide) × IsCommand c × (bytes ≡ command_bytes c)
     × IsAgreed MayReceive MaySend c × (new ≡ Joined next) × SendsAgreed c session code next)
+SendsBytes bytes side code new = (code ≡ gt_state) × (new ≡ side)

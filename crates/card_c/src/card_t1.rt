@@ -136,16 +136,12 @@ fn receive(side: &mut CardSide, bytes: &[u8], count: &mut usize) -> i32
 pub extern "C" fn galliumtoad_card_t1_missed(alloc: Global, card: &mut GtCard) -> i32
     ensures { OnHandle (OnLine Misses ⊤) (held_by card.old) result (held_by card.new) }
 {
-    with(alloc, card, |side| miss(side))
-}
-
-fn miss(side: &mut CardSide) -> i32
-    ensures { OnLine Misses ⊤ side.old result side.new }
-{
-    let CardSide::AtT1(at) = side else {
-        return code::STATE;
-    };
-    at.reply = Some(at.end.damaged());
-    at.block.clear();
-    code::SENDS
+    with(alloc, card, |side| {
+        let CardSide::AtT1(at) = side else {
+            return code::STATE;
+        };
+        at.reply = Some(at.end.damaged());
+        at.block.clear();
+        code::SENDS
+    })
 }

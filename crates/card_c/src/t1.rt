@@ -55,10 +55,7 @@ fn settings(edc: u8, ifsc: u8, tries: u8, extensions: u8, limit: usize) -> Optio
     if edc != LRC {
         return None;
     }
-    match Settings::new(Edc::Lrc, ifsc, tries, extensions, limit) {
-        Ok(settings) => Some(settings),
-        Err(_) => None,
-    }
+    Settings::new(Edc::Lrc, ifsc, tries, extensions, limit).ok()
 }
 
 /// Frees the memory of a handle, which is empty then.

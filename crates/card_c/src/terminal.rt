@@ -92,6 +92,19 @@ pub extern "C" fn galliumtoad_terminal_reset(alloc: Global, terminal: &mut Termi
     })
 }
 
+/// Begins an operation by a call on the terminal, unless one goes by whole commands.
+macro_rules! begin {
+    ($alloc:ident, $terminal:ident, $side:ident => $call:expr) => {
+        with($alloc, $terminal, |$side| {
+            if $side.is_led() {
+                return code::STATE;
+            }
+            let answer = $call;
+            $side.began(answer)
+        })
+    };
+}
+
 /// Begins SELECT of the application with this identifier, and drops the last answer.
 #[unsafe(no_mangle)]
 pub extern "C" fn galliumtoad_terminal_select(
@@ -102,13 +115,7 @@ pub extern "C" fn galliumtoad_terminal_select(
     ensures { OnHandle (OnBegin (BeginsSelect aid.now))
         (terminal_in terminal.old) result (terminal_in terminal.new) }
 {
-    with(alloc, terminal, |side| {
-        if side.is_led() {
-            return code::STATE;
-        }
-        let answer = select(&mut side.terminal, aid);
-        side.began(answer)
-    })
+    begin!(alloc, terminal, side => select(&mut side.terminal, aid))
 }
 
 fn select(terminal: &mut Terminal, aid: &[u8]) -> i32
@@ -131,13 +138,7 @@ pub extern "C" fn galliumtoad_terminal_get(
     ensures { OnHandle (OnBegin (BeginsGet tag))
         (terminal_in terminal.old) result (terminal_in terminal.new) }
 {
-    with(alloc, terminal, |side| {
-        if side.is_led() {
-            return code::STATE;
-        }
-        let answer = get(&mut side.terminal, tag);
-        side.began(answer)
-    })
+    begin!(alloc, terminal, side => get(&mut side.terminal, tag))
 }
 
 fn get(terminal: &mut Terminal, number: u32) -> i32
@@ -161,13 +162,7 @@ pub extern "C" fn galliumtoad_terminal_put(
     ensures { OnHandle (OnBegin (BeginsPut tag value.now))
         (terminal_in terminal.old) result (terminal_in terminal.new) }
 {
-    with(alloc, terminal, |side| {
-        if side.is_led() {
-            return code::STATE;
-        }
-        let answer = put(&mut side.terminal, tag, value);
-        side.began(answer)
-    })
+    begin!(alloc, terminal, side => put(&mut side.terminal, tag, value))
 }
 
 fn put(terminal: &mut Terminal, number: u32, value: &[u8]) -> i32
@@ -191,13 +186,7 @@ pub extern "C" fn galliumtoad_terminal_send(
     ensures { OnHandle (OnBegin (BeginsSend command.now))
         (terminal_in terminal.old) result (terminal_in terminal.new) }
 {
-    with(alloc, terminal, |side| {
-        if side.is_led() {
-            return code::STATE;
-        }
-        let answer = send(&mut side.terminal, command);
-        side.began(answer)
-    })
+    begin!(alloc, terminal, side => send(&mut side.terminal, command))
 }
 
 fn send(terminal: &mut Terminal, bytes: &[u8]) -> i32

@@ -81,14 +81,7 @@ pub fn read(bytes: &[u8]) -> Option<Block<'_>>
         bytes.now ≡ bytes_of block → option_map said result ≡ Some block }
     ensures filled { IfSome result (λ b. is_filled (said b) ≡ true) }
 {
-    read_whole(bytes)
-}
-
-fn read_whole(bytes: &[u8]) -> Option<Block<'_>>
-    ensures { option_map said result ≡ block_of bytes.now }
-{
-    let (pcb, info) = parts(bytes)?;
-    block_in(pcb, info)
+    parts(bytes).and_then(|(pcb, info)| block_in(pcb, info))
 }
 
 /// Returns the PCB and the field, 0 to 254 bytes, of a whole block. Unlike `read`, it accepts any

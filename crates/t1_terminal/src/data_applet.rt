@@ -113,9 +113,21 @@ impl<C: DataCard> Applet for DataApplet<C> {
         response.reserve(RESPONSE_ROOM)?;
         match Command::read(command) {
             Ok(command) => self.respond(command, response)?,
-            Err(ApduFault::InvalidIns) => write(&[], Status::new(0x6D, 0x00).unwrap(), response),
-            Err(_) => write(&[], Status::new(0x67, 0x00).unwrap(), response),
+            Err(ApduFault::InvalidIns) => write(&[], status(0x6D), response),
+            Err(ApduFault::TooShort | ApduFault::BadLength) => write(&[], status(0x67), response),
         }
-        Ok(Requests::default())
+        Ok(Requests {
+            extensions: 0,
+            multiple: 0,
+            size: None,
+        })
     }
+}
+
+/// Returns the status with this SW1, and SW2 00.
+fn status(sw1: u8) -> Status
+    requires { (0x61 ≤ sw1) × (sw1 ≤ 0x6F) }
+    ensures { result ≡ (sw1, 0x00) }
+{
+    Status::new(sw1, 0x00).unwrap()
 }

@@ -14,7 +14,7 @@ use Rattle.card_terminal.specs.ExchangeSteps.{IsTurn, IsTaking}
 use Rattle.card_terminal.specs.TerminalSide.{OperationOf}
 use Rattle.card_terminal.specs.TerminalSteps.{IsTerminalHandingOut, IsTerminalTaking}
 use Rattle.card_c.specs.declared.card_side.CardSide.{CardSide}
-use Rattle.card_c.specs.declared.card_side.CardSide.TheVariants.{Building, Standing, Joined, AtT1}
+use Rattle.card_c.specs.declared.card_side.CardSide.TheVariants.{Standing}
 use Rattle.card_c.specs.Codes.{gt_ok, gt_sends, gt_state, line_code}
 use Rattle.card_c.specs.ExchangeCalls.{turn_code, taking_code}
 use Rattle.card_c.specs.CardCalls.{TakesCharacter, HandsOutCharacter}

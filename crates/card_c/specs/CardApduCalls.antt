@@ -13,7 +13,7 @@ use Rattle.object_card.specs.Instructions.{MayReceive, MaySend}
 use Rattle.apdu_terminal.specs.Apdus.{Pair, may_bring}
 use Rattle.apdu_terminal.specs.CardApdu.{Responds}
 use Rattle.card_c.specs.declared.card_side.CardSide.{CardSide}
-use Rattle.card_c.specs.declared.card_side.CardSide.TheVariants.{Building, Standing, Joined, AtT1}
+use Rattle.card_c.specs.declared.card_side.CardSide.TheVariants.{Standing}
 use Rattle.card_c.specs.Codes.{gt_state, gt_memory, gt_buffer, command_code}
 use Rattle.card_c.specs.ExchangeCalls.{AreNone}
 use Rattle.card_c.specs.CardTpduCalls.{TellsAnswer}

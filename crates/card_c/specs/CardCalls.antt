@@ -14,7 +14,7 @@ use Rattle.object_card.specs.CardMeaning.{Does}
 use Rattle.object_card.specs.CardView.{CardView}
 use Rattle.object_card.specs.Builder.{TakesApplication, RefusesApplication, TakesObject, RefusesObject, with_application, with_last_entry, new_card}
 use Rattle.card_c.specs.declared.card_side.CardSide.{CardSide}
-use Rattle.card_c.specs.declared.card_side.CardSide.TheVariants.{Building, Standing, Joined, AtT1}
+use Rattle.card_c.specs.declared.card_side.CardSide.TheVariants.{Building, Standing, AtT1}
 use Rattle.card_c.specs.Codes.{gt_ok, gt_sends, gt_state, gt_memory, gt_argument, builder_code, line_code}
 use Rattle.card_c.specs.TagNumbers.{IsNumbered}
 

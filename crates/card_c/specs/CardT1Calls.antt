@@ -13,7 +13,7 @@ use Rattle.object_card.specs.CardMeaning.{Does}
 use Rattle.object_card.specs.CardView.{CardView}
 use Rattle.t1_terminal.specs.CardCommand.{DoesAt}
 use Rattle.card_c.specs.declared.card_side.CardSide.{CardSide}
-use Rattle.card_c.specs.declared.card_side.CardSide.TheVariants.{Building, Standing, Joined, AtT1}
+use Rattle.card_c.specs.declared.card_side.CardSide.TheVariants.{Standing, AtT1}
 use Rattle.card_c.specs.declared.card_side.CardT1Side.{CardT1Side}
 use Rattle.card_c.specs.Codes.{gt_ok, gt_sends, gt_done, gt_state, gt_memory}
 use Rattle.card_c.specs.Copying.{IsCopied}

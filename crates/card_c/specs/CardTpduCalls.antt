@@ -13,7 +13,7 @@ use Rattle.object_card.specs.CardMeaning.{Does}
 use Rattle.object_card.specs.CardView.{CardView}
 use Rattle.object_card.specs.Instructions.{MayReceive, MaySend}
 use Rattle.card_c.specs.declared.card_side.CardSide.{CardSide}
-use Rattle.card_c.specs.declared.card_side.CardSide.TheVariants.{Building, Standing, Joined, AtT1}
+use Rattle.card_c.specs.declared.card_side.CardSide.TheVariants.{Standing}
 use Rattle.card_c.specs.Codes.{gt_ok, gt_state, gt_memory, gt_buffer, gt_no_tpdu, tpdu_code}
 
 -- the card of data objects, as its end of the line sees it

@@ -5,7 +5,7 @@ use Rattle.t0_core.specs.declared.end.End.TheVariants.{Terminal, Card}
 use Rattle.t0_core.specs.Character.{Character}
 use Rattle.t0_core.specs.Watch.{Hearing}
 use Rattle.card_c.specs.declared.card_side.CardSide.{CardSide}
-use Rattle.card_c.specs.declared.card_side.CardSide.TheVariants.{Building, Standing, Joined, AtT1}
+use Rattle.card_c.specs.declared.card_side.CardSide.TheVariants.{Joined}
 use Rattle.card_c.specs.declared.session_side.SessionSide.{SessionSide}
 use Rattle.card_c.specs.declared.character_record.CharacterRecord.{CharacterRecord}
 use Rattle.card_c.specs.Codes.{gt_ok, gt_state, gt_memory, gt_buffer}

@@ -2,7 +2,7 @@
 use Rattle.std.specs.Prelude.{◌≡◌, ◌<◌, ◌⊎◌, ℕ, ℤ, List, [], ◌∷◌, ◌++◌, length}
 use Rattle.t0_core.specs.Plan.{Course}
 use Rattle.card_c.specs.declared.card_side.CardSide.{CardSide}
-use Rattle.card_c.specs.declared.card_side.CardSide.TheVariants.{Building, Standing, Joined, AtT1}
+use Rattle.card_c.specs.declared.card_side.CardSide.TheVariants.{Standing, Joined}
 use Rattle.card_c.specs.declared.session_side.SessionSide.{SessionSide}
 use Rattle.card_c.specs.Codes.{gt_ok, gt_state}
 use Rattle.card_c.specs.PlanLetters.{IsSpelt, IsRefused, plan_limit}

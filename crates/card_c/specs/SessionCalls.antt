@@ -11,7 +11,7 @@ use Rattle.object_card.specs.CardMeaning.{Does}
 use Rattle.object_card.specs.CardView.{CardView}
 use Rattle.card_terminal.specs.Talk.{Talk}
 use Rattle.card_c.specs.declared.card_side.CardSide.{CardSide}
-use Rattle.card_c.specs.declared.card_side.CardSide.TheVariants.{Building, Standing, Joined, AtT1}
+use Rattle.card_c.specs.declared.card_side.CardSide.TheVariants.{Standing, Joined}
 use Rattle.card_c.specs.declared.session_side.SessionSide.{SessionSide}
 use Rattle.card_c.specs.Codes.{gt_ok, gt_empty, gt_state, gt_memory, gt_argument, gt_busy, gt_not_found}
 use Rattle.card_c.specs.Copying.{GoesOut}

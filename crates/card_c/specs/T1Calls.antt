@@ -1,5 +1,5 @@
 -- What the calls on the handle of a terminal's end at T=1 do to it. A refusal changes nothing.
-use Rattle.std.specs.Prelude.{◌≡◌, ◌⊎◌, ℕ, ℤ, ◌+◌, ◌≤◌, ◌<◌, ◌==◌, Bool, true, false, List, [], ◌++◌, take, length, Option, Some, None, MatchOption, pos, if◌then◌else◌}
+use Rattle.std.specs.Prelude.{◌≡◌, ◌⊎◌, ℕ, ℤ, ◌+◌, ◌<◌, ◌==◌, Bool, true, false, List, [], ◌++◌, take, length, Option, Some, None, if◌then◌else◌}
 use Rattle.t1_core.specs.declared.block.Control.TheVariants.{Wtx}
 use Rattle.t1_core.specs.declared.settings.Edc.TheVariants.{Lrc}
 use Rattle.t1_core.specs.declared.settings.Settings.{Settings}
@@ -7,9 +7,9 @@ use Rattle.t1_core.specs.declared.terminal.Fault.{Fault}
 use Rattle.t1_core.specs.Block.{Block, Response}
 use Rattle.t1_core.specs.BlockBytes.{block_of, bytes_of, is_whole}
 use Rattle.t1_core.specs.Settings as settings
-use Rattle.t1_core.specs.TerminalSide.{Terminal, begins, fault_of, fresh, has_stopped, is_ready, sends, takes}
+use Rattle.t1_core.specs.TerminalSide.{begins, fault_of, fresh, has_stopped, is_ready, sends, takes}
 use Rattle.card_c.specs.declared.t1_side.T1Side.{T1Side}
-use Rattle.card_c.specs.Codes.{gt_ok, gt_sends, gt_done, gt_empty, gt_state, gt_memory, gt_argument, gt_not_found, gt_failed, cause_code, outcome_number}
+use Rattle.card_c.specs.Codes.{gt_ok, gt_sends, gt_done, gt_state, gt_memory, gt_argument, gt_not_found, gt_failed, cause_code, outcome_number}
 use Rattle.card_c.specs.Copying.{IsCopied}
 
 -- an error detection code and an IFSC that the end takes: 1 is LRC

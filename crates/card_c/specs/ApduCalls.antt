@@ -1,5 +1,5 @@
 -- What the exports for whole commands return and change. A refusal changes nothing.
-use Rattle.std.specs.Prelude.{◌≡◌, ◌⊎◌, ℕ, ℤ, ◌<◌, List, [], ◌++◌, drop, length, Option, Some, None, Result, Ok, Err, IsSome, Bool, true, if◌then◌else◌}
+use Rattle.std.specs.Prelude.{◌≡◌, ◌⊎◌, ℕ, ℤ, ◌<◌, List, ◌++◌, drop, length, Option, Some, None, Result, Ok, Err, Bool, true, if◌then◌else◌}
 use Rattle.apdu_core.specs.StatusWord.{StatusWord}
 use Rattle.apdu_core.specs.CommandBytes.{Command, command_bytes}
 use Rattle.t0_core.specs.declared.answer_fault.AnswerFault.{AnswerFault}

@@ -14,7 +14,7 @@ use Rattle.card_terminal.specs.ExchangeSteps.{IsTurn, IsTaking}
 use Rattle.card_terminal.specs.TerminalSide.{OperationOf}
 use Rattle.card_terminal.specs.TerminalSteps.{IsTerminalHandingOut, IsTerminalTaking}
 use Rattle.card_c.specs.declared.card_side.CardSide.{CardSide}
-use Rattle.card_c.specs.declared.card_side.CardSide.TheVariants.{Building, Standing, Joined, AtT1}
+use Rattle.card_c.specs.declared.card_side.CardSide.TheVariants.{Standing}
 use Rattle.card_c.specs.Codes.{gt_ok, gt_sends, gt_state, line_code}
 use Rattle.card_c.specs.ExchangeCalls.{turn_code, taking_code}
 use Rattle.card_c.specs.CardCalls.{TakesCharacter, HandsOutCharacter}
@@ -66,16 +66,12 @@ HandsOutAll end plans room room' n' next left =
     × ((n' ≡ length room) ⊎ ((n' < length room) × (listens next.stage ≡ true)))
 
 abbrev pub CardSends : List ℕ → ℕ → List ℕ → ℕ → CardSide → ℤ → CardSide → Type 0
-CardSends room n room' n' (Building applications) code new =
-    (code ≡ gt_state) × (new ≡ Building applications) × (room' ≡ room) × (n' ≡ n)
-CardSends room n room' n' (Joined session) code new =
-    (code ≡ gt_state) × (new ≡ Joined session) × (room' ≡ room) × (n' ≡ n)
-CardSends room n room' n' (AtT1 at) code new =
-    (code ≡ gt_state) × (new ≡ AtT1 at) × (room' ≡ room) × (n' ≡ n)
 CardSends room n room' n' (Standing end plans) code new =
     (next : EndOf CardView) × (left : Cursor) × (new ≡ Standing next left)
     × HandsOutAll end plans room room' n' next left
     × (n' ≡ length room → code ≡ gt_sends) × (n' < length room → code ≡ gt_ok)
+CardSends room n room' n' side code new =
+    (code ≡ gt_state) × (new ≡ side) × (room' ≡ room) × (n' ≡ n)
 
 -- A card's end takes this number of characters of an array: all, or until it does not listen.
 abbrev pub TakesAll : EndOf CardView → List ℕ → ℕ → EndOf CardView → Type 0
@@ -83,13 +79,8 @@ TakesAll end bytes n' next = Steps TakesCharacter end (take n' bytes) next
     × ((n' ≡ length bytes) ⊎ ((n' < length bytes) × (listens next.stage ≡ false)))
 
 abbrev pub CardReceives : List ℕ → ℕ → ℕ → CardSide → ℤ → CardSide → Type 0
-CardReceives bytes n n' (Building applications) code new =
-    (code ≡ gt_state) × (new ≡ Building applications) × (n' ≡ n)
-CardReceives bytes n n' (Joined session) code new =
-    (code ≡ gt_state) × (new ≡ Joined session) × (n' ≡ n)
-CardReceives bytes n n' (AtT1 at) code new =
-    (code ≡ gt_state) × (new ≡ AtT1 at) × (n' ≡ n)
 CardReceives bytes n n' (Standing end plans) code new =
     (next : EndOf CardView) × (new ≡ Standing next plans) × TakesAll end bytes n' next
     × (n' ≡ length bytes → code ≡ gt_ok)
     × (n' < length bytes → code ≡ line_code NotListening)
+CardReceives bytes n n' side code new = (code ≡ gt_state) × (new ≡ side) × (n' ≡ n)

@@ -13,7 +13,7 @@ use Rattle.object_card.specs.Instructions.{MayReceive, MaySend}
 use Rattle.apdu_terminal.specs.Apdus.{Pair, may_bring}
 use Rattle.apdu_terminal.specs.CardApdu.{Responds}
 use Rattle.card_c.specs.declared.card_side.CardSide.{CardSide}
-use Rattle.card_c.specs.declared.card_side.CardSide.TheVariants.{Building, Standing, Joined, AtT1}
+use Rattle.card_c.specs.declared.card_side.CardSide.TheVariants.{Standing}
 use Rattle.card_c.specs.Codes.{gt_state, gt_memory, gt_buffer, command_code}
 use Rattle.card_c.specs.ExchangeCalls.{AreNone}
 use Rattle.card_c.specs.CardTpduCalls.{TellsAnswer}
@@ -60,12 +60,6 @@ RespondsToCommand c end room len code end' room' len' =
 -- Bytes at a card. A TPDU may have begun. The bytes may not be a command: then wrong lengths,
 -- extended ones too, get 6700. Or they are this command.
 abbrev pub RespondsTo : List ℕ → List ℕ → ℕ → List ℕ → ℕ → CardSide → ℤ → CardSide → Type 0
-RespondsTo apdu room len room' len' (Building applications) code new =
-    TellsNothing gt_state room len code room' len' × (new ≡ Building applications)
-RespondsTo apdu room len room' len' (Joined session) code new =
-    TellsNothing gt_state room len code room' len' × (new ≡ Joined session)
-RespondsTo apdu room len room' len' (AtT1 at) code new =
-    TellsNothing gt_state room len code room' len' × (new ≡ AtT1 at)
 RespondsTo apdu room len room' len' (Standing end plans) code new =
     ((rests end.stage ≡ false) × TellsNothing gt_state room len code room' len'
     × (new ≡ Standing end plans))
@@ -76,3 +70,5 @@ RespondsTo apdu room len room' len' (Standing end plans) code new =
     ⊎ ((c : Command) × (next : EndOf CardView) × (rests end.stage ≡ true) × IsCommand c
     × (apdu ≡ command_bytes c) × RespondsToCommand c end room len code next room' len'
     × (new ≡ Standing next plans))
+RespondsTo apdu room len room' len' side code new =
+    TellsNothing gt_state room len code room' len' × (new ≡ side)

@@ -14,7 +14,7 @@ use Rattle.object_card.specs.CardMeaning.{Does}
 use Rattle.object_card.specs.CardView.{CardView}
 use Rattle.object_card.specs.Builder.{TakesApplication, RefusesApplication, TakesObject, RefusesObject, with_application, with_last_entry, new_card}
 use Rattle.card_c.specs.declared.card_side.CardSide.{CardSide}
-use Rattle.card_c.specs.declared.card_side.CardSide.TheVariants.{Building, Standing, Joined, AtT1}
+use Rattle.card_c.specs.declared.card_side.CardSide.TheVariants.{Building, Standing, AtT1}
 use Rattle.card_c.specs.Codes.{gt_ok, gt_sends, gt_state, gt_memory, gt_argument, builder_code, line_code}
 use Rattle.card_c.specs.TagNumbers.{IsNumbered}
 
@@ -30,24 +30,16 @@ IsRefused Refuses code = (fault : BuilderFault) × Refuses fault × (code ≡ bu
 
 -- an application is added
 abbrev pub AddsApplication : List ℕ → CardSide → ℤ → CardSide → Type 0
-AddsApplication aid (Standing end plans) code new = (code ≡ gt_state) × (new ≡ Standing end plans)
-AddsApplication aid (Joined session) code new = (code ≡ gt_state) × (new ≡ Joined session)
-AddsApplication aid (AtT1 at) code new = (code ≡ gt_state) × (new ≡ AtT1 at)
 AddsApplication aid (Building applications) code new =
     (IsAid aid × TakesApplication aid applications × (code ≡ gt_ok)
     × (new ≡ Building (with_application aid applications)))
     ⊎ ((¬ IsAid aid) × (code ≡ gt_argument) × (new ≡ Building applications))
     ⊎ (IsAid aid × IsRefused (RefusesApplication aid applications) code
     × (new ≡ Building applications))
+AddsApplication aid side code new = (code ≡ gt_state) × (new ≡ side)
 
 -- a data object is added to the last application
 abbrev pub AddsObject : ℕ → List ℕ → Bool → CardSide → ℤ → CardSide → Type 0
-AddsObject number value locked (Standing end plans) code new =
-    (code ≡ gt_state) × (new ≡ Standing end plans)
-AddsObject number value locked (Joined session) code new =
-    (code ≡ gt_state) × (new ≡ Joined session)
-AddsObject number value locked (AtT1 at) code new =
-    (code ≡ gt_state) × (new ≡ AtT1 at)
 AddsObject number value locked (Building applications) code new =
     ((tag : List ℕ) × IsNumbered number tag × TakesObject tag value applications × (code ≡ gt_ok)
     × (new ≡ Building (with_last_entry tag value locked applications)))
@@ -55,6 +47,7 @@ AddsObject number value locked (Building applications) code new =
     × (new ≡ Building applications))
     ⊎ ((tag : List ℕ) × IsNumbered number tag
     × IsRefused (RefusesObject tag value applications) code × (new ≡ Building applications))
+AddsObject number value locked side code new = (code ≡ gt_state) × (new ≡ side)
 
 -- These events led to the card's end, from a card in this state.
 abbrev pub HaveLed : CardState → List Event → EndOf CardView → Type 0
@@ -73,14 +66,12 @@ no_plans = record { rest = []; kept = None }
 -- The card is built, with nothing selected, and has received nothing; or memory ran out, and it is
 -- still being built.
 abbrev pub Finishes : CardSide → ℤ → CardSide → Type 0
-Finishes (Standing end plans) code new = (code ≡ gt_state) × (new ≡ Standing end plans)
-Finishes (Joined session) code new = (code ≡ gt_state) × (new ≡ Joined session)
-Finishes (AtT1 at) code new = (code ≡ gt_state) × (new ≡ AtT1 at)
 Finishes (Building applications) code new =
     ((end : EndOf CardView) × (code ≡ gt_ok) × (new ≡ Standing end no_plans)
     × (end ≡ record { card = new_card applications; stage = Taking_header [] })
     × HaveLed end.card.state [] end × HaveLedUnder end.card.state [] [] end)
     ⊎ ((code ≡ gt_memory) × (new ≡ Building applications))
+Finishes side code new = (code ≡ gt_state) × (new ≡ side)
 
 -- whatever led to the end leads to the new one with this event
 abbrev pub LeadsOn : Event → EndOf CardView → EndOf CardView → Type 0
@@ -98,13 +89,11 @@ TakesCharacter end byte next = (listens end.stage ≡ true)
 
 -- A character of the terminal is taken if the card listens.
 abbrev pub TakesOne : ℕ → CardSide → ℤ → CardSide → Type 0
-TakesOne byte (Building applications) code new = (code ≡ gt_state) × (new ≡ Building applications)
-TakesOne byte (Joined session) code new = (code ≡ gt_state) × (new ≡ Joined session)
-TakesOne byte (AtT1 at) code new = (code ≡ gt_state) × (new ≡ AtT1 at)
 TakesOne byte (Standing end plans) code new =
     ((listens end.stage ≡ false) × (code ≡ line_code NotListening) × (new ≡ Standing end plans))
     ⊎ ((next : EndOf CardView) × (code ≡ gt_ok) × (new ≡ Standing next plans)
     × TakesCharacter end byte next)
+TakesOne byte side code new = (code ≡ gt_state) × (new ≡ side)
 
 -- A card that does not listen sends this character, under its plan, or the next one if it begins to
 -- answer.
@@ -120,16 +109,11 @@ HandsOutCharacter end plans byte next left = (listens end.stage ≡ false)
 
 -- The card's next character, if it does not listen.
 abbrev pub Turns : ℕ → ℕ → CardSide → ℤ → CardSide → Type 0
-Turns before byte (Building applications) code new =
-    (code ≡ gt_state) × (new ≡ Building applications) × (byte ≡ before)
-Turns before byte (Joined session) code new =
-    (code ≡ gt_state) × (new ≡ Joined session) × (byte ≡ before)
-Turns before byte (AtT1 at) code new =
-    (code ≡ gt_state) × (new ≡ AtT1 at) × (byte ≡ before)
 Turns before byte (Standing end plans) code new =
     ((listens end.stage ≡ true) × (code ≡ gt_ok) × (new ≡ Standing end plans) × (byte ≡ before))
     ⊎ ((next : EndOf CardView) × (left : Cursor) × (code ≡ gt_sends) × (new ≡ Standing next left)
     × HandsOutCharacter end plans byte next left)
+Turns before byte side code new = (code ≡ gt_state) × (new ≡ side) × (byte ≡ before)
 
 -- The card is reset, and speaks T=0; the plans stay.
 abbrev pub ResetsEnd : EndOf CardView → Cursor → ℤ → CardSide → Type 0
@@ -140,7 +124,6 @@ ResetsEnd end plans code new =
     × HaveLed next.card.state [] next × HaveLedUnder next.card.state [] [] next
 
 abbrev pub Resets : CardSide → ℤ → CardSide → Type 0
-Resets (Building applications) code new = (code ≡ gt_state) × (new ≡ Building applications)
-Resets (Joined session) code new = (code ≡ gt_state) × (new ≡ Joined session)
 Resets (Standing end plans) code new = ResetsEnd end plans code new
 Resets (AtT1 at) code new = ResetsEnd at.end.card at.plans code new
+Resets side code new = (code ≡ gt_state) × (new ≡ side)

@@ -5,17 +5,15 @@ use Rattle.t0_core.specs.CardTpdu.{rests}
 use Rattle.t0_core.specs.Plan.{Cursor}
 use Rattle.t1_core.specs.declared.applet.Applet.{Ghosts}
 use Rattle.t1_core.specs.declared.card.Reply.{Reply}
-use Rattle.t1_core.specs.BlockBytes.{block_of, bytes_of}
-use Rattle.t1_core.specs.CardReplies.{replies}
-use Rattle.t1_core.specs.CardSide.{card_after, card_damaged, card_hears, forgets}
+use Rattle.t1_core.specs.BlockBytes.{block_of, bytes_of, is_whole}
+use Rattle.t1_core.specs.CardSide.{card_after, card_damaged, card_hears, forgets, replies}
 use Rattle.t1_core.specs.Doing.{Goes, Keeps, Steps}
-use Rattle.t1_core.specs.Receiving.{is_whole}
 use Rattle.object_card.specs.State.{CardState}
 use Rattle.object_card.specs.CardMeaning.{Does}
 use Rattle.object_card.specs.CardView.{CardView}
 use Rattle.t1_terminal.specs.CardCommand.{DoesAt}
 use Rattle.card_c.specs.declared.card_side.CardSide.{CardSide}
-use Rattle.card_c.specs.declared.card_side.CardSide.TheVariants.{Building, Standing, Joined, AtT1}
+use Rattle.card_c.specs.declared.card_side.CardSide.TheVariants.{Standing, AtT1}
 use Rattle.card_c.specs.declared.card_side.CardT1Side.{CardT1Side}
 use Rattle.card_c.specs.Codes.{gt_ok, gt_sends, gt_done, gt_state, gt_memory}
 use Rattle.card_c.specs.Copying.{IsCopied}
@@ -29,8 +27,8 @@ applet = record {
 }
 
 -- A card at rest begins to speak T=1: it has sent no block.
-abbrev pub IsFresh : EndOf CardView → Cursor → CardT1Side → Type 0
-IsFresh end plans at = at ≡ record {
+abbrev pub begun : EndOf CardView → Cursor → CardT1Side
+begun end plans = record {
   end = record { card = end; at = card_after [] };
   block = [];
   reply = None;
@@ -38,31 +36,22 @@ IsFresh end plans at = at ≡ record {
 }
 
 abbrev pub BeginsT1 : CardSide → ℤ → CardSide → Type 0
-BeginsT1 (Building applications) code new = (code ≡ gt_state) × (new ≡ Building applications)
-BeginsT1 (Joined session) code new = (code ≡ gt_state) × (new ≡ Joined session)
-BeginsT1 (AtT1 at) code new = (code ≡ gt_state) × (new ≡ AtT1 at)
 BeginsT1 (Standing end plans) code new =
     ((rests end.stage ≡ false) × (code ≡ gt_state) × (new ≡ Standing end plans))
-    ⊎ ((at : CardT1Side) × (rests end.stage ≡ true) × (code ≡ gt_ok) × (new ≡ AtT1 at)
-    × IsFresh end plans at)
+    ⊎ ((rests end.stage ≡ true) × (code ≡ gt_ok) × (new ≡ AtT1 (begun end plans)))
+BeginsT1 side code new = (code ≡ gt_state) × (new ≡ side)
 
 -- a card at T=1 speaks T=0 again
 abbrev pub at_t0 : CardSide → CardSide
-at_t0 (Building applications) = Building applications
-at_t0 (Joined session) = Joined session
-at_t0 (Standing end plans) = Standing end plans
 at_t0 (AtT1 at) = Standing at.end.card at.plans
+at_t0 side = side
 
 -- A call on a card at T=1 does this. On any other it writes nothing, and nothing changes.
 abbrev pub OnLine : (CardT1Side → ℤ → CardT1Side → Type 0) → Type 0 → CardSide → ℤ → CardSide
     → Type 0
-OnLine Calls Untold (Building applications) code new =
-    (code ≡ gt_state) × (new ≡ Building applications) × Untold
-OnLine Calls Untold (Joined session) code new = (code ≡ gt_state) × (new ≡ Joined session) × Untold
-OnLine Calls Untold (Standing end plans) code new =
-    (code ≡ gt_state) × (new ≡ Standing end plans) × Untold
 OnLine Calls Untold (AtT1 at) code new =
     (next : CardT1Side) × (new ≡ AtT1 next) × Calls at code next
+OnLine Calls Untold side code new = (code ≡ gt_state) × (new ≡ side) × Untold
 
 -- The block of the reply is written. Before the terminal's first block, and after memory ran out,
 -- no block is.
@@ -92,10 +81,7 @@ HearsBytes bytes n' old code new = (block : List ℕ) × (block ≡ old.block ++
     × Keeps applet forgets old.end new.end))
 
 -- no valid block arrived
-abbrev pub MissesBlock : CardT1Side → CardT1Side → Type 0
-MissesBlock old new = (reply : Reply)
+abbrev pub Misses : CardT1Side → ℤ → CardT1Side → Type 0
+Misses old code new = (reply : Reply) × (code ≡ gt_sends)
     × (new ≡ record old { block = []; reply = Some reply })
     × Goes card_damaged old.end reply new.end
-
-abbrev pub Misses : CardT1Side → ℤ → CardT1Side → Type 0
-Misses old code new = (code ≡ gt_sends) × MissesBlock old new

@@ -13,7 +13,7 @@ use Rattle.object_card.specs.CardMeaning.{Does}
 use Rattle.object_card.specs.CardView.{CardView}
 use Rattle.object_card.specs.Instructions.{MayReceive, MaySend}
 use Rattle.card_c.specs.declared.card_side.CardSide.{CardSide}
-use Rattle.card_c.specs.declared.card_side.CardSide.TheVariants.{Building, Standing, Joined, AtT1}
+use Rattle.card_c.specs.declared.card_side.CardSide.TheVariants.{Standing}
 use Rattle.card_c.specs.Codes.{gt_ok, gt_state, gt_memory, gt_buffer, gt_no_tpdu, tpdu_code}
 
 -- the card of data objects, as its end of the line sees it
@@ -66,12 +66,6 @@ abbrev pub data_room : Asked → Room
 data_room asked = record { bytes = []; limit = asked.may_come }
 
 abbrev pub CarriesOut : List ℕ → List ℕ → ℕ → List ℕ → ℕ → CardSide → ℤ → CardSide → Type 0
-CarriesOut tpdu room len room' len' (Building applications) code new =
-    (code ≡ gt_state) × (new ≡ Building applications) × (room' ≡ room) × (len' ≡ len)
-CarriesOut tpdu room len room' len' (Joined session) code new =
-    (code ≡ gt_state) × (new ≡ Joined session) × (room' ≡ room) × (len' ≡ len)
-CarriesOut tpdu room len room' len' (AtT1 at) code new =
-    (code ≡ gt_state) × (new ≡ AtT1 at) × (room' ≡ room) × (len' ≡ len)
 CarriesOut tpdu room len room' len' (Standing end plans) code new =
     (IsRefusal tpdu end room code × (new ≡ Standing end plans) × (room' ≡ room)
     × (len' ≡ len))
@@ -79,3 +73,5 @@ CarriesOut tpdu room len room' len' (Standing end plans) code new =
     × (asked_in tpdu ≡ Some asked) × (longest_answer asked ≤ length room)
     × (new ≡ Standing next left)
     × IsCarriedOut tpdu end plans (data_room asked) room len code next left room' len')
+CarriesOut tpdu room len room' len' side code new =
+    (code ≡ gt_state) × (new ≡ side) × (room' ≡ room) × (len' ≡ len)

@@ -18,7 +18,7 @@ use Rattle.card_c.specs.declared.apdu_side.ApduSide.{ApduSide}
 use Rattle.card_c.specs.declared.exchange_side.ExchangeSide.{ExchangeSide}
 use Rattle.card_c.specs.ApduCalls.{Opens}
 use Rattle.card_terminal.specs.ExchangeHistory.{ComesTo}
-use Rattle.card_c.specs.Codes.{gt_ok, gt_empty, gt_sends, gt_done, gt_failed, gt_state, gt_memory, gt_argument, line_code, command_code}
+use Rattle.card_c.specs.Codes.{gt_ok, gt_sends, gt_done, gt_failed, gt_state, gt_memory, gt_argument, line_code, command_code}
 use Rattle.card_c.specs.Copying.{GoesOut}
 use Rattle.t0_core.specs.TpduBytes.{due_by}
 use Rattle.card_c.specs.TpduCalls.{TellsTpdu}

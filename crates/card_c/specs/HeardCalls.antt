@@ -5,7 +5,7 @@ use Rattle.t0_core.specs.declared.end.End.TheVariants.{Terminal, Card}
 use Rattle.t0_core.specs.Character.{Character}
 use Rattle.t0_core.specs.Watch.{Hearing}
 use Rattle.card_c.specs.declared.card_side.CardSide.{CardSide}
-use Rattle.card_c.specs.declared.card_side.CardSide.TheVariants.{Building, Standing, Joined, AtT1}
+use Rattle.card_c.specs.declared.card_side.CardSide.TheVariants.{Joined}
 use Rattle.card_c.specs.declared.session_side.SessionSide.{SessionSide}
 use Rattle.card_c.specs.declared.character_record.CharacterRecord.{CharacterRecord}
 use Rattle.card_c.specs.Codes.{gt_ok, gt_state, gt_memory, gt_buffer}
@@ -20,11 +20,9 @@ pub record IsHeard (old new : SessionSide) : Type 0 where
   pub heard_is : new.heard ≡ beginning true
 
 abbrev pub Listens : CardSide → ℤ → CardSide → Type 0
-Listens (Building applications) code new = (code ≡ gt_state) × (new ≡ Building applications)
-Listens (Standing end plans) code new = (code ≡ gt_state) × (new ≡ Standing end plans)
-Listens (AtT1 at) code new = (code ≡ gt_state) × (new ≡ AtT1 at)
 Listens (Joined session) code new =
     (next : SessionSide) × (code ≡ gt_ok) × (new ≡ Joined next) × IsHeard session next
+Listens side code new = (code ≡ gt_state) × (new ≡ side)
 
 -- an end as C sees it
 abbrev pub end_number : End → ℕ
@@ -47,12 +45,7 @@ TellsHearing hearing room count room' count' code =
 
 -- the characters of the session's last operation, if it listens
 abbrev pub TellsHeard : List CharacterRecord → ℕ → List CharacterRecord → ℕ → CardSide → ℤ → Type 0
-TellsHeard room count room' count' (Building applications) code =
-    (code ≡ gt_state) × (room' ≡ room) × (count' ≡ count)
-TellsHeard room count room' count' (Standing end plans) code =
-    (code ≡ gt_state) × (room' ≡ room) × (count' ≡ count)
-TellsHeard room count room' count' (AtT1 at) code =
-    (code ≡ gt_state) × (room' ≡ room) × (count' ≡ count)
 TellsHeard room count room' count' (Joined session) code =
     ((session.listens ≡ false) × (code ≡ gt_state) × (room' ≡ room) × (count' ≡ count))
     ⊎ ((session.listens ≡ true) × TellsHearing session.heard room count room' count' code)
+TellsHeard room count room' count' side code = (code ≡ gt_state) × (room' ≡ room) × (count' ≡ count)

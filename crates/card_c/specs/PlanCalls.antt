@@ -2,7 +2,7 @@
 use Rattle.std.specs.Prelude.{◌≡◌, ◌<◌, ◌⊎◌, ℕ, ℤ, List, [], ◌∷◌, ◌++◌, length}
 use Rattle.t0_core.specs.Plan.{Course}
 use Rattle.card_c.specs.declared.card_side.CardSide.{CardSide}
-use Rattle.card_c.specs.declared.card_side.CardSide.TheVariants.{Building, Standing, Joined, AtT1}
+use Rattle.card_c.specs.declared.card_side.CardSide.TheVariants.{Standing, Joined}
 use Rattle.card_c.specs.declared.session_side.SessionSide.{SessionSide}
 use Rattle.card_c.specs.Codes.{gt_ok, gt_state}
 use Rattle.card_c.specs.PlanLetters.{IsSpelt, IsRefused, plan_limit}
@@ -16,13 +16,10 @@ Queues letters cut plans code new =
 
 -- at a card at T=0; the plan of the TPDU in progress stays
 abbrev pub QueuesAtCard : List ℕ → ℕ → CardSide → ℤ → CardSide → Type 0
-QueuesAtCard letters cut (Building applications) code new =
-    (code ≡ gt_state) × (new ≡ Building applications)
-QueuesAtCard letters cut (Joined session) code new = (code ≡ gt_state) × (new ≡ Joined session)
-QueuesAtCard letters cut (AtT1 at) code new = (code ≡ gt_state) × (new ≡ AtT1 at)
 QueuesAtCard letters cut (Standing end plans) code new =
     (rest : List Course) × Queues letters cut plans.rest code rest
     × (new ≡ Standing end (record plans { rest = rest }))
+QueuesAtCard letters cut side code new = (code ≡ gt_state) × (new ≡ side)
 
 -- only the plans have changed
 pub record IsButPlans (old new : SessionSide) : Type 0 where
@@ -33,12 +30,7 @@ pub record IsButPlans (old new : SessionSide) : Type 0 where
 
 -- in a session
 abbrev pub QueuesInSession : List ℕ → ℕ → CardSide → ℤ → CardSide → Type 0
-QueuesInSession letters cut (Building applications) code new =
-    (code ≡ gt_state) × (new ≡ Building applications)
-QueuesInSession letters cut (Standing end plans) code new =
-    (code ≡ gt_state) × (new ≡ Standing end plans)
-QueuesInSession letters cut (AtT1 at) code new =
-    (code ≡ gt_state) × (new ≡ AtT1 at)
 QueuesInSession letters cut (Joined session) code new =
     (next : SessionSide) × (new ≡ Joined next) × IsButPlans session next
     × Queues letters cut session.plans.items code next.plans.items
+QueuesInSession letters cut side code new = (code ≡ gt_state) × (new ≡ side)

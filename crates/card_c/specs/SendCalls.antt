@@ -11,7 +11,7 @@ use Rattle.object_card.specs.Instructions.{MayReceive, MaySend}
 use Rattle.card_terminal.specs.Gathered.{UnitOf, Gathers, dialogues_of}
 use Rattle.card_terminal.specs.Conversing.{point, HaveGone}
 use Rattle.card_c.specs.declared.card_side.CardSide.{CardSide}
-use Rattle.card_c.specs.declared.card_side.CardSide.TheVariants.{Building, Standing, Joined, AtT1}
+use Rattle.card_c.specs.declared.card_side.CardSide.TheVariants.{Joined}
 use Rattle.card_c.specs.declared.session_side.SessionSide.{SessionSide}
 use Rattle.card_c.specs.Codes.{gt_ok, gt_state, gt_memory, gt_argument, command_code}
 use Rattle.card_c.specs.ExchangeCalls.{AreNone}
@@ -37,10 +37,6 @@ SendsAgreed c old code new =
 
 -- the command that these bytes are
 abbrev pub SendsBytes : List ℕ → CardSide → ℤ → CardSide → Type 0
-SendsBytes bytes (Building applications) code new =
-    (code ≡ gt_state) × (new ≡ Building applications)
-SendsBytes bytes (Standing end plans) code new = (code ≡ gt_state) × (new ≡ Standing end plans)
-SendsBytes bytes (AtT1 at) code new = (code ≡ gt_state) × (new ≡ AtT1 at)
 SendsBytes bytes (Joined session) code new =
     ((fault : ApduFault) × AreNone bytes fault × (code ≡ command_code fault)
     × (new ≡ Joined session))
@@ -48,3 +44,4 @@ SendsBytes bytes (Joined session) code new =
     × (¬ IsAgreed MayReceive MaySend c) × (code ≡ gt_argument) × (new ≡ Joined session))
     ⊎ ((c : Command) × (next : SessionSide) × IsCommand c × (bytes ≡ command_bytes c)
     × IsAgreed MayReceive MaySend c × (new ≡ Joined next) × SendsAgreed c session code next)
+SendsBytes bytes side code new = (code ≡ gt_state) × (new ≡ side)

@@ -11,7 +11,7 @@ use Rattle.object_card.specs.CardMeaning.{Does}
 use Rattle.object_card.specs.CardView.{CardView}
 use Rattle.card_terminal.specs.Talk.{Talk}
 use Rattle.card_c.specs.declared.card_side.CardSide.{CardSide}
-use Rattle.card_c.specs.declared.card_side.CardSide.TheVariants.{Building, Standing, Joined, AtT1}
+use Rattle.card_c.specs.declared.card_side.CardSide.TheVariants.{Standing, Joined}
 use Rattle.card_c.specs.declared.session_side.SessionSide.{SessionSide}
 use Rattle.card_c.specs.Codes.{gt_ok, gt_empty, gt_state, gt_memory, gt_argument, gt_busy, gt_not_found}
 use Rattle.card_c.specs.Copying.{GoesOut}
@@ -25,23 +25,19 @@ beginning listens = record { heard = []; lost = not listens }
 -- A card at T=0 is reset, and a session with it begins, which does not listen. Any other stays as
 -- it was.
 abbrev pub Joins : CardSide → Bool → CardSide → Type 0
-Joins (Building applications) joined new = (joined ≡ false) × (new ≡ Building applications)
-Joins (Joined session) joined new = (joined ≡ false) × (new ≡ Joined session)
-Joins (AtT1 at) joined new = (joined ≡ false) × (new ≡ AtT1 at)
 Joins (Standing end plans) joined new =
     (session : SessionSide) × (joined ≡ true) × (new ≡ Joined session)
     × (session.session.state ≡ after_reset end.card.state)
     × (session.plans.items ≡ []) × (session.answer ≡ None) × (session.listens ≡ false)
+Joins side joined new = (joined ≡ false) × (new ≡ side)
 
 -- A session ends, and its card is reset and speaks T=0. Anything else stays as it was.
 abbrev pub Parts : CardSide → Bool → CardSide → Type 0
-Parts (Building applications) parted new = (parted ≡ false) × (new ≡ Building applications)
-Parts (Standing end plans) parted new = (parted ≡ false) × (new ≡ Standing end plans)
-Parts (AtT1 at) parted new = (parted ≡ false) × (new ≡ AtT1 at)
 Parts (Joined session) parted new =
     (end : EndOf CardView) × (parted ≡ true) × (new ≡ Standing end no_plans)
     × (end.card.state ≡ after_reset session.session.state) × (end.stage ≡ Taking_header [])
     × HaveLed end.card.state [] end × HaveLedUnder end.card.state [] [] end
+Parts side parted new = (parted ≡ false) × (new ≡ side)
 
 -- A session begins with a card at T=0, and resets it. The card's handle is empty then.
 abbrev pub Starts : Option CardSide → Option CardSide → ℤ → Option CardSide → Option CardSide
@@ -74,12 +70,9 @@ pub record IsReset (old new : SessionSide) : Type 0 where
   pub heard_is : new.heard ≡ old.heard
 
 abbrev pub ResetsSession : CardSide → ℤ → CardSide → Type 0
-ResetsSession (Building applications) code new =
-    (code ≡ gt_state) × (new ≡ Building applications)
-ResetsSession (Standing end plans) code new = (code ≡ gt_state) × (new ≡ Standing end plans)
-ResetsSession (AtT1 at) code new = (code ≡ gt_state) × (new ≡ AtT1 at)
 ResetsSession (Joined session) code new =
     (next : SessionSide) × (code ≡ gt_ok) × (new ≡ Joined next) × IsReset session next
+ResetsSession side code new = (code ≡ gt_state) × (new ≡ side)
 
 -- The operation has its answer, and the tables are those of the card that answers it in one step.
 -- The recorded characters, if the session listens, are a talk of the operation with the card under
@@ -114,36 +107,29 @@ Performs operation old code new =
 
 -- SELECT of an application
 abbrev pub Selects : List ℕ → CardSide → ℤ → CardSide → Type 0
-Selects aid (Building applications) code new = (code ≡ gt_state) × (new ≡ Building applications)
-Selects aid (Standing end plans) code new = (code ≡ gt_state) × (new ≡ Standing end plans)
-Selects aid (AtT1 at) code new = (code ≡ gt_state) × (new ≡ AtT1 at)
 Selects aid (Joined session) code new =
     ((¬ IsAid aid) × (code ≡ gt_argument) × (new ≡ Joined session))
     ⊎ ((next : SessionSide) × IsAid aid × (new ≡ Joined next)
     × Performs (Select aid) session code next)
+Selects aid side code new = (code ≡ gt_state) × (new ≡ side)
 
 -- GET DATA of the tag with this number
 abbrev pub Gets : ℕ → CardSide → ℤ → CardSide → Type 0
-Gets number (Building applications) code new = (code ≡ gt_state) × (new ≡ Building applications)
-Gets number (Standing end plans) code new = (code ≡ gt_state) × (new ≡ Standing end plans)
-Gets number (AtT1 at) code new = (code ≡ gt_state) × (new ≡ AtT1 at)
 Gets number (Joined session) code new =
     (((tag : List ℕ) → ¬ IsNumbered number tag) × (code ≡ gt_argument)
     × (new ≡ Joined session))
     ⊎ ((next : SessionSide) × (tag : List ℕ) × IsNumbered number tag × (new ≡ Joined next)
     × Performs (Get tag) session code next)
+Gets number side code new = (code ≡ gt_state) × (new ≡ side)
 
 -- PUT DATA of this value under the tag with this number
 abbrev pub Puts : ℕ → List ℕ → CardSide → ℤ → CardSide → Type 0
-Puts number value (Building applications) code new =
-    (code ≡ gt_state) × (new ≡ Building applications)
-Puts number value (Standing end plans) code new = (code ≡ gt_state) × (new ≡ Standing end plans)
-Puts number value (AtT1 at) code new = (code ≡ gt_state) × (new ≡ AtT1 at)
 Puts number value (Joined session) code new =
     (((tag : List ℕ) → ¬ IsNumbered number tag) × (code ≡ gt_argument)
     × (new ≡ Joined session))
     ⊎ ((next : SessionSide) × (tag : List ℕ) × IsNumbered number tag × (new ≡ Joined next)
     × Performs (Put tag value) session code next)
+Puts number value side code new = (code ≡ gt_state) × (new ≡ side)
 
 -- The last answer is written. Without one, nothing changes.
 abbrev pub Tells : Option Reply → ℕ → List ℕ → ℕ → ℤ → ℕ → List ℕ → ℕ → Type 0
@@ -154,19 +140,13 @@ Tells (Some reply) status room len code status' room' len' =
 
 -- the answer of the last operation, which stays
 abbrev pub TellsAnswer : ℕ → List ℕ → ℕ → ℕ → List ℕ → ℕ → CardSide → ℤ → Type 0
-TellsAnswer status room len status' room' len' (Building applications) code =
-    (code ≡ gt_state) × (status' ≡ status) × (room' ≡ room) × (len' ≡ len)
-TellsAnswer status room len status' room' len' (Standing end plans) code =
-    (code ≡ gt_state) × (status' ≡ status) × (room' ≡ room) × (len' ≡ len)
-TellsAnswer status room len status' room' len' (AtT1 at) code =
-    (code ≡ gt_state) × (status' ≡ status) × (room' ≡ room) × (len' ≡ len)
 TellsAnswer status room len status' room' len' (Joined session) code =
     Tells session.answer status room len code status' room' len'
+TellsAnswer status room len status' room' len' side code =
+    (code ≡ gt_state) × (status' ≡ status) × (room' ≡ room) × (len' ≡ len)
 
 -- whether no chain is pending
 abbrev pub TellsIdle : CardSide → ℤ → Type 0
-TellsIdle (Building applications) code = code ≡ gt_state
-TellsIdle (Standing end plans) code = code ≡ gt_state
-TellsIdle (AtT1 at) code = code ≡ gt_state
 TellsIdle (Joined session) code =
     code ≡ (if is_idle session.session.state.pending then pos 1 else pos 0)
+TellsIdle side code = code ≡ gt_state

@@ -1,17 +1,15 @@
 -- What the calls on the handle of a terminal's end at T=1 do to it. A refusal changes nothing.
-use Rattle.std.specs.Prelude.{◌≡◌, ◌⊎◌, ℕ, ℤ, ◌+◌, ◌≤◌, ◌<◌, ◌==◌, Bool, true, false, List, [], ◌++◌, take, length, Option, Some, None, MatchOption, pos, if◌then◌else◌}
-use Rattle.t1_core.specs.declared.control.Control.{Control}
-use Rattle.t1_core.specs.declared.control.Control.TheVariants.{Resynch, Ifs, Abort, Wtx}
+use Rattle.std.specs.Prelude.{◌≡◌, ◌⊎◌, ℕ, ℤ, ◌+◌, ◌<◌, ◌==◌, Bool, true, false, List, [], ◌++◌, take, length, Option, Some, None, if◌then◌else◌}
+use Rattle.t1_core.specs.declared.block.Control.TheVariants.{Wtx}
 use Rattle.t1_core.specs.declared.settings.Edc.TheVariants.{Lrc}
 use Rattle.t1_core.specs.declared.settings.Settings.{Settings}
 use Rattle.t1_core.specs.declared.terminal.Fault.{Fault}
-use Rattle.t1_core.specs.Block.{Block, I, R, Request, Response}
-use Rattle.t1_core.specs.BlockBytes.{block_of, bytes_of}
-use Rattle.t1_core.specs.Receiving.{is_whole}
+use Rattle.t1_core.specs.Block.{Block, Response}
+use Rattle.t1_core.specs.BlockBytes.{block_of, bytes_of, is_whole}
 use Rattle.t1_core.specs.Settings as settings
-use Rattle.t1_core.specs.TerminalSide.{Terminal, begins, fault_of, fresh, has_stopped, is_ready, sends, takes}
+use Rattle.t1_core.specs.TerminalSide.{begins, fault_of, fresh, has_stopped, is_ready, sends, takes}
 use Rattle.card_c.specs.declared.t1_side.T1Side.{T1Side}
-use Rattle.card_c.specs.Codes.{gt_ok, gt_sends, gt_done, gt_empty, gt_state, gt_memory, gt_argument, gt_not_found, gt_failed, cause_code, outcome_number}
+use Rattle.card_c.specs.Codes.{gt_ok, gt_sends, gt_done, gt_state, gt_memory, gt_argument, gt_not_found, gt_failed, cause_code, outcome_number}
 use Rattle.card_c.specs.Copying.{IsCopied}
 
 -- an error detection code and an IFSC that the end takes: 1 is LRC
@@ -42,17 +40,9 @@ Begins apdu old code new =
 
 -- the card's time for its answer to this block, as a multiple of BWT: the multiple that it asked
 -- for, or 1
-abbrev pub times_of : Control → ℕ
-times_of (Wtx multiple) = if multiple == 0 then 1 else multiple
-times_of Resynch = 1
-times_of (Ifs size) = 1
-times_of Abort = 1
-
 abbrev pub waits_for : Block → ℕ
-waits_for (Response control) = times_of control
-waits_for (I number more field) = 1
-waits_for (R number) = 1
-waits_for (Request control) = 1
+waits_for (Response (Wtx multiple)) = if multiple == 0 then 1 else multiple
+waits_for _ = 1
 
 -- The next block is written. If no command is in progress, if the end gave up, or if memory runs
 -- out, nothing is written.

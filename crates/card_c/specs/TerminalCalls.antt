@@ -21,7 +21,7 @@ use Rattle.apdu_terminal.specs.ApduOperations as apdu
 use Rattle.apdu_terminal.specs.ApduOperations.{IsOperationAnswer, is_under_way}
 use Rattle.card_c.specs.declared.apdu_side.ApduSide.{ApduSide}
 use Rattle.card_c.specs.ApduCalls.{Opens}
-use Rattle.card_c.specs.Codes.{gt_ok, gt_empty, gt_state, gt_memory, gt_argument, gt_no_status, command_code}
+use Rattle.card_c.specs.Codes.{gt_ok, gt_state, gt_memory, gt_argument, gt_no_status, command_code}
 use Rattle.card_c.specs.ExchangeCalls.{AreNone, turn_code, turn_byte, taking_code, TellsEnd}
 use Rattle.card_c.specs.TagNumbers.{IsNumbered}
 use Rattle.card_c.specs.TpduCalls.{AreAnswer, TellsTpdu, answered_code}

@@ -9,7 +9,7 @@ use crate::card_held::GtCard;
 use crate::card_side::CardSide;
 use crate::card_t1::leave;
 use crate::code;
-use crate::handle::{Handle, with};
+use crate::handle::{Handle, on, with};
 use crate::tag_number::tag_of;
 use object_card::{Aid, CardBuilder, ObjectCard};
 use std::alloc::Global;
@@ -146,12 +146,7 @@ pub extern "C" fn galliumtoad_card_turn(alloc: Global, card: &mut GtCard, byte: 
     ensures { OnHandleOr (byte.new ≡ byte.old) (Turns byte.old byte.new)
         (held_by card.old) result (held_by card.new) }
 {
-    let Some(mut side) = card.take_out(alloc) else {
-        return code::EMPTY;
-    };
-    let answer = turn(&mut side, byte);
-    card.put(side);
-    answer
+    on!(alloc, card, side => turn(&mut side, byte))
 }
 
 fn turn(side: &mut CardSide, byte: &mut u8) -> i32

@@ -7,7 +7,7 @@ ghost use Rattle.card_c.specs.CardApduCalls.{RespondsTo, RespondsToCommand, Refu
 use crate::card_held::GtCard;
 use crate::card_side::CardSide;
 use crate::code;
-use crate::handle::Handle;
+use crate::handle::{Handle, on};
 use crate::whole_tpdu::hand_out;
 use apdu_core::{ApduFault, Command, Status};
 use apdu_terminal::respond;
@@ -28,12 +28,7 @@ pub extern "C" fn galliumtoad_card_apdu(
         (RespondsTo apdu.now response.old len.old response.new len.new)
         (held_by card.old) result (held_by card.new) }
 {
-    let Some(mut side) = card.take_out(alloc) else {
-        return code::EMPTY;
-    };
-    let code = respond_to(alloc, &mut side, apdu, response, len);
-    card.put(side);
-    code
+    on!(alloc, card, side => respond_to(alloc, &mut side, apdu, response, len))
 }
 
 fn respond_to(

@@ -7,7 +7,7 @@ use crate::card::next_of;
 use crate::card_held::GtCard;
 use crate::card_side::CardSide;
 use crate::code;
-use crate::handle::Handle;
+use crate::handle::{Handle, on};
 use object_card::ObjectCard;
 use std::alloc::Global;
 use t0_core::{CardEnd, LineFault, PlanQueue};
@@ -24,12 +24,7 @@ pub extern "C" fn galliumtoad_card_send_bytes(
         (CardSends bytes.old count.old bytes.new count.new)
         (held_by card.old) result (held_by card.new) }
 {
-    let Some(mut side) = card.take_out(alloc) else {
-        return code::EMPTY;
-    };
-    let answer = send(&mut side, bytes, count);
-    card.put(side);
-    answer
+    on!(alloc, card, side => send(&mut side, bytes, count))
 }
 
 fn send(side: &mut CardSide, bytes: &mut [u8], count: &mut usize) -> i32
@@ -71,12 +66,7 @@ pub extern "C" fn galliumtoad_card_receive_bytes(
     ensures { OnHandleOr (count.new ≡ count.old) (CardReceives bytes.now count.old count.new)
         (held_by card.old) result (held_by card.new) }
 {
-    let Some(mut side) = card.take_out(alloc) else {
-        return code::EMPTY;
-    };
-    let answer = receive(&mut side, bytes, count);
-    card.put(side);
-    answer
+    on!(alloc, card, side => receive(&mut side, bytes, count))
 }
 
 fn receive(side: &mut CardSide, bytes: &[u8], count: &mut usize) -> i32

@@ -7,7 +7,7 @@ use crate::card_held::GtCard;
 use crate::card_side::{CardSide, CardT1Side};
 use crate::code;
 use crate::copied::copied;
-use crate::handle::{Handle, with};
+use crate::handle::{Handle, on, with};
 use object_card::CardBuilder;
 use std::alloc::Global;
 use std::mem;
@@ -72,12 +72,7 @@ pub extern "C" fn galliumtoad_card_t1_send_bytes(
         ((bytes.new ≡ bytes.old) × (count.new ≡ count.old)))
         (held_by card.old) result (held_by card.new) }
 {
-    let Some(side) = card.take_out(alloc) else {
-        return code::EMPTY;
-    };
-    let answer = send(alloc, &side, bytes, count);
-    card.put(side);
-    answer
+    on!(alloc, card, side => send(alloc, &side, bytes, count))
 }
 
 fn send(alloc: Global, side: &CardSide, bytes: &mut [u8], count: &mut usize) -> i32
@@ -108,12 +103,7 @@ pub extern "C" fn galliumtoad_card_t1_receive_bytes(
         (OnLine (HearsBytes bytes.now count.new) (count.new ≡ count.old))
         (held_by card.old) result (held_by card.new) }
 {
-    let Some(mut side) = card.take_out(alloc) else {
-        return code::EMPTY;
-    };
-    let answer = receive(&mut side, bytes, count);
-    card.put(side);
-    answer
+    on!(alloc, card, side => receive(&mut side, bytes, count))
 }
 
 fn receive(side: &mut CardSide, bytes: &[u8], count: &mut usize) -> i32
@@ -146,16 +136,12 @@ fn receive(side: &mut CardSide, bytes: &[u8], count: &mut usize) -> i32
 pub extern "C" fn galliumtoad_card_t1_missed(alloc: Global, card: &mut GtCard) -> i32
     ensures { OnHandle (OnLine Misses ⊤) (held_by card.old) result (held_by card.new) }
 {
-    with(alloc, card, |side| miss(side))
-}
-
-fn miss(side: &mut CardSide) -> i32
-    ensures { OnLine Misses ⊤ side.old result side.new }
-{
-    let CardSide::AtT1(at) = side else {
-        return code::STATE;
-    };
-    at.reply = Some(at.end.damaged());
-    at.block.clear();
-    code::SENDS
+    with(alloc, card, |side| {
+        let CardSide::AtT1(at) = side else {
+            return code::STATE;
+        };
+        at.reply = Some(at.end.damaged());
+        at.block.clear();
+        code::SENDS
+    })
 }

@@ -8,7 +8,7 @@ ghost use Rattle.card_c.specs.CardTpduCalls.{CarriesOut, IsCarriedOut};
 use crate::card_held::GtCard;
 use crate::card_side::CardSide;
 use crate::code;
-use crate::handle::Handle;
+use crate::handle::{Handle, on};
 use crate::whole_tpdu::hand_out;
 use object_card::ObjectCard;
 use std::alloc::Global;
@@ -27,12 +27,7 @@ pub extern "C" fn galliumtoad_card_tpdu(
         (CarriesOut tpdu.now answer.old len.old answer.new len.new)
         (held_by card.old) result (held_by card.new) }
 {
-    let Some(mut side) = card.take_out(alloc) else {
-        return code::EMPTY;
-    };
-    let code = carry_out(alloc, &mut side, tpdu, answer, len);
-    card.put(side);
-    code
+    on!(alloc, card, side => carry_out(alloc, &mut side, tpdu, answer, len))
 }
 
 fn carry_out(

@@ -8,7 +8,7 @@ use crate::apdu_side::ApduSide;
 use crate::code;
 use crate::copied::copied;
 use crate::exchange_side::ExchangeSide;
-use crate::handle::{Handle, with};
+use crate::handle::{Handle, on, with};
 use crate::held_exchange::ExchangeHandle;
 use crate::whole_apdu::ended;
 use apdu_core::Command;
@@ -90,12 +90,7 @@ pub extern "C" fn galliumtoad_exchange_next(
         (ByTpdus (byte.new ≡ byte.old) (TurnsTo byte.old byte.new))
         (exchange_in exchange.old) result (exchange_in exchange.new) }
 {
-    let Some(mut side) = exchange.take_out(alloc) else {
-        return code::EMPTY;
-    };
-    let answer = turned(&mut side, byte);
-    exchange.put(side);
-    answer
+    on!(alloc, exchange, side => turned(&mut side, byte))
 }
 
 fn turned(side: &mut ExchangeSide, byte: &mut u8) -> i32
@@ -144,12 +139,7 @@ pub extern "C" fn galliumtoad_exchange_answer(
         status.new content.new len.new) (exchange_in exchange.old) result
         (exchange_in exchange.new) }
 {
-    let Some(side) = exchange.take_out(alloc) else {
-        return code::EMPTY;
-    };
-    let answer = given(&side, status, content, len);
-    exchange.put(side);
-    answer
+    on!(alloc, exchange, side => given(&side, status, content, len))
 }
 
 fn given(side: &ExchangeSide, status: &mut u16, content: &mut [u8], len: &mut usize) -> i32

@@ -7,7 +7,7 @@ ghost use Rattle.card_c.specs.ExchangeCalls.{ByApdus, IsUnsentOf};
 
 use crate::code;
 use crate::exchange_side::ExchangeSide;
-use crate::handle::{Handle, with};
+use crate::handle::{Handle, on, with};
 use crate::held_exchange::ExchangeHandle;
 use crate::whole_apdu::{opened, responded, responded_first, told};
 use card_terminal::{OwnedExchange, Unsent};
@@ -28,12 +28,7 @@ pub extern "C" fn galliumtoad_exchange_apdu(
         most.new))
         (exchange_in exchange.old) result (exchange_in exchange.new) }
 {
-    let Some(mut side) = exchange.take_out(alloc) else {
-        return code::EMPTY;
-    };
-    let answer = due(&mut side, apdu, len, most);
-    exchange.put(side);
-    answer
+    on!(alloc, exchange, side => due(&mut side, apdu, len, most))
 }
 
 fn due(side: &mut ExchangeSide, apdu: &mut [u8], len: &mut usize, most: &mut usize) -> i32

@@ -6,7 +6,7 @@ ghost use Rattle.card_c.specs.BufferCalls.{SendsBytes, ReceivesBytes};
 
 use crate::code;
 use crate::exchange_side::ExchangeSide;
-use crate::handle::Handle;
+use crate::handle::{Handle, on};
 use crate::held_exchange::ExchangeHandle;
 use std::alloc::Global;
 
@@ -23,12 +23,7 @@ pub extern "C" fn galliumtoad_exchange_send_bytes(
         (SendsBytes bytes.old bytes.new count.new))
         (exchange_in exchange.old) result (exchange_in exchange.new) }
 {
-    let Some(mut side) = exchange.take_out(alloc) else {
-        return code::EMPTY;
-    };
-    let answer = sent(&mut side, bytes, count);
-    exchange.put(side);
-    answer
+    on!(alloc, exchange, side => sent(&mut side, bytes, count))
 }
 
 fn sent(side: &mut ExchangeSide, bytes: &mut [u8], count: &mut usize) -> i32
@@ -55,12 +50,7 @@ pub extern "C" fn galliumtoad_exchange_receive_bytes(
         (ByTpdus (count.new ≡ count.old) (ReceivesBytes bytes.now count.new))
         (exchange_in exchange.old) result (exchange_in exchange.new) }
 {
-    let Some(mut side) = exchange.take_out(alloc) else {
-        return code::EMPTY;
-    };
-    let answer = received(&mut side, bytes, count);
-    exchange.put(side);
-    answer
+    on!(alloc, exchange, side => received(&mut side, bytes, count))
 }
 
 fn received(side: &mut ExchangeSide, bytes: &[u8], count: &mut usize) -> i32

@@ -8,7 +8,7 @@ ghost use Rattle.card_c.specs.TpduCalls.{TellsTpdu, IsAnswered};
 
 use crate::code;
 use crate::exchange_side::ExchangeSide;
-use crate::handle::{Handle, with};
+use crate::handle::{Handle, on, with};
 use crate::held_exchange::ExchangeHandle;
 use crate::whole_tpdu::{answer_of, told};
 use std::alloc::Global;
@@ -26,12 +26,7 @@ pub extern "C" fn galliumtoad_exchange_tpdu(
         (λ side code. TellsTpduOf side tpdu.old len.old most.old code tpdu.new len.new most.new)
         (exchange_in exchange.old) result (exchange_in exchange.new) }
 {
-    let Some(side) = exchange.take_out(alloc) else {
-        return code::EMPTY;
-    };
-    let answer = due(&side, tpdu, len, most);
-    exchange.put(side);
-    answer
+    on!(alloc, exchange, side => due(&side, tpdu, len, most))
 }
 
 fn due(side: &ExchangeSide, tpdu: &mut [u8], len: &mut usize, most: &mut usize) -> i32

@@ -30,6 +30,21 @@ pub trait Handle {
         ensures { content self.new ≡ Some value.value };
 }
 
+/// Evaluates an expression on what a handle holds, under the name `side`, and returns its code. The
+/// expression may write to what the caller was lent.
+macro_rules! on {
+    ($alloc:ident, $handle:ident, $side:ident => $call:expr) => {{
+        let Some(mut $side) = $handle.take_out($alloc) else {
+            return code::EMPTY;
+        };
+        let answer = $call;
+        $handle.put($side);
+        answer
+    }};
+}
+
+pub(crate) use on;
+
 /// Calls `f` on what a handle holds, and returns its code.
 pub fn with<H: Handle, F>(alloc: Global, handle: &mut H, f: F) -> i32
 where
@@ -38,10 +53,5 @@ where
     ensures { OnHandle (λ old code new. FnOnceReturnsAtMut F.FnOnce f old code new)
         (H.content handle.old) result (H.content handle.new) }
 {
-    let Some(mut held) = handle.take_out(alloc) else {
-        return code::EMPTY;
-    };
-    let answer = f(&mut held);
-    handle.put(held);
-    answer
+    on!(alloc, handle, side => f(&mut side))
 }

@@ -7,7 +7,7 @@ use crate::card_held::GtCard;
 use crate::card_side::CardSide;
 use crate::character_record::CharacterRecord;
 use crate::code;
-use crate::handle::{Handle, with};
+use crate::handle::{Handle, on, with};
 use crate::listener::Listener;
 use crate::session_side::SessionSide;
 use std::alloc::Global;
@@ -50,12 +50,7 @@ pub extern "C" fn galliumtoad_session_heard(
         (TellsHeard line.old count.old line.new count.new)
         (held_by session.old) result (held_by session.new) }
 {
-    let Some(side) = session.take_out(alloc) else {
-        return code::EMPTY;
-    };
-    let answer = heard(&side, line, count);
-    session.put(side);
-    answer
+    on!(alloc, session, side => heard(&side, line, count))
 }
 
 fn heard(side: &CardSide, line: &mut [CharacterRecord], count: &mut usize) -> i32

@@ -9,7 +9,7 @@ use crate::card_held::GtCard;
 use crate::card_side::CardSide;
 use crate::code;
 use crate::copied::copied;
-use crate::handle::{Handle, with};
+use crate::handle::{Handle, on, with};
 use crate::listener::Listener;
 use crate::session_side::{SessionSide, room_for_next};
 use crate::tag_number::tag_of;
@@ -225,12 +225,7 @@ pub extern "C" fn galliumtoad_session_answer(
         (TellsAnswer status.old content.old len.old status.new content.new len.new)
         (held_by session.old) result (held_by session.new) }
 {
-    let Some(side) = session.take_out(alloc) else {
-        return code::EMPTY;
-    };
-    let answer = tell(&side, status, content, len);
-    session.put(side);
-    answer
+    on!(alloc, session, side => tell(&side, status, content, len))
 }
 
 fn tell(side: &CardSide, status: &mut u16, content: &mut [u8], len: &mut usize) -> i32

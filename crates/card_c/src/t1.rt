@@ -1,13 +1,13 @@
 //! The exports of a terminal's end of a line at T=1, which pass its blocks as bytes.
 ghost use Rattle.std.specs.Prelude.{◌≡◌, Option, Some, None, MatchOption};
 ghost use Rattle.t1_core.specs.declared.settings.Settings.{Settings};
-ghost use Rattle.t1_core.specs.BlockView.{said};
+ghost use Rattle.t1_core.specs.Block.{said};
 ghost use Rattle.card_c.specs.Handles.{t1_in, OnHandle, OnHandleOr};
 ghost use Rattle.card_c.specs.T1Calls.{HasBegun, IsTaken, HasSettings, Begins, Misses, Resets, TellsResponse, TellsFault, SendsBlock, ReceivesBytes, waits_for};
 
 use crate::code;
 use crate::copied::copied;
-use crate::handle::{Handle, with};
+use crate::handle::{Handle, on, with};
 use crate::held_t1::T1Handle;
 use crate::t1_side::T1Side;
 use std::alloc::Global;
@@ -55,10 +55,7 @@ fn settings(edc: u8, ifsc: u8, tries: u8, extensions: u8, limit: usize) -> Optio
     if edc != LRC {
         return None;
     }
-    match Settings::new(Edc::Lrc, ifsc, tries, extensions, limit) {
-        Ok(settings) => Some(settings),
-        Err(_) => None,
-    }
+    Settings::new(Edc::Lrc, ifsc, tries, extensions, limit).ok()
 }
 
 /// Frees the memory of a handle, which is empty then.
@@ -120,12 +117,7 @@ pub extern "C" fn galliumtoad_t1_response(
         (TellsResponse response.old len.old response.new len.new)
         (t1_in t1.old) result (t1_in t1.new) }
 {
-    let Some(side) = t1.take_out(alloc) else {
-        return code::EMPTY;
-    };
-    let answer = told(&side, response, len);
-    t1.put(side);
-    answer
+    on!(alloc, t1, side => told(&side, response, len))
 }
 
 fn told(side: &T1Side, response: &mut [u8], len: &mut usize) -> i32
@@ -149,12 +141,7 @@ pub extern "C" fn galliumtoad_t1_fault(
         (TellsFault cause.old outcome.old cause.new outcome.new)
         (t1_in t1.old) result (t1_in t1.new) }
 {
-    let Some(side) = t1.take_out(alloc) else {
-        return code::EMPTY;
-    };
-    let answer = fault(&side, cause, outcome);
-    t1.put(side);
-    answer
+    on!(alloc, t1, side => fault(&side, cause, outcome))
 }
 
 fn fault(side: &T1Side, cause: &mut i32, outcome: &mut i32) -> i32
@@ -182,12 +169,7 @@ pub extern "C" fn galliumtoad_t1_send_bytes(
         (SendsBlock bytes.old count.old waits.old bytes.new count.new waits.new)
         (t1_in t1.old) result (t1_in t1.new) }
 {
-    let Some(side) = t1.take_out(alloc) else {
-        return code::EMPTY;
-    };
-    let answer = sent(alloc, &side, bytes, count, waits);
-    t1.put(side);
-    answer
+    on!(alloc, t1, side => sent(alloc, &side, bytes, count, waits))
 }
 
 fn sent(alloc: Global, side: &T1Side, bytes: &mut [u8], count: &mut usize, waits: &mut u8) -> i32
@@ -232,12 +214,7 @@ pub extern "C" fn galliumtoad_t1_receive_bytes(
     ensures { OnHandleOr (count.new ≡ count.old) (ReceivesBytes bytes.now count.old count.new)
         (t1_in t1.old) result (t1_in t1.new) }
 {
-    let Some(mut side) = t1.take_out(alloc) else {
-        return code::EMPTY;
-    };
-    let answer = received(&mut side, bytes, count);
-    t1.put(side);
-    answer
+    on!(alloc, t1, side => received(&mut side, bytes, count))
 }
 
 fn received(side: &mut T1Side, bytes: &[u8], count: &mut usize) -> i32

@@ -8,7 +8,7 @@ use crate::card_held::GtCard;
 use crate::card_side::CardSide;
 use crate::code;
 use crate::copied::copied;
-use crate::handle::Handle;
+use crate::handle::{Handle, on};
 use crate::tag_number::number_of;
 use object_card::{Aid, ObjectCard};
 use std::alloc::Global;
@@ -25,12 +25,7 @@ pub extern "C" fn galliumtoad_card_selected(
         (TellsAid (λ state. state.selected) aid.old len.old aid.new len.new)
         (held_by card.old) result (held_by card.new) }
 {
-    let Some(side) = card.take_out(alloc) else {
-        return code::EMPTY;
-    };
-    let answer = selected(&side, aid, len);
-    card.put(side);
-    answer
+    on!(alloc, card, side => selected(&side, aid, len))
 }
 
 fn selected(side: &CardSide, aid: &mut [u8], len: &mut usize) -> i32
@@ -57,12 +52,7 @@ pub extern "C" fn galliumtoad_card_app_at(
         (TellsAid (aid_at place) aid.old len.old aid.new len.new)
         (held_by card.old) result (held_by card.new) }
 {
-    let Some(side) = card.take_out(alloc) else {
-        return code::EMPTY;
-    };
-    let answer = app_at(&side, place, aid, len);
-    card.put(side);
-    answer
+    on!(alloc, card, side => app_at(&side, place, aid, len))
 }
 
 fn app_at(side: &CardSide, place: usize, aid: &mut [u8], len: &mut usize) -> i32
@@ -102,12 +92,7 @@ pub extern "C" fn galliumtoad_card_entry_at(
         (TellsEntryAt app place tag.old locked.old value.old len.old tag.new locked.new value.new
         len.new) (held_by card.old) result (held_by card.new) }
 {
-    let Some(side) = card.take_out(alloc) else {
-        return code::EMPTY;
-    };
-    let answer = entry_in(&side, app, place, tag, locked, value, len);
-    card.put(side);
-    answer
+    on!(alloc, card, side => entry_in(&side, app, place, tag, locked, value, len))
 }
 
 fn entry_in(

@@ -12,7 +12,7 @@ ghost use Rattle.card_c.specs.TerminalCalls.{HasBegun, KeepsRoom, OnBegin, OnTpd
 use crate::apdu_side::ApduSide;
 use crate::code;
 use crate::copied::copied;
-use crate::handle::{Handle, with};
+use crate::handle::{Handle, on, with};
 use crate::held_terminal::TerminalHandle;
 use crate::tag_number::tag_of;
 use crate::terminal_side::TerminalSide;
@@ -92,6 +92,19 @@ pub extern "C" fn galliumtoad_terminal_reset(alloc: Global, terminal: &mut Termi
     })
 }
 
+/// Begins an operation by a call on the terminal, unless one goes by whole commands.
+macro_rules! begin {
+    ($alloc:ident, $terminal:ident, $side:ident => $call:expr) => {
+        with($alloc, $terminal, |$side| {
+            if $side.is_led() {
+                return code::STATE;
+            }
+            let answer = $call;
+            $side.began(answer)
+        })
+    };
+}
+
 /// Begins SELECT of the application with this identifier, and drops the last answer.
 #[unsafe(no_mangle)]
 pub extern "C" fn galliumtoad_terminal_select(
@@ -102,13 +115,7 @@ pub extern "C" fn galliumtoad_terminal_select(
     ensures { OnHandle (OnBegin (BeginsSelect aid.now))
         (terminal_in terminal.old) result (terminal_in terminal.new) }
 {
-    with(alloc, terminal, |side| {
-        if side.is_led() {
-            return code::STATE;
-        }
-        let answer = select(&mut side.terminal, aid);
-        side.began(answer)
-    })
+    begin!(alloc, terminal, side => select(&mut side.terminal, aid))
 }
 
 fn select(terminal: &mut Terminal, aid: &[u8]) -> i32
@@ -131,13 +138,7 @@ pub extern "C" fn galliumtoad_terminal_get(
     ensures { OnHandle (OnBegin (BeginsGet tag))
         (terminal_in terminal.old) result (terminal_in terminal.new) }
 {
-    with(alloc, terminal, |side| {
-        if side.is_led() {
-            return code::STATE;
-        }
-        let answer = get(&mut side.terminal, tag);
-        side.began(answer)
-    })
+    begin!(alloc, terminal, side => get(&mut side.terminal, tag))
 }
 
 fn get(terminal: &mut Terminal, number: u32) -> i32
@@ -161,13 +162,7 @@ pub extern "C" fn galliumtoad_terminal_put(
     ensures { OnHandle (OnBegin (BeginsPut tag value.now))
         (terminal_in terminal.old) result (terminal_in terminal.new) }
 {
-    with(alloc, terminal, |side| {
-        if side.is_led() {
-            return code::STATE;
-        }
-        let answer = put(&mut side.terminal, tag, value);
-        side.began(answer)
-    })
+    begin!(alloc, terminal, side => put(&mut side.terminal, tag, value))
 }
 
 fn put(terminal: &mut Terminal, number: u32, value: &[u8]) -> i32
@@ -191,13 +186,7 @@ pub extern "C" fn galliumtoad_terminal_send(
     ensures { OnHandle (OnBegin (BeginsSend command.now))
         (terminal_in terminal.old) result (terminal_in terminal.new) }
 {
-    with(alloc, terminal, |side| {
-        if side.is_led() {
-            return code::STATE;
-        }
-        let answer = send(&mut side.terminal, command);
-        side.began(answer)
-    })
+    begin!(alloc, terminal, side => send(&mut side.terminal, command))
 }
 
 fn send(terminal: &mut Terminal, bytes: &[u8]) -> i32
@@ -256,12 +245,7 @@ pub extern "C" fn galliumtoad_terminal_next(
         (OnTpdus (byte.new ≡ byte.old) (TakesTurn byte.old byte.new))
         (terminal_in terminal.old) result (terminal_in terminal.new) }
 {
-    let Some(mut side) = terminal.take_out(alloc) else {
-        return code::EMPTY;
-    };
-    let answer = turned(&mut side, byte);
-    terminal.put(side);
-    answer
+    on!(alloc, terminal, side => turned(&mut side, byte))
 }
 
 fn turned(side: &mut TerminalSide, byte: &mut u8) -> i32
@@ -311,12 +295,7 @@ pub extern "C" fn galliumtoad_terminal_tpdu(
         (λ side code. TellsTpduOf side tpdu.old len.old most.old code tpdu.new len.new most.new)
         (terminal_in terminal.old) result (terminal_in terminal.new) }
 {
-    let Some(side) = terminal.take_out(alloc) else {
-        return code::EMPTY;
-    };
-    let answer = due(&side, tpdu, len, most);
-    terminal.put(side);
-    answer
+    on!(alloc, terminal, side => due(&side, tpdu, len, most))
 }
 
 fn due(side: &TerminalSide, tpdu: &mut [u8], len: &mut usize, most: &mut usize) -> i32
@@ -364,12 +343,7 @@ pub extern "C" fn galliumtoad_terminal_answer(
         status.new content.new len.new) (terminal_in terminal.old) result
         (terminal_in terminal.new) }
 {
-    let Some(side) = terminal.take_out(alloc) else {
-        return code::EMPTY;
-    };
-    let answer = given(&side, status, content, len);
-    terminal.put(side);
-    answer
+    on!(alloc, terminal, side => given(&side, status, content, len))
 }
 
 fn given(side: &TerminalSide, status: &mut u16, content: &mut [u8], len: &mut usize) -> i32

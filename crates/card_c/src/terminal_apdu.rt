@@ -8,7 +8,7 @@ ghost use Rattle.card_c.specs.ApduCalls.{TellsDue, TakesResponse, Opens};
 ghost use Rattle.card_c.specs.TerminalCalls.{OnApdus};
 
 use crate::code;
-use crate::handle::{Handle, with};
+use crate::handle::{Handle, on, with};
 use crate::held_terminal::TerminalHandle;
 use crate::terminal_side::TerminalSide;
 use crate::whole_apdu::{opened, responded, responded_first, told};
@@ -29,12 +29,7 @@ pub extern "C" fn galliumtoad_terminal_apdu(
         most.new))
         (terminal_in terminal.old) result (terminal_in terminal.new) }
 {
-    let Some(mut side) = terminal.take_out(alloc) else {
-        return code::EMPTY;
-    };
-    let answer = due(&mut side, apdu, len, most);
-    terminal.put(side);
-    answer
+    on!(alloc, terminal, side => due(&mut side, apdu, len, most))
 }
 
 fn due(side: &mut TerminalSide, apdu: &mut [u8], len: &mut usize, most: &mut usize) -> i32

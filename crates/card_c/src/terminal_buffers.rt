@@ -5,7 +5,7 @@ ghost use Rattle.card_c.specs.TerminalCalls.{OnTpdus};
 ghost use Rattle.card_c.specs.BufferCalls.{TerminalSends, TerminalReceives};
 
 use crate::code;
-use crate::handle::Handle;
+use crate::handle::{Handle, on};
 use crate::held_terminal::TerminalHandle;
 use crate::terminal_side::TerminalSide;
 use std::alloc::Global;
@@ -23,12 +23,7 @@ pub extern "C" fn galliumtoad_terminal_send_bytes(
         (TerminalSends bytes.old count.old bytes.new count.new))
         (terminal_in terminal.old) result (terminal_in terminal.new) }
 {
-    let Some(mut side) = terminal.take_out(alloc) else {
-        return code::EMPTY;
-    };
-    let answer = sent(&mut side, bytes, count);
-    terminal.put(side);
-    answer
+    on!(alloc, terminal, side => sent(&mut side, bytes, count))
 }
 
 fn sent(side: &mut TerminalSide, bytes: &mut [u8], count: &mut usize) -> i32
@@ -57,12 +52,7 @@ pub extern "C" fn galliumtoad_terminal_receive_bytes(
         (OnTpdus (count.new ≡ count.old) (TerminalReceives bytes.now count.new))
         (terminal_in terminal.old) result (terminal_in terminal.new) }
 {
-    let Some(mut side) = terminal.take_out(alloc) else {
-        return code::EMPTY;
-    };
-    let answer = received(&mut side, bytes, count);
-    terminal.put(side);
-    answer
+    on!(alloc, terminal, side => received(&mut side, bytes, count))
 }
 
 fn received(side: &mut TerminalSide, bytes: &[u8], count: &mut usize) -> i32

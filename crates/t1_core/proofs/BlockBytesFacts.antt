@@ -6,11 +6,10 @@ use Rattle.t1_core.specs.declared.pcb.Pcb.{Pcb}
 use Rattle.t1_core.specs.declared.pcb.Pcb.TheVariants.{Information, Ready, Supervisory}
 use Rattle.t1_core.specs.declared.pcb.Reason.TheVariants.{NoError}
 use Rattle.t1_core.specs.declared.pcb.Subject.TheVariants.{Resynch}
-use Rattle.t1_core.specs.PcbBytes.{pcb_byte, pcb_of}
-use Rattle.t1_core.specs.declared.control.Control.{Control}
-use Rattle.t1_core.specs.declared.control.Control.TheVariants as control
+use Rattle.t1_core.specs.declared.block.Control.{Control}
+use Rattle.t1_core.specs.declared.block.Control.TheVariants as control
 use Rattle.t1_core.specs.Block.{Block, I, R, Request, Response, are_filled, is_filled}
-use Rattle.t1_core.specs.BlockBytes.{lrc, before_lrc, spelled, parts_of, block_in, block_of, bytes_of, pcb_for, info_of, control_of, controlled, field_of, subject_of}
+use Rattle.t1_core.specs.BlockBytes.{pcb_byte, pcb_of, lrc, before_lrc, spelled, parts_of, block_in, block_of, bytes_of, pcb_for, info_of, control_of, controlled, field_of, subject_of}
 
 -- each PCB is read back
 pub pcb_again : (p : Pcb) → pcb_of (pcb_byte p) ≡ Some p

@@ -1,7 +1,7 @@
 -- A terminal stops, whatever any peer sends.
-use Rattle.std.proofs.Common.{◌≡◌, refl, sym, ap, subst, ℕ, zero, suc, ◌+◌, ◌*◌, ◌≤◌, ◌<◌, Bool, true, false, List, [], ◌∷◌, length, length-append, length-drop, nat_lt, Option, Some, None, cond, ◌==◌, arith, ◌⊎◌, inl, inr}
-use Rattle.t1_core.specs.declared.control.Control.{Control}
-use Rattle.t1_core.specs.declared.control.Control.TheVariants.{Resynch, Ifs, Abort, Wtx}
+use Rattle.std.proofs.Common.{◌≡◌, refl, ap, subst, ℕ, zero, suc, ◌+◌, ◌*◌, ◌≤◌, ◌<◌, Bool, true, false, List, [], ◌∷◌, length, length-append, length-drop, nat_lt, Option, Some, None, cond, ◌==◌, arith, ◌⊎◌, inl, inr}
+use Rattle.t1_core.specs.declared.block.Control.{Control}
+use Rattle.t1_core.specs.declared.block.Control.TheVariants.{Resynch, Ifs, Abort, Wtx}
 use Rattle.t1_core.specs.declared.terminal.Out.{Out}
 use Rattle.t1_core.specs.declared.terminal.Out.TheVariants.{Own, Asks}
 use Rattle.t1_core.specs.declared.terminal.Phase.{Phase}
@@ -9,7 +9,7 @@ use Rattle.t1_core.specs.declared.terminal.Phase.TheVariants.{Opening, Sending, 
 use Rattle.t1_core.specs.Block.{Block, I, R, Request, Response, are_filled, is_filled, is_size, same}
 use Rattle.t1_core.specs.BlockBytes.{block_of}
 use Rattle.t1_core.specs.Mild.{meets_all, most_receptions, steps_left}
-use Rattle.t1_core.specs.TerminalSide.{Terminal, spend, takes, takes_in, takes_opening, takes_sending, takes_receiving, takes_field, gathers, acknowledged, answered, asked, extend, opens, longest, has_stopped}
+use Rattle.t1_core.specs.TerminalSide.{Terminal, spend, takes, takes_in, takes_field, gathers, acknowledged, answered, asked, extend, opens, longest, has_stopped}
 use Rattle.t1_core.proofs.BlockBytesFacts.{read_is_filled}
 use Rattle.t1_core.proofs.Measure.{weigh}
 
@@ -123,38 +123,27 @@ module _ (t : Terminal) (sized : 0 < t.size) where
       either _ _ (size == longest) ((refl, sized), inr (omega (arith, two))) (spends Asks)
   opens_spends _ two = spends Asks
 
-  opening_spends : (b : Block) → room t.phase ≡ 2 → Takes t (takes_opening b t)
-  opening_spends (Request control) two = asked_spends control (omega (arith, two))
-  opening_spends (Response control) two = opens_spends control two
-  opening_spends _ two = spends Asks
-
-  sending_spends : (b : Block) → is_filled b ≡ true → 1 ≤ room t.phase
-      → Takes t (takes_sending b t)
-  sending_spends (I n more f) filled some =
-      either _ _ (same n t.due) (answered_spends n more t.rest f filled some) (spends Asks)
-  sending_spends (R n) filled some =
-      either _ _ (same n t.number) (spends Own) (acknowledged_spends t.rest refl)
-  sending_spends (Request control) filled some = asked_spends control some
-  sending_spends _ filled some = spends Asks
-
-  receiving_spends : (b : Block) → is_filled b ≡ true → 1 ≤ room t.phase
-      → Takes t (takes_receiving b t)
-  receiving_spends (I n more f) filled some =
-      either _ _ (same n t.due) (gathers_spends n more f filled some) (spends Asks)
-  receiving_spends (Request control) filled some = asked_spends control some
-  receiving_spends _ filled some = spends Asks
-
   pub takes_spends : (b : Option Block) (p : Phase) → are_filled b ≡ true → t.phase ≡ p
       → Takes t (takes_in p b t)
-  takes_spends b Aborting filled e = ((refl, sized), inl refl)
   takes_spends b Over filled e = ((refl, sized), inl (ap has_stopped e))
   takes_spends b (GivenUp cause) filled e = ((refl, sized), inl (ap has_stopped e))
-  takes_spends (Some b) Opening filled e = opening_spends b (ap room e)
-  takes_spends (Some b) Sending filled e =
-      sending_spends b filled (subst (λ p. 1 ≤ room p) (sym e) (omega arith))
-  takes_spends (Some b) Receiving filled e =
-      receiving_spends b filled (subst (λ p. 1 ≤ room p) (sym e) (omega arith))
-  takes_spends None _ filled e = spends Asks
+  takes_spends b Aborting filled e = ((refl, sized), inl refl)
+  takes_spends (Some (Request control)) Opening filled e =
+      asked_spends control (let two = ap room e in omega (arith, two))
+  takes_spends (Some (Request control)) Sending filled e =
+      asked_spends control (let one = ap room e in omega (arith, one))
+  takes_spends (Some (Request control)) Receiving filled e =
+      asked_spends control (let one = ap room e in omega (arith, one))
+  takes_spends (Some (Response control)) Opening filled e = opens_spends control (ap room e)
+  takes_spends (Some (I n more f)) Sending filled e =
+      either _ _ (same n t.due) (answered_spends n more t.rest f filled
+      (let one = ap room e in omega (arith, one))) (spends Asks)
+  takes_spends (Some (R n)) Sending filled e =
+      either _ _ (same n t.number) (spends Own) (acknowledged_spends t.rest refl)
+  takes_spends (Some (I n more f)) Receiving filled e =
+      either _ _ (same n t.due) (gathers_spends n more f filled
+      (let one = ap room e in omega (arith, one))) (spends Asks)
+  takes_spends _ _ filled e = spends Asks
 
 stays_stopped : (t : Terminal) (b : Option Block) (p : Phase) → t.phase ≡ p → has_stopped p ≡ true
     → has_stopped (takes_in p b t).phase ≡ true

@@ -2,7 +2,7 @@
 use Rattle.std.proofs.Common.{◌≡◌, refl, ap, ◌∙◌, ℕ, zero, suc, Bool, true, false, List, [], ◌∷◌, ◌++◌, length, ◌+◌, nat_lt, take, drop, Option, Some, None, append_assoc, cond}
 use Rattle.std.proofs.lemmas.Bool.{eq-eqb}
 use Rattle.t1_core.specs.declared.applet.Requests.{Requests}
-use Rattle.t1_core.specs.declared.control.Control.TheVariants.{Ifs, Wtx}
+use Rattle.t1_core.specs.declared.block.Control.TheVariants.{Ifs, Wtx}
 use Rattle.t1_core.specs.declared.line.Fate.{Fate}
 use Rattle.t1_core.specs.declared.line.Fate.TheVariants.{Delivers, Damages, Loses}
 use Rattle.t1_core.specs.declared.settings.Settings.{Settings}
@@ -453,12 +453,18 @@ module _ (m : Meaning) (before : List (List ℕ)) where
   sends_some k (Sent true got rest) tries extensions = (_, refl)
   sends_some k _ tries extensions = (_, refl)
 
+  -- nothing arrives if nothing was sent
+  silent : (up : Fate) → arrives up None ≡ None
+  silent Delivers = refl
+  silent _ = refl
+
   lost : (up : Fate) (k : Kept) (s : Spot) (tries extensions : ℕ)
       → After Loses up (Going k s tries extensions)
       ≡ world_of (misses (out_at k s) k s tries extensions)
   lost up k s tries extensions =
       ap (exchanged m (record { down = Loses; up = up })
       (world_at (out_at k s) k s tries extensions)) (sends_some k s tries extensions).1
+      ∙ ap (took (out_at k s) k s tries extensions) (silent up)
       ∙ missed (out_at k s) k tries extensions s
 
   -- the card replies to a damaged block with this one

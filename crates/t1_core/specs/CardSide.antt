@@ -2,8 +2,10 @@
 -- 11, rules of operation).
 use Rattle.std.specs.Prelude.{ℕ, zero, suc, Bool, true, false, List, [], ◌∷◌, ◌++◌, take, drop, Option, Some, None, cond}
 use Rattle.t1_core.specs.declared.applet.Requests.{Requests}
-use Rattle.t1_core.specs.declared.control.Control.{Control}
-use Rattle.t1_core.specs.declared.control.Control.TheVariants.{Resynch, Ifs, Abort, Wtx}
+use Rattle.t1_core.specs.declared.card.Reply.{Reply}
+use Rattle.t1_core.specs.declared.card.Reply.TheVariants as reply
+use Rattle.t1_core.specs.declared.block.Control.{Control}
+use Rattle.t1_core.specs.declared.block.Control.TheVariants.{Resynch, Ifs, Abort, Wtx}
 use Rattle.t1_core.specs.declared.line.Fate.{Fate}
 use Rattle.t1_core.specs.declared.line.Fate.TheVariants.{Delivers, Damages, Loses}
 use Rattle.t1_core.specs.Block.{Block, I, R, Request, Response, other, same, more, answers, is_size}
@@ -184,3 +186,10 @@ card_meets m Loses b c = record { card = c; block = None }
 -- lost.
 abbrev pub forgets : Card → Card
 forgets c = record c { field = []; rest = []; answering = false }
+
+-- the block of a reply
+abbrev pub replies : Reply → Card → Block
+replies reply.Information c = I (other c.next) (more c.rest) c.field
+replies reply.Ready c = R c.due
+replies (reply.Request control) c = Request control
+replies (reply.Response control) c = Response control

@@ -3,8 +3,7 @@
 use Rattle.std.specs.Prelude.{◌≡◌, ◌<◌, ◌^◌, List, ℕ, [], ◌∷◌, ◌++◌, length, map, Option, Some, None}
 use Rattle.t1_core.specs.declared.applet.Applet.{Ghosts}
 use Rattle.t1_core.specs.declared.card.Reply.{Reply}
-use Rattle.t1_core.specs.CardReplies.{replies}
-use Rattle.t1_core.specs.CardSide.{Card, Did, Meaning, Turn, turn, no_requests}
+use Rattle.t1_core.specs.CardSide.{Card, Did, Meaning, Turn, turn, no_requests, replies}
 
 abbrev pub commands_of : List Did → List (List ℕ)
 commands_of dids = map (λ (d : Did). d.command) dids
@@ -68,14 +67,20 @@ abbrev pub ran_with : List (List ℕ) → Option Did → List (List ℕ)
 ran_with ran None = ran
 ran_with ran (Some d) = ran ++ d.command ∷ []
 
--- The end makes this step, and the card carries out one command or none. It is the step of each
--- meaning that agrees, whatever the card carried out before.
-abbrev pub Steps : {C : Type 0} (a : Ghosts C) → (Meaning → Card → Turn) → EndOf C → Reply
-    → EndOf C → Type 0
-Steps a step old reply new = (did : Option Did)
+-- The card carries out one command or none. This holds of each meaning that agrees, before and
+-- after it, whatever the card carried out before.
+abbrev pub Carries : {C : Type 0} (a : Ghosts C) → (Meaning → (old new : Card) → Type 0)
+    → (old new : EndOf C) → Type 0
+Carries a Holds old new = (did : Option Did)
     × DoesSome a.Does (a.standing old.card) did (a.standing new.card)
     × ((m : Meaning) (ran : List (List ℕ)) → IsOfSome m ran did
-    → step m (after old ran) ≡ turn (after new (ran_with ran did)) (replies reply new.at))
+    → Holds m (after old ran) (after new (ran_with ran did)))
+
+-- the end makes this step, and replies
+abbrev pub Steps : {C : Type 0} (a : Ghosts C) → (Meaning → Card → Turn) → EndOf C → Reply
+    → EndOf C → Type 0
+Steps a step old reply new =
+    Carries a (λ m before later. step m before ≡ turn later (replies reply new.at)) old new
 
 -- the end makes this step, and the card carries out no command
 abbrev pub Goes : {C : Type 0} → (Card → Turn) → EndOf C → Reply → EndOf C → Type 0

@@ -1,27 +1,21 @@
 -- A block of the terminal and the card's reply, over the line.
-use Rattle.std.specs.Prelude.{◌≡◌, ℕ, List, Option, Some, None, true}
+use Rattle.std.specs.Prelude.{◌≡◌, Option, Some, None, true}
 use Rattle.std.specs.Option.{option_map}
 use Rattle.t1_core.specs.declared.applet.Applet.{Ghosts}
 use Rattle.t1_core.specs.declared.card.Reply.{Reply}
 use Rattle.t1_core.specs.declared.line.Fate.{Fate}
 use Rattle.t1_core.specs.declared.line.Fates.{Fates}
 use Rattle.t1_core.specs.Block.{Block, are_filled}
-use Rattle.t1_core.specs.CardReplies.{replies}
-use Rattle.t1_core.specs.CardSide.{Card, Did, Meaning, card_meets}
-use Rattle.t1_core.specs.Doing.{EndOf, after, DoesSome, IsOfSome, ran_with}
+use Rattle.t1_core.specs.CardSide.{Card, Meaning, card_meets, replies}
+use Rattle.t1_core.specs.Doing.{Carries, EndOf}
 use Rattle.t1_core.specs.TerminalSide.{Terminal, sends, takes}
 use Rattle.t1_core.specs.World.{arrives}
 
 -- the line delivers, damages or loses a block; the card replies
 abbrev pub Hears : {C : Type 0} (a : Ghosts C) → Fate → Block → EndOf C → Option Reply → EndOf C
     → Type 0
-Hears a fate b old reply new = (did : Option Did)
-    × DoesSome a.Does (a.standing old.card) did (a.standing new.card)
-    × ((m : Meaning) (ran : List (List ℕ)) → IsOfSome m ran did
-    → card_meets m fate b (after old ran) ≡ record {
-      card = after new (ran_with ran did);
-      block = option_map (λ r. replies r new.at) reply;
-    })
+Hears a fate b old reply new = Carries a (λ m before later. card_meets m fate b before
+    ≡ record { card = later; block = option_map (λ r. replies r new.at) reply }) old new
 
 abbrev pub PassesWith : Meaning → Fates → Option Block → (old new : Terminal) →
     (before later : Card) → Type 0
@@ -34,7 +28,5 @@ PassesWith m fates (Some b) old new before later =
 -- both ends make the steps of each meaning that agrees with what the card carries out
 abbrev pub Passes : {C : Type 0} (a : Ghosts C) → Fates → (old new : Terminal)
     → (before later : EndOf C) → Type 0
-Passes a fates old new before later = (did : Option Did)
-    × DoesSome a.Does (a.standing before.card) did (a.standing later.card)
-    × ((m : Meaning) (ran : List (List ℕ)) → IsOfSome m ran did
-    → PassesWith m fates (sends old) old new (after before ran) (after later (ran_with ran did)))
+Passes a fates old new before later =
+    Carries a (λ m card card'. PassesWith m fates (sends old) old new card card') before later

@@ -20,13 +20,9 @@ pub record World : Type 0 where
   pub answers : List (List ℕ)
 
 -- the block that arrives at the terminal, if any
-abbrev pub came : Fate → Block → Option Block
-came Delivers b = Some b
-came _ b = None
-
 abbrev pub arrives : Fate → Option Block → Option Block
-arrives fate None = None
-arrives fate (Some b) = came fate b
+arrives Delivers b = b
+arrives _ b = None
 
 abbrev pub next_command : List (List ℕ) → World → World
 next_command [] w = record w { todo = [] }

@@ -3,7 +3,7 @@ use std::alloc::AllocError;
 
 /// The requests that a card makes before it responds to a command: first each S(WTX request), then
 /// S(IFS request).
-#[derive(Clone, Copy, Debug, PartialEq, Eq)]
+#[derive(Clone, Copy, Debug, Default, PartialEq, Eq)]
 pub struct Requests {
     /// The number of S(WTX request), 0 to 255.
     pub extensions: u8,

@@ -1,9 +1,8 @@
 //! One exchange: a block of the terminal and the card's reply, over a line.
 ghost use Rattle.std.specs.Prelude.{OnOk, IfOk, ◌≡◌, true};
 ghost use Rattle.std.specs.Option.{option_map};
-ghost use Rattle.t1_core.specs.Block.{are_filled};
-ghost use Rattle.t1_core.specs.BlockView.{said};
-ghost use Rattle.t1_core.specs.CardReplies.{replies};
+ghost use Rattle.t1_core.specs.Block.{are_filled, said};
+ghost use Rattle.t1_core.specs.CardSide.{replies};
 ghost use Rattle.t1_core.specs.Passing.{Hears, Passes};
 ghost use Rattle.t1_core.specs.TerminalSide.{takes};
 ghost use Rattle.t1_core.specs.World.{arrives};

@@ -1,6 +1,6 @@
 //! Finds the end of a block in the bytes of a line.
 ghost use Rattle.std.specs.Prelude.{◌≡◌, ◌≤◌, ◌<◌, ◌++◌, ◌∷◌, [], List, ℕ, true, false, length, take, ◌⊎◌, if◌then◌else◌};
-ghost use Rattle.t1_core.specs.Receiving.{is_whole, received};
+ghost use Rattle.t1_core.specs.BlockBytes.{is_whole, received};
 
 use std::marker::Model;
 

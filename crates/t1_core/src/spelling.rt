@@ -1,14 +1,12 @@
 //! The bytes of a block: NAD 00, PCB, LEN, the field and the LRC.
 ghost use Rattle.std.specs.Prelude.{◌≡◌, ◌≤◌, ◌<◌, ◌++◌, ◌∷◌, [], List, ℕ, true, length, IfOk, IfSome, Some, None};
 ghost use Rattle.std.specs.Option.{option_map};
-ghost use Rattle.t1_core.specs.Block.{is_filled};
-ghost use Rattle.t1_core.specs.BlockView.{said};
-ghost use Rattle.t1_core.specs.BlockBytes.{lrc, spelled, parts_of, block_of, block_in, bytes_of, info_of, control_of, field_of, subject_of, Sent, Reads};
+ghost use Rattle.t1_core.specs.Block.{Block as Sent, is_filled, said};
+ghost use Rattle.t1_core.specs.BlockBytes.{lrc, spelled, parts_of, block_of, block_in, bytes_of, info_of, control_of, field_of, subject_of};
 ghost use Rattle.t1_core.specs.declared.pcb.Pcb.{Pcb};
 ghost use Rattle.t1_core.specs.declared.pcb.Pcb.TheVariants.{Supervisory};
 
-use crate::block::Block;
-use crate::control::Control;
+use crate::block::{Block, Control};
 use crate::pcb::{Pcb, Reason, Subject};
 use std::alloc::{AllocError, Global};
 
@@ -49,22 +47,12 @@ fn write_control(alloc: Global, response: bool, control: Control) -> Result<Vec<
     ensures { IfOk result (λ v. v.items
         ≡ spelled (Supervisory response (subject_of control)) (field_of control)) }
 {
-    let subject = subject_of(control);
-    let pcb = Pcb::Supervisory { response, subject };
+    let pcb = |subject| Pcb::Supervisory { response, subject };
     match control {
-        Control::Ifs(byte) | Control::Wtx(byte) => spell(alloc, pcb, &[byte]),
-        _ => spell(alloc, pcb, &[]),
-    }
-}
-
-fn subject_of(control: Control) -> Subject
-    ensures { result ≡ subject_of control }
-{
-    match control {
-        Control::Resynch => Subject::Resynch,
-        Control::Ifs(_) => Subject::Ifs,
-        Control::Abort => Subject::Abort,
-        Control::Wtx(_) => Subject::Wtx,
+        Control::Resynch => spell(alloc, pcb(Subject::Resynch), &[]),
+        Control::Ifs(size) => spell(alloc, pcb(Subject::Ifs), &[size]),
+        Control::Abort => spell(alloc, pcb(Subject::Abort), &[]),
+        Control::Wtx(multiple) => spell(alloc, pcb(Subject::Wtx), &[multiple]),
     }
 }
 
@@ -93,14 +81,7 @@ pub fn read(bytes: &[u8]) -> Option<Block<'_>>
         bytes.now ≡ bytes_of block → option_map said result ≡ Some block }
     ensures filled { IfSome result (λ b. is_filled (said b) ≡ true) }
 {
-    read_whole(bytes)
-}
-
-fn read_whole(bytes: &[u8]) -> Option<Block<'_>>
-    ensures { option_map said result ≡ block_of bytes.now }
-{
-    let (pcb, info) = parts(bytes)?;
-    block_in(pcb, info)
+    parts(bytes).and_then(|(pcb, info)| block_in(pcb, info))
 }
 
 /// Returns the PCB and the field, 0 to 254 bytes, of a whole block. Unlike `read`, it accepts any
@@ -109,7 +90,7 @@ fn read_whole(bytes: &[u8]) -> Option<Block<'_>>
 /// `None` if there are fewer than 4 bytes, NAD is not `00`, the PCB is invalid, LEN is `FF` or not
 /// the size of the field, or the LRC is wrong.
 pub fn parts(bytes: &[u8]) -> Option<(Pcb, &[u8])>
-    ensures exact { Reads (λ b. (b.0, b.1.now)) result (parts_of bytes.now) }
+    ensures exact { option_map (λ b. (b.0, b.1.now)) result ≡ parts_of bytes.now }
 
     // A block that was decoded is written again, byte for byte.
     ensures spelled { IfSome result (λ b. (length b.1.now ≤ 254)

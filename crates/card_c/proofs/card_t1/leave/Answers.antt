@@ -1,4 +1,4 @@
-use Rattle.std.proofs.Common.{◌≡◌, refl, sym, ap, ◌∙◌, subst}
+use Rattle.std.proofs.Common.{◌≡◌, ap, ◌∙◌, subst}
 use Rattle.card_c.specs.declared.card_side.CardSide.{CardSide}
 use Rattle.card_c.specs.declared.card_side.CardSide.TheVariants.{Standing}
 use Rattle.card_c.specs.CardT1Calls.{at_t0}

@@ -1,4 +1,4 @@
-use Rattle.std.proofs.Common.{◌≡◌, Option, Some, None, is_some, true, false, [], refl, sym, ap, subst, ◌∙◌, inr, pos}
+use Rattle.std.proofs.Common.{◌≡◌, Option, Some, None, is_some, false, [], refl, sym, ap, subst, ◌∙◌, inr, pos}
 use Rattle.t1_core.specs.TerminalSide.{fresh}
 use Rattle.card_c.specs.declared.t1_side.T1Side.{T1Side}
 use Rattle.card_c.specs.Handles.{t1_in}

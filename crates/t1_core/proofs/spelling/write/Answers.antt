@@ -1,6 +1,6 @@
 use Rattle.std.proofs.Common.{◌≡◌, sym, subst, IfOk}
 use Rattle.t1_core.specs.BlockBytes.{bytes_of}
-use Rattle.t1_core.specs.BlockView.{said}
+use Rattle.t1_core.specs.Block.{said}
 use Rattle.t1_core.proofs.spelling.write.Goals as goal
 
 pub returns-in-Ready : goal.returns-in-Ready

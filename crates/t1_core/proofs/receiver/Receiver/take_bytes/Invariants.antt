@@ -1,5 +1,5 @@
 use Rattle.std.proofs.Common.{◌≡◌, ◌++◌, ◌<◌, ℕ, false, take}
-use Rattle.t1_core.specs.Receiving.{is_whole}
+use Rattle.t1_core.specs.BlockBytes.{is_whole}
 use Rattle.t1_core.proofs.receiver.Receiver.take_bytes.Given as goal
 
 -- the block has all bytes so far, and was not complete before any of them

@@ -29,11 +29,12 @@ use Rattle.apdu_terminal.specs.ApduSide.{ApduExchangeOf, answer_at, answered_by,
 use Rattle.apdu_terminal.specs.ApduOperations.{ApduOperationOf, AreApdusUpTo, HasResponded, HasRoomFor, IsTakingResponse, LeadsTo, has_failed_at, operation_answer, operation_due}
 use Rattle.apdu_terminal.specs.ApduTalk.{IsApduTalkOf, AreApdusOf, talk_pairs}
 use Rattle.apdu_terminal.specs.CardApdu.{HasResponse, Responds, RespondsToAll}
+use Rattle.apdu_terminal.specs.TurnLaws.{turns_apart}
 use Rattle.apdu_terminal.proofs.CardLemmas.{at_place, due_when, fault_fails, response_is, responds_within}
 use Rattle.apdu_terminal.proofs.LedLemmas.{at_stage}
 use Rattle.apdu_terminal.proofs.PlaceLemmas.{Agrees, agrees_first, agrees_on, through}
 use Rattle.apdu_terminal.proofs.StallLemmas.{never_overflows, never_stalls, sound_after}
-use Rattle.apdu_terminal.proofs.TalkLemmas.{own_responds, turns_apart, turns_both}
+use Rattle.apdu_terminal.proofs.TalkLemmas.{own_responds, turns_both}
 
 -- the commands of an operation are agreed with a card of data objects
 pub commands_agreed : (R S : ℕ → Type 0) → KeepsTo R S → (o : Operation)

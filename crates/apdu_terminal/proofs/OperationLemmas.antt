@@ -24,11 +24,13 @@ use Rattle.card_terminal.specs.declared.unsent.Unsent.{Unsent}
 use Rattle.card_terminal.specs.Unsent.{IsUnsent}
 use Rattle.card_terminal.specs.TerminalSide.{AreLeft, OperationOf}
 use Rattle.card_terminal.specs.TerminalSide as tpdus
+use Rattle.t0_core.specs.Room.{Room}
+use Rattle.apdu_terminal.specs.declared.exchange.apdu_mark.ApduMark.{ApduMark}
 use Rattle.apdu_terminal.specs.declared.stage.Stage.{Stage}
 use Rattle.apdu_terminal.specs.declared.stage.Stage.TheVariants.{Going, Done, Failed}
 use Rattle.apdu_terminal.specs.Apdus.{Pair, GathersApdus}
 use Rattle.apdu_terminal.specs.ApduTalk.{AreApdusOf, talk_pairs}
-use Rattle.apdu_terminal.specs.ApduSide.{ApduExchangeOf, ComesTo, HasFew, IsResponding, IsSound, KeepsData, kept_data, answer_at, answer_of, answered_by, over_data}
+use Rattle.apdu_terminal.specs.ApduSide.{ApduExchangeOf, ComesTo, HasFew, IsResponding, IsSound, KeepsData, kept_data, answer_at, answer_of, answered_by, of_mark}
 use Rattle.apdu_terminal.proofs.LedLemmas.{at_stage}
 use Rattle.apdu_terminal.specs.ApduOperations.{ApduOperationOf, AreApdusUpTo, Begins, BeginsWith, GoesOver, GoesToNext, IsOperationAnswer, IsPart, IsSettled, IsTakingResponse, LeadsThrough, LeadsTo, has_failed_at, with_exchange}
 
@@ -264,17 +266,17 @@ responding_as seen old now new content status r result was is after step =
     rw (sym was, is, after) step
 
 -- a response to an exchange that is kept without its data
-pub responds_over : (self of_it after : ApduExchangeOf) (content bytes : List ℕ)
+pub responds_over : (gather room : Room) (mark place : ApduMark) (content bytes : List ℕ)
     (status : StatusWord) (result : Result (Unit {0}) AnswerFault) (old new : ApduExchangeOf)
-    (empty : Bool) → old ≡ over_data self content → after ≡ of_it
-    → over_data of_it new.content ≡ new → KeepsData old new
-    → empty ≡ (length new.content == 0) → IsResponding old bytes status result new
-    → IsResponding (over_data self content) bytes status result
-    (over_data after (kept_data (not empty) content))
-responds_over self of_it after content bytes status result old new empty was now same keeps none
+    (empty : Bool) → old ≡ of_mark content gather mark → of_mark new.content room place ≡ new
+    → KeepsData old new → empty ≡ (length new.content == 0)
+    → IsResponding old bytes status result new
+    → IsResponding (of_mark content gather mark) bytes status result
+    (of_mark (kept_data (not empty) content) room place)
+responds_over gather room mark place content bytes status result old new empty was same keeps none
     step =
-    subst (λ x. IsResponding x bytes status result (over_data after
-    (kept_data (not empty) content))) was (rw is step)
+    subst (λ x. IsResponding x bytes status result (of_mark (kept_data (not empty) content) room
+    place)) was (rw is step)
   where
     data_are : (bs : List ℕ) → new.content ≡ bs → (e : Bool) → e ≡ (length bs == 0)
         → kept_data (not e) content ≡ new.content
@@ -287,9 +289,8 @@ responds_over self of_it after content bytes status result old new empty was now
       | inr stay ↦ ap (λ (x : ApduExchangeOf). x.content) (sym was) ∙ sym stay.0
     ]
 
-    is : over_data after (kept_data (not empty) content) ≡ new
-    is = ap (λ e. over_data e (kept_data (not empty) content)) now
-        ∙ ap (λ bs. over_data of_it bs) (data_are new.content refl empty none) ∙ same
+    is : of_mark (kept_data (not empty) content) room place ≡ new
+    is = ap (λ bs. of_mark bs room place) (data_are new.content refl empty none) ∙ same
 
 -- ---- the answer
 
@@ -342,26 +343,34 @@ pub settled_at : (old : Option ApduOperationOf) (o : ApduOperationOf)
 settled_at old o settled is =
     rw is at settled
 
-pub part_of : (items content : List ℕ) (from until : ℕ) (ex : ApduExchangeOf)
-    → IsFrontOf items from until content → IsSound (over_data ex content)
-    → IsPart items from until (over_data ex (slice_range items from until))
-part_of items content from until ex front sound = record {
+pub part_of : (items content : List ℕ) (from until : ℕ) (gather : Room) (mark : ApduMark)
+    → IsFrontOf items from until content → IsSound (of_mark content gather mark)
+    → IsPart items from until (of_mark (slice_range items from until) gather mark)
+part_of items content from until gather mark front sound = record {
   begin = front.begin;
   within = front.within;
   sound = rw front.slice sound;
 }
 
-pub begins_with : (first : Command) (rest items : List ℕ) (ex : ApduExchangeOf)
+pub part_first : (first : Command) (rest items : List ℕ) (gather : Room) (mark : ApduMark)
+    (until : ℕ) → items ≡ first.content ++ rest → until ≡ length first.content
+    → IsSound (of_mark first.content gather mark)
+    → IsPart items 0 until (of_mark (slice_range items 0 until) gather mark)
+part_first first rest items gather mark until whole is sound =
+    part_of items first.content 0 until gather mark
+    (opening_front (first.content ++ rest) items until first.content whole (rest, refl) is) sound
+
+pub begins_with : (first : Command) (rest items : List ℕ) (gather : Room) (mark : ApduMark)
     (until p1 p2 : ℕ) → items ≡ first.content ++ rest → until ≡ length first.content
-    → ex.stage ≡ Going
-    → ComesTo first (wanted_by first.le) [] (over_data ex first.content)
+    → mark.stage ≡ Going
+    → ComesTo first (wanted_by first.le) [] (of_mark first.content gather mark)
     → BeginsWith first p1 p2 rest (record {
-      exchange = over_data ex (slice_range items 0 until);
+      exchange = of_mark (slice_range items 0 until) gather mark;
       p1 = p1;
       p2 = p2;
       rest = drop until items;
     })
-begins_with first rest items ex until p1 p2 whole is going led =
+begins_with first rest items gather mark until p1 p2 whole is going led =
     let front =
     opening_front (first.content ++ rest) items until first.content whole (rest, refl) is in
     record {
@@ -394,30 +403,30 @@ some_goes : (rest : List ℕ) (h : Header) (pieces : List (List ℕ)) (c : Comma
 some_goes [] h pieces c others some are e = absurd (some refl)
 some_goes (b ∷ bs) h pieces c others some are e = some_first h pieces c others are.1 e
 
-pub next_begins : (old : ApduOperationOf) (ex new : ApduExchangeOf) (items seen : List ℕ)
-    (until p1 p2 size : ℕ) (header : Header) (pieces : List (List ℕ))
+pub next_begins : (old : ApduOperationOf) (ex : ApduExchangeOf) (gather : Room) (mark : ApduMark)
+    (items seen : List ℕ) (until p1 p2 size : ℕ) (header : Header) (pieces : List (List ℕ))
     (list others : List Command) (c : Command)
     → record { exchange = ex; p1 = p1; p2 = p2; rest = drop until items } ≡ old
     → old.exchange.stage ≡ Done ok → (old.rest ≡ [] → ⊥) → seen ≡ items
     → header ≡ put_header p1 p2 → IsPieces (slice_range seen until (length seen)) pieces
     → list ≡ chain_commands header pieces → list ≡ c ∷ others
     → IsFrontOf items until (until + size) c.content → size ≡ length c.content
-    → new.stage ≡ Going → ComesTo c (wanted_by c.le) [] (over_data new c.content)
-    → new.gather.limit ≡ ex.gather.limit → GoesToNext old (record {
-      exchange = over_data new (slice_range items until (until + size));
+    → mark.stage ≡ Going → ComesTo c (wanted_by c.le) [] (of_mark c.content gather mark)
+    → gather.limit ≡ ex.gather.limit → GoesToNext old (record {
+      exchange = of_mark (slice_range items until (until + size)) gather mark;
       p1 = p1;
       p2 = p2;
       rest = drop (until + size) items;
     })
-next_begins old ex new items seen until p1 p2 size header pieces list others c view done more
-    same_items header_is are same steps front is going led kept =
+next_begins old ex gather mark items seen until p1 p2 size header pieces list others c view done
+    more same_items header_is are same steps front is going led kept =
     let are_now : IsPieces (drop until items) pieces =
     rw (rest_seen items seen until same_items) at are in
     let chain = chain_of header p1 p2 pieces list others c header_is same steps in
     let after_is : drop (length c.content) (drop until items) ≡ drop (until + size) items =
     drop-drop (length c.content) until items ∙ ap (λ n. drop (until + n) items) (sym is) in
     let led_now : ComesTo c (wanted_by c.le) []
-    (over_data new (slice_range items until (until + size))) = rw front.slice led in
+    (of_mark (slice_range items until (until + size)) gather mark) = rw front.slice led in
     record {
       done = done;
       next = λ left are_left. (

@@ -26,12 +26,13 @@ use Rattle.apdu_terminal.specs.ApduSide.{place_of}
 use Rattle.apdu_terminal.specs.ApduStops.{IsDone, IsLeftAfter, IsLeftBefore, IsUnderWay}
 use Rattle.apdu_terminal.specs.ApduTalk.{talk_pairs}
 use Rattle.apdu_terminal.specs.CardApdu.{GoesAs, InTurn, Responds, RespondsToAll, le_of, tpdu_command}
+use Rattle.apdu_terminal.specs.TurnLaws.{turns_apart}
 use Rattle.apdu_terminal.proofs.CardLemmas.{at_place, responds_within}
 use Rattle.apdu_terminal.proofs.DrivenLemmas.{commands_agreed, due_is_agreed as next_is_agreed}
 use Rattle.apdu_terminal.proofs.FirstLemmas.{FirstOf, answered, begun, get_responds, select_responds}
 use Rattle.apdu_terminal.proofs.OperationLemmas.{one_more_exchange, taken_to_end}
 use Rattle.apdu_terminal.proofs.PlaceLemmas.{Comes, again, fetch, comes}
-use Rattle.apdu_terminal.proofs.TalkLemmas.{answered_by as answers_piece, ends_alone, talk_is_one_step, turns_apart}
+use Rattle.apdu_terminal.proofs.TalkLemmas.{answered_by as answers_piece, ends_alone, talk_is_one_step}
 
 -- ---- what changes no table
 

@@ -25,6 +25,7 @@ use Rattle.card_terminal.specs.TalkLaws.{chains_end, talks_more, all_alike}
 use Rattle.t0_core.specs.DialogueLaws.{flat_map_last}
 use Rattle.apdu_terminal.specs.Apdus.{Pair, first_place, is_case_2, correction, Goes, Ends, follow, follow_by, all_content, Brings, GathersApdus}
 use Rattle.apdu_terminal.specs.CardApdu.{p3_of, tpdu_command, InTurn, GoesAs, GoesBy, Responds, RespondsToAll}
+use Rattle.apdu_terminal.specs.TurnLaws.{turns_apart}
 use Rattle.apdu_terminal.specs.ApduTalk.{AreApdusOf, IsApduTalkOf, talk_pairs, AreApduTalksOf}
 use Rattle.apdu_terminal.proofs.PlaceLemmas.{brings_whole}
 use Rattle.apdu_terminal.proofs.FirstLemmas.{whole_by, select_is_answered, get_is_answered}
@@ -131,14 +132,6 @@ answered_by h piece pairs content status old new g goes =
     )
 
 -- ---- pairs in turn
-
-pub turns_apart : {State : Type 0} (One : State → Pair → State → Type 0) (old new : State)
-    (xs ys : List Pair) → InTurn One old (xs ++ ys) new
-    → (mid : State) × InTurn One old xs mid × InTurn One mid ys new
-turns_apart One old new [] ys goes = (old, refl, goes)
-turns_apart One old new (x ∷ xs) ys (next, is, others) =
-    let (mid, before, after) = turns_apart One next new xs ys others in
-    (mid, (next, is, before), after)
 
 pub turns_both : {State : Type 0} (One : State → Pair → State → Type 0) (old mid new : State)
     (xs ys : List Pair) → InTurn One old xs mid → InTurn One mid ys new

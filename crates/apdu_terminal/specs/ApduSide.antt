@@ -13,6 +13,7 @@ use Rattle.card_terminal.specs.declared.attempt.Attempt.{Attempt}
 use Rattle.card_terminal.specs.Attempts.{IsCounted}
 use Rattle.card_terminal.specs.Gathered.{less}
 use Rattle.card_terminal.specs.ExchangeSide.{response_limit}
+use Rattle.apdu_terminal.specs.declared.exchange.apdu_mark.ApduMark.{ApduMark}
 use Rattle.apdu_terminal.specs.declared.stage.Stage.{Stage}
 use Rattle.apdu_terminal.specs.declared.stage.Stage.TheVariants.{Going, Done, Failed}
 use Rattle.apdu_terminal.specs.Apdus.{Pair, Place, first_place, is_case_2, may_bring, GoesThrough, all_content, Brings, StallsAt, IsTooLong}
@@ -141,15 +142,15 @@ pub record IsResponding (old : ApduExchangeOf) (content : List ℕ) (status : St
       (λ f. fails_with f ≡ true
       → ComesTo c wanted (pairs ++ answered_by old content status ∷ []) new)
 
--- the same exchange, with these data of its command
-abbrev pub over_data : ApduExchangeOf → List ℕ → ApduExchangeOf
-over_data ex content = record {
+-- the exchange with these data of its command, this room and this mark
+abbrev pub of_mark : List ℕ → Room → ApduMark → ApduExchangeOf
+of_mark content gather mark = record {
   content = content;
-  le = ex.le;
-  gather = ex.gather;
-  attempt = ex.attempt;
-  wanted = ex.wanted;
-  stage = ex.stage;
+  le = mark.le;
+  gather = gather;
+  attempt = mark.attempt;
+  wanted = mark.wanted;
+  stage = mark.stage;
 }
 
 -- the data of the next command: the same, or none

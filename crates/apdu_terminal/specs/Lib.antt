@@ -4,3 +4,4 @@ pub mod CardApdu
 pub mod ApduTalk
 pub mod ApduOperations
 pub mod ApduStops
+pub mod TurnLaws

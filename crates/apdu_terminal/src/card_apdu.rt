@@ -1,5 +1,5 @@
 //! Carries out a whole command at a card whose end takes TPDUs.
-ghost use Rattle.std.specs.Prelude.{◌≡◌, ◌<◌, ◌≤◌, ◌⊎◌, ℕ, [], Some, None, Err, false, true, IfOk, IfErr, OnOk, MatchResult, length};
+ghost use Rattle.std.specs.Prelude.{◌≡◌, ◌≤◌, ◌⊎◌, ℕ, [], Some, None, Err, false, true, IfOk, IfErr, OnOk, MatchResult, length};
 ghost use Rattle.apdu_terminal.specs.declared.apdu_fault.ApduFault.TheVariants as ApduFault;
 ghost use Rattle.apdu_core.specs.CommandBytes as spec;
 ghost use Rattle.apdu_core.specs.StatusWord.{StatusWord};
@@ -8,7 +8,7 @@ ghost use Rattle.t0_core.specs.CardTpdu.{rests};
 ghost use Rattle.t0_core.specs.Meaning.{Tpdu};
 ghost use Rattle.card_terminal.specs.ExchangeSide.{response_limit};
 ghost use Rattle.apdu_terminal.specs.Apdus.{may_bring};
-ghost use Rattle.apdu_terminal.specs.ApduSide.{due_of, has_failed, to_go};
+ghost use Rattle.apdu_terminal.specs.ApduSide.{has_failed};
 ghost use Rattle.apdu_terminal.specs.CardApdu.{HasCome, HasFailed, HasResponse, IsLeft, IsTpduOf, tpdu_command};
 ghost use Rattle.apdu_terminal.specs.declared.stage.Stage.TheVariants.{Done};
 
@@ -111,42 +111,17 @@ fn converse<C: TpduCard, A: Allocator, B: Allocator>(
 {
     // For the proof: the label names the loop's goals.
     'talk: while let Some(due) = exchange.apdu() {
-        pass(end, exchange, &due, gather)?;
+        gather.clear();
+        let status = match sent(end, &due, gather) {
+            Ok(status) => status,
+            Err(fault) => return Err(ApduFault::Tpdu(fault)),
+        };
+        match exchange.responded(gather.bytes(), status) {
+            Ok(()) => {}
+            Err(fault) => return Err(ApduFault::Response(fault)),
+        }
     }
     Ok(())
-}
-
-/// Carries out the exchange's next command.
-fn pass<C: TpduCard, A: Allocator, B: Allocator>(
-    end: &mut CardEnd<C>,
-    exchange: &mut ApduExchange<'_, A>,
-    due: &Command<'_>,
-    gather: &mut Gather<B>,
-) -> Result<(), ApduFault>
-    requires rests { rests end.old.stage ≡ true }
-    requires due { due_of exchange.old ≡ Some due.now }
-    requires room { (256 ≤ exchange.old.gather.limit) × (256 ≤ gather.old.limit) }
-    requires come { (c : spec.Command) × (first : C.State) × (may_bring c.le ≤ 256)
-        × HasCome C.Does c first (C.standing end.old.card) exchange.old }
-    ensures rests { rests end.new.stage ≡ true }
-    ensures taken { OnOk result (has_failed exchange.new.stage ≡ false) }
-    ensures falls { OnOk result (to_go exchange.new < to_go exchange.old) }
-    ensures limit { (exchange.new.gather.limit ≡ exchange.old.gather.limit)
-        × (gather.new.limit ≡ gather.old.limit) }
-    ensures come { (c : spec.Command) (first : C.State) → may_bring c.le ≤ 256 →
-        HasCome C.Does c first (C.standing end.old.card) exchange.old → MatchResult result
-        (λ _. HasCome C.Does c first (C.standing end.new.card) exchange.new)
-        (λ f. HasFailed C.TpduCard c first f (C.standing end.new.card)) }
-{
-    gather.clear();
-    let status = match sent(end, due, gather) {
-        Ok(status) => status,
-        Err(fault) => return Err(ApduFault::Tpdu(fault)),
-    };
-    match exchange.responded(gather.bytes(), status) {
-        Ok(()) => Ok(()),
-        Err(fault) => Err(ApduFault::Response(fault)),
-    }
 }
 
 /// Carries out a command of case 1, 2 or 3 as a TPDU, and gathers its data. If the card does not

@@ -1,22 +1,20 @@
 //! The terminal's side of one command and all that follows it, by whole commands.
-ghost use Rattle.std.specs.Prelude.{◌≡◌, ◌≤◌, ◌<◌, OnOk, ◌⊎◌, ◌↔◌, ◌++◌, ◌∷◌, ℕ, List, [], Option, Some, None, true, false, IfOk, IfErr, IfSome, MatchResult, length};
+ghost use Rattle.std.specs.Prelude.{◌≡◌, ◌≤◌, OnOk, ◌↔◌, List, [], Some, false, IfOk, IfSome};
 ghost use Rattle.std.specs.Option.{option_map};
 ghost use Rattle.apdu_core.specs.CommandBytes as spec;
 ghost use Rattle.apdu_core.specs.StatusWord.{StatusWord};
-ghost use Rattle.t0_core.specs.declared.answer_fault.AnswerFault.{AnswerFault};
-ghost use Rattle.t0_core.specs.HostAnswer.{fails_with};
 ghost use Rattle.card_terminal.specs.Gathered.{wanted_by};
 ghost use Rattle.card_terminal.specs.ExchangeSide.{response_limit};
-ghost use Rattle.apdu_terminal.specs.Apdus.{Pair, is_case_2, Brings};
-ghost use Rattle.apdu_terminal.specs.ApduSide.{ComesTo, IsLimitedTo, HasFew, KeepsData, answer_of, command_of, due_of, has_failed, to_go, response_fault, answered_by};
+ghost use Rattle.apdu_terminal.specs.Apdus.{Pair, Brings};
+ghost use Rattle.apdu_terminal.specs.ApduSide.{ComesTo, IsLimitedTo, IsResponding, KeepsData, answer_of, command_of, due_of, has_failed, response_fault};
 ghost use Rattle.apdu_terminal.specs.declared.stage.Stage.TheVariants as stage;
 
-mod apdu_exchange_mark;
+mod apdu_mark;
 
 use crate::stage::Stage;
 use apdu_core::{Command, Status};
-pub(crate) use apdu_exchange_mark::ApduExchangeMark;
-use card_terminal::{Attempt, Next, RESPONSE_LIMIT, StartFault, Wanted};
+pub(crate) use apdu_mark::ApduMark;
+use card_terminal::{Next, RESPONSE_LIMIT, StartFault, Wanted};
 use std::alloc::{AllocError, Allocator, Global};
 use std::marker::Model;
 use t0_core::{AnswerFault, Gather};
@@ -30,36 +28,18 @@ use t0_core::{AnswerFault, Gather};
 #[derive(Drop)]
 pub struct ApduExchange<'a, A: Allocator = Global> {
     content: &'a [u8],
-    le: Option<u16>,
     gather: Gather<A>,
-    attempt: Attempt,
-    wanted: Wanted,
-    stage: Stage,
+    mark: ApduMark,
 }
 
 impl<'a, A: Allocator> Model for ApduExchange<'a, A> {
-    ghost use Rattle.apdu_terminal.specs.ApduSide.{ApduExchangeOf, IsSound};
+    ghost use Rattle.apdu_terminal.specs.ApduSide.{ApduExchangeOf, IsSound, of_mark};
 
     ghost Value = { ApduExchangeOf };
 
-    ghost view = { λ e. record {
-      content = e.content.now;
-      le = e.le;
-      gather = e.gather;
-      attempt = e.attempt;
-      wanted = e.wanted;
-      stage = e.stage;
-    } };
+    ghost view = { λ e. of_mark e.content.now e.gather e.mark };
 
-    ghost invariant = { λ e. IsSound
-        (record {
-          content = e.content.now;
-          le = e.le;
-          gather = e.gather;
-          attempt = e.attempt;
-          wanted = e.wanted;
-          stage = e.stage;
-        }) };
+    ghost invariant = { λ e. IsSound (of_mark e.content.now e.gather e.mark) };
 }
 
 impl<'a, A: Allocator> ApduExchange<'a, A> {
@@ -130,22 +110,10 @@ impl<'a, A: Allocator> ApduExchange<'a, A> {
         ensures going { result.stage ≡ stage.Going }
         ensures room { result.gather ≡ gather }
     {
-        let (content, le) = (command.data(), command.le());
-        let attempt = Attempt {
-            header: command.header(),
-            asks: asks_alone(content, le),
-            fetches: false,
-            repeats: false,
-            before: 0,
-            number: 1,
-        };
         ApduExchange {
-            content,
-            le,
+            content: command.data(),
             gather,
-            attempt,
-            wanted,
-            stage: Stage::Going,
+            mark: ApduMark::first(&command, wanted),
         }
     }
 
@@ -159,29 +127,35 @@ impl<'a, A: Allocator> ApduExchange<'a, A> {
         ensures over { IfOk result (λ ex. ex.stage ≡ stage.Done status) }
         ensures empty { IfOk result (λ ex. ex.gather.bytes ≡ []) }
     {
-        let mut exchange = ApduExchange::wanting(alloc, command, Wanted::Bytes(0), 0)?;
-        exchange.stage = Stage::Done(status);
-        Ok(exchange)
+        let exchange = ApduExchange::wanting(alloc, command, Wanted::Bytes(0), 0)?;
+        let ApduExchange {
+            content,
+            gather,
+            mark,
+        } = exchange;
+        let stage = Stage::Done(status);
+        Ok(ApduExchange {
+            content,
+            gather,
+            mark: ApduMark { stage, ..mark },
+        })
     }
 
     /// Returns the command to send now, or `None` if the exchange has ended or failed.
     pub fn apdu(&self) -> Option<Command<'a>>
         ensures { result ≡ due_of self.now }
     {
-        match self.stage {
-            Stage::Going => Command::new(self.attempt.header, self.content, self.le),
-            _ => None,
-        }
+        self.mark.apdu(self.content)
     }
 
     /// Returns the fault of a response with `came` bytes of data, if it is one.
     fn fault(&self, came: usize) -> Option<AnswerFault>
         ensures { result ≡ response_fault self.now came }
     {
-        if !matches!(self.stage, Stage::Going) {
+        if !matches!(self.mark.stage, Stage::Going) {
             return Some(AnswerFault::NotDue);
         }
-        match self.le {
+        match self.mark.le {
             None if came > 0 => Some(AnswerFault::NotAsked),
             Some(le) if came > usize::from(le) => Some(AnswerFault::TooMany),
             _ if self.gather.has_room(came) => None,
@@ -201,46 +175,32 @@ impl<'a, A: Allocator> ApduExchange<'a, A> {
     /// - `Stalled`: a GET RESPONSE of the exchange's own, with its repetition, brought no data, and
     ///   the card announces more. The exchange has failed for good.
     pub fn responded(&mut self, bytes: &[u8], status: Status) -> Result<(), AnswerFault>
-        ensures fault { MatchResult result
-            (λ _. response_fault self.old (length bytes.now) ≡ None)
-            (λ f. (response_fault self.old (length bytes.now) ≡ Some f)
-            ⊎ ((f ≡ AnswerFault.Stalled)
-            × (response_fault self.old (length bytes.now) ≡ None))) }
-        ensures few { HasFew self.new }
-        ensures limit { self.new.gather.limit ≡ self.old.gather.limit }
+        ensures responding { IsResponding self.old bytes.now status result self.new }
         ensures data { KeepsData self.old self.new }
         ensures taken { OnOk result (has_failed self.new.stage ≡ false) }
-        ensures falls { OnOk result (to_go self.new < to_go self.old) }
-        ensures unchanged { IfErr result (λ f. fails_with f ≡ false → self.new ≡ self.old) }
-        ensures failed { IfErr result (λ f. fails_with f ≡ true → self.new.stage ≡ stage.Failed) }
-        ensures led { (c : spec.Command) (wanted : Wanted) (pairs : List Pair)
-            → ComesTo c wanted pairs self.old → MatchResult result
-            (λ _. ComesTo c wanted (pairs ++ answered_by self.old bytes.now status ∷ []) self.new)
-            (λ f. fails_with f ≡ true
-            → ComesTo c wanted (pairs ++ answered_by self.old bytes.now status ∷ []) self.new) }
     {
         if let Some(fault) = self.fault(bytes.len()) {
             if matches!(fault, AnswerFault::TooLong) {
-                self.stage = Stage::Failed;
+                self.mark.stage = Stage::Failed;
             }
             return Err(fault);
         }
         self.gather.extend(bytes);
         let gathered = self.gather.bytes().len();
-        let left = self.wanted.less(gathered);
-        match self.attempt.followed(gathered, left, status) {
+        let left = self.mark.wanted.less(gathered);
+        match self.mark.attempt.followed(gathered, left, status) {
             Next::Asks { attempt, count } => {
                 self.content = &[];
-                self.le = Some(count);
-                self.attempt = attempt;
+                self.mark.le = Some(count);
+                self.mark.attempt = attempt;
                 Ok(())
             }
             Next::Stalls => {
-                self.stage = Stage::Failed;
+                self.mark.stage = Stage::Failed;
                 Err(AnswerFault::Stalled)
             }
             Next::Ends => {
-                self.stage = Stage::Done(status);
+                self.mark.stage = Stage::Done(status);
                 Ok(())
             }
         }
@@ -251,7 +211,7 @@ impl<'a, A: Allocator> ApduExchange<'a, A> {
         ensures { (status : StatusWord) → (result ≡ Some status)
             ↔ (self.now.stage ≡ stage.Done status) }
     {
-        match self.stage {
+        match self.mark.stage {
             Stage::Done(status) => Some(status),
             _ => None,
         }
@@ -272,7 +232,7 @@ impl<'a, A: Allocator> ApduExchange<'a, A> {
             → ComesTo c wanted pairs self.now
             → IfSome result (λ a. Brings c wanted pairs a.1.now a.0) }
     {
-        match self.stage {
+        match self.mark.stage {
             Stage::Done(status) => Some((status, self.gather.bytes())),
             _ => None,
         }
@@ -285,11 +245,4 @@ impl<'a, A: Allocator> ApduExchange<'a, A> {
         let ApduExchange { gather, .. } = self;
         gather
     }
-}
-
-/// Returns whether a command with these data and this Le is of case 2: it only asks for data.
-fn asks_alone(content: &[u8], le: Option<u16>) -> bool
-    ensures { result ≡ is_case_2 content.now le }
-{
-    content.is_empty() && le.is_some()
 }

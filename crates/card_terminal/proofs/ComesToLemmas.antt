@@ -82,7 +82,7 @@ next_leads c came ex new byte sends goes_on
 -- ---- a character of the card
 
 -- an exchange that has ended or failed takes no character
-at_end_fault : (ex : ExchangeOf) (byte : ℕ) → IsKept ex → IsAtEnd ex
+pub at_end_fault : (ex : ExchangeOf) (byte : ℕ) → IsKept ex → IsAtEnd ex
     → fault_of ex.host ex.gather byte ≡ Some AfterEnd
 at_end_fault ex byte kept end = by ex.stalled refl end
   where
@@ -96,7 +96,7 @@ at_end_fault ex byte kept end = by ex.stalled refl end
         after_done ex.host ex.gather byte status
         (ap (λ b. if b then Failed else turn_of ex.host) (sym going) ∙ done)
 
-none_at_end : (ex : ExchangeOf) (byte : ℕ) → IsKept ex → None ≡ fault_of ex.host ex.gather byte
+pub none_at_end : (ex : ExchangeOf) (byte : ℕ) → IsKept ex → None ≡ fault_of ex.host ex.gather byte
     → IsAtEnd ex → ⊥
 none_at_end ex byte kept taken end =
     let over = at_end_fault ex byte kept end in absurd (cc)

@@ -6,7 +6,7 @@ use Rattle.std.proofs.lemmas.List.{drop-drop, length-drop}
 use Rattle.apdu_core.specs.declared.header.Header.{Header}
 use Rattle.apdu_core.specs.StatusWord.{ok}
 use Rattle.apdu_core.specs.CommandBytes.{Command}
-use Rattle.apdu_core.specs.Chaining.{IsPieces, chain_commands}
+use Rattle.apdu_core.specs.Chaining.{IsPieces, link, with_more, chain_commands}
 use Rattle.tlv_core.specs.Address.{NamesTag}
 use Rattle.t0_core.specs.declared.host_end.HostTurn.TheVariants.{Sends, Done, Failed}
 use Rattle.t0_core.specs.Front.{fresh}
@@ -19,7 +19,7 @@ use Rattle.card_terminal.specs.ExchangeHistory.{ComesTo}
 use Rattle.card_terminal.specs.OwnedExchange.{ExchangeMarkOf, over_data, IsSound}
 use Rattle.card_terminal.specs.OperationRoom.{IsPart, BeginsWith}
 use Rattle.card_terminal.specs.TerminalSide.{OperationOf, AreLeft, LeadsTo, GoesToNext}
-use Rattle.card_terminal.specs.PieceLaws.{IsFrontOf, left_is, left_after, chain_of, first_names, opening_front, next_front, rest_seen}
+use Rattle.card_terminal.specs.PieceLaws.{IsFrontOf, left_is, left_after, chain_of, opening_front, next_front, rest_seen}
 use Rattle.card_terminal.proofs.OwnedLemmas.{bounded}
 use Rattle.card_terminal.proofs.TurnLemmas.{opening_turn}
 use Rattle.card_terminal.proofs.TerminalLemmas.{one_begins, first_begins}
@@ -75,6 +75,15 @@ command_begins c content o new whole is begins =
     rw is (one_begins c o (begins.rest_is ∙ none) begins.led, begins.settled)
 
 -- ---- a put
+
+-- the commands of a chain have its P1-P2
+first_names : (h : Header) (pieces : List (List ℕ)) (c : Command) (others : List Command)
+    → chain_commands h pieces ≡ c ∷ others → (c.header.p1 ≡ h.p1) × (c.header.p2 ≡ h.p2)
+first_names h [] c others e = absurd (cc)
+first_names h (a ∷ []) c others e = let head : link h a ≡ c = cc in
+    (ap (λ (d : Command). d.header.p1) (sym head), ap (λ (d : Command). d.header.p2) (sym head))
+first_names h (a ∷ next ∷ pieces) c others e = let head : link (with_more h) a ≡ c = cc in
+    (ap (λ (d : Command). d.header.p1) (sym head), ap (λ (d : Command). d.header.p2) (sym head))
 
 pub put_begins : (tag value : List ℕ) (p1 p2 : ℕ) (header : Header) (pieces : List (List ℕ))
     (list others : List Command) (c : Command) (o : OperationOf) (new : Option OperationOf)

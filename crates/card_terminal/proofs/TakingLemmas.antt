@@ -1,13 +1,131 @@
 -- Characters of a buffer that an exchange takes one after another.
-use Rattle.std.proofs.Common.{◌≡◌, ℕ, ◌+◌, ◌<◌, ◌≤◌, List, length, take, get_or, refl, subst, ◌∙◌, arith}
+use Rattle.std.proofs.Common.{◌≡◌, ℕ, ◌+◌, ◌<◌, ◌≤◌, List, [], ◌∷◌, ◌++◌, ◌⊎◌, inl, inr, Option, Some, None, true, false, length, take, get_or, refl, sym, ap, subst, ◌∙◌, arith}
 use Rattle.std.specs.Prelude.{Result, Ok, Err}
+use Rattle.apdu_core.specs.CommandBytes.{Command}
+use Rattle.t0_core.specs.declared.end.End.TheVariants.{Card}
+use Rattle.t0_core.specs.declared.host_end.HostTurn.TheVariants.{Failed}
 use Rattle.t0_core.specs.declared.line_fault.LineFault.{LineFault}
+use Rattle.t0_core.specs.declared.line_fault.LineFault.TheVariants.{AfterEnd, TooLong, Stalled}
+use Rattle.t0_core.specs.Dialogue.{Dialogue}
+use Rattle.t0_core.specs.Front.{Front, GoesOn, Ends, brought}
+use Rattle.t0_core.specs.HostSide.{fault_of}
+use Rattle.card_terminal.specs.declared.attempt.Attempt.{Attempt}
+use Rattle.card_terminal.specs.Gathered.{UnitOf}
 use Rattle.t0_core.specs.HostMark.{HasOnly}
 use Rattle.t0_core.specs.Buffers.{Steps}
 use Rattle.card_terminal.specs.Buffers.{IsTakingAll}
 use Rattle.card_terminal.proofs.BufferLemmas.{one_taken}
-use Rattle.card_terminal.specs.ExchangeSide.{ExchangeOf, IsKept}
+use Rattle.card_terminal.specs.ExchangeSide.{ExchangeOf, UnderWay, IsKept, IsBounded, Continues, Stall, ended_with, exchange_turn, is_final}
 use Rattle.card_terminal.specs.ExchangeSteps.{IsTaking}
+use Rattle.card_terminal.proofs.OwnedLemmas.{bounded}
+use Rattle.card_terminal.proofs.ComesToLemmas.{at_end_fault, none_at_end, take_leads, stall_leads, fault_leads}
+
+-- ---- one character
+
+pub takes_as : {G E : Front → Type 0} {H D : Dialogue → Type 0}
+    → ((new : Front) × G new × E new) ⊎ ((d : Dialogue) × H d × D d)
+    → ((new : Front) × G new) ⊎ ((d : Dialogue) × H d)
+takes_as (inl goes) = inl (goes.0, goes.1)
+takes_as (inr ends) = inr (ends.0, ends.1)
+
+-- more bytes, within the room
+pub more_bounded : (ex new : ExchangeOf) → IsKept ex → new.attempt ≡ ex.attempt
+    → new.gather.limit ≡ ex.gather.limit → length ex.gather.bytes ≤ length new.gather.bytes
+    → length new.gather.bytes ≤ new.gather.limit → IsBounded new
+more_bounded ex new kept same limit more fits = record {
+  room = omega (arith, limit, kept.room);
+  fits = fits;
+  tpdus = omega (arith, (bounded ex kept).tpdus, more, ap (λ (a : Attempt). a.number) same);
+}
+
+module _ (ex new : ExchangeOf) (byte : ℕ) (kept : IsKept ex) (bounds : IsBounded new)
+    (limit : new.gather.limit ≡ ex.gather.limit) where
+  -- it is taken
+  pub takes : None ≡ fault_of ex.host ex.gather byte
+      → ((c : Command) (units : List UnitOf) (first : Option Dialogue) (front next : Front)
+      → UnderWay c ex units first front → GoesOn front (Card, byte) next
+      → UnderWay c new units first next)
+      → ((c : Command) (units : List UnitOf) (first : Option Dialogue) (front : Front)
+      (d : Dialogue) → UnderWay c ex units first front → Ends front (Card, byte) d
+      → Continues c new units first d)
+      → ((c : Command) (units : List UnitOf) (first : Option Dialogue) (front : Front)
+      → UnderWay c ex units first front
+      → ((next : Front) × GoesOn front (Card, byte) next)
+      ⊎ ((d : Dialogue) × Ends front (Card, byte) d))
+      → IsTaking ex byte (Ok tt) new
+  takes taken goes_on ends came = record {
+    fault = sym taken;
+    bounds = bounds;
+    limit = limit;
+    after_end = λ over. absurd (none_at_end ex byte kept taken over);
+    unchanged = tt;
+    failed = tt;
+    goes_on = goes_on;
+    full = λ c units first front next under goes. tt;
+    came = came;
+    ends = ends;
+    led = λ c before leads.
+        take_leads c before ex new byte kept taken (goes_on c) (ends c) (came c) leads;
+  }
+
+  -- the exchange stalls
+  pub stalls : None ≡ fault_of ex.host ex.gather byte → exchange_turn new ≡ Failed
+      → ((c : Command) (units : List UnitOf) (first : Option Dialogue) (front next : Front)
+      → UnderWay c ex units first front → GoesOn front (Card, byte) next → ⊥)
+      → ((c : Command) (units : List UnitOf) (first : Option Dialogue) (front : Front)
+      (d : Dialogue) → UnderWay c ex units first front → Ends front (Card, byte) d
+      → Stall c (units ++ ended_with first d ∷ []))
+      → ((c : Command) (units : List UnitOf) (first : Option Dialogue) (front : Front)
+      → UnderWay c ex units first front
+      → ((next : Front) × GoesOn front (Card, byte) next)
+      ⊎ ((d : Dialogue) × Ends front (Card, byte) d))
+      → IsTaking ex byte (Err Stalled) new
+  stalls taken failed goes_on ends came = record {
+    fault = inr (refl, sym taken);
+    bounds = bounds;
+    limit = limit;
+    after_end = λ over. absurd (none_at_end ex byte kept taken over);
+    unchanged = λ other. absurd (cc);
+    failed = λ _. failed;
+    goes_on = λ c units first front next under goes.
+        absurd (goes_on c units first front next under goes);
+    full = λ c units first front next under goes.
+        absurd (goes_on c units first front next under goes);
+    came = λ c units first front under. tt;
+    ends = λ c units first front d under end. (refl, ends c units first front d under end);
+    led = λ c before leads final.
+        stall_leads c before ex new byte kept taken failed (goes_on c) (ends c) (came c) leads;
+  }
+
+  -- or it is a fault
+  pub fails : (fault : LineFault) → fault_of ex.host ex.gather byte ≡ Some fault
+      → (is_final fault ≡ false → new ≡ ex) → (is_final fault ≡ true → exchange_turn new ≡ Failed)
+      → ((c : Command) (units : List UnitOf) (first : Option Dialogue) (front next : Front)
+      → UnderWay c ex units first front → GoesOn front (Card, byte) next
+      → (fault ≡ TooLong) × (length ex.gather.bytes ≡ ex.gather.limit)
+      × (brought next ≡ brought front ++ byte ∷ []))
+      → ((c : Command) (units : List UnitOf) (first : Option Dialogue) (front : Front)
+      (d : Dialogue) → UnderWay c ex units first front → Ends front (Card, byte) d → ⊥)
+      → IsTaking ex byte (Err fault) new
+  fails fault is unchanged failed long ends = record {
+    fault = inl is;
+    bounds = bounds;
+    limit = limit;
+    after_end = λ over.
+        let e : Some fault ≡ Some AfterEnd = sym is ∙ at_end_fault ex byte kept over in cc;
+    unchanged = unchanged;
+    failed = failed;
+    goes_on = λ c units first front next under goes.
+        (long c units first front next under goes).0;
+    full = λ c units first front next under goes.
+        let all = long c units first front next under goes in (all.1, all.2);
+    came = λ c units first front under. tt;
+    ends = λ c units first front d under end. absurd (ends c units first front d under end);
+    led = λ c before leads final.
+        fault_leads c before ex new byte fault kept is final (failed final) (sym limit) leads;
+  }
+
+-- ---- the characters of a buffer
 
 -- a character that is taken without a fault
 abbrev pub TakesOne : ExchangeOf → ℕ → ExchangeOf → Type 0

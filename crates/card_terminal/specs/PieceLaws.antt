@@ -16,14 +16,8 @@ some_in piece (next ∷ others) sizes = omega (arith, sizes.0)
 
 -- lists of the same length at the front of one list
 same_fronts : (a b x y : List ℕ) → length a ≡ length b → a ++ x ≡ b ++ y → a ≡ b
-same_fronts [] [] x y len e = refl
-same_fronts [] (d ∷ b) x y len e = absurd (omega (arith, len))
-same_fronts (c ∷ a) [] x y len e = absurd (omega (arith, len))
-same_fronts (c ∷ a) (d ∷ b) x y len e =
-    let head : c ≡ d = cc in
-    let tail : a ++ x ≡ b ++ y = cc in
-    let fewer : length a ≡ length b = omega (arith, len) in
-    ap (λ n. n ∷ a) head ∙ ap (λ z. d ∷ z) (same_fronts a b x y fewer tail)
+same_fronts a b x y len e = sym (take-append_seam a x) ∙ ap (λ z. take (length a) z) e
+    ∙ ap (λ n. take n (b ++ y)) len ∙ take-append_seam b y
 
 one_and_more : (a b c : List ℕ) (others : List (List ℕ)) → length a ≤ 255 → length b ≡ 255
     → 1 ≤ length c → a ++ [] ≡ b ++ (c ++ concat others) → ⊥
@@ -172,15 +166,6 @@ pub chain_of : (header : Header) (p1 p2 : ℕ) (pieces : List (List ℕ)) (list 
     → list ≡ c ∷ others → chain_commands (put_header p1 p2) pieces ≡ c ∷ others
 chain_of header p1 p2 pieces list others c is same steps =
     ap (λ h. chain_commands h pieces) (sym is) ∙ sym same ∙ steps
-
--- the commands of a chain have its P1-P2
-pub first_names : (h : Header) (pieces : List (List ℕ)) (c : Command) (others : List Command)
-    → chain_commands h pieces ≡ c ∷ others → (c.header.p1 ≡ h.p1) × (c.header.p2 ≡ h.p2)
-first_names h [] c others e = absurd (cc)
-first_names h (a ∷ []) c others e = let head : link h a ≡ c = cc in
-    (ap (λ (d : Command). d.header.p1) (sym head), ap (λ (d : Command). d.header.p2) (sym head))
-first_names h (a ∷ next ∷ pieces) c others e = let head : link (with_more h) a ≡ c = cc in
-    (ap (λ (d : Command). d.header.p1) (sym head), ap (λ (d : Command). d.header.p2) (sym head))
 
 pub rest_seen : (items seen : List ℕ) (until : ℕ) → seen ≡ items
     → slice_range seen until (length seen) ≡ drop until items

@@ -1,5 +1,7 @@
 -- Laws of operations carried out in turn, over any transport: which have their answers.
-use Rattle.std.proofs.Common.{slice_index_or, map, ◌≡◌, ℕ, zero, suc, ◌+◌, ◌<◌, ◌≤◌, List, [], ◌∷◌, ◌++◌, length, take, drop, refl, sym, ap, subst, ◌∙◌, arith, append-nil, append_assoc, length-append}
+use Rattle.std.proofs.Common.{slice_index_or, map, ◌≡◌, ℕ, ◌+◌, ◌<◌, ◌≤◌, List, [], ◌∷◌, ◌++◌, length, take, drop, refl, sym, ap, subst, ◌∙◌, arith, append-nil, append_assoc, length-append}
+use Rattle.std.proofs.Math.Seq.{drop-append_seam, take-append_seam}
+use Rattle.std.proofs.lemmas.List.{drop_more}
 use Rattle.object_card.specs.OneStep.{Operation, Reply}
 use Rattle.card_terminal.specs.declared.operation.Op.{Op}
 use Rattle.card_terminal.specs.Operations.{operation_of}
@@ -7,21 +9,14 @@ use Rattle.card_terminal.specs.Running.{new_answers, carried_out}
 
 new_are : (before given now : List Reply) → now ≡ before ++ given
     → new_answers before now ≡ given
-new_are before given now is = ap (λ l. new_answers before l) is ∙ by before
-  where
-    by : (rs : List Reply) → drop (length rs) (rs ++ given) ≡ given
-    by [] = refl
-    by (r ∷ rs) = by rs
-
-take_front : {A : Type 0} (xs ys : List A) → take (length xs) (xs ++ ys) ≡ xs
-take_front [] ys = refl
-take_front (x ∷ xs) ys = ap (λ l. x ∷ l) (take_front xs ys)
+new_are before given now is =
+    ap (λ l. new_answers before l) is ∙ drop-append_seam before given
 
 carried_are : {A : Type 0} (ops : List (Op A)) (done left : List Operation)
     (given : List Reply) → map operation_of ops ≡ done ++ left → length given ≡ length done
     → carried_out ops given ≡ done
 carried_are ops done left given is same = ap (λ n. take n (map operation_of ops)) same
-    ∙ ap (λ l. take (length done) l) is ∙ take_front done left
+    ∙ ap (λ l. take (length done) l) is ∙ take-append_seam done left
 
 -- The first `n` operations were carried out and gave `n` new answers. `Come` holds for them.
 pub record HaveReplies {A : Type 0} (Come : List Operation → List Reply → Type 0)
@@ -89,8 +84,4 @@ replies_come Come ops before n given have =
 -- the rest of a list is an item and those after it
 pub next_item : {X : Type 0} (xs : List X) (n : ℕ) (x : X) → n < length xs
     → x ≡ slice_index_or xs n x → drop n xs ≡ x ∷ drop (n + 1) xs
-next_item [] n x lt is = absurd (omega (arith, lt))
-next_item (y ∷ ys) zero x lt is = ap (λ z. z ∷ ys) (sym is)
-next_item (y ∷ ys) (suc n) x lt is =
-    let e : suc (n + 1) ≡ suc n + 1 = omega arith in
-    subst (λ k. drop n ys ≡ x ∷ drop k (y ∷ ys)) e (next_item ys n x (omega (arith, lt)) is)
+next_item xs n x lt is = drop_more xs n x lt ∙ ap (λ z. z ∷ drop (n + 1) xs) (sym is)

@@ -1,14 +1,13 @@
 //! The terminal's side of one command: its TPDUs in turn, and the data that they bring.
-ghost use Rattle.std.specs.Prelude.{◌≡◌, ◌≤◌, ◌<◌, ◌+◌, ◌*◌, ℕ, ◌⊎◌, ◌↔◌, List, [], ◌∷◌, ◌++◌, length, Option, Some, None, true, false, IfOk, IfErr, IsOk, MatchResult, IsSome, IfSome};
+ghost use Rattle.std.specs.Prelude.{◌≡◌, ◌≤◌, ℕ, ◌↔◌, List, [], Option, Some, None, true, false, IfOk, IsSome, IfSome};
 ghost use Rattle.std.specs.Option.{option_map};
 ghost use Rattle.apdu_core.specs.declared.header.Header.{Header};
 ghost use Rattle.apdu_core.specs.StatusWord.{StatusWord};
 ghost use Rattle.apdu_core.specs.HeaderBytes.{ins_is_valid};
 ghost use Rattle.apdu_core.specs.CommandBytes.{HasSizes};
 ghost use Rattle.t0_core.specs.Front.{fresh};
-ghost use Rattle.t0_core.specs.HostSide.{HostStandsAt, IsRequest, turn_of};
+ghost use Rattle.t0_core.specs.HostSide.{HostStandsAt, IsRequest};
 ghost use Rattle.t0_core.specs.HostMark.{HasOnly};
-ghost use Rattle.t0_core.specs.HostAnswer.{answer_fault, fails_with, Gives};
 ghost use Rattle.t0_core.specs.TpduBytes.{asked_of, due_by};
 ghost use Rattle.card_terminal.specs.ExchangeSide.{HostOpensBy, asks_card, response_limit};
 
@@ -79,15 +78,15 @@ impl<'a, A: Allocator> Model for Exchange<'a, A> {
 impl<'a, A: Allocator> Exchange<'a, A> {
     ghost use Rattle.apdu_core.specs.CommandBytes as spec;
     ghost use Rattle.t0_core.specs.declared.end.End.TheVariants.{Terminal};
-    ghost use Rattle.t0_core.specs.Dialogue.{Dialogue, characters};
+    ghost use Rattle.t0_core.specs.Dialogue.{Dialogue};
     ghost use Rattle.t0_core.specs.Front.{Front, GoesOn};
     ghost use Rattle.t0_core.specs.HostSide.{data_due};
     ghost use Rattle.card_terminal.specs.Buffers.{IsHandingOut, IsTakingAll};
-    ghost use Rattle.card_terminal.specs.ExchangeSteps.{IsTurn, IsTaking, IsLimited};
+    ghost use Rattle.card_terminal.specs.ExchangeSteps.{IsTurn, IsTaking, IsAnswering, IsLimited};
     ghost use Rattle.card_terminal.specs.Gathered.{UnitOf, Gathers};
-    ghost use Rattle.card_terminal.specs.ExchangeHistory.{ComesTo, ComesTooFar, unit_characters};
+    ghost use Rattle.card_terminal.specs.ExchangeHistory.{ComesTo, unit_characters};
     ghost use Rattle.t0_core.specs.Character.{Character};
-    ghost use Rattle.card_terminal.specs.ExchangeSide.{UnderWay, IsKept, IsBounded, Continues, Stall, exchange_turn, ended_with};
+    ghost use Rattle.card_terminal.specs.ExchangeSide.{UnderWay, IsKept, exchange_turn};
 
     /// Begins the exchange of a command, and allocates room for `RESPONSE_LIMIT` bytes.
     ///
@@ -303,43 +302,9 @@ impl<'a, A: Allocator> Exchange<'a, A> {
     /// - `Stalled`: a GET RESPONSE that the exchange added brought nothing, and the card announces
     ///   more; the exchange has failed for good.
     pub fn answered(&mut self, bytes: &[u8], status: Status) -> Result<(), AnswerFault>
-        ensures fault { MatchResult result
-            (λ _. answer_fault self.old.host self.old.gather bytes.now ≡ None)
-            (λ fault. (answer_fault self.old.host self.old.gather bytes.now ≡ Some fault)
-            ⊎ ((fault ≡ AnswerFault.Stalled)
-            × (answer_fault self.old.host self.old.gather bytes.now ≡ None))) }
-        ensures bounds { IsBounded self.new }
-        ensures limit { self.new.gather.limit ≡ self.old.gather.limit }
+        ensures answering { IsAnswering self.old bytes.now status result self.new }
         ensures data { (content : List ℕ) → HasOnly content self.old.host
             → HasOnly content self.new.host }
-        ensures unchanged { IfErr result (λ fault. fails_with fault ≡ false → self.new ≡ self.old) }
-        ensures failed { IfErr result
-            (λ fault. fails_with fault ≡ true → exchange_turn self.new ≡ HostTurn.Failed) }
-
-        // After any dialogue with these data and this status, the exchange continues as after its
-        // characters, or fails as there.
-        ensures ends { (c : spec.Command) (units : List UnitOf) (first : Option Dialogue)
-            (d : Dialogue) →
-            UnderWay c self.old units first fresh → Gives self.old.host d bytes.now status →
-            MatchResult result (λ _. Continues c self.new units first d)
-            (λ fault. ((fault ≡ AnswerFault.Stalled) × Stall c (units ++ ended_with first d ∷ []))
-            ⊎ ((fault ≡ AnswerFault.TooLong)
-            × (self.old.gather.limit < length self.old.gather.bytes + length bytes.now))) }
-
-        // If some characters led to the exchange, they and those of the dialogue lead to the new
-        // one. If the data exceed the room, it is those up to the first that exceeds it.
-        ensures led { (c : spec.Command) (came : List Character) (d : Dialogue) →
-            ComesTo c came self.old → Gives self.old.host d bytes.now status →
-            MatchResult result (λ _. ComesTo c (came ++ characters d) self.new)
-            (λ fault. ((fault ≡ AnswerFault.Stalled) × ComesTo c (came ++ characters d) self.new)
-            ⊎ ((fault ≡ AnswerFault.TooLong) × ComesTooFar c came (characters d) self.new)
-            ⊎ (fault ≡ AnswerFault.NotDue)) }
-
-        // Some dialogue gives each answer that is taken or makes the exchange fail.
-        ensures given { MatchResult result
-            (λ _. (d : Dialogue) × Gives self.old.host d bytes.now status)
-            (λ fault. fails_with fault ≡ true
-            → (d : Dialogue) × Gives self.old.host d bytes.now status) }
     {
         self.end.take_up_to_sw2(bytes, status, &mut self.gather)?;
         match self.take(status.sw2()) {

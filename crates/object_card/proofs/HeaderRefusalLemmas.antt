@@ -1,23 +1,22 @@
 -- The reasons to refuse a header, instruction by instruction.
 use Rattle.std.proofs.Common.{◌≡◌, ◌∙◌, ℕ, ◌+◌, ◌<◌, ◌≤◌, List, [], ◌∷◌, ◌++◌, length, Option, Some, None, Bool, true, false, refl, sym, ap, subst}
 use Rattle.std.specs.Prelude.{IsSome, option_map, option_and_then, is_none, if◌then◌else◌, nat_lt, ◌==◌, ◌&&◌, not, bit_and, IfSome}
-use Rattle.std.proofs.lemmas.Bool.{lt-ltb, le-ltb, not-false}
+use Rattle.std.proofs.lemmas.Bool.{lt-ltb, le-ltb, not-false, and_parts, eqb-true}
 use Rattle.apdu_core.specs.declared.header.Header.{Header}
 use Rattle.apdu_core.specs.StatusWord.{StatusWord}
 use Rattle.apdu_core.specs.Chaining.{ChainState, as_last}
 use Rattle.tlv_core.specs.Spelling.{object_bytes}
 use Rattle.object_card.specs.declared.limits.TheConstants.{VALUE_LIMIT}
 use Rattle.object_card.specs.Instructions.{instruction_of}
-use Rattle.object_card.specs.InstructionLaws.{known_some}
+use Rattle.object_card.proofs.InstructionLemmas.{known_some}
 use Rattle.object_card.specs.Tables.{Entry, value_under, is_locked}
-use Rattle.object_card.specs.State.{CardState, chained, selected_entries}
-use Rattle.object_card.specs.Refusals.{Reason, first_of_them, holds, status_for, is_locked_among, named_tag, object_asked, parameters_fit, refusal, breaks_chain}
+use Rattle.object_card.specs.State.{CardState, ChainPending, chained, selected_entries}
+use Rattle.object_card.specs.Refusals.{Reason, first_of_them, holds, status_for, is_locked_among, named_tag, object_asked, parameters_fit, refusal, breaks_chain, is_put}
 use Rattle.object_card.specs.declared.response.Response.{Response}
 use Rattle.object_card.specs.CardFields.{chain_pending, pending_in}
 use Rattle.object_card.specs.HeaderReasons.{of_form, of_state}
 use Rattle.object_card.proofs.SameTag.{same_as_itself}
 use Rattle.object_card.specs.StateLaws.{none_of_them}
-use Rattle.object_card.specs.RefusalLaws.{is_of_its_chain}
 
 pub put_reasons : (s : CardState) (h : Header) (p3 : ℕ) → h.ins ≡ 0xDA
     → first_of_them s h p3 of_state
@@ -147,6 +146,23 @@ goes_on_with entries chain None h same of_puts = split chain.pending same of_put
         λ x. not ((bit_and h.cla 0xEF == 0x00) && (h.ins == 0xDA) && (h.p1 == x.p1)
         && (h.p2 == x.p2)) ≡ false in
         subst P same (rw (class, instruction, same_as_itself h.p1, same_as_itself h.p2) refl)
+
+-- A header that does not break a chain belongs to it.
+pub is_of_its_chain : (p1 p2 : ℕ) (bytes : List ℕ) (h : Header)
+    → breaks_chain (ChainPending p1 p2 bytes) h ≡ false
+    → (bit_and h.cla 0xEF ≡ 0x00) × (h.ins ≡ 0xDA) × (h.p1 ≡ p1) × (h.p2 ≡ p2)
+is_of_its_chain p1 p2 bytes h goes_on =
+    let all = not-false ((bit_and h.cla 0xEF == 0x00) && is_put h && (h.p1 == p1) && (h.p2 == p2))
+    goes_on in
+    let (three, second) = and_parts ((bit_and h.cla 0xEF == 0x00) && is_put h && (h.p1 == p1))
+    (h.p2 == p2) all in
+    let (two, first) = and_parts ((bit_and h.cla 0xEF == 0x00) && is_put h) (h.p1 == p1) three in
+    let (class, ins) = and_parts (bit_and h.cla 0xEF == 0x00) (is_put h) two in (
+      eqb-true (bit_and h.cla 0xEF) 0x00 class,
+      eqb-true h.ins 0xDA ins,
+      eqb-true h.p1 p1 first,
+      eqb-true h.p2 p2 second,
+    )
 
 -- a command that does not break the chain continues it
 pub accepts : (entries : List Entry) (chain : ChainState) (response : Option Response) (h : Header)

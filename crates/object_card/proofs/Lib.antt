@@ -21,3 +21,6 @@ pub mod ShownVectors
 pub mod Stored
 pub mod PutValueLemmas
 pub mod Vectors
+pub mod InstructionLemmas
+pub mod KeepingLemmas
+pub mod TagLemmas

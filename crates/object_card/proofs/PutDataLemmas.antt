@@ -21,7 +21,7 @@ use Rattle.object_card.specs.PutData.{CanPut, DoesNotStore, IsPut, TakesPut}
 use Rattle.object_card.specs.declared.ready.Ready.{Ready}
 use Rattle.object_card.specs.declared.ready.Ready.TheVariants as ready
 use Rattle.object_card.specs.StateLaws.{stays_sound, none_holds, keeps_to_limit, put_is_selected, stored_why}
-use Rattle.object_card.specs.TagLaws.{names}
+use Rattle.object_card.proofs.TagLemmas.{names}
 use Rattle.object_card.proofs.CardFieldLemmas.{entries-here, entries-known, selected-known, chained-bytes}
 use Rattle.object_card.proofs.HeaderRefusalLemmas.{accepts}
 use Rattle.object_card.proofs.VerdictLemmas.{leaves_standing}

@@ -15,9 +15,11 @@ use Rattle.object_card.specs.Refusals.{is_put, is_select, is_get, is_get_respons
 use Rattle.object_card.specs.CardMeaning.{Does, refuses, selects_application, misses_application, sends, chains, puts_value, after_refusal}
 use Rattle.object_card.specs.Tables.{Application, with_object}
 use Rattle.object_card.specs.TagLaws.{named}
-use Rattle.object_card.specs.CardLaws.{put_keeps_selection, put_leaves}
+use Rattle.object_card.specs.CardLaws.{put_leaves}
+use Rattle.object_card.proofs.KeepingLemmas.{put_keeps_selection}
 use Rattle.object_card.specs.StateLaws.{none_holds}
-use Rattle.object_card.specs.RefusalLaws.{is_refusing, after_refusal_holds, is_of_its_chain}
+use Rattle.object_card.specs.RefusalLaws.{is_refusing, after_refusal_holds}
+use Rattle.object_card.proofs.HeaderRefusalLemmas.{is_of_its_chain}
 use Rattle.object_card.specs.ShownPuts.{is_ok, is_selecting, is_piece_for, is_stored, selected_by, run_before, ShownPut, shown_by, shown_after, shown_puts, with_puts}
 use Rattle.object_card.specs.StepLaws.{other_ins, is_sending}
 

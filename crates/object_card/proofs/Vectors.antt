@@ -16,7 +16,8 @@ use Rattle.object_card.specs.State.{CardState, Pending, NothingPending, ChainPen
 use Rattle.object_card.specs.OneStep.{Put, Reply, Answers, stores, does_not_store, wants_memory, PutStatus, not_allowed, stored, wrong_data, no_space, control_information, with_put}
 use Rattle.object_card.specs.Refusals.{refusal}
 use Rattle.object_card.specs.CardMeaning.{Does, refuses, selects_application, misses_application, sends, chains, puts_value}
-use Rattle.object_card.specs.CardLaws.{put_leaves, chaining_keeps_applications, refused_moves_nothing, not_found_keeps_selection}
+use Rattle.object_card.specs.CardLaws.{put_leaves}
+use Rattle.object_card.proofs.KeepingLemmas.{chaining_keeps_applications, refused_moves_nothing, not_found_keeps_selection}
 
 abbrev aid : List ℕ
 aid = 0xA0 ∷ 0x00 ∷ 0x00 ∷ 0x00 ∷ 0x03 ∷ 0x10 ∷ 0x10 ∷ []

@@ -13,7 +13,7 @@ use Rattle.object_card.specs.State.{CardState, IsCardState, NothingPending, Resp
 use Rattle.object_card.specs.declared.instructions.Instruction.{Instruction}
 use Rattle.object_card.specs.declared.instructions.Instruction.TheVariants.{Select, GetData, PutData, GetResponse}
 use Rattle.object_card.specs.Instructions.{ins_of, instruction_of, takes_data}
-use Rattle.object_card.specs.InstructionLaws.{ins_is, known_some}
+use Rattle.object_card.proofs.InstructionLemmas.{ins_is, known_some}
 use Rattle.object_card.specs.Refusals.{refusal, UnknownInstruction, MoreThanIsLeft, is_get, is_get_response, to_send}
 use Rattle.object_card.specs.CardMeaning.{Does, refuses, after_refusal}
 use Rattle.object_card.specs.declared.response.Response.{Response}

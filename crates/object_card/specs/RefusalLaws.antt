@@ -1,14 +1,14 @@
 -- The statuses of refused headers, and what holds if a header is not refused.
 use Rattle.std.proofs.Common.{◌≡◌, ℕ, ◌+◌, ◌<◌, List, [], ◌∷◌, length, Option, Some, None, Bool, true, false, ◌⊎◌, inl, inr, refl, subst}
-use Rattle.std.specs.Prelude.{if◌then◌else◌, ◌==◌, ◌&&◌, not, is_some, is_none, nat_lt, bit_and}
-use Rattle.std.proofs.lemmas.Bool.{ltb-true, not-false, and_parts, eqb-true}
+use Rattle.std.specs.Prelude.{if◌then◌else◌, ◌==◌, ◌&&◌, not, is_some, is_none, nat_lt}
+use Rattle.std.proofs.lemmas.Bool.{ltb-true}
 use Rattle.apdu_core.specs.declared.header.Header.{Header}
 use Rattle.apdu_core.specs.StatusWord.{StatusWord}
 use Rattle.apdu_core.specs.Chaining.{with_more}
 use Rattle.object_card.specs.declared.limits.TheConstants.{VALUE_LIMIT}
 use Rattle.object_card.specs.Tables.{Entry, is_locked}
-use Rattle.object_card.specs.State.{CardState, Pending, NothingPending, ChainPending, ResponsePending, is_idle, chained, selected_entries}
-use Rattle.object_card.specs.Refusals.{Reason, MoreThanIsLeft, in_order, holds, first_of_them, status_for, refusal, breaks_chain, named_tag, is_locked_among, is_get_response, is_put}
+use Rattle.object_card.specs.State.{CardState, Pending, NothingPending, ResponsePending, is_idle, chained, selected_entries}
+use Rattle.object_card.specs.Refusals.{Reason, MoreThanIsLeft, in_order, holds, first_of_them, status_for, refusal, breaks_chain, named_tag, is_locked_among, is_get_response}
 use Rattle.object_card.specs.CardMeaning.{after_refusal}
 use Rattle.object_card.specs.CarryingOut.{put_header}
 
@@ -45,23 +45,6 @@ first_is_refusing state h p3 (r ∷ rs) status is =
 pub is_refusing : (state : CardState) (h : Header) (p3 : ℕ) (status : StatusWord)
     → refusal state h p3 ≡ Some status → IsRefusing status
 is_refusing state h p3 status is = first_is_refusing state h p3 in_order status is
-
--- A header that does not break a chain belongs to it.
-pub is_of_its_chain : (p1 p2 : ℕ) (bytes : List ℕ) (h : Header)
-    → breaks_chain (ChainPending p1 p2 bytes) h ≡ false
-    → (bit_and h.cla 0xEF ≡ 0x00) × (h.ins ≡ 0xDA) × (h.p1 ≡ p1) × (h.p2 ≡ p2)
-is_of_its_chain p1 p2 bytes h goes_on =
-    let all = not-false ((bit_and h.cla 0xEF == 0x00) && is_put h && (h.p1 == p1) && (h.p2 == p2))
-    goes_on in
-    let (three, second) = and_parts ((bit_and h.cla 0xEF == 0x00) && is_put h && (h.p1 == p1))
-    (h.p2 == p2) all in
-    let (two, first) = and_parts ((bit_and h.cla 0xEF == 0x00) && is_put h) (h.p1 == p1) three in
-    let (class, ins) = and_parts (bit_and h.cla 0xEF == 0x00) (is_put h) two in (
-      eqb-true (bit_and h.cla 0xEF) 0x00 class,
-      eqb-true h.ins 0xDA ins,
-      eqb-true h.p1 p1 first,
-      eqb-true h.p2 p2 second,
-    )
 
 -- A property of no pending command, and of the response that was pending, holds after a refusal.
 pub after_refusal_holds : (P : Pending → Type 0) (h : Header) (status : StatusWord)

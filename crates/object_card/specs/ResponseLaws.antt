@@ -1,8 +1,6 @@
--- What a card announces waits, and a fetch brings it. No exchange brings more than a value and its
--- head.
-use Rattle.std.proofs.Common.{◌≡◌, ℕ, suc, ◌+◌, ◌%◌, ◌≤◌, min, List, [], ◌∷◌, length, take, drop, Some, None, Bool, true, false, refl, sym, ap, subst, ◌∙◌, arith, length-append, length-take, length-drop}
+-- What a card announces waits, and a fetch brings it.
+use Rattle.std.proofs.Common.{◌≡◌, ℕ, suc, ◌+◌, ◌%◌, ◌≤◌, min, List, [], ◌∷◌, length, take, drop, Some, None, Bool, true, false, refl, sym, ap, subst, ◌∙◌, arith, length-take, length-drop}
 use Rattle.std.specs.Prelude.{if◌then◌else◌, ◌==◌, ◌||◌, nat_lt}
-use Rattle.std.specs.List.{flat_map}
 use Rattle.std.proofs.lemmas.Bool.{eqb-true, eqb-false, ne_eqb, le-ltb}
 use Rattle.apdu_core.specs.declared.header.Header.{Header}
 use Rattle.apdu_core.specs.StatusWord.{StatusWord, ok, count, announces, corrects}
@@ -13,7 +11,7 @@ use Rattle.object_card.specs.State.{CardState, IsCardState, Pending, ResponsePen
 use Rattle.object_card.specs.OneStep.{Operation, Put, Reply, Answers, does_not_store, PutStatus, not_allowed, control_information}
 use Rattle.object_card.specs.Refusals.{is_get, is_get_response, refusal, to_send}
 use Rattle.object_card.specs.CardMeaning.{Does, refuses, selects_application, misses_application, sends, chains, puts_value, after_refusal, announcing}
-use Rattle.object_card.specs.CarryingOut.{get_response, AreFetches, IsFetched}
+use Rattle.object_card.specs.CarryingOut.{get_response, IsFetched}
 use Rattle.object_card.specs.StepLaws.{send_step, send_refused, is_sent}
 use Rattle.object_card.specs.RefusalLaws.{is_refusing, after_refusal_holds}
 use Rattle.object_card.specs.StateLaws.{stays_sound, waiting_length, to_send_length}
@@ -227,26 +225,3 @@ fetch_brings_what_waits old new cut t does is =
             ap length whole,
           )
     ]
-
-fetches_bring_what_waits : (old new : CardState) (fetches : List Tpdu) → AreFetches old fetches new
-    → length (flat_map (λ t. t.received) fetches) ≤ length (waiting old.pending)
-fetches_bring_what_waits old new [] are = omega arith
-fetches_bring_what_waits old new (t ∷ fetches) (cut, mid, is, does, others) =
-    omega (
-      arith,
-      fetch_brings_what_waits old mid cut t does is,
-      fetches_bring_what_waits mid new fetches others,
-      length-append t.received (flat_map (λ t. t.received) fetches),
-    )
-
--- A TPDU and its fetches bring no more than a value with its tag and length.
-pub exchange_brings_within : (old mid new : CardState) (cut : ℕ) (t : Tpdu) (fetches : List Tpdu)
-    → IsCardState old → Does old cut t mid → AreFetches mid fetches new
-    → length (flat_map (λ t. t.received) (t ∷ fetches)) ≤ VALUE_LIMIT + HEAD_LIMIT
-exchange_brings_within old mid new cut t fetches is does are =
-    omega (
-      arith,
-      brings_within old mid cut t does is,
-      fetches_bring_what_waits mid new fetches are,
-      length-append t.received (flat_map (λ t. t.received) fetches),
-    )

@@ -13,7 +13,7 @@ use Rattle.object_card.specs.Refusals.{is_get_response}
 use Rattle.object_card.specs.State.{CardState}
 use Rattle.apdu_terminal.specs.Apdus.{Pair, may_bring}
 use Rattle.apdu_terminal.specs.ApduStops.{IsLeftAfter, IsLeftBefore}
-use Rattle.apdu_terminal.specs.CardApdu.{InTurn, Responds, RespondsToAll}
+use Rattle.apdu_terminal.specs.CardApdu.{Responds, RespondsToAll}
 use Rattle.t1_core.specs.declared.settings.Settings.{Settings}
 use Rattle.t1_core.specs.declared.terminal.Fault.{Fault}
 use Rattle.t1_core.specs.declared.terminal.Outcome.{Outcome}
@@ -33,14 +33,6 @@ use Rattle.t1_terminal.specs.Operated.{AreSent, IsLeft, IsSent, commands_in, mos
 
 pub last_same : {A : Type 0} (xs : List A) (a b : A) → xs ++ a ∷ [] ≡ xs ++ b ∷ [] → a ≡ b
 last_same xs a b e = let last = append_cancel_left xs (a ∷ []) (b ∷ []) e in cc
-
-pub turns_apart : {State : Type 0} (One : State → Pair → State → Type 0) (old new : State)
-    (xs ys : List Pair) → InTurn One old (xs ++ ys) new
-    → (mid : State) × InTurn One old xs mid × InTurn One mid ys new
-turns_apart One old new [] ys goes = (old, refl, goes)
-turns_apart One old new (x ∷ xs) ys (next, is, others) =
-    let (mid, before, after) = turns_apart One next new xs ys others in
-    (mid, (next, is, before), after)
 
 pub sent_both : (xs ys : List Pair) → AreSent xs → AreSent ys → AreSent (xs ++ ys)
 sent_both [] ys first second = second

@@ -18,6 +18,7 @@ use Rattle.apdu_terminal.specs.ApduOperations.{ApduOperationOf, HasRoomFor, IsTa
 use Rattle.apdu_terminal.specs.ApduSide.{answer_at, answered_by, command_of, due_of, is_going}
 use Rattle.apdu_terminal.specs.ApduStops.{IsUnderWay}
 use Rattle.apdu_terminal.specs.CardApdu.{Responds, RespondsToAll}
+use Rattle.apdu_terminal.specs.TurnLaws.{turns_apart}
 use Rattle.apdu_terminal.specs.declared.stage.Stage.{Stage}
 use Rattle.apdu_terminal.specs.declared.stage.Stage.TheVariants.{Going, Done, Failed}
 use Rattle.t1_core.specs.declared.applet.Applet.{Ghosts}
@@ -31,7 +32,7 @@ use Rattle.t1_core.specs.Doing.{commands_of, responses_of}
 use Rattle.t1_core.specs.TerminalSide.{fault_of, has_stopped, is_ready}
 use Rattle.t1_terminal.specs.CardCommand.{DoesAt, status_bytes}
 use Rattle.t1_terminal.specs.Operated.{AreSent, GivesUp, HasTaken, IsSent, Start, Takes, commands_in, past_of, response_bytes, responses_in, told_of}
-use Rattle.t1_terminal.proofs.LineLemmas.{all_responded, is_over, last_same, ready_stops, sent_both, stops, turns_apart}
+use Rattle.t1_terminal.proofs.LineLemmas.{all_responded, is_over, last_same, ready_stops, sent_both, stops}
 
 module _ {X State : Type 0} (Own : State → ℕ → Tpdu → State → Type 0) (standing : X → State) where
   -- the card above its end of the line

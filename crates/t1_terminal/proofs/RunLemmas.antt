@@ -16,6 +16,7 @@ use Rattle.apdu_terminal.specs.Apdus.{Pair, GathersApdus}
 use Rattle.apdu_terminal.specs.ApduStops.{IsLeftAfter, IsLeftBefore, IsUnderWay}
 use Rattle.apdu_terminal.specs.ApduTalk.{AreApduTalksOf, IsApduTalkOf, talk_pairs}
 use Rattle.apdu_terminal.specs.CardApdu.{Responds, RespondsToAll}
+use Rattle.apdu_terminal.specs.TurnLaws.{turns_apart}
 use Rattle.t1_core.specs.declared.line.Fates.{Fates}
 use Rattle.t1_core.specs.declared.settings.Settings.{Settings}
 use Rattle.t1_core.specs.declared.terminal.Fault.{Fault}
@@ -26,7 +27,7 @@ use Rattle.t1_core.specs.Doing.{commands_of, responses_of}
 use Rattle.t1_core.specs.TerminalSide.{fault_of, is_ready}
 use Rattle.t1_core.specs.World.{IsFrontOf, IsTrue}
 use Rattle.t1_terminal.specs.Operated.{GivesUp, HasRun, HasTaken, IsLeft, Start, Takes, commands_in, past_of, response_bytes, responses_in, told_of}
-use Rattle.t1_terminal.proofs.LineLemmas.{IsMore, all_short, enough, gave_up, left_by, not_after, not_before, ready_stops, stops, turns_apart}
+use Rattle.t1_terminal.proofs.LineLemmas.{IsMore, all_short, enough, gave_up, left_by, not_after, not_before, ready_stops, stops}
 use Rattle.t1_terminal.proofs.OperateLemmas.{Dialogues, applet, so_far}
 
 -- the same by the states of the cards themselves

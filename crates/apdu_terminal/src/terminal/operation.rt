@@ -8,19 +8,21 @@ ghost use Rattle.apdu_terminal.specs.ApduSide.{ApduExchangeOf, IsResponding, ans
 ghost use Rattle.apdu_terminal.specs.ApduOperations.{Begins, GoesOver, GoesToNext, IsSettled, may_follow, with_exchange};
 ghost use Rattle.apdu_terminal.specs.declared.stage.Stage.TheVariants.{Done};
 
-use crate::exchange::ApduExchangeMark;
+use crate::exchange::ApduMark;
 use crate::stage::Stage;
 use apdu_core::{Command, Status, pieces};
-use card_terminal::{Answer, Unsent, put_header};
+use card_terminal::{Answer, Unsent, Wanted, put_header};
 use std::alloc::{AllocError, Allocator, Global};
 use std::marker::Model;
-use t0_core::AnswerFault;
+use t0_core::{AnswerFault, Gather};
 
 /// An operation of an `ApduTerminal` that has begun: the exchange of its last command, and the rest
 /// of a put.
 #[derive(Drop)]
 pub struct ApduOperation<A: Allocator + Copy = Global> {
-    exchange: ApduExchangeMark<A>,
+    alloc: A,
+    gather: Gather<A>,
+    mark: ApduMark,
     /// The data of all commands, one after another.
     content: Vec<u8, A>,
     /// The data of the last command begin here..
@@ -34,20 +36,20 @@ pub struct ApduOperation<A: Allocator + Copy = Global> {
 impl<A: Allocator + Copy> Model for ApduOperation<A> {
     ghost use Rattle.std.specs.Prelude.{◌≡◌, ◌≤◌, length, drop};
     ghost use Rattle.std.specs.List.{slice_range};
-    ghost use Rattle.apdu_terminal.specs.ApduSide.{over_data};
+    ghost use Rattle.apdu_terminal.specs.ApduSide.{of_mark};
     ghost use Rattle.apdu_terminal.specs.ApduOperations.{ApduOperationOf, IsPart};
 
     ghost Value = { ApduOperationOf };
 
     ghost view = { λ o. record {
-      exchange = over_data o.exchange (slice_range o.content.items o.from o.until);
+      exchange = of_mark (slice_range o.content.items o.from o.until) o.gather o.mark;
       p1 = o.p1;
       p2 = o.p2;
       rest = drop o.until o.content.items;
     } };
 
     ghost invariant = { λ o. IsPart o.content.items o.from o.until
-        (over_data o.exchange (slice_range o.content.items o.from o.until)) };
+        (of_mark (slice_range o.content.items o.from o.until) o.gather o.mark) };
 }
 
 impl<A: Allocator + Copy> ApduOperation<A> {
@@ -71,9 +73,12 @@ impl<A: Allocator + Copy> ApduOperation<A> {
         let until = data.len();
         let mut content = Vec::new(alloc);
         copy_again(&mut content, data, rest)?;
-        let exchange = ApduExchangeMark::start(alloc, first, limit)?;
+        let gather = Gather::with_room(alloc, limit)?;
+        let mark = ApduMark::first(&first, Wanted::by(first.le()));
         Ok(ApduOperation {
-            exchange,
+            alloc,
+            gather,
+            mark,
             content,
             from: 0,
             until,
@@ -104,7 +109,8 @@ impl<A: Allocator + Copy> ApduOperation<A> {
         self.until = data.len();
         self.p1 = p1;
         self.p2 = p2;
-        self.exchange.again(first);
+        self.gather.clear();
+        self.mark = ApduMark::first(&first, Wanted::by(first.le()));
         Ok(())
     }
 
@@ -112,14 +118,14 @@ impl<A: Allocator + Copy> ApduOperation<A> {
     pub fn is_going(&self) -> bool
         ensures { result ≡ is_going self.now.exchange.stage }
     {
-        matches!(self.exchange.stage(), Stage::Going)
+        matches!(self.mark.stage, Stage::Going)
     }
 
     /// Returns the command to send now, or `None` if the operation has ended or failed.
     pub fn apdu(&self) -> Option<Command<'_>>
         ensures { result ≡ due_of self.now.exchange }
     {
-        self.exchange.apdu(&self.content[self.from..self.until])
+        self.mark.apdu(&self.content[self.from..self.until])
     }
 
     /// Takes the response to the command that `apdu` returns, as `ApduExchange::responded`. After
@@ -131,7 +137,10 @@ impl<A: Allocator + Copy> ApduOperation<A> {
         ensures falls { OnOk result (may_follow (Some self.new) < may_follow (Some self.old)) }
     {
         let content = &self.content[self.from..self.until];
-        let (taken, keeps) = self.exchange.responded(bytes, status, content);
+        let room = &mut self.gather;
+        let (taken, keeps) = self
+            .mark
+            .responded(self.alloc, room, content, bytes, status);
         if !keeps {
             self.from = self.until;
         }
@@ -147,7 +156,8 @@ impl<A: Allocator + Copy> ApduOperation<A> {
         if is_last {
             return;
         }
-        match self.exchange.stage() {
+        let stage = self.mark.stage;
+        match stage {
             Stage::Done(status) if status.is_ok() => self.begin_next(),
             _ => {}
         }
@@ -165,7 +175,8 @@ impl<A: Allocator + Copy> ApduOperation<A> {
         };
         self.from = self.until;
         self.until += next.data().len();
-        self.exchange.again(next);
+        self.gather.clear();
+        self.mark = ApduMark::first(&next, Wanted::by(next.le()));
     }
 
     /// Returns the status and the data of the last command, or `None` if the operation is in
@@ -173,7 +184,10 @@ impl<A: Allocator + Copy> ApduOperation<A> {
     pub fn answer(&self) -> Option<(Status, &[u8])>
         ensures { answer_of self.now.exchange ≡ option_map (λ a. (a.0, a.1.now)) result }
     {
-        self.exchange.answer()
+        match self.mark.stage {
+            Stage::Done(status) => Some((status, self.gather.bytes())),
+            _ => None,
+        }
     }
 
     /// Returns what `answer` does as an `Answer`, and drops the operation. Room that the data don't
@@ -181,8 +195,12 @@ impl<A: Allocator + Copy> ApduOperation<A> {
     pub fn into_answer(self) -> Option<Answer<A>>
         ensures { answer_of self.exchange ≡ option_map (λ a. (a.status, a.content)) result }
     {
-        let ApduOperation { exchange, .. } = self;
-        exchange.into_answer()
+        let stage = self.mark.stage;
+        let ApduOperation { gather, .. } = self;
+        match stage {
+            Stage::Done(status) => Some(Answer::new(status, gather)),
+            _ => None,
+        }
     }
 }
 

@@ -1,12 +1,12 @@
 //! Operations of a session with a card of data objects.
-ghost use Rattle.std.specs.Prelude.{◌≡◌, ℕ, ◌<◌, ◌++◌, List, [], ◌∷◌, None, length, true, MatchResult, OnErr, IfOk};
+ghost use Rattle.std.specs.Prelude.{◌≡◌, ◌<◌, ◌++◌, List, [], ◌∷◌, None, length, true, MatchResult, OnErr, IfOk};
 ghost use Rattle.std.specs.List.{AllByRecursion, flat_map};
 ghost use Rattle.apdu_core.specs.CommandBytes as spec;
 ghost use Rattle.t0_core.specs.Character.{Character};
 ghost use Rattle.t0_core.specs.Front.{fresh};
 ghost use Rattle.t0_core.specs.Watch.{Hears};
 ghost use Rattle.object_card.specs.State.{IsCardState, is_idle};
-ghost use Rattle.object_card.specs.OneStep.{Put, AnswersAll};
+ghost use Rattle.object_card.specs.OneStep.{AnswersAll};
 ghost use Rattle.card_terminal.specs.declared.session_fault.SessionFault.TheVariants.{OutOfMemory};
 ghost use Rattle.card_terminal.specs.Gathered.{UnitOf, Gathers, dialogues_of};
 ghost use Rattle.object_card.specs.Agreed.{IsAgreed};
@@ -28,7 +28,6 @@ use apdu_core::{Command, Pieces, Status, pieces};
 use object_card::DataCard;
 use std::alloc::{AllocError, Allocator};
 use t0_core::{Gather, HostTurn, Plans, Watch};
-use tlv_core::ObjectTag;
 
 impl<C: DataCard> Session<C> {
     /// Whether no chain is pending at the card. If so, `run`, `operate` and `operate_in` may be
@@ -218,34 +217,15 @@ impl<C: DataCard> Session<C> {
         match op {
             Op::Select(aid) => self.send_in(room, select_command(aid), plans, watch),
             Op::Get(tag) => self.send_in(room, get_command(*tag), plans, watch),
-            Op::Put(tag, value) => self.put(room, *tag, value.bytes(), plans, watch),
+            Op::Put(tag, value) => {
+                let (p1, p2) = tag.p1p2();
+                let mut commands = pieces(put_header(p1, p2), value.bytes());
+                let Some(first) = commands.next() else {
+                    unreachable!()
+                };
+                self.chain(room, first, commands, plans, watch)
+            }
         }
-    }
-
-    /// Stores a value under a tag, by a chain of PUT DATA.
-    fn put<A: Allocator, B: Allocator, W: Watch>(
-        &mut self,
-        room: Gather<A>,
-        tag: ObjectTag,
-        value: &[u8],
-        plans: &mut Plans<B>,
-        watch: &mut W,
-    ) -> HeldAnswer<A>
-        requires sound { IsCardState (C.state self.old) }
-        requires empty { room.bytes ≡ [] }
-        requires limit { room.limit ≡ response_limit }
-        ensures { (exchanges : List (List UnitOf))
-            × IsTalkOf (Put tag value.now) exchanges result
-            × HaveGone C.Does (point (C.standing self.old) plans.old.rest (W.hearing watch.old))
-            (talk_dialogues exchanges)
-            (point (C.standing self.new) plans.new.rest (W.hearing watch.new)) }
-    {
-        let (p1, p2) = tag.p1p2();
-        let mut commands = pieces(put_header(p1, p2), value);
-        let Some(first) = commands.next() else {
-            unreachable!()
-        };
-        self.chain(room, first, commands, plans, watch)
     }
 
     /// Carries out the command `first` and then `others` in one room, up to the first status other

@@ -2,7 +2,7 @@ use Rattle.std.specs.Prelude.{IfSome, IsSome, true, false}
 use Rattle.apdu_core.specs.Chaining.{as_last}
 use Rattle.std.proofs.Common.{◌≡◌, ◌∙◌, sym, ap, subst, Some}
 use Rattle.object_card.specs.declared.instructions.Instruction.TheVariants.{Select}
-use Rattle.object_card.specs.InstructionLaws.{ins_is}
+use Rattle.object_card.proofs.InstructionLemmas.{ins_is}
 use Rattle.object_card.specs.CardFields.{entries_at, state_of}
 use Rattle.object_card.proofs.HeaderRefusalLemmas as refusals
 use Rattle.object_card.proofs.header_refusals.refusal.Goals as goal

@@ -1,4 +1,4 @@
-use Rattle.object_card.specs.CardLaws.{refused_moves_nothing}
+use Rattle.object_card.proofs.KeepingLemmas.{refused_moves_nothing}
 use Rattle.object_card.proofs.laws.a_refused_header_moves_nothing.Goals as goal
 
 pub returns : goal.returns

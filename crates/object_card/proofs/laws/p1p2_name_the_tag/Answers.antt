@@ -1,4 +1,5 @@
-use Rattle.object_card.specs.TagLaws.{named, names}
+use Rattle.object_card.specs.TagLaws.{named}
+use Rattle.object_card.proofs.TagLemmas.{names}
 use Rattle.object_card.proofs.laws.p1p2_name_the_tag.Goals as goal
 
 pub returns : goal.returns

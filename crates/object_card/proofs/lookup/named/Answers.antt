@@ -1,5 +1,4 @@
-use Rattle.object_card.specs.TagLaws.{found_is_named}
-use Rattle.object_card.specs.TagLaws.{found_is_named}
+use Rattle.object_card.proofs.TagLemmas.{found_is_named}
 use Rattle.object_card.proofs.lookup.named.Goals as goal
 
 pub returns : goal.returns

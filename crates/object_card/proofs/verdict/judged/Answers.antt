@@ -4,7 +4,7 @@ use Rattle.apdu_core.specs.StatusWord.{count}
 use Rattle.apdu_core.specs.Chaining.{idle}
 use Rattle.object_card.specs.CardFields.{IsResponse, entries_at, left_of, state_of}
 use Rattle.object_card.specs.declared.response.Response.{Response}
-use Rattle.object_card.specs.InstructionLaws.{ins_is}
+use Rattle.object_card.proofs.InstructionLemmas.{ins_is}
 use Rattle.object_card.proofs.VerdictLemmas as answer
 use Rattle.object_card.proofs.verdict.judged.Goals as goal
 

@@ -1,11 +1,30 @@
-use Rattle.std.proofs.Common.{List, ℕ, ◌++◌, ◌∙◌, ap, length}
-use Rattle.apdu_terminal.proofs.OperationLemmas.{begins_with}
+use Rattle.std.proofs.Common.{List, [], ℕ, ◌++◌, ◌∙◌, ap, length, subst, arith}
+use Rattle.t0_core.specs.Room.{Room}
+use Rattle.card_terminal.specs.declared.wanted.Wanted.{Wanted}
+use Rattle.card_terminal.specs.Gathered.{wanted_by}
+use Rattle.apdu_terminal.specs.ApduSide.{ComesTo, of_mark}
+use Rattle.apdu_terminal.proofs.OperationLemmas.{begins_with, part_first}
 use Rattle.apdu_terminal.proofs.terminal.operation.ApduOperation.again.Goals as goal
 
 pub returns-clause-begins : goal.returns-clause-begins
 returns-clause-begins g c =
-    begins_with c.args.unsent.first c.args.unsent.rest.now c.copy_again.new.copy.items
-    c.again.new.self _ _ _
+    let first = c.args.unsent.first in
+    begins_with first c.args.unsent.rest.now c.copy_again.new.copy.items c.clear.new.self
+    c.first-self-inside.result _ _ _
     (c.in_ok-copy_again.ensures
     ∙ ap (λ (bs : List ℕ). bs ++ c.args.unsent.rest.now) c.data-data.ensures.value)
-    (ap length c.data-data.ensures.value) c.again.ensures.going c.again.ensures.led
+    (ap length c.data-data.ensures.value) c.first-self-inside.ensures.going
+    (subst (λ (w : Wanted). ComesTo first w [] (of_mark first.content c.clear.new.self
+    c.first-self-inside.result)) (c.by.ensures ∙ ap wanted_by c.le.ensures.value)
+    (c.first-self-inside.ensures.led c.clear.new.self (ap (λ (r : Room). r.bytes) c.clear.ensures)))
+
+pub invariant_of-self-2 : goal.invariant_of-self-2
+invariant_of-self-2 g c =
+    let first = c.args.unsent.first in
+    part_first first c.args.unsent.rest.now c.copy_again.new.copy.items c.clear.new.self
+    c.first-self-inside.result _
+    (c.in_ok-copy_again.ensures
+    ∙ ap (λ (bs : List ℕ). bs ++ c.args.unsent.rest.now) c.data-data.ensures.value)
+    (ap length c.data-data.ensures.value)
+    (c.first-self-inside.ensures.sound c.clear.new.self (ap (λ (r : Room). r.bytes) c.clear.ensures)
+    (omega (arith, ap (λ (r : Room). r.limit) c.clear.ensures, c.self.invariant.sound.room)))

@@ -1,7 +1,6 @@
 use Rattle.std.proofs.Common.{sym, subst, ap, ◌∙◌}
 use Rattle.t0_core.specs.Room.{Room}
 use Rattle.card_terminal.specs.ExchangeSide.{ExchangeOf}
-use Rattle.card_terminal.specs.ExchangeSteps.{IsAnswering}
 use Rattle.card_terminal.specs.OwnedExchange.{ExchangeMarkOf, of_parts, over_data, IsSound}
 use Rattle.card_terminal.proofs.OwnedLemmas.{same_parts, end_has_only}
 use Rattle.card_terminal.proofs.exchange.exchange_mark.ExchangeMark.answered.Goals as goal
@@ -24,20 +23,8 @@ returns-clause-answering g c =
     ∙ same_parts i.end i.gather i.attempt i.wanted i.stalled content _ _ c.at.ensures
     (ap (λ (m : ExchangeMarkOf). over_data m content) c.self.view_is) in
     let only = c.answered-taken.ensures.data content (end_has_only _ _ _ c.at.ensures) in
-    let taken = c.answered-taken.result in
-    let new = c.answered-taken.new.self in
-    let step : IsAnswering (At c.replace.result) c.args.bytes.now c.args.status taken new = record {
-      fault = c.answered-taken.ensures.fault;
-      bounds = c.answered-taken.ensures.bounds;
-      limit = c.answered-taken.ensures.limit;
-      unchanged = c.answered-taken.ensures.unchanged;
-      failed = c.answered-taken.ensures.failed;
-      ends = c.answered-taken.ensures.ends;
-      led = c.answered-taken.ensures.led;
-      given = c.answered-taken.ensures.given;
-    } in
     rw (
       ap (λ (m : ExchangeMarkOf). over_data m content) c.drop.view_is
           ∙ c.of.ensures.again content only,
       sym begun,
-    ) step
+    ) c.answered-taken.ensures.answering

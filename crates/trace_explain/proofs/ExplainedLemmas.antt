@@ -77,7 +77,7 @@ both_hold false b e = absurd (let no : false ≡ true = e in cc)
 pub read_on_hears : (source : Source) (reading : Reading) {r : Reading}
     → r ≡ read_on source reading → reading.of_tpdus ≡ false → r.of_tpdus ≡ false
 read_on_hears (Sign form from) reading is none = ap (λ (x : Reading). x.of_tpdus) is ∙ none
-read_on_hears (Turn ways) reading is none = ap (λ (x : Reading). x.of_tpdus) is ∙ none
+read_on_hears Turn reading is none = ap (λ (x : Reading). x.of_tpdus) is ∙ none
 
 -- A line is refused for what it is.
 pub line_refused : (why : LineFault) (line : List ℕ) (n : ℕ) (events : List Event)

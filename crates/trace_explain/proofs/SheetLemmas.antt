@@ -1,7 +1,9 @@
 -- Pieces that are added to a sheet, one after another.
 use Rattle.std.proofs.Common.{◌≡◌, ℕ, List, [], ◌∷◌, ◌++◌, ◌∙◌, ◌+◌, ◌-◌, ◌<◌, ◌≤◌, length, drop, get_or, take, replicate, flat_map, suc, add-one, arith, ap, append-nil, append_assoc, Bool, refl, subst, sym}
-use Rattle.std.proofs.lemmas.List.{drop_more, length-drop, nil_from_length}
+use Rattle.std.proofs.lemmas.List.{drop_more, nil_from_length}
 use Rattle.std.proofs.lemmas.List.Concat.{flat_map-append}
+use Rattle.std.proofs.lemmas.Str.{encode_ascii}
+use Rattle.std.specs.Char.{encode_utf8}
 use Rattle.std.specs.String.{string_bytes}
 use Rattle.trace_explain.specs.declared.write.sheet.Sheet.{Sheet}
 use Rattle.trace_explain.specs.Sheets.{Adds, PutsLines}
@@ -47,26 +49,47 @@ completes_more first now next all piece rest so_far more = λ last h.
 pub completed : (first now : Sheet) (all : List ℕ) → Completes first all now [] → Adds first all now
 completed first now all so_far = so_far now (adds_nothing now)
 
--- nothing is left
-none_left : (xs : List ℕ) (i : ℕ) → length xs ≤ i → drop i xs ≡ []
-none_left xs i h = nil_from_length (drop i xs) (omega (arith, h, length-drop i xs))
+-- a front that is added as it is, then one letter, and at last nothing
+pub letters_front : (f : ℕ → List ℕ) (front others : List ℕ) {rest all : List ℕ}
+    {first now next : Sheet} → rest ≡ front ++ others → flat_map f front ≡ front
+    → Completes first all now (flat_map f rest) → Adds now front next
+    → Completes first all next (flat_map f others)
+letters_front f front others {rest} {all} {first} {now} {next} cut plain so_far more =
+    let Q : List ℕ → Type 0 = λ x. Completes first all now x in
+    completes_more first now next all front (flat_map f others)
+    (subst Q (ap (flat_map f) cut ∙ flat_map-append f front others
+    ∙ ap (λ x. x ++ flat_map f others) plain) so_far) more
 
--- one letter more
-pub letters_more : (f : ℕ → List ℕ) (line : List ℕ) (i : ℕ) (first now next : Sheet)
-    → i < length line → Completes first (flat_map f line) now (flat_map f (drop i line))
-    → Adds now (f (get_or line i 0)) next
-    → Completes first (flat_map f line) next (flat_map f (drop (i + 1) line))
-letters_more f line i first now next lt so_far more =
-    let Q : List ℕ → Type 0 = λ x. Completes first (flat_map f line) now (flat_map f x) in
-    completes_more first now next (flat_map f line) (f (get_or line i 0))
-    (flat_map f (drop (i + 1) line)) (subst Q (drop_more line i 0 lt) so_far) more
+pub letters_more : (f : ℕ → List ℕ) (rest : List ℕ) {all : List ℕ} {first now next : Sheet}
+    → 0 < length rest → Completes first all now (flat_map f rest)
+    → Adds now (f (get_or rest 0 0)) next → Completes first all next (flat_map f (drop 1 rest))
+letters_more f rest {all} {first} {now} {next} some so_far more =
+    let Q : List ℕ → Type 0 = λ x. Completes first all now (flat_map f x) in
+    completes_more first now next all (f (get_or rest 0 0)) (flat_map f (drop 1 rest))
+    (subst Q (drop_more rest 0 0 some) so_far) more
 
-pub letters_done : (f : ℕ → List ℕ) (line : List ℕ) (i : ℕ) (first now : Sheet) → length line ≤ i
-    → Completes first (flat_map f line) now (flat_map f (drop i line))
-    → Adds first (flat_map f line) now
-letters_done f line i first now le so_far =
-    let Q : List ℕ → Type 0 = λ x. Completes first (flat_map f line) now (flat_map f x) in
-    completed first now (flat_map f line) (subst Q (none_left line i le) so_far)
+pub letters_done : (f : ℕ → List ℕ) (rest : List ℕ) {all : List ℕ} {first now : Sheet}
+    → length rest ≡ 0 → Completes first all now (flat_map f rest) → Adds first all now
+letters_done f rest {all} {first} {now} none so_far =
+    let Q : List ℕ → Type 0 = λ x. Completes first all now (flat_map f x) in
+    completed first now all (subst Q (nil_from_length rest none) so_far)
+
+pub spaces_more : (n i : ℕ) {first now next : Sheet} → i < n
+    → Completes first (spaces n) now (spaces (n - i)) → Adds now (encode_utf8 32) next
+    → Completes first (spaces n) next (spaces (n - (i + 1)))
+spaces_more n i {first} {now} {next} lt so_far more =
+    let left : ℕ = n - (i + 1) in
+    let e : n - i ≡ suc left = omega (arith, lt) in
+    let Q : ℕ → Type 0 = λ k. Completes first (spaces n) now (spaces k) in
+    completes_more first now next (spaces n) (32 ∷ []) (spaces left) (subst Q e so_far)
+    (adds_as _ _ now next (encode_ascii 32 (omega arith)) more)
+
+pub spaces_done : (n i : ℕ) {first now : Sheet} → n ≤ i
+    → Completes first (spaces n) now (spaces (n - i)) → Adds first (spaces n) now
+spaces_done n i {first} {now} le so_far =
+    let e : n - i ≡ 0 = omega (arith, le) in
+    let Q : ℕ → Type 0 = λ k. Completes first (spaces n) now (spaces k) in
+    completed first now (spaces n) (subst Q e so_far)
 
 -- any lines of the rest complete the lines of all
 abbrev pub LinesGoOn : ℕ → ℕ → Bool → List ℕ → List ℕ → Sheet → Sheet → Type 0

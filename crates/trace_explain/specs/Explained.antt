@@ -1,5 +1,5 @@
 -- What an explainer without `--resume` has explained, line by line.
-use Rattle.std.specs.Prelude.{◌≡◌, ◌<◌, ◌≤◌, ℕ, ◌+◌, ◌-◌, ◌^◌, min, List, [], ◌∷◌, ◌++◌, length, take, get_or, Bool, Option, Some, None, true, false, ◌==◌, ◌&&◌, not, is_some, Ok, Err}
+use Rattle.std.specs.Prelude.{◌≡◌, ◌<◌, ◌≤◌, ℕ, ◌+◌, ◌-◌, ◌^◌, min, List, [], ◌∷◌, ◌++◌, length, take, get_or, Bool, Option, Some, None, true, false, ◌==◌, ◌&&◌, not, Ok, Err}
 use Rattle.std.specs.Global.{Vec}
 use Rattle.t0_core.specs.declared.end.End.{End}
 use Rattle.t0_core.specs.History as history
@@ -161,7 +161,7 @@ refused number why = fault.BadLine number why
 
 -- The lines have no signs, and so far nothing shows that the trace begins between two TPDUs.
 abbrev pub is_astray : Explainer → Bool
-is_astray e = is_some e.reading.unsigned && not e.teller.is_led
+is_astray e = e.reading.is_unsigned && not e.teller.is_led
 
 -- It has heard this character of the dialogue, and reported what ended with it; or no dialogue
 -- continues with it.

@@ -1,7 +1,6 @@
 -- The lines of a trace, with or without signs, and the events that each leads to.
-use Rattle.std.specs.Prelude.{◌≡◌, ◌≢◌, ◌⊎◌, ℕ, ◌+◌, ◌*◌, List, [], ◌∷◌, ◌++◌, take, drop, codes, length, eqb, Option, Some, None, Ok, Bool, true, false, not, nat_le, ◌==◌, ◌&&◌, ◌||◌, if◌then◌else◌}
+use Rattle.std.specs.Prelude.{MatchBool, ◌≡◌, ◌≢◌, ◌⊎◌, ℕ, ◌+◌, ◌*◌, List, [], ◌∷◌, ◌++◌, take, drop, codes, length, eqb, Option, Some, None, Ok, Bool, true, false, not, nat_le, ◌==◌, ◌&&◌, ◌||◌, if◌then◌else◌}
 use Rattle.std.specs.List.{AllByRecursion, flat_map, starts_with}
-use Rattle.std.specs.Option.{MatchOption}
 use Rattle.hex.specs.Hex.{hex_digit_value, is_hex_digit}
 use Rattle.t0_core.specs.declared.end.End.{End}
 use Rattle.t0_core.specs.declared.end.End.TheVariants as end
@@ -17,7 +16,6 @@ use Rattle.trace_explain.specs.declared.read.trace_line.Source.{Source}
 use Rattle.trace_explain.specs.declared.read.trace_line.Source.TheVariants.{Sign, Turn}
 use Rattle.trace_explain.specs.declared.read.trace_line.TraceLine.{TraceLine}
 use Rattle.trace_explain.specs.declared.read.trace_line.TraceLine.TheVariants as trace_line
-use Rattle.trace_explain.specs.declared.read.ways.Ways.{Ways}
 use Rattle.trace_explain.specs.Noted.{HasNoted, IsNoted, NoneContinues}
 use Rattle.trace_explain.specs.Openings.{Opening, begins_answer, has_begun, is_dialogue, opens, role_of, unopened}
 use Rattle.trace_explain.specs.Times.{behind_clock, behind_time, place_of}
@@ -131,25 +129,24 @@ Suits (Some known) form = form ≡ known
 abbrev pub SaysSigned : Option Form → List ℕ → TraceLine → Type 0
 SaysSigned known line (trace_line.Characters (Sign form from) bytes) =
     SpellsCharacters form line from bytes.items × Suits known form
-SaysSigned known line (trace_line.Characters (Turn ways) bytes) = ⊥
+SaysSigned known line (trace_line.Characters Turn bytes) = ⊥
 SaysSigned known line trace_line.Reset = behind_time line ≡ codes "reset"
 SaysSigned known line (trace_line.Note note) = (is_signed (behind_time line) ≡ false)
     × (behind_time line ≢ codes "reset") × (known ≡ None → are_digits line ≡ false)
 
--- The same in a trace without signs, where the options give these ways: characters are digits,
--- perhaps after a time.
-abbrev pub SaysUnsigned : Ways → List ℕ → TraceLine → Type 0
-SaysUnsigned ways line (trace_line.Characters (Sign form from) bytes) = ⊥
-SaysUnsigned ways line (trace_line.Characters (Turn known) bytes) = (known ≡ ways)
-    × (is_digits (behind_clock line) ≡ true) × (bytes_in (behind_clock line) ≡ Some bytes.items)
-SaysUnsigned ways line trace_line.Reset = behind_time line ≡ codes "reset"
-SaysUnsigned ways line (trace_line.Note note) = (is_digits (behind_clock line) ≡ false)
+-- The same in a trace without signs: characters are digits, perhaps after a time.
+abbrev pub SaysUnsigned : List ℕ → TraceLine → Type 0
+SaysUnsigned line (trace_line.Characters (Sign form from) bytes) = ⊥
+SaysUnsigned line (trace_line.Characters Turn bytes) = (is_digits (behind_clock line) ≡ true)
+    × (bytes_in (behind_clock line) ≡ Some bytes.items)
+SaysUnsigned line trace_line.Reset = behind_time line ≡ codes "reset"
+SaysUnsigned line (trace_line.Note note) = (is_digits (behind_clock line) ≡ false)
     × (is_signed (behind_time line) ≡ false) × (behind_time line ≢ codes "reset")
 
 -- What a line says.
 abbrev pub Says : Reading → List ℕ → TraceLine → Type 0
-Says reading line trace_line = MatchOption reading.unsigned
-    (SaysSigned reading.form line trace_line) (λ ways. SaysUnsigned ways line trace_line)
+Says reading line trace_line = MatchBool reading.is_unsigned (SaysUnsigned line trace_line)
+    (SaysSigned reading.form line trace_line)
 
 -- These are not characters of an end in any form.
 abbrev pub SpellsNothing : List ℕ → Type 0
@@ -177,8 +174,8 @@ IsBadUnsigned bad.OutOfMemory line = Unit {0}
 IsBadUnsigned other line = ⊥
 
 abbrev pub IsBadLine : LineFault → Reading → List ℕ → Type 0
-IsBadLine why reading line = MatchOption reading.unsigned
-    (IsBadSigned why reading.form line) (λ ways. IsBadUnsigned why line)
+IsBadLine why reading line = MatchBool reading.is_unsigned (IsBadUnsigned why line)
+    (IsBadSigned why reading.form line)
 
 -- The state of a trace between two lines: the opening since it began or the card was reset; whether
 -- a character of either end was received; how its next lines are read.
@@ -194,7 +191,7 @@ first_of_all reading = record { opening = unopened; has_characters = false; read
 -- The reading after a line of characters of this source, whose sign decides the form.
 abbrev pub read_on : Source → Reading → Reading
 read_on (Sign form from) reading = record reading { form = Some form }
-read_on (Turn ways) reading = reading
+read_on Turn reading = reading
 
 -- The position after a character of this end.
 abbrev pub after_character : Position → End → ℕ → Position

@@ -81,4 +81,4 @@ sender reading from = if reading.swaps then other_end from else from
 -- Who sends the next character.
 abbrev pub source_at : Source → Reading → Opening → Listener → ℕ → Result End TurnFault
 source_at (Sign form from) reading o l b = Ok (sender reading from)
-source_at (Turn ways) reading o l b = turn_at ways o l b
+source_at Turn reading o l b = turn_at reading.ways o l b

@@ -34,7 +34,7 @@ pub struct Request<'a> {
 /// invalid value of `--mask`, `--to-card` or `--from-card` is a wrong word.
 pub fn parsed<'a>(alloc: Global, words: &'a [String]) -> Result<Request<'a>, Error> {
     let matches = command(alloc)?.try_get_matches_from(words)?;
-    let unsigned = unsigned(alloc, &matches)?;
+    let ways = ways(alloc, &matches)?;
     let mask = mask(alloc, &matches)?;
     let medium = if matches.get_flag("html") {
         Medium::Html
@@ -47,7 +47,8 @@ pub fn parsed<'a>(alloc: Global, words: &'a [String]) -> Result<Request<'a>, Err
         reading: Reading {
             form: matches.get_str("form").and_then(Form::of_name),
             swaps: matches.get_flag("swap"),
-            unsigned,
+            is_unsigned: matches.get_flag("unsigned"),
+            ways,
             of_tpdus: matches.get_flag("tpdu"),
         },
         layout: Layout { medium, is_summary },
@@ -77,12 +78,9 @@ fn mask(alloc: Global, matches: &ArgMatches<'_>) -> Result<Mask, Error> {
     }
 }
 
-/// Which way the data of instructions go, if the lines have no signs. The error says what is wrong
-/// with the instructions.
-fn unsigned(alloc: Global, matches: &ArgMatches<'_>) -> Result<Option<Ways>, Error> {
-    if !matches.get_flag("unsigned") {
-        return Ok(None);
-    }
+/// The ways of instructions that the options give. The error says what is wrong with the
+/// instructions.
+fn ways(alloc: Global, matches: &ArgMatches<'_>) -> Result<Ways, Error> {
     let mut ways = Ways::none();
     let options = [
         ("to-card", Direction::ToCard),
@@ -96,7 +94,7 @@ fn unsigned(alloc: Global, matches: &ArgMatches<'_>) -> Result<Option<Ways>, Err
             return Err(command(alloc)?.error(ErrorKind::ValueValidation, text.as_str())?);
         }
     }
-    Ok(Some(ways))
+    Ok(ways)
 }
 
 /// The program with its options.

@@ -23,7 +23,6 @@ use crate::read::log::Log;
 use crate::read::reading::Reading;
 use crate::read::time::cut_time;
 use crate::read::trace_line::{LineFault, Source, TraceLine, read_line};
-use crate::read::ways::Ways;
 use crate::resuming::{Passed, Resuming};
 use crate::write::layout::Layout;
 use crate::write::notes::tell_passed;
@@ -112,8 +111,8 @@ impl Explainer {
         }
         match read_line(self.alloc, &self.reading, line, time, rest) {
             Ok(TraceLine::Characters(source, bytes)) => {
-                self.reading = self.reading.with(&source);
-                self.characters(&source, bytes.as_slice())
+                self.reading.take(source);
+                self.characters(source, bytes.as_slice())
             }
             Ok(TraceLine::Reset) => {
                 self.reset()?;
@@ -128,13 +127,13 @@ impl Explainer {
     }
 
     /// Explains the characters of a line, or passes over them.
-    fn characters(&mut self, source: &Source, bytes: &[u8]) -> Result<(), ExplainFault>
+    fn characters(&mut self, source: Source, bytes: &[u8]) -> Result<(), ExplainFault>
         ensures explained { (events : List Event) (before : List Report) →
             HasExplained events before self.old → OnOk result
-            (ExplainsCharacters source.now bytes.now events before self.old self.new) }
+            (ExplainsCharacters source bytes.now events before self.old self.new) }
         ensures stops { (events : List Event) (before : List Report) →
             HasExplained events before self.old →
-            IfErr result (λ fault. StopsAmong fault source.now self.old.line
+            IfErr result (λ fault. StopsAmong fault source self.old.line
             (position_of self.old) bytes.now events before) }
         ensures counts { OnOk result (self.new.line ≡ self.old.line) }
         ensures of_lines { IfErr result IsOfLines }
@@ -170,7 +169,7 @@ impl Explainer {
     }
 
     /// Whether a line is passed over; a header ends that.
-    fn is_passed_over(&mut self, source: &Source, bytes: &[u8]) -> bool
+    fn is_passed_over(&mut self, source: Source, bytes: &[u8]) -> bool
         ensures none { self.old.resuming.passed ≡ None →
             (result ≡ false) × (self.new ≡ self.old) }
         ensures counts { self.new.line ≡ self.old.line }
@@ -189,26 +188,26 @@ impl Explainer {
 
     /// Whether it continues with this line, as with a header. It does not if a mask hides
     /// something: a header is shown, and this one may be data.
-    fn may_begin(&self, source: &Source, bytes: &[u8]) -> bool {
+    fn may_begin(&self, source: Source, bytes: &[u8]) -> bool {
         let is_terminals = match source {
-            Source::Sign(_, from) => self.reading.sender(*from) == End::Terminal,
-            Source::Turn(_) => false,
+            Source::Sign(_, from) => self.reading.sender(from) == End::Terminal,
+            Source::Turn => false,
         };
         is_terminals && bytes.len() == 5 && !self.teller.mask.hides()
     }
 
     /// Returns who sends the next character: the end of the sign, or the one whose turn it is.
-    fn sender(&self, source: &Source, byte: u8) -> Result<End, TurnFault>
-        ensures { result ≡ source_at source.now self.now.reading (opening_of self.now.preface)
+    fn sender(&self, source: Source, byte: u8) -> Result<End, TurnFault>
+        ensures { result ≡ source_at source self.now.reading (opening_of self.now.preface)
             self.now.listener byte }
     {
         match source {
-            Source::Sign(_, from) => Ok(self.reading.sender(*from)),
-            Source::Turn(ways) => {
+            Source::Sign(_, from) => Ok(self.reading.sender(from)),
+            Source::Turn => {
                 let stage = self.preface.stage;
                 if stage.has_begun() {
                     turn_within(
-                        ways,
+                        &self.reading.ways,
                         self.listener.expected(),
                         &self.listener.under_way,
                         byte,
@@ -276,14 +275,14 @@ impl Explainer {
                 byte,
                 hides: self.teller.mask.hides(),
             },
-            is_astray: self.reading.unsigned.is_some() && !self.teller.is_led,
+            is_astray: self.reading.is_unsigned && !self.teller.is_led,
         }
     }
 
     /// Continues after a protocol error: this line is a header, or what follows is passed over.
     fn resume(
         &mut self,
-        source: &Source,
+        source: Source,
         bytes: &[u8],
         complaint: Complaint,
     ) -> Result<(), AllocError>

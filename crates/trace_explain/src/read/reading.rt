@@ -17,24 +17,22 @@ pub struct Reading {
     pub form: Option<Form>,
     /// Whether the other end sends what follows each sign.
     pub swaps: bool,
-    /// Lines have no signs; the options give these ways of instructions. `None`: lines have signs.
-    pub unsigned: Option<Ways>,
+    /// Whether lines have no signs.
+    pub is_unsigned: bool,
+    /// The ways of instructions that the options give. They count without signs.
+    pub ways: Ways,
     /// Whether the lines are a log of whole TPDUs or APDUs.
     pub of_tpdus: bool,
 }
 
 impl Reading {
-    /// The same after a line of characters of this source: the form is that of its sign, whatever
+    /// Reads on after a line of characters of this source: the form is that of its sign, whatever
     /// it was before. Without a sign nothing changes.
-    pub fn with(self, source: &Source) -> Reading
-        ensures { result ≡ read_on source.now self }
+    pub fn take(&mut self, source: Source)
+        ensures { self.new ≡ read_on source self.old }
     {
-        match source {
-            Source::Sign(form, _) => Reading {
-                form: Some(*form),
-                ..self
-            },
-            Source::Turn(_) => self,
+        if let Source::Sign(form, _) = source {
+            self.form = Some(form);
         }
     }
 
@@ -44,14 +42,14 @@ impl Reading {
         let counts = if self.of_tpdus {
             matches!(rest, [b'>' | b'<', ..] | b"reset")
         } else {
-            self.unsigned.is_none() || !are_decimal(time)
+            !(self.is_unsigned && are_decimal(time))
         };
         if counts { time } else { &[] }
     }
 
     /// Returns the end whose characters follow this end's sign.
-    pub fn sender(self, from: End) -> End
-        ensures { result ≡ sender self from }
+    pub fn sender(&self, from: End) -> End
+        ensures { result ≡ sender self.now from }
     {
         if self.swaps { other_end(from) } else { from }
     }

@@ -7,7 +7,6 @@ use crate::read::digits::{bytes_of, is_digits};
 use crate::read::form::{Form, Sign};
 use crate::read::reading::Reading;
 use crate::read::time::{behind_clock, place_of};
-use crate::read::ways::Ways;
 use std::alloc::{AllocError, Global};
 use t0_core::End;
 use thiserror::Error;
@@ -17,8 +16,8 @@ use thiserror::Error;
 pub enum Source {
     /// The end of the line's sign, which has this form.
     Sign(Form, End),
-    /// The end whose turn it is. The options give these ways of instructions.
-    Turn(Ways),
+    /// The end whose turn it is.
+    Turn,
 }
 
 /// What a line of a trace contains.
@@ -86,9 +85,10 @@ pub fn read_line<'a>(
     ensures says { IfOk result (λ trace_line. Says reading.now line.now trace_line) }
     ensures refused { IfErr result (λ why. IsBadLine why reading.now line.now) }
 {
-    match reading.unsigned {
-        None => read_signed(alloc, reading.form, line, rest),
-        Some(ways) => read_unsigned(alloc, ways, line, time, rest),
+    if reading.is_unsigned {
+        read_unsigned(alloc, line, time, rest)
+    } else {
+        read_signed(alloc, reading.form, line, rest)
     }
 }
 
@@ -129,19 +129,18 @@ fn read_signed<'a>(
 /// - `Signed`: it begins with a sign.
 fn read_unsigned<'a>(
     alloc: Global,
-    ways: Ways,
     line: &'a [u8],
     time: &[u8],
     rest: &[u8],
 ) -> Result<TraceLine<'a>, LineFault>
     requires time { time.now ≡ time_in line.now }
     requires rest { rest.now ≡ behind_time line.now }
-    ensures says { IfOk result (λ trace_line. SaysUnsigned ways line.now trace_line) }
+    ensures says { IfOk result (λ trace_line. SaysUnsigned line.now trace_line) }
     ensures refused { IfErr result (λ why. IsBadUnsigned why line.now) }
 {
     let digits = behind_clock(line, time, rest);
     if is_digits(digits) {
-        return Ok(TraceLine::Characters(Source::Turn(ways), bytes_of(alloc, digits)?));
+        return Ok(TraceLine::Characters(Source::Turn, bytes_of(alloc, digits)?));
     }
     if is_signed(rest) {
         return Err(LineFault::Signed);

@@ -241,17 +241,18 @@ impl Page {
 /// Adds words that begin in this column, counted from 0. Where a line of text is full, `wrap`
 /// replaces a space, and the words continue in column `indent`. Returns the column after the words.
 fn push_wrapped(out: &mut Sheet, words: &str, begins: usize, wrap: &str, indent: usize) -> usize {
-    let columns = match out.layout().medium {
-        Medium::Text => COLUMNS,
-        Medium::Html => usize::MAX,
-    };
+    let behind = begins.saturating_add(words.len());
+    if behind <= COLUMNS || matches!(out.layout().medium, Medium::Html) {
+        out.push_str(words);
+        return behind;
+    }
     let mut column = begins;
     let mut is_first = true;
     for word in words.split(' ') {
         let behind = column.saturating_add(word.len());
         if is_first {
             column = behind;
-        } else if behind < columns {
+        } else if behind < COLUMNS {
             out.push(' ');
             column = behind.saturating_add(1);
         } else {

@@ -1,5 +1,5 @@
 //! Rows, by one table of the text before, between and after the lines of each.
-ghost use Rattle.std.specs.Prelude.{◌≡◌, ℕ, List, flat_map};
+ghost use Rattle.std.specs.Prelude.{◌≡◌, ◌≤◌, ◌∷◌, ◌++◌, ℕ, List, [], true, flat_map, length, take};
 ghost use Rattle.trace_explain.specs.Sheets.{Adds, HasText};
 ghost use Rattle.trace_explain.specs.Written.{before, behind, label_before, letter, letters, row, some_row};
 
@@ -52,8 +52,51 @@ fn push_row(sheet: &mut Sheet, side: Side, label: &str, text: &[u8])
 pub fn push_letters(sheet: &mut Sheet, medium: Medium, indent: &str, text: &[u8])
     ensures { Adds sheet.old (letters medium indent.now text.now) sheet.new }
 {
-    for &byte in text {
-        push_letter(sheet, medium, indent, byte);
+    let mut rest = text;
+    'fronts: while !rest.is_empty() {
+        let (front, others) = plain_front(medium, rest);
+        sheet.push_str(front);
+        if others.is_empty() {
+            return;
+        }
+        push_letter(sheet, medium, indent, others[0]);
+        rest = &others[1..];
+    }
+}
+
+/// Returns the bytes that `push_letter` adds as they are, up to the first other one, and the rest.
+fn plain_front(medium: Medium, text: &[u8]) -> (&str, &[u8])
+    ensures cut { text.now ≡ result.0.now ++ result.1.now }
+    ensures plain { (indent : List ℕ) → letters medium indent result.0.now ≡ result.0.now }
+{
+    let (front, others) = text.split_at(plain_len(medium, text));
+    match str::from_utf8(front) {
+        Ok(front) => (front, others),
+        Err(_) => ("", text),
+    }
+}
+
+/// The number of such bytes.
+fn plain_len(medium: Medium, text: &[u8]) -> usize
+    ensures within { result ≤ length text.now }
+    ensures plain { (indent : List ℕ) →
+        letters medium indent (take result text.now) ≡ take result text.now }
+{
+    for place in 0..text.len() {
+        if !is_plain(medium, text[place]) {
+            return place;
+        }
+    }
+    text.len()
+}
+
+/// Whether `push_letter` adds this byte as it is.
+fn is_plain(medium: Medium, byte: u8) -> bool
+    ensures { result ≡ true → (indent : List ℕ) → letter medium indent byte ≡ byte ∷ [] }
+{
+    match medium {
+        Medium::Text => byte < 0x80 && byte != b'\n',
+        Medium::Html => byte < 0x80 && !matches!(byte, b'<' | b'>' | b'&'),
     }
 }
 

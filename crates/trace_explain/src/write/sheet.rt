@@ -72,8 +72,11 @@ impl Sheet {
     pub fn push_number(&mut self, number: u64)
         ensures { Adds self.old (decimal number) self.new }
     {
-        match format!(in self.alloc; "{number}") {
-            Ok(digits) => self.push_str(digits.as_str()),
+        if self.is_cut {
+            return;
+        }
+        match self.text.write(number) {
+            Ok(()) => {}
             Err(_) => self.is_cut = true,
         }
     }
@@ -92,9 +95,8 @@ impl Sheet {
     pub fn push_spaces(&mut self, count: usize)
         ensures { Adds self.old (spaces count) self.new }
     {
-        match " ".repeat(self.alloc, count) {
-            Ok(spaces) => self.push_str(spaces.as_str()),
-            Err(_) => self.is_cut = true,
+        for _ in 0..count {
+            self.push(' ');
         }
     }
 

@@ -16,7 +16,7 @@ loop-place-init c = (
 pub loop-place-preserved : goal.loop-place-preserved
 loop-place-preserved c = (
   λ events before h.
-      taken_on c.args.source.now c.args.bytes.now c.loop-place.place
+      taken_on c.args.source c.args.bytes.now c.loop-place.place
       (omega (arith, c.loop-place-test.true)) (sym c.sender.ensures ∙ c.in-Ok.is)
       (λ es ts k. rw c.if-stops.false at (c.in_ok-stops-in-Ok.ensures.takes es ts k))
       (c.loop-place.invariant.0 events before h),

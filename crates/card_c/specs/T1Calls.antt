@@ -1,5 +1,5 @@
 -- What the calls on the handle of a terminal's end at T=1 do to it. A refusal changes nothing.
-use Rattle.std.specs.Prelude.{◌≡◌, ◌⊎◌, ℕ, ℤ, ◌+◌, ◌<◌, ◌==◌, Bool, true, false, List, [], ◌++◌, take, length, Option, Some, None, if◌then◌else◌}
+use Rattle.std.specs.Prelude.{◌≡◌, ◌⊎◌, ℕ, ℤ, ◌<◌, ◌==◌, Bool, true, false, List, [], ◌++◌, take, length, Option, Some, None, if◌then◌else◌}
 use Rattle.t1_core.specs.declared.block.Control.TheVariants.{Wtx}
 use Rattle.t1_core.specs.declared.settings.Edc.TheVariants.{Lrc}
 use Rattle.t1_core.specs.declared.settings.Settings.{Settings}

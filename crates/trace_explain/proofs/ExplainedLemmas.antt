@@ -88,16 +88,17 @@ line_refused other line n events before old h n_is = (n_is, h)
 
 -- What stops it among the characters of a line stops it in that line.
 pub line_stops : (f : ExplainFault) (line : List ℕ) (n : ℕ) (source : Source) (bytes : Vec ℕ)
-    (events : List Event) (before : List Report) (old : Explainer)
+    {r : Reading} {bs : List ℕ} (events : List Event) (before : List Report) (old : Explainer)
     → Says old.reading line (said.Characters source bytes) → n ≡ next_line old
-    → StopsAmong f source n (record (position_of old) { reading = read_on source old.reading })
-    bytes.items events before → StopsAtLine f line old events before
-line_stops (fault.NoDialogue c) line n source bytes events before old says n_is (number, right) =
-    (number ∙ n_is, (source, bytes, says, right))
-line_stops (fault.NoTurn m k why) line n source bytes events before old says n_is (number, unsent) =
-    (number ∙ n_is, (source, bytes, says, unsent))
-line_stops fault.OutOfMemory line n source bytes events before old says n_is h = tt
-line_stops other line n source bytes events before old says n_is h = absurd h
+    → r ≡ read_on source old.reading → bs ≡ bytes.items
+    → StopsAmong f source n (record (position_of old) { reading = r }) bs events before
+    → StopsAtLine f line old events before
+line_stops (fault.NoDialogue c) line n source bytes events before old says n_is on are
+    (number, right) = (number ∙ n_is, (source, bytes, says, rw (on, are) at right))
+line_stops (fault.NoTurn m k why) line n source bytes events before old says n_is on are
+    (number, unsent) = (number ∙ n_is, (source, bytes, says, rw (on, are) at unsent))
+line_stops fault.OutOfMemory line n source bytes events before old says n_is on are h = tt
+line_stops other line n source bytes events before old says n_is on are h = absurd h
 
 -- One more character follows the others.
 taken_more : (source : Source) (so_far : List Event) (at mid after : Position) (front : List ℕ)

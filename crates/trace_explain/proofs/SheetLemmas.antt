@@ -50,15 +50,14 @@ pub completed : (first now : Sheet) (all : List ℕ) → Completes first all now
 completed first now all so_far = so_far now (adds_nothing now)
 
 -- a front that is added as it is, then one letter, and at last nothing
-pub letters_front : (f : ℕ → List ℕ) (front others : List ℕ) {rest all : List ℕ}
-    {first now next : Sheet} → rest ≡ front ++ others → flat_map f front ≡ front
+pub letters_front : (f : ℕ → List ℕ) {front rest all : List ℕ} (others : List ℕ) {first now next : Sheet}
+    → rest ≡ front ++ others → flat_map f front ≡ front
     → Completes first all now (flat_map f rest) → Adds now front next
     → Completes first all next (flat_map f others)
-letters_front f front others {rest} {all} {first} {now} {next} cut plain so_far more =
+letters_front f {front} {all = all} others {first} {now} {next} cut plain so_far more =
     let Q : List ℕ → Type 0 = λ x. Completes first all now x in
-    completes_more first now next all front (flat_map f others)
-    (subst Q (ap (flat_map f) cut ∙ flat_map-append f front others
-    ∙ ap (λ x. x ++ flat_map f others) plain) so_far) more
+    completes_more first now next all front (flat_map f others) (subst Q (ap (flat_map f) cut
+    ∙ flat_map-append f front others ∙ ap (λ x. x ++ flat_map f others) plain) so_far) more
 
 pub letters_more : (f : ℕ → List ℕ) (rest : List ℕ) {all : List ℕ} {first now next : Sheet}
     → 0 < length rest → Completes first all now (flat_map f rest)
@@ -74,14 +73,14 @@ letters_done f rest {all} {first} {now} none so_far =
     let Q : List ℕ → Type 0 = λ x. Completes first all now (flat_map f x) in
     completed first now all (subst Q (nil_from_length rest none) so_far)
 
+-- one space more, and then all
 pub spaces_more : (n i : ℕ) {first now next : Sheet} → i < n
     → Completes first (spaces n) now (spaces (n - i)) → Adds now (encode_utf8 32) next
     → Completes first (spaces n) next (spaces (n - (i + 1)))
 spaces_more n i {first} {now} {next} lt so_far more =
-    let left : ℕ = n - (i + 1) in
-    let e : n - i ≡ suc left = omega (arith, lt) in
+    let e : n - i ≡ suc (n - (i + 1)) = omega (arith, lt) in
     let Q : ℕ → Type 0 = λ k. Completes first (spaces n) now (spaces k) in
-    completes_more first now next (spaces n) (32 ∷ []) (spaces left) (subst Q e so_far)
+    completes_more first now next (spaces n) (32 ∷ []) (spaces (n - (i + 1))) (subst Q e so_far)
     (adds_as _ _ now next (encode_ascii 32 (omega arith)) more)
 
 pub spaces_done : (n i : ℕ) {first now : Sheet} → n ≤ i

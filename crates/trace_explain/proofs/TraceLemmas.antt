@@ -1,8 +1,8 @@
 -- A whole trace after one more byte or line.
-use Rattle.std.proofs.Common.{◌≡◌, ℕ, ◌+◌, ◌-◌, ◌^◌, min, ◌<◌, ◌≤◌, slice_index, List, [], ◌∷◌, ◌++◌, length, drop, get_or, cond, not, suc, Bool, true, false, ◌==◌, refl, sym, ap, subst, ◌∙◌, append-nil, append_assoc, Result, Ok, Err, IfErr, OnOk, IsErrAnd, Option, Some, None, IfSome, take, arith, length-take}
-use Rattle.std.proofs.lemmas.Bool.{eqb-true, ne_eqb}
-use Rattle.std.proofs.lemmas.List.{drop_more, length-append, length-drop, nil_from_length}
-use Rattle.std.proofs.lemmas.List.Sums.{passes_at_first}
+use Rattle.std.proofs.Common.{◌≡◌, ℕ, ◌+◌, ◌-◌, ◌^◌, min, ◌<◌, ◌≤◌, slice_index, List, [], ◌∷◌, ◌++◌, length, drop, add-one, get_or, Bool, true, false, ◌==◌, refl, sym, ap, subst, ◌∙◌, append-nil, append_assoc, Result, Ok, Err, IfErr, OnOk, IsErrAnd, Option, Some, None, IfSome, take, arith, length-take}
+use Rattle.std.proofs.Math.Seq.{drop-cons}
+use Rattle.std.proofs.lemmas.Bool.{ne_eqb}
+use Rattle.std.proofs.lemmas.List.{drop_all, length-append}
 use Rattle.std.specs.Io.KnownBytes.{Consumes, IsAtEnd}
 use Rattle.std.specs.Str.Lines.{strip_carriage_return}
 use Rattle.std.specs.String.{string_bytes}
@@ -18,7 +18,6 @@ use Rattle.trace_explain.specs.Reports.{Report}
 use Rattle.trace_explain.specs.Lines.{LineLeads, Position, first_of_all}
 use Rattle.trace_explain.specs.Explained.{HasExplained, ExplainsLine, StopsAtLine, StopsIfAt, line_of, next_line, position_of}
 use Rattle.trace_explain.specs.Trace.{HasReceived, IsExplained, IsOfEnd, IsOfLines, IsOfSink, IsOver, IsReached, IsReady, KeepsLimit, SayAll, SayInTurn, StopsIn, StopsInLine, lines_from}
-use Rattle.trace_explain.specs.Times.{place_of}
 use Rattle.trace_explain.proofs.AccountLemmas.{written_more, written_out}
 
 -- The events of one more line follow the others.
@@ -49,10 +48,12 @@ say_more so_far at mid after (one ∷ before) line events more
           (subst P (ap (λ es. so_far ++ es) cut ∙ sym (append_assoc so_far first rest)) leads),
     )
 
-fed : (line given left bytes : List ℕ) → bytes ≡ 10 ∷ left → given ≡ strip_carriage_return line
+fed : (line given left bytes : List ℕ) (b : ℕ) → bytes ≡ b ∷ left → b ≡ 10
+    → given ≡ strip_carriage_return line
     → lines_from line bytes ≡ given ∷ lines_from [] left
-fed line given left bytes left_is same =
-    ap (lines_from line) left_is ∙ ap (λ l. l ∷ lines_from [] left) (sym same)
+fed line given left bytes b left_is is same =
+    ap (lines_from line) (left_is ∙ ap (λ x. x ∷ left) is)
+    ∙ ap (λ l. l ∷ lines_from [] left) (sym same)
 
 line_continues : (line left : List ℕ) (b : ℕ) → (b == 10) ≡ false
     → lines_from line (b ∷ left) ≡ lines_from (line ++ b ∷ []) left
@@ -101,64 +102,23 @@ line_more {front} {reading} given next left {old} new come counts ends explains 
 
 -- It ended with LF.
 pub line_fed : {front : Out} {reading : Reading} {all : List (List ℕ)} {line bytes : List ℕ}
-    (given left : List ℕ) {old : Explainer} (new : Explainer)
-    → HasReceived front reading all line bytes old → new.line ≡ next_line old → bytes ≡ 10 ∷ left
-    → given ≡ strip_carriage_return line → Explains given old new
+    (given left : List ℕ) (b : ℕ) {old : Explainer} (new : Explainer)
+    → HasReceived front reading all line bytes old → new.line ≡ next_line old → bytes ≡ b ∷ left
+    → b ≡ 10 → given ≡ strip_carriage_return line → Explains given old new
     → HasReceived front reading all [] left new
-line_fed {line = line} {bytes = bytes} given left new come counts left_is same explains =
-    line_more given [] left new come counts (fed line given left bytes left_is same) explains
+line_fed {line = line} {bytes = bytes} given left b new come counts left_is is same explains =
+    line_more given [] left new come counts (fed line given left bytes b left_is is same) explains
 
-one_more : (n : ℕ) → 1 + n ≡ suc n
-one_more n = omega arith
-
-place_here : (b : ℕ) (rest : List ℕ) → (b == 10) ≡ true → place_of 10 (b ∷ rest) ≡ 0
-place_here b rest e = ap (λ v. cond (not v) (1 + place_of 10 rest) 0) e
-
-place_later : (b : ℕ) (rest : List ℕ) → (b == 10) ≡ false
-    → place_of 10 (b ∷ rest) ≡ suc (place_of 10 rest)
-place_later b rest e =
-    ap (λ v. cond (not v) (1 + place_of 10 rest) 0) e ∙ one_more (place_of 10 rest)
-
--- What precedes the first LF of a chunk is of this line, and LF follows.
-lines_through : (line rest left : List ℕ) → lines_from line (rest ++ left)
-    ≡ lines_from (line ++ take (place_of 10 rest) rest) (drop (place_of 10 rest) rest ++ left)
-lines_through line [] left = ap (λ l. lines_from l left) (sym (append-nil line))
-lines_through line (b ∷ rest) left = split (b == 10) refl (lines_through (line ++ b ∷ []) rest left)
-  where
-    Q : ℕ → Type 0
-    Q n = lines_from line (b ∷ (rest ++ left))
-        ≡ lines_from (line ++ take n (b ∷ rest)) (drop n (b ∷ rest) ++ left)
-
-    split : (v : Bool) → (b == 10) ≡ v
-        → lines_from (line ++ b ∷ []) (rest ++ left)
-        ≡ lines_from ((line ++ b ∷ []) ++ take (place_of 10 rest) rest)
-        (drop (place_of 10 rest) rest ++ left) → Q (place_of 10 (b ∷ rest))
-    split true e later = subst Q (sym (place_here b rest e))
-        (ap (λ l. lines_from l (b ∷ (rest ++ left))) (sym (append-nil line)))
-    split false e later = subst Q (sym (place_later b rest e))
-        (line_continues line (rest ++ left) b e ∙ later
-        ∙ ap (λ l. lines_from l (drop (place_of 10 rest) rest ++ left))
-        (append_assoc line (b ∷ []) (take (place_of 10 rest) rest)))
-
--- A chunk is cut before its first LF.
-abbrev pub IsCut : (chunk part others : List ℕ) → ℕ → Type 0
-IsCut chunk part others n =
-    (n ≡ place_of 10 chunk) × (part ≡ take n chunk) × (others ≡ drop n chunk)
-
-cut_lines : (line chunk left : List ℕ) {part others : List ℕ} {n : ℕ}
-    → IsCut chunk part others n
-    → lines_from line (chunk ++ left) ≡ lines_from (line ++ part) (others ++ left)
-cut_lines line chunk left (n_is, part_is, others_is) =
-    rw (others_is, part_is, n_is) (lines_through line chunk left)
-
-pub part_more : {front : Out} {reading : Reading} {all : List (List ℕ)} {line : List ℕ}
-    (chunk left : List ℕ) {part others next : List ℕ} {n : ℕ} {e : Explainer}
-    → IsCut chunk part others n → HasReceived front reading all line (chunk ++ left) e
-    → next ≡ line ++ part → HasReceived front reading all next (others ++ left) e
-part_more {line = line} chunk left {others = others} cut come same = record {
+-- One more byte of a line was received.
+pub byte_more : {front : Out} {reading : Reading} {all : List (List ℕ)} {line bytes : List ℕ}
+    (next left : List ℕ) (b : ℕ) {e : Explainer} → HasReceived front reading all line bytes e
+    → bytes ≡ b ∷ left → (b == 10) ≡ false → next ≡ line ++ b ∷ []
+    → HasReceived front reading all next left e
+byte_more {line = line} next left b come left_is other same = record {
   before = come.before;
-  is_cut = come.is_cut ∙ ap (λ ls. come.before ++ ls) (cut_lines line chunk left cut
-      ∙ ap (λ l. lines_from l (others ++ left)) (sym same));
+  is_cut = come.is_cut ∙ ap (λ ls. come.before ++ ls)
+      (ap (lines_from line) left_is ∙ line_continues line left b other
+      ∙ ap (λ l. lines_from l left) (sym same));
   number_is = come.number_is;
   events = come.events;
   says = come.says;
@@ -167,18 +127,12 @@ part_more {line = line} chunk left {others = others} cut come same = record {
   written = come.written;
 }
 
-pub feed_next : (chunk left : List ℕ) {part others : List ℕ} {n : ℕ} → IsCut chunk part others n
-    → 0 < length others → others ++ left ≡ 10 ∷ (drop 1 others ++ left)
-feed_next chunk left {others = others} (n_is, part_is, others_is) some =
-    let at : ℕ = place_of 10 chunk in
-    let is : others ≡ drop at chunk = others_is ∙ ap (λ n. drop n chunk) n_is in
-    let within : at < length chunk =
-    omega (arith, length-drop at chunk, ap (λ xs. length xs) is, some) in
-    let first : get_or others 0 0 ≡ 10 =
-    ap (λ xs. get_or xs 0 0) (is ∙ drop_more chunk at 0 within)
-    ∙ eqb-true (get_or chunk at 0) 10 (passes_at_first (λ b. b == 10) chunk 0 within) in
-    ap (λ bytes. bytes ++ left) (drop_more others 0 0 some)
-    ∙ ap (λ b. b ∷ (drop 1 others ++ left)) first
+-- The rest of a chunk, and what follows it.
+pub next_byte : (chunk left : List ℕ) (i : ℕ) → i < length chunk
+    → drop i chunk ++ left ≡ get_or chunk i 0 ∷ (drop (i + 1) chunk ++ left)
+next_byte chunk left i within =
+    ap (λ bytes. bytes ++ left) (drop-cons chunk i 0 within)
+    ∙ ap (λ n. get_or chunk i 0 ∷ (drop n chunk ++ left)) (sym (add-one i))
 
 -- At the end all lines are explained.
 abbrev pub Ends : Out → Explainer → List Report → Listener → Type 0
@@ -265,16 +219,19 @@ first_longer line (b ∷ left) n more =
     split false e (first, others, is, long) =
         (first, others, line_continues line left b e ∙ is, long)
 
-pub too_long : {front : Out} {reading : Reading} {all : List (List ℕ)} {line : List ℕ}
-    (chunk left : List ℕ) {part others : List ℕ} {at n : ℕ} {e : Explainer}
-    → IsCut chunk part others at → HasReceived front reading all line (chunk ++ left) e
-    → 4194304 < length line + length part → n ≡ next_line e
+pub too_long : {front : Out} {reading : Reading} {all : List (List ℕ)} {line bytes : List ℕ}
+    (left : List ℕ) (b n : ℕ) {e : Explainer} → HasReceived front reading all line bytes e
+    → bytes ≡ b ∷ left → (b == 10) ≡ false → 4194304 ≤ length line → n ≡ next_line e
     → StopsIn reading all (fault.LineTooLong n)
 unfolding reached
-too_long {line = line} chunk left {part} {others} {n = n} cut come long number =
-    let (first, behind, is, first_long) = first_longer (line ++ part) (others ++ left) 4194304
-    (omega (arith, length-append line part, long)) in
-    (reached n first behind come (cut_lines line chunk left cut ∙ is) number, first_long)
+too_long {line = line} left b n come bytes_is other long number =
+    let (first, others, is, first_long) = first_longer (line ++ b ∷ []) left 4194304
+    (omega (arith, length-append line (b ∷ []), long)) in (
+      reached n first others come
+          (ap (lines_from line) bytes_is ∙ line_continues line left b other ∙ is)
+          number,
+      first_long,
+    )
 
 -- A line that stops an explainer.
 abbrev pub Stops : ExplainFault → List ℕ → Explainer → Type 0
@@ -303,13 +260,13 @@ line_stops_in f given others of come ends stops =
 
 pub fed_stops : {T : Type 0} {front : Out} {reading : Reading} {all : List (List ℕ)}
     {line bytes : List ℕ} (r : Result T ExplainFault) (f : ExplainFault) (given left : List ℕ)
-    {old : Explainer} → IsErrAnd r (λ x. x ≡ f) → IsOfLines f
-    → HasReceived front reading all line bytes old → bytes ≡ 10 ∷ left
+    (b : ℕ) {old : Explainer} → IsErrAnd r (λ x. x ≡ f) → IsOfLines f
+    → HasReceived front reading all line bytes old → bytes ≡ b ∷ left → b ≡ 10
     → given ≡ strip_carriage_return line → Stops f given old → IfErr r (StopsIn reading all)
-fed_stops {reading = reading} {all = all} {line = line} {bytes = bytes} r f given left passed of
-    come left_is same stops =
+fed_stops {reading = reading} {all = all} {line = line} {bytes = bytes} r f given left b passed of
+    come left_is is same stops =
     fault_passed r f (StopsIn reading all) passed (line_stops_in f given (lines_from [] left) of
-    come (fed line given left bytes left_is same) stops)
+    come (fed line given left bytes b left_is is same) stops)
 
 pub last_stops : {T : Type 0} {front : Out} {reading : Reading} {all : List (List ℕ)}
     (result : Result T ExplainFault) (line : List ℕ) {old : Explainer}
@@ -323,12 +280,12 @@ last_stops (Err f) line some come stops of =
 
 -- A chunk has ended.
 pub none_of_chunk : {front : Out} {reading : Reading} {all : List (List ℕ)} {line : List ℕ}
-    (rest left : List ℕ) {e : Explainer} → length rest ≡ 0
-    → HasReceived front reading all line (rest ++ left) e
+    (chunk left : List ℕ) (i : ℕ) {e : Explainer} → length chunk ≤ i
+    → HasReceived front reading all line (drop i chunk ++ left) e
     → HasReceived front reading all line left e
-none_of_chunk {front} {reading} {all} {line} rest left {e} none come =
+none_of_chunk {front} {reading} {all} {line} chunk left i {e} past come =
     let P : List ℕ → Type 0 = λ bytes. HasReceived front reading all line (bytes ++ left) e in
-    subst P (nil_from_length rest none) come
+    subst P (drop_all i chunk past) come
 
 -- Before the first byte.
 pub is_ready : {front : Out} {reading : Reading} {e : Explainer} → HasExplained [] [] e

@@ -11,8 +11,8 @@ ghost use Rattle.trace_explain.specs.Trace.{HasReceived, IsExplained, IsOfLines,
 use crate::describe::mask::Mask;
 use crate::explain_fault::ExplainFault;
 use crate::explainer::Explainer;
+use crate::read::digits::push;
 use crate::read::reading::Reading;
-use crate::read::time::place_of;
 use crate::write::layout::Layout;
 use crate::write::sheet::Sheet;
 use crate::write::sink::Sink;
@@ -122,21 +122,17 @@ pub fn explain_chunk(
         IfErr result (StopsIn reading all) }
     ensures of_lines { IfErr result IsOfLines }
 {
-    let mut rest = chunk;
-    'lines: while !rest.is_empty() {
-        let (part, others) = rest.split_at(place_of(b'\n', rest));
-        if part.len() > LINE_LIMIT.saturating_sub(line.len()) {
+    for &byte in chunk {
+        if byte == b'\n' {
+            explainer.line(without_return(line.as_slice()))?;
+            line.clear();
+        } else if line.len() < LINE_LIMIT {
+            push(line, byte)?;
+        } else {
             return Err(ExplainFault::LineTooLong {
                 line: explainer.next_line(),
             });
         }
-        line.extend_from_slice(part)?;
-        if others.is_empty() {
-            return Ok(());
-        }
-        explainer.line(without_return(line.as_slice()))?;
-        line.clear();
-        rest = &others[1..];
     }
     Ok(())
 }

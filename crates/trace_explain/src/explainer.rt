@@ -114,14 +114,8 @@ impl Explainer {
                 self.reading.take(source);
                 self.characters(source, bytes.as_slice())
             }
-            Ok(TraceLine::Reset) => {
-                self.reset()?;
-                Ok(())
-            }
-            Ok(TraceLine::Note(note)) => {
-                self.teller.note(note)?;
-                Ok(())
-            }
+            Ok(TraceLine::Reset) => Ok(self.reset()?),
+            Ok(TraceLine::Note(note)) => Ok(self.teller.note(note)?),
             Err(why) => Err(refused(self.line, why)),
         }
     }

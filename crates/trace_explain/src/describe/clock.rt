@@ -111,9 +111,7 @@ impl Clock {
         if self.shown.is_empty() {
             return;
         }
-        for &byte in self.shown.as_slice() {
-            text.push(char::from(byte));
-        }
+        text.push_str(str::from_utf8(self.shown.as_slice()).unwrap_or(""));
         if let Some(nanos) = self.since {
             text.push_str(", ");
             push_duration(text, nanos);

@@ -46,12 +46,8 @@ impl Sheet {
     pub fn push_str(&mut self, words: &str)
         ensures { Adds self.old words.now self.new }
     {
-        if self.is_cut {
-            return;
-        }
-        match self.text.push_str(words) {
-            Ok(()) => {}
-            Err(_) => self.is_cut = true,
+        if !self.is_cut {
+            self.is_cut = self.text.push_str(words).is_err();
         }
     }
 
@@ -59,12 +55,8 @@ impl Sheet {
     pub fn push(&mut self, letter: char)
         ensures { Adds self.old (encode_utf8 letter) self.new }
     {
-        if self.is_cut {
-            return;
-        }
-        match self.text.push(letter) {
-            Ok(()) => {}
-            Err(_) => self.is_cut = true,
+        if !self.is_cut {
+            self.is_cut = self.text.push(letter).is_err();
         }
     }
 
@@ -72,12 +64,8 @@ impl Sheet {
     pub fn push_number(&mut self, number: u64)
         ensures { Adds self.old (decimal number) self.new }
     {
-        if self.is_cut {
-            return;
-        }
-        match self.text.write(number) {
-            Ok(()) => {}
-            Err(_) => self.is_cut = true,
+        if !self.is_cut {
+            self.is_cut = self.text.write(number).is_err();
         }
     }
 

@@ -2,8 +2,6 @@ use Rattle.std.proofs.Common.{[], ◌∷◌, refl}
 use Rattle.std.proofs.lemmas.Result.{IfErr-weaker, on_ok_weaker}
 use Rattle.t0_core.specs.History.{Reset}
 use Rattle.trace_explain.specs.declared.read.trace_line.TraceLine.TheVariants as said
-use Rattle.trace_explain.specs.declared.explain_fault.ExplainFault.{ExplainFault}
-use Rattle.trace_explain.specs.Explained.{StopsAmong, position_of}
 use Rattle.trace_explain.proofs.AccountLemmas.{boxes_from, boxes_stay}
 use Rattle.trace_explain.proofs.ExplainedLemmas.{explains_from, explains_nothing, line_refused, line_stops, read_on_hears}
 use Rattle.trace_explain.proofs.explainer.Explainer.line.Goals as goal
@@ -27,13 +25,10 @@ returns-in-Ok-Characters-clause-explained c = λ events before h.
 pub returns-in-Ok-Characters-clause-stops : goal.returns-in-Ok-Characters-clause-stops
 returns-in-Ok-Characters-clause-stops c = λ events before h.
     let source = c.in-Ok-Characters.source in
-    let P : ExplainFault → Type 0 = λ f. StopsAmong f source c.saturating_add-self.result
-    (record (position_of c.args.self.now) { reading = c.take.new.self }) c.as_slice.result.now
-    events before in
-    IfErr-weaker c.characters.result P _
+    IfErr-weaker c.characters.result _ _
     (λ f stops. line_stops f _ _ source c.in-Ok-Characters.bytes events before _
     (rw c.in-Ok-Characters.field-0-is at c.in-Ok-Characters.ensures.says)
-    c.saturating_add-self.ensures (rw (c.take.ensures, c.as_slice.ensures.value) at stops))
+    c.saturating_add-self.ensures c.take.ensures c.as_slice.ensures.value stops)
     (c.characters.ensures.stops events before
     (h.0, (h.1.0, h.1.1, read_on_hears source _ c.take.ensures h.1.2)))
 

@@ -44,7 +44,7 @@ ENDS = '<div class="ends"><span>Terminal</span><span>Card</span></div><div>'
 ODD = re.compile(rb"\\x([0-9A-F]{2})")
 # The program's signs, the longer ones first. A line has one after an optional time or count.
 FORM = HERE.parents[1] / "crates/trace_explain/src/read/form.rt"
-SIGNS = sum(re.findall(r'=> "(.+) and (.+)"', FORM.read_text(encoding="utf-8")), ())
+SIGNS = sum(re.findall(r'Row\(.+, "(.+)", "(.+)"\)', FORM.read_text(encoding="utf-8")), ())
 ANY_SIGN = "|".join(sorted(map(re.escape, SIGNS), key=len, reverse=True)).encode()
 SIGNED = re.compile(
     rb"^((?:\[ *[\d:.]+\] *|\+[\d:.]+ +[mu]?s +|\d+[:.][\d:.]* +)?)"

@@ -17,8 +17,7 @@ use Rattle.trace_explain.specs.Noted.{as_ended, bared, ended_by, is_bare}
 use Rattle.trace_explain.specs.Sheets.{Joins}
 use Rattle.trace_explain.specs.Reports.{Report, one_more, report_of}
 use Rattle.trace_explain.specs.Words.{IsWords}
-use Rattle.trace_explain.proofs.SheetLemmas.{adds_nothing}
-use Rattle.trace_explain.proofs.WordLemmas.{words_both}
+use Rattle.trace_explain.proofs.SheetLemmas.{adds_nothing, words_both}
 
 are_both : (w : Manner) (n : ℕ) (xs ys : List Boxed) → AreBoxes w n xs
     → AreBoxes w (number_after n xs) ys → AreBoxes w n (xs ++ ys)

@@ -1,8 +1,8 @@
 -- What an explainer has explained after one more character or line.
-use Rattle.std.proofs.Common.{◌≡◌, ℕ, List, [], ◌∷◌, ◌++◌, length, sym, subst, ◌∙◌, ap, Bool, true, false, ◌==◌, ◌&&◌, refl, append-nil, Result, Ok, Err, OnOk, arith, ◌+◌, ◌<◌, take, append_assoc, get_or}
+use Rattle.std.proofs.Common.{◌≡◌, ℕ, List, [], ◌∷◌, ◌++◌, length, sym, subst, ◌∙◌, ap, true, false, ◌==◌, refl, append-nil, Result, Ok, Err, OnOk, arith, ◌+◌, ◌<◌, take, append_assoc, get_or}
 use Rattle.std.specs.List.{flat_map}
 use Rattle.std.proofs.lemmas.Bool.{eqb-true}
-use Rattle.std.proofs.lemmas.List.{nil_from_length, length-append, take_more}
+use Rattle.std.proofs.lemmas.List.{nil_from_length, take_more}
 use Rattle.t0_core.specs.declared.end.End.{End}
 use Rattle.t0_core.specs.Front.{Front, In_header, In_body, After_first, front_characters}
 use Rattle.t0_core.specs.History.{Event, events_of, passed}
@@ -35,11 +35,7 @@ on_ok_too (Err e) P Q h next = tt
 pub explains_nothing : (events : List Event) (before : List Report) {old : Explainer}
     (e : Explainer) → HasExplained events before e → AddsBoxes [] old.teller e.teller
     → ExplainsMore [] events before old e
-explains_nothing events before e h boxes = record {
-  reports = [];
-  explained = rw (append-nil events, append-nil before) h;
-  boxes = boxes;
-}
+explains_nothing events before e h boxes = grind (arith, append-nil)
 
 -- What was written before stays.
 pub explains_from : {more events : List Event} {before : List Report} {old mid new : Explainer}
@@ -51,9 +47,7 @@ explains_from begins h =
 -- If no character of a header is reported, no dialogue has started.
 front_of_none : (t : Report) (front : Front) → ReportsFront t front → length t.header ≡ 0
     → passed (front_characters front) ≡ []
-front_of_none t (In_header bytes) reports none =
-    ap (λ bs. passed (front_characters (In_header bs)))
-    (nil_from_length bytes (sym (size_of reports) ∙ none))
+front_of_none t (In_header bytes) reports none = grind (arith, nil_from_length, size_of)
 front_of_none t (In_body b) reports none = absurd (omega (arith, none, size_of reports))
 front_of_none t (After_first b sw1) reports none = absurd (omega (arith, none, size_of reports))
 
@@ -68,10 +62,6 @@ over_behind l noted none = record {
       ∙ append-nil (flat_map events_of noted.items);
   are_noted = noted.are_noted;
 }
-
-pub both_hold : (a b : Bool) → (a && b) ≡ true → (a ≡ true) × (b ≡ true)
-both_hold true b e = (refl, e)
-both_hold false b e = absurd (let no : false ≡ true = e in cc)
 
 -- A line of characters is not one of a log.
 pub read_on_hears : (source : Source) (reading : Reading) {r : Reading}

@@ -1,23 +1,20 @@
 -- Pieces that are added to a sheet, one after another.
-use Rattle.std.proofs.Common.{◌≡◌, ℕ, List, [], ◌∷◌, ◌++◌, ◌∙◌, ◌+◌, ◌-◌, ◌<◌, ◌≤◌, length, drop, get_or, take, replicate, flat_map, suc, add-one, arith, ap, append-nil, append_assoc, Bool, refl, subst, sym}
-use Rattle.std.proofs.lemmas.List.{drop_more, nil_from_length}
+use Rattle.std.proofs.Common.{◌≡◌, ℕ, List, [], ◌∷◌, ◌++◌, ◌∙◌, ◌+◌, ◌-◌, ◌<◌, ◌≤◌, length, drop, get_or, take, flat_map, suc, arith, ap, append-nil, append_assoc, Bool, refl, subst, sym, true}
+use Rattle.std.proofs.lemmas.List.{drop_more, nil_from_length, flat_map_more}
 use Rattle.std.proofs.lemmas.List.Concat.{flat_map-append}
 use Rattle.std.proofs.lemmas.Str.{encode_ascii}
 use Rattle.std.specs.Char.{encode_utf8}
-use Rattle.std.specs.String.{string_bytes}
 use Rattle.trace_explain.specs.declared.write.sheet.Sheet.{Sheet}
-use Rattle.trace_explain.specs.Sheets.{Adds, PutsLines}
+use Rattle.trace_explain.specs.Sheets.{Adds, PutsLines, Joins, Puts}
 use Rattle.trace_explain.specs.Written.{AreLines, content, lines_text, spaces}
+use Rattle.trace_explain.specs.declared.write.layout.Layout.{Layout}
+use Rattle.trace_explain.specs.declared.write.layout.Medium.{Medium}
+use Rattle.trace_explain.specs.declared.write.words.Form.{Form}
+use Rattle.trace_explain.specs.Words.{IsWords, Words, has_own, piece_text}
+use Rattle.trace_explain.specs.Boxes.{InOrder}
 
 pub adds_both : (x y : List ℕ) (a b c : Sheet) → Adds a x b → Adds b y c → Adds a (x ++ y) c
-adds_both x y a b c h k = record {
-  layout = k.layout ∙ h.layout;
-  whole = λ w. h.whole (k.whole w);
-  text = λ w. k.text w ∙ ap (λ t. t ++ y) (h.text (k.whole w))
-      ∙ append_assoc (string_bytes a.text) x y;
-  cut = λ w. k.cut (h.cut w);
-  stays = λ w. k.stays (h.cut w) ∙ h.stays w;
-}
+adds_both x y a b c h k = grind (arith, append_assoc)
 
 pub adds_five : {x y z l e : List ℕ} {a b c d f g : Sheet} → Adds a x b → Adds b y c → Adds c z d
     → Adds d l f → Adds f e g → Adds a (x ++ y ++ z ++ l ++ e) g
@@ -25,13 +22,7 @@ adds_five h i j k m =
     adds_both _ _ _ _ _ (adds_both _ _ _ _ _ (adds_both _ _ _ _ _ (adds_both _ _ _ _ _ h i) j) k) m
 
 pub adds_nothing : (a : Sheet) → Adds a [] a
-adds_nothing a = record {
-  layout = refl;
-  whole = λ w. w;
-  text = λ w. sym (append-nil (string_bytes a.text));
-  cut = λ w. w;
-  stays = λ w. refl;
-}
+adds_nothing a = grind (arith, append-nil)
 
 pub adds_as : (x y : List ℕ) (a b : Sheet) → x ≡ y → Adds a x b → Adds a y b
 adds_as x y a b e h = let P : List ℕ → Type 0 = λ t. Adds a t b in subst P e h
@@ -127,3 +118,51 @@ pub lines_both : (xs ys : List (List ℕ)) (a b c : Sheet) → Adds a (lines_tex
     → Adds b (lines_text ys) c → Adds a (lines_text (xs ++ ys)) c
 lines_both xs ys a b c h k = adds_as (lines_text xs ++ lines_text ys) (lines_text (xs ++ ys)) a c
     (sym (flat_map-append (λ line. 10 ∷ line) xs ys)) (adds_both _ _ a b c h k)
+
+pub words_both : (m : Medium) (x y : List ℕ) → IsWords m x → IsWords m y → IsWords m (x ++ y)
+words_both m x y (xs, x_is) (ys, y_is) =
+    let f : Words → List ℕ = λ w. piece_text m w.form w.text in (
+      xs ++ ys,
+      ap (λ t. t ++ y) x_is ∙ ap (λ t. flat_map f xs ++ t) y_is
+          ∙ sym (flat_map-append f xs ys),
+    )
+
+pub same_medium : (a b : Sheet) → b.layout ≡ a.layout → b.layout.medium ≡ a.layout.medium
+same_medium a b e = ap (λ (x : Layout). x.medium) e
+
+pub none_joined : (a : Sheet) → Joins a a
+none_joined a = ([], ([], refl), adds_nothing a)
+
+-- one piece more
+pub piece_joined : (form : Form) (text : List ℕ) (a b c : Sheet) → has_own form ≡ true → Joins a b
+    → Adds b (piece_text b.layout.medium form text) c → Joins a c
+piece_joined form text a b c own (x, (all, is), h) k =
+    let m : Medium = a.layout.medium in
+    let P : Medium → Type 0 = λ n. Adds b (piece_text n form text) c in
+    let f : Words → List ℕ = λ w. piece_text m w.form w.text in
+    let one : Words = record { form = form; own = own; text = text } in
+    let y : List ℕ = piece_text m form text in (
+      x ++ y,
+      (all ++ one ∷ [], ap (λ t. t ++ y) is ∙ flat_map_more f [] all one),
+      adds_both x y a b c h (subst P (same_medium a b h.layout) k),
+    )
+
+-- these were added in turn
+pub record Put (forms : List (Medium → List ℕ → Type 0)) (a b : Sheet) : Type 0 where
+  pub puts : Puts (InOrder forms) a b
+
+pub put_none : {a : Sheet} → Put [] a a
+put_none {a} = record { puts = ([], refl, adds_nothing a) }
+
+pub put_first : (Is : Medium → List ℕ → Type 0) {forms : List (Medium → List ℕ → Type 0)}
+    {a b c : Sheet} → Puts Is a b → Put forms b c → Put (Is ∷ forms) a c
+put_first Is {forms} {a} {b} {c} (x, is, h) others =
+    let (y, are, k) = others.puts in
+    let P : Medium → Type 0 = λ m. InOrder forms m y in
+    record {
+      puts = (
+        x ++ y,
+        (x, y, refl, is, subst P (same_medium a b h.layout) are),
+        adds_both x y a b c h k,
+      );
+    }

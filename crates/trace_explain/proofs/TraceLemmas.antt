@@ -51,9 +51,7 @@ say_more so_far at mid after (one ∷ before) line events more
 fed : (line given left bytes : List ℕ) (b : ℕ) → bytes ≡ b ∷ left → b ≡ 10
     → given ≡ strip_carriage_return line
     → lines_from line bytes ≡ given ∷ lines_from [] left
-fed line given left bytes b left_is is same =
-    ap (lines_from line) (left_is ∙ ap (λ x. x ∷ left) is)
-    ∙ ap (λ l. l ∷ lines_from [] left) (sym same)
+fed line given left bytes b left_is is same = grind (arith)
 
 line_continues : (line left : List ℕ) (b : ℕ) → (b == 10) ≡ false
     → lines_from line (b ∷ left) ≡ lines_from (line ++ b ∷ []) left
@@ -130,9 +128,7 @@ byte_more {line = line} next left b come left_is other same = record {
 -- The rest of a chunk, and what follows it.
 pub next_byte : (chunk left : List ℕ) (i : ℕ) → i < length chunk
     → drop i chunk ++ left ≡ get_or chunk i 0 ∷ (drop (i + 1) chunk ++ left)
-next_byte chunk left i within =
-    ap (λ bytes. bytes ++ left) (drop-cons chunk i 0 within)
-    ∙ ap (λ n. get_or chunk i 0 ∷ (drop n chunk ++ left)) (sym (add-one i))
+next_byte chunk left i within = grind (arith, add-one, drop-cons)
 
 -- At the end all lines are explained.
 abbrev pub Ends : Out → Explainer → List Report → Listener → Type 0
@@ -283,9 +279,7 @@ pub none_of_chunk : {front : Out} {reading : Reading} {all : List (List ℕ)} {l
     (chunk left : List ℕ) (i : ℕ) {e : Explainer} → length chunk ≤ i
     → HasReceived front reading all line (drop i chunk ++ left) e
     → HasReceived front reading all line left e
-none_of_chunk {front} {reading} {all} {line} chunk left i {e} past come =
-    let P : List ℕ → Type 0 = λ bytes. HasReceived front reading all line (bytes ++ left) e in
-    subst P (drop_all i chunk past) come
+none_of_chunk {front} {reading} {all} {line} chunk left i {e} past come = grind (arith, drop_all)
 
 -- Before the first byte.
 pub is_ready : {front : Out} {reading : Reading} {e : Explainer} → HasExplained [] [] e
@@ -319,8 +313,7 @@ still_received {front} e s out come = record {
   written = written_out front come.reports e s out come.written;
 }
 
--- What holds of the bytes that were read, whatever follows, holds of the known ones; and of all
--- bytes if none are left.
+-- What holds of the bytes read, whatever follows, holds of the known ones; of all if none are left.
 pub of_known : (a b : Option (List ℕ)) (bytes : List ℕ) (P : List ℕ → Type 0)
     → Consumes a b bytes → ((left : List ℕ) → P (bytes ++ left)) → IfSome a P
 of_known None b bytes P reads h = tt
@@ -333,9 +326,7 @@ pub of_all : (a b c : Option (List ℕ)) {n : ℕ} (bytes room : List ℕ) (P : 
 of_all None b c bytes room P none reads last ends h = tt
 of_all (Some all) None c bytes room P none reads last ends h = absurd reads
 of_all (Some all) (Some left) None bytes room P none reads last ends h = absurd last
-of_all (Some all) (Some left) (Some more) {n} bytes room P none reads last ends h =
-    subst P (sym (reads ∙ ap (λ l. bytes ++ l)
-    (last ∙ ap (λ l. take n room ++ l) ends ∙ ap (λ m. take m room ++ []) none))) h
+of_all (Some all) (Some left) (Some more) {n} bytes room P none reads last ends h = grind (arith)
 
 -- A trace keeps the limit.
 is_over : (f : ExplainFault) (bytes : List ℕ) → IsOfLines f → IsOver bytes f

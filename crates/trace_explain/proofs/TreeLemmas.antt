@@ -91,9 +91,7 @@ past_object tags all now next old new put after some tag words below g level_is 
 -- the line of an object begins with its tag
 begun_as : (told tag : List ℕ) (level l : ℕ) (a b : Sheet) → told ≡ tag → level ≡ l
     → Adds a (10 ∷ object level told) b → Adds a (10 ∷ object l tag) b
-begun_as told tag level l a b tag_is level_is h =
-    adds_as (10 ∷ object level told) (10 ∷ object l tag) a b
-    (ap (λ t. 10 ∷ object level t) tag_is ∙ ap (λ k. 10 ∷ object k tag) level_is) h
+begun_as told tag level l a b tag_is level_is h = grind (arith, adds_as)
 
 pub past_masked : (tags : List (List ℕ)) (all now next : ObjectList) (old new put after : Sheet)
     (some : Bool) (padding tag size value told : List ℕ) (level : ℕ)

@@ -90,8 +90,7 @@ account_of t = record {
 abbrev pub manner_of : Account → Manner
 manner_of a = record { keeps = a.keeps; mask = a.mask; layout = a.sheet.layout }
 
--- A teller that writes boxes has added those of these reports, in turn, and no others, unless
--- memory ran out.
+-- Unless memory ran out, a teller of boxes has added those of these reports alone, in turn.
 pub record Shows (reports : List Report) (old new : Account) : Type 0 where
   pub manner : manner_of new ≡ manner_of old
   pub adds : Writes (manner_of old) → new.sheet.is_cut ≡ false

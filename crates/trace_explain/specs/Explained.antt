@@ -163,8 +163,7 @@ refused number why = fault.BadLine number why
 abbrev pub is_astray : Explainer → Bool
 is_astray e = e.reading.is_unsigned && not e.teller.is_led
 
--- It has heard this character of the dialogue, and reported what ended with it; or no dialogue
--- continues with it.
+-- It has heard this character of a dialogue, and reported what ended; or none continues with it.
 abbrev pub Hears
     : Bool → End → ℕ → List Event → List Report → Listener → Listener → Teller → Teller → Type 0
 Hears true from b events before l after old new = (reports : List Report)

@@ -1,6 +1,8 @@
 -- The lines of a trace, with or without signs, and the events that each leads to.
-use Rattle.std.specs.Prelude.{MatchBool, ◌≡◌, ◌≢◌, ◌⊎◌, ℕ, ◌+◌, ◌*◌, List, [], ◌∷◌, ◌++◌, take, drop, codes, length, eqb, Option, Some, None, Ok, Bool, true, false, not, nat_le, ◌==◌, ◌&&◌, ◌||◌, if◌then◌else◌}
+use Rattle.std.specs.Prelude.{MatchBool, ◌≡◌, ◌≢◌, ◌⊎◌, ℕ, ◌+◌, ◌*◌, List, [], ◌∷◌, ◌++◌, take, drop, codes, length, eqb, Option, Some, None, Ok, Bool, true, false, not, nat_le, ◌==◌, ◌&&◌, ◌||◌, if◌then◌else◌, ◌-◌, nat_eq}
 use Rattle.std.specs.List.{AllByRecursion, flat_map, starts_with}
+use Rattle.std.specs.Cmp.Lexicographic.{pointwise}
+use Rattle.std.specs.Option.{is_some}
 use Rattle.hex.specs.Hex.{hex_digit_value, is_hex_digit}
 use Rattle.t0_core.specs.declared.end.End.{End}
 use Rattle.t0_core.specs.declared.end.End.TheVariants as end
@@ -8,6 +10,8 @@ use Rattle.t0_core.specs.History as history
 use Rattle.t0_core.specs.History.{Event, Item, events_of}
 use Rattle.trace_explain.specs.declared.read.form.Form.{Form}
 use Rattle.trace_explain.specs.declared.read.form.Form.TheVariants as form
+use Rattle.trace_explain.specs.declared.read.form.Row.{Row}
+use Rattle.trace_explain.specs.declared.read.form.Sign.{Sign as Found}
 use Rattle.trace_explain.specs.declared.read.reading.Reading.{Reading}
 use Rattle.trace_explain.specs.declared.follow.listener.Listener.{Listener}
 use Rattle.trace_explain.specs.declared.read.trace_line.LineFault.{LineFault}
@@ -39,6 +43,11 @@ signs_of form.DeviceColon = (codes "IFD:", codes "ICC:")
 abbrev pub sign_of : Form → End → List ℕ
 sign_of form end.Terminal = (signs_of form).0
 sign_of form end.Card = (signs_of form).1
+
+-- Each form.
+abbrev pub forms : List Form
+forms = form.Angle ∷ form.Angles ∷ form.Arrow ∷ form.Double ∷ form.Wire ∷ form.WireColon
+    ∷ form.WireMixed ∷ form.Letter ∷ form.Device ∷ form.DeviceColon ∷ []
 
 -- A line up to its first space, and the rest.
 abbrev pub first_word : List ℕ → List ℕ
@@ -75,8 +84,7 @@ AreBadDigits bad.Hex digits = bytes_in digits ≡ None
 AreBadDigits bad.OutOfMemory digits = Unit {0}
 AreBadDigits other digits = ⊥
 
--- The characters of one end: perhaps a time, then the sign of a form, and digits unless there are
--- no characters.
+-- The characters of one end: perhaps a time, then the sign of a form, and digits if it has any.
 pub record SpellsCharacters (form : Form) (line : List ℕ) (from : End) (bytes : List ℕ) : Type 0
   where
     pub sign_is : first_word (behind_time line) ≡ sign_of form from
@@ -90,21 +98,34 @@ abbrev pub ends_word : List ℕ → Bool
 ends_word [] = true
 ends_word (b ∷ rest) = not (is_in 48 57 b || is_in 65 90 b || is_in 97 122 b)
 
--- The line begins with this, or with this word.
+-- The line begins with this, or with this sign. A sign of letters alone must be a whole word.
 abbrev pub begins_with : List ℕ → List ℕ → Bool
-begins_with line sign = starts_with eqb line sign
+begins_with line text = starts_with eqb line text
 
-abbrev pub begins_with_word : List ℕ → List ℕ → Bool
-begins_with_word line word = begins_with line word && ends_word (drop (length word) line)
+abbrev pub begins_with_sign : List ℕ → List ℕ → Bool
+begins_with_sign line sign = begins_with line sign
+    && (ends_word (drop (length sign - 1) sign) || ends_word (drop (length sign) line))
 
--- The line begins with a sign of some form. A sign of letters alone must be a whole word.
+-- The first sign of these forms that passes a test.
+abbrev pub sign_in : (List ℕ → Bool) → List Form → Option Found
+sign_in test [] = None
+sign_in test (form ∷ forms) =
+    if test (signs_of form).0 then Some (record { form = form; from = end.Terminal })
+    else if test (signs_of form).1 then Some (record { form = form; from = end.Card })
+    else sign_in test forms
+
+-- The line begins with a sign of some form.
 abbrev pub is_signed : List ℕ → Bool
-is_signed line = begins_with line (codes ">") || begins_with line (codes "<")
-    || begins_with line (codes "->") || begins_with line (codes "=>")
-    || begins_with line (codes "Tx:") || begins_with line (codes "Rx:")
-    || begins_with line (codes "T:") || begins_with line (codes "C:")
-    || begins_with_word line (codes "TX") || begins_with_word line (codes "RX")
-    || begins_with_word line (codes "IFD") || begins_with_word line (codes "ICC")
+is_signed line = is_some (sign_in (begins_with_sign line) forms)
+
+-- The line is this sign, or else begins with it.
+abbrev pub fits : List ℕ → Bool → List ℕ → Bool
+fits line is_whole sign =
+    if is_whole then pointwise nat_eq line sign else begins_with_sign line sign
+
+-- A row of the code's table: its signs are those of its form.
+abbrev pub IsRow : Row → Type 0
+IsRow row = (row.2.now ≡ (signs_of row.0).0) × (row.3.now ≡ (signs_of row.0).1)
 
 -- The rest of a line contains digits and spaces alone, and the line begins with a digit.
 abbrev pub is_digits_from : Bool → List ℕ → Bool
@@ -124,8 +145,7 @@ abbrev pub Suits : Option Form → Form → Type 0
 Suits None form = Unit {0}
 Suits (Some known) form = form ≡ known
 
--- What a line says in a trace with signs, of this form if it is known: characters after a sign; a
--- reset; or a note.
+-- What a line with signs of this form, if known, says: characters after a sign, a reset, or a note.
 abbrev pub SaysSigned : Option Form → List ℕ → TraceLine → Type 0
 SaysSigned known line (trace_line.Characters (Sign form from) bytes) =
     SpellsCharacters form line from bytes.items × Suits known form
@@ -134,7 +154,7 @@ SaysSigned known line trace_line.Reset = behind_time line ≡ codes "reset"
 SaysSigned known line (trace_line.Note note) = (is_signed (behind_time line) ≡ false)
     × (behind_time line ≢ codes "reset") × (known ≡ None → are_digits line ≡ false)
 
--- The same in a trace without signs: characters are digits, perhaps after a time.
+-- The same without signs: characters are digits, perhaps after a time.
 abbrev pub SaysUnsigned : List ℕ → TraceLine → Type 0
 SaysUnsigned line (trace_line.Characters (Sign form from) bytes) = ⊥
 SaysUnsigned line (trace_line.Characters Turn bytes) = (is_digits (behind_clock line) ≡ true)
@@ -212,9 +232,8 @@ pub record AreOver (events : List Event) : Type 0 where
   pub events_are : events ≡ flat_map events_of items
   pub are_noted : AllByRecursion IsNoted items
 
--- The card answers again, though no line reports a reset: this character begins an answer between
--- two dialogues, and a listener that has heard these events expects no such character. So the card
--- was reset, and an opening begins.
+-- The card answers again without a line for a reset: between two dialogues this character begins an
+-- answer, and no listener of these events expects it. So the card was reset: an opening begins.
 pub record AnswersAgain (so_far : List Event) (at : Position) (from : End) (b : ℕ)
     (events : List Event) (after : Position) : Type 0 where
   pub has_begun : has_begun at.opening.stage ≡ true

@@ -80,8 +80,7 @@ abbrev pub IsBadSize : LineFault → List ℕ → Type 0
 IsBadSize bad.Hex text = size_in text ≡ None
 IsBadSize other text = ⊥
 
--- What may continue: an answer, if its bytes fill a line and no words follow them; a dump with this
--- many bytes left.
+-- What may continue: an answer whose bytes fill a line without words; a dump with this many left.
 abbrev pub open_if : Bool → Open
 open_if true = going.Answer
 open_if false = going.Nothing

@@ -21,8 +21,7 @@ use Rattle.trace_explain.specs.Reports.{Report, report_of, Reports, ReportsFront
 abbrev pub ReportsPart : Report → List Character → Type 0
 ReportsPart t part = (front : Front) × (part ≡ front_characters front) × ReportsFront t front
 
--- The reports of these items in turn: each whole dialogue, and what a reset cut off of one unless
--- that is nothing.
+-- The reports of these items in turn: whole dialogues, and what a reset cut off of one, if any.
 abbrev pub ReportItems : List Item → List Report → Type 0
 ReportItems [] [] = Unit {0}
 ReportItems [] (t ∷ reports) = ⊥
@@ -83,8 +82,7 @@ pub record HasNoted (events : List Event) (reports : List Report) (l : Listener)
   pub are_reported : ReportItems items reports
   pub under_way : ReportsFront (report_of l.under_way) front
 
--- No dialogue that a tap reads continues or ends with this character, and no bare command has ended
--- before it.
+-- No dialogue of a tap continues or ends with this character, and no bare command ended before it.
 pub record NoneContinues (l : Listener) (c : Character) : Type 0 where
   pub continues : (front next : Front) → TapStandsAt l.tap front → GoesOn front c next
       → IsReadFront next → ⊥

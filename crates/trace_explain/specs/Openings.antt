@@ -1,5 +1,4 @@
--- What comes before a dialogue: the card's answer to reset, and PPS exchanges (ISO/IEC 7816-3,
--- clauses 8 and 9).
+-- What comes before a dialogue: answer to reset and PPS exchanges (ISO/IEC 7816-3, 8 and 9).
 use Rattle.std.specs.Prelude.{ℕ, zero, suc, ◌+◌, List, [], ◌∷◌, ◌++◌, length, slice_index, Option, Some, None, Bool, true, false, not, ◌==◌, ◌&&◌, is_some, if◌then◌else◌}
 use Rattle.atr_core.specs.Conventions.{convention_of, as_sent}
 use Rattle.atr_core.specs.FirstFault.{first_fault}

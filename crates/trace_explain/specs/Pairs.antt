@@ -8,8 +8,7 @@ use Rattle.trace_explain.specs.declared.follow.tpdu.Tpdu.{Tpdu}
 use Rattle.trace_explain.specs.Noted.{are_status}
 use Rattle.trace_explain.specs.Reports.{uncounted}
 
--- A short command (ISO/IEC 7816-4, 5.1): CLA INS P1 P2 and P3, the terminal's data, and Le if it
--- follows them.
+-- A short command (ISO/IEC 7816-4, 5.1): CLA INS P1 P2 P3, the terminal's data, and perhaps Le.
 pub record Command : Type 0 where
   pub header : List ℕ
   pub sent : List ℕ
@@ -19,8 +18,7 @@ abbrev pub command_of : List ℕ → ℕ → List ℕ → Option ℕ → Option 
 command_of header p3 sent le =
     Some (record { header = header ++ p3 ∷ []; sent = sent; le = le })
 
--- P3 is Le if nothing follows it (case 2). Otherwise it is Lc, which is not 00: as many data follow
--- (case 3), and perhaps Le (case 4).
+-- P3 is Le if nothing follows (case 2), else Lc, not 00: as many data follow (3), perhaps Le (4).
 abbrev pub with_p3 : List ℕ → ℕ → List ℕ → Option Command
 with_p3 header p3 rest = if length rest == 0 then command_of header p3 [] None
     else if p3 == 0 then None
@@ -60,8 +58,7 @@ abbrev pub beside : List ℕ → List ℕ → List ℕ
 beside [] brought = []
 beside (b ∷ sent) brought = brought
 
--- The TPDU consists of the command, these data of the card and this status, without procedure
--- bytes.
+-- The TPDU is the command, these data of the card and this status, without procedure bytes.
 pub record ReportsPair (c : Command) (brought status : List ℕ) (t : Tpdu) : Type 0 where
   pub header_is : t.header.items ≡ c.header
   pub tally_is : t.tally ≡ uncounted

@@ -13,8 +13,7 @@ use Rattle.t0_core.specs.TapSide.{Shows}
 use Rattle.trace_explain.specs.declared.follow.tally.Tally.{Tally}
 use Rattle.trace_explain.specs.declared.follow.tpdu.Tpdu.{Tpdu}
 
--- The characters of the header, the number of procedure bytes, which way data moved, the data, and
--- the characters of the status.
+-- The header's characters, the number of procedure bytes, which way data moved, data, and status.
 pub record Report : Type 0 where
   pub header : List ℕ
   pub tally : Tally

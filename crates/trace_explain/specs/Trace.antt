@@ -60,8 +60,7 @@ SayNoCharacters reading all = (events : List Event) × (at : Position)
 abbrev pub number_behind : List (List ℕ) → ℕ
 number_behind before = min (length before + 1) (2 ^ 64 - 1)
 
--- The line with this number. The lines before it were heard, and each whole dialogue in them was
--- reported.
+-- The line with this number. Those before were heard, and each whole dialogue in them reported.
 pub record IsReached (reading : Reading) (all : List (List ℕ)) (number : ℕ) : Type 0 where
   pub before : List (List ℕ)
   pub line : List ℕ
@@ -75,8 +74,7 @@ pub record IsReached (reading : Reading) (all : List (List ℕ)) (number : ℕ) 
   pub listener : Listener
   pub noted : HasNoted events reports listener
 
--- A fault that stops it at a line is right for that line. One at the end means that no line has a
--- character.
+-- A fault that stops it at a line is right for it. One at the end means: no line has a character.
 abbrev pub StopsInLine : Reading → List (List ℕ) → ExplainFault → Option ℕ → Type 0
 StopsInLine reading all f None = Unit {0}
 StopsInLine reading all f (Some number) = (reached : IsReached reading all number)
@@ -91,14 +89,12 @@ abbrev pub IsOver : List ℕ → ExplainFault → Type 0
 IsOver bytes fault.InputTooLong = 1099511627776 < length bytes
 IsOver bytes other = Unit {0}
 
--- A trace that was explained to its end is within the limit. One that is refused for its length
--- exceeds it.
+-- A trace explained to its end is within the limit. One that is refused for its length exceeds it.
 abbrev pub KeepsLimit : {T : Type 0} → List ℕ → Result T ExplainFault → Type 0
 KeepsLimit bytes (Ok x) = length bytes ≤ 1099511627776
 KeepsLimit bytes (Err f) = IsOver bytes f
 
--- The faults at the end of a trace: it resumed after another, passed over characters of an unknown
--- sender, or received none.
+-- The faults at the end: it resumed after one, skipped characters of no known sender, or got none.
 abbrev pub IsOfEnd : ExplainFault → Bool → Type 0
 IsOfEnd (fault.Resumed complaints first) has_characters = Unit {0}
 IsOfEnd (fault.BadPairs complaints line why) has_characters = Unit {0}

@@ -20,8 +20,7 @@ newline = 10 ∷ []
 abbrev pub spaces : ℕ → List ℕ
 spaces n = repeat n (codes " ")
 
--- Text in a row, title or note: each further line is below the first one, after an indent. On a
--- page nothing in it is markup.
+-- Text in a row, title or note: further lines are below the first, indented. A page escapes it.
 abbrev pub letter : Medium → List ℕ → ℕ → List ℕ
 letter Text indent b = if b == 10 then newline ++ indent else encode_utf8 b
 letter Html indent b = if b == 60 then codes "&lt;" else if b == 62 then codes "&gt;"

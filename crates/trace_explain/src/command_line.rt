@@ -2,7 +2,7 @@
 
 use crate::describe::mask::{Mask, TagsFault};
 use crate::help;
-use crate::read::form::{FORM_NAMES, Form};
+use crate::read::form::Form;
 use crate::read::reading::Reading;
 use crate::read::ways::Ways;
 use crate::write::layout::{Layout, Medium};
@@ -26,21 +26,22 @@ pub struct Request<'a> {
     pub compared: Option<(&'a str, &'a str)>,
 }
 
-/// Parses the command line. Its first word is the program's name.
+/// Parses the command line. Its first word is the program's name. `forms` are the names of forms.
 ///
 /// # Errors
 ///
 /// That of the parser: help or the version is asked for, a word is wrong, or memory ran out. An
 /// invalid value of `--mask`, `--to-card` or `--from-card` is a wrong word.
-pub fn parsed<'a>(alloc: Global, words: &'a [String]) -> Result<Request<'a>, Error> {
-    let matches = command(alloc)?.try_get_matches_from(words)?;
+pub fn parsed<'a>(
+    alloc: Global,
+    words: &'a [String],
+    forms: &'a [&'a str],
+) -> Result<Request<'a>, Error> {
+    let matches = command(alloc, forms)?.try_get_matches_from(words)?;
     let ways = ways(alloc, &matches)?;
     let mask = mask(alloc, &matches)?;
-    let medium = if matches.get_flag("html") {
-        Medium::Html
-    } else {
-        Medium::Text
-    };
+    let is_page = matches.get_flag("html");
+    let medium = if is_page { Medium::Html } else { Medium::Text };
     let is_summary = matches.get_flag("summary");
     Ok(Request {
         mask,
@@ -73,13 +74,12 @@ fn mask(alloc: Global, matches: &ArgMatches<'_>) -> Result<Mask, Error> {
                 "invalid value '{tags}' for '--mask [<TAGS>]': not tags of one to three bytes \
                  with commas between them"
             )?;
-            Err(command(alloc)?.error(ErrorKind::ValueValidation, text.as_str())?)
+            Err(command(alloc, &[])?.error(ErrorKind::ValueValidation, text.as_str())?)
         }
     }
 }
 
-/// The ways of instructions that the options give. The error says what is wrong with the
-/// instructions.
+/// The ways of instructions that the options give. The error says what is wrong.
 fn ways(alloc: Global, matches: &ArgMatches<'_>) -> Result<Ways, Error> {
     let mut ways = Ways::none();
     let options = [
@@ -91,14 +91,14 @@ fn ways(alloc: Global, matches: &ArgMatches<'_>) -> Result<Ways, Error> {
             && let Err(why) = ways.give(way, words)
         {
             let text = format!(in alloc; "invalid value '{words}' for '--{name} <INS>': {why}")?;
-            return Err(command(alloc)?.error(ErrorKind::ValueValidation, text.as_str())?);
+            return Err(command(alloc, &[])?.error(ErrorKind::ValueValidation, text.as_str())?);
         }
     }
     Ok(ways)
 }
 
-/// The program with its options.
-fn command<'a>(alloc: Global) -> Result<Command<'a>, AllocError> {
+/// The program with its options. `--form` takes the names in `forms`.
+fn command<'a>(alloc: Global, forms: &'a [&'a str]) -> Result<Command<'a>, AllocError> {
     Command::new(alloc, "trace_explain")
         .version(help::VERSION)
         .about(help::PROGRAM)
@@ -122,7 +122,7 @@ fn command<'a>(alloc: Global) -> Result<Command<'a>, AllocError> {
             valued(alloc, "form")
                 .action(ArgAction::Set)
                 .value_name("FORM")
-                .value_parser(FORM_NAMES.as_slice()),
+                .value_parser(forms),
         )?
         .arg(flag(alloc, "swap"))?
         .arg(

@@ -38,8 +38,7 @@ struct Trace<'r, R: Read> {
 /// before the other, it writes the next TPDU of the other. If they are alike, it writes their
 /// number of TPDUs. Returns whether they are alike, even if nobody reads the output any more.
 ///
-/// It ignores procedure bytes, and what is between TPDUs. A TPDU that is cut off is compared as far
-/// as it was received.
+/// It ignores procedure bytes and what is between TPDUs. It compares cut TPDUs as far as received.
 ///
 /// # Errors
 ///
@@ -76,25 +75,18 @@ fn compare<R: Read, S: Read>(
 ) -> Result<bool, DiffFault> {
     for number in 1..u64::MAX {
         let before = number - 1;
-        match (a.front()?, b.front()?) {
+        let unlike = match (a.front()?, b.front()?) {
             (None, None) => {
                 let unit = if before == 1 { "TPDU" } else { "TPDUs" };
                 writeln!(out, "alike: {before} {unit}");
                 return Ok(true);
             }
-            (Some(kept), None) => {
-                push_only(out, ("B", "A"), before, kept);
-                return Ok(false);
-            }
-            (None, Some(kept)) => {
-                push_only(out, ("A", "B"), before, kept);
-                return Ok(false);
-            }
-            (Some(one), Some(other)) => {
-                if differ(out, number, one, other) {
-                    return Ok(false);
-                }
-            }
+            (Some(kept), None) => push_only(out, ("B", "A"), before, kept),
+            (None, Some(kept)) => push_only(out, ("A", "B"), before, kept),
+            (Some(one), Some(other)) => differ(out, number, one, other),
+        };
+        if unlike {
+            return Ok(false);
         }
         a.passed = a.passed.saturating_add(1);
         b.passed = b.passed.saturating_add(1);
@@ -102,15 +94,13 @@ fn compare<R: Read, S: Read>(
     Ok(true)
 }
 
-/// Reports that this trace has no more TPDUs, and the next one of the other.
-fn push_only(out: &mut Sheet, names: (&str, &str), before: u64, next: &Kept) {
+/// Reports that this trace has no more TPDUs, and the next of the other. Returns true: they differ.
+fn push_only(out: &mut Sheet, names: (&str, &str), before: u64, next: &Kept) -> bool {
     let unit = if before == 1 { "TPDU" } else { "TPDUs" };
-    let (name, other) = names;
-    writeln!(
-        out,
-        "{name} ends after {before} {unit}, and {other} goes on:"
-    );
+    let (one, more) = names;
+    writeln!(out, "{one} ends after {before} {unit}, and {more} goes on:");
     out.push_str(next.text.as_str());
+    true
 }
 
 /// Whether two TPDUs differ. Reports them, and in what they differ.

@@ -28,8 +28,7 @@ pub const LINE_LIMIT: usize = 4_194_304;
 /// How many bytes a reader is asked for at once.
 pub const CHUNK: usize = 16_384;
 
-/// Explains a trace, and writes the explanation. If it resumes, it continues after an unexpected
-/// character.
+/// Explains a trace in writing. If it resumes, it continues after an unexpected character.
 ///
 /// # Errors
 ///

@@ -14,15 +14,13 @@ use thiserror::Error;
 /// `Closed`. Lines are counted from 1, places in a line from 0.
 #[derive(Debug, Drop, Error)]
 pub enum ExplainFault {
-    /// A line is refused for this reason, which is not `OutOfMemory`. The lines before it were
-    /// explained.
+    /// A line is refused for this reason, never `OutOfMemory`. The lines before were explained.
     #[error("line {line}: {why}")]
     BadLine {
         line: u64,
         why: LineFault,
     },
-    /// In a trace without signs the sender of a character is unknown. What precedes it was
-    /// explained.
+    /// Without signs, the sender of a character is unknown. What precedes it was explained.
     #[error("line {line}, character {}: {why}", .place.saturating_add(1))]
     NoTurn {
         line: u64,
@@ -69,12 +67,10 @@ pub enum ExplainFault {
     /// The writer failed. How much it took is unknown.
     #[error("write fault")]
     Write,
-    /// Nobody reads the output any more, as with `| head`. This ends the program, and is not its
-    /// fault.
+    /// Nobody reads the output any more, as with `| head`. The program ends, without a fault.
     #[error("closed output")]
     Closed,
-    /// The trace exceeds `TRACE_LIMIT` bytes. The lines that ended in earlier chunks were
-    /// explained.
+    /// The trace exceeds `TRACE_LIMIT` bytes. Lines that ended in earlier chunks were explained.
     #[error("input too long")]
     InputTooLong,
     /// Memory ran out.

@@ -349,8 +349,7 @@ impl Explainer {
         }
     }
 
-    /// Explains what the end of the trace cuts off, and writes the last block. Does nothing if
-    /// memory ran out before.
+    /// Explains what the end cuts off, and writes the last block; nothing if memory ran out.
     pub fn end(&mut self) -> Result<(), AllocError>
         ensures position { OnOk result (position_of self.new ≡ position_of self.old) }
         ensures adds { self.old.reading.of_tpdus ≡ false → OnOk result (AddsBoxes

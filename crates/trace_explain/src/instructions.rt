@@ -64,8 +64,7 @@ fn of_class(cla: u8, ins: u8) -> Option<Instruction>
 }
 
 /// Returns an instruction of ISO/IEC 7816-4 (7, and table 4 for its other parts); `everywhere` has
-/// four more. With an odd INS the terminal also sends data to read: they name the part that it
-/// wants.
+/// four more. With an odd INS the terminal also sends data, which name the part to read.
 fn interindustry(ins: u8) -> Option<Instruction>
     ensures { way_in result ≡ interindustry ins }
 {

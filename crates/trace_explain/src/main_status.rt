@@ -9,6 +9,7 @@ use crate::diff_fault::DiffFault;
 use crate::explain::explain;
 use crate::explain_fault::ExplainFault;
 use crate::help;
+use crate::read::form::Form;
 use crate::read::reading::Reading;
 use clap::Error;
 use clap::error::ErrorKind;
@@ -37,13 +38,14 @@ pub fn main_status<D: Files, R: Read, W: Write, F: Write>(
 ) -> u8
     ensures status { result ≤ 2 }
 {
+    let forms = Form::names();
     let Request {
         layout,
         mask,
         resumes,
         reading,
         compared,
-    } = match parsed(alloc, words) {
+    } = match parsed(alloc, words, &forms) {
         Ok(request) => request,
         Err(error) => return answered(&error, output, faults),
     };
@@ -95,8 +97,7 @@ fn answered<W: Write, F: Write>(error: &Error, output: &mut W, faults: &mut F) -
     }
 }
 
-/// The status for an outcome: 0, also if nobody reads the output any more. Or 1 for a fault, which
-/// it writes to `faults`.
+/// The status for an outcome: 0, also if nobody reads it; or 1 for a fault, which goes to `faults`.
 fn status<F: Write>(outcome: &Result<(), ExplainFault>, faults: &mut F) -> u8
     ensures success { OnOk outcome.now (result ≡ 0) }
     ensures fault { IfErr outcome.now (λ fault. result ≡ status_of fault) }

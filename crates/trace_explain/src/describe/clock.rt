@@ -78,8 +78,7 @@ impl Clock {
         Ok(())
     }
 
-    /// Notes that the last line has characters. It has no effect if that line has no time, or once
-    /// a TPDU began in it.
+    /// Notes that the last line has characters: no effect without a time, or once it has a TPDU.
     pub fn count(&mut self) {
         if self.text.is_empty() || self.has_begun {
             return;
@@ -90,8 +89,7 @@ impl Clock {
         self.counted = self.now;
     }
 
-    /// Notes that a TPDU begins in the last line. For a second one in a line, how much later it
-    /// began is unknown.
+    /// Notes that a TPDU begins in the last line. How much later a second one began is unknown.
     pub fn begin(&mut self) {
         self.since = None;
         if self.has_begun {

@@ -51,11 +51,8 @@ impl fmt::Display for Complaint {
         let expected = expected_text(self.expected);
         let received = self.received;
         let from = end_text(self.from);
-        let (or, astray) = if self.is_astray {
-            ("; ", ASTRAY)
-        } else {
-            ("", "")
-        };
+        let is_astray = self.is_astray;
+        let (or, astray) = if is_astray { ("; ", ASTRAY) } else { ("", "") };
         write!(
             f,
             "line {line}, character {character}: unexpected byte: the {from} sent {received} \

@@ -20,8 +20,7 @@ use tlv_core::{ObjectTag, Tag};
 /// What is shown in place of hidden data.
 pub const HIDDEN: &str = "**";
 
-/// What is hidden: nothing; or reference data, bytes of unknown meaning, and objects with these
-/// tags.
+/// What is hidden: nothing; or reference data, bytes of unknown meaning, objects with these tags.
 ///
 /// With tags it also hides data that may be part of such an object: parts of longer data, and data
 /// that are not a list of objects. It still shows the name of SELECT, and what GET DATA and PUT
@@ -89,12 +88,9 @@ impl Origin {
             IfSome result (λ origin. IsOfCommand tpdu.now.header.items origin.header) }
         ensures whole { length tpdu.now.header.items ≡ 5 → IsSome result }
     {
-        let origin = Origin::of(tpdu, links, Direction::FromCard)?;
-        let continues = links.answer_continues;
-        Some(Origin {
-            continues,
-            ..origin
-        })
+        let mut origin = Origin::of(tpdu, links, Direction::FromCard)?;
+        origin.continues = links.answer_continues;
+        Some(origin)
     }
 
     /// The origin of the data that are shown together with a TPDU: those of `Links::whole`. `None`
@@ -111,11 +107,9 @@ impl Origin {
             Whole::Value(_) => Direction::ToCard,
             Whole::Response(_) => Direction::FromCard,
         };
-        let origin = Origin::of(tpdu, links, way)?;
-        Some(Origin {
-            continues: false,
-            ..origin
-        })
+        let mut origin = Origin::of(tpdu, links, way)?;
+        origin.continues = false;
+        Some(origin)
     }
 }
 
@@ -124,8 +118,7 @@ impl Origin {
 pub enum Shown {
     /// All.
     All,
-    /// Objects, except the values of those that the mask hides. Nothing if the data are not a list
-    /// of objects.
+    /// Objects, without the values that the mask hides. Nothing if the data are no list of them.
     Objects,
     /// Nothing.
     Nothing,
@@ -196,8 +189,7 @@ impl Mask {
         false
     }
 
-    /// How much is shown of data of this origin. Data that are not a list of objects are hidden if
-    /// the result is `Objects`.
+    /// How much is shown of data of this origin. `Objects` hides data that are no list of these.
     pub fn shown(&self, origin: Origin) -> Shown
         ensures { Shows self.now.hides self.now.tags.items origin result }
     {
@@ -253,10 +245,7 @@ fn is_same(tag: Tag, other: Tag) -> bool
 fn is_name(ins: u8, way: Direction) -> bool
     ensures { result ≡ is_name ins way }
 {
-    match way {
-        Direction::ToCard => ins == 0xA4,
-        Direction::FromCard => false,
-    }
+    matches!(way, Direction::ToCard) && ins == 0xA4
 }
 
 /// The tag that P1-P2 of GET DATA or PUT DATA name.
@@ -271,14 +260,10 @@ fn named(header: Header) -> Option<Tag>
 }
 
 /// How much is shown of objects, or of parts of objects.
-fn whole_or_nothing(is_part: bool) -> Shown
-    ensures { result ≡ whole_or_nothing is_part }
+fn whole_or_nothing(part: bool) -> Shown
+    ensures { result ≡ whole_or_nothing part }
 {
-    if is_part {
-        Shown::Nothing
-    } else {
-        Shown::Objects
-    }
+    if part { Shown::Nothing } else { Shown::Objects }
 }
 
 /// Whether the data of a command may begin or end within an object. They may if they are a part of

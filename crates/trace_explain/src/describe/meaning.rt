@@ -35,11 +35,8 @@ pub fn push_meaning(text: &mut Sheet, header: Header, status: Status) {
                 "normal processing: a command of the card waits, of {bytes} bytes"
             );
         }
-        (SIM_CLASS, 0x92, retries @ 0x00..=0x0F) => {
-            write!(
-                text,
-                "normal processing, with {retries} retries of an update"
-            );
+        (SIM_CLASS, 0x92, times @ 0x00..=0x0F) => {
+            write!(text, "normal processing, with {times} retries of an update");
         }
         (SIM_CLASS, 0x9E, bytes) => {
             write!(
@@ -53,11 +50,8 @@ pub fn push_meaning(text: &mut Sheet, header: Header, status: Status) {
 
 /// Adds how many bytes wait: `6100` means 256 or more (ISO/IEC 7816-3, 12).
 fn push_waiting(text: &mut Sheet, status: Status, bytes: u16) {
-    let least = if status.sw1() == 0x61 && bytes == 256 {
-        "at least "
-    } else {
-        ""
-    };
+    let is_least = status.sw1() == 0x61 && bytes == 256;
+    let least = if is_least { "at least " } else { "" };
     let (unit, verb) = if bytes == 1 {
         ("byte", "waits")
     } else {

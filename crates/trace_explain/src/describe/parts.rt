@@ -45,17 +45,15 @@ pub fn push_command(text: &mut Sheet, header: Header, sent: &[u8]) {
 
 /// Adds P1 and P2 as they are.
 fn push_parameters(text: &mut Sheet, header: Header) {
-    let p1 = header.p1;
-    let p2 = header.p2;
+    let Header { p1, p2, .. } = header;
     write!(text, " with P1-P2 {p1:02X}{p2:02X}");
 }
 
 /// Adds P1 and P2, if they are not `0000`.
 fn push_others(text: &mut Sheet, header: Header) {
-    if header.p1 == 0 && header.p2 == 0 {
-        return;
+    if header.p1 != 0 || header.p2 != 0 {
+        push_parameters(text, header);
     }
-    push_parameters(text, header);
 }
 
 /// Adds the tag of the object that P1-P2 name, or P1 and P2 if they name none.
@@ -135,10 +133,9 @@ fn push_records(text: &mut Sheet, header: Header) {
         }
         _ => return push_parameters(text, header),
     }
-    if file == 0 {
-        return;
+    if file != 0 {
+        write!(text, " of file {file}");
     }
-    write!(text, " of file {file}");
 }
 
 /// Which of several records, by bits 2-1 of P2.

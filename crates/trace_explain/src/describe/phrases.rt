@@ -10,8 +10,7 @@ use crate::write::sheet::Sheet;
 use apdu_core::count;
 use t0_core::Direction;
 
-/// Adds the title of a TPDU: its command, and what it selects. If the header is cut off, the title
-/// says so.
+/// Adds the title of a TPDU: its command and what it selects, or that the header is cut off.
 pub fn push_title(text: &mut Sheet, outline: &Outline, selected: &[u8]) {
     match outline.header {
         Some((header, _)) => push_command(text, header, selected),

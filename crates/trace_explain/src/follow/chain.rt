@@ -4,8 +4,7 @@ use crate::follow::links::Link;
 use apdu_core::Header;
 use std::alloc::{AllocError, Global};
 
-/// A value of this many bytes or more is not shown as a whole (profile): so a hostile trace can't
-/// fill the memory.
+/// From this many bytes on a value is not shown whole (profile): no hostile trace fills memory.
 pub const VALUE_LIMIT: usize = 65_536;
 
 /// Bit 5 of CLA: more commands of the chain follow.

@@ -9,18 +9,15 @@ pub enum Link {
     None,
     /// It repeats the one before it, whose status was `6CXX`, for this many bytes.
     AskedAgain(u16),
-    /// A GET RESPONSE that the last status asks for, for this many bytes. No data of the response
-    /// were received before.
+    /// A GET RESPONSE that the last status asks for, for this many bytes, before any of its data.
     Fetches(u16),
-    /// The same after data of the response, from an earlier GET RESPONSE or from the command
-    /// itself.
+    /// The same after data of the response, from an earlier GET RESPONSE or the command itself.
     FetchesMore(u16),
     /// The piece with this number of a chain that continues.
     Piece(u64),
     /// The last piece of a chain, with this number.
     LastPiece(u64),
-    /// A piece of a chain that continues. Pieces before it, or bytes of them, may be missing, so
-    /// its number is unknown.
+    /// A piece of a continuing chain, of unknown number: earlier pieces or bytes may be missing.
     LaterPiece,
     /// The same for the last piece of a chain.
     LastOfLater,

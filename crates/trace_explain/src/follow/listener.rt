@@ -11,8 +11,7 @@ use std::alloc::{AllocError, Global};
 use std::mem;
 use t0_core::{Due, End, Heard, Tap, TapFault};
 
-/// Why a listener has not taken a character. It is unchanged after `NoDialogue`. Don't use it any
-/// more after `OutOfMemory`.
+/// Why a listener took no character. `NoDialogue` changes nothing; after `OutOfMemory`, drop it.
 #[derive(Clone, Copy)]
 pub enum ListenerFault {
     /// No dialogue continues with it.

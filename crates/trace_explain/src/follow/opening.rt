@@ -1,5 +1,4 @@
-//! What a character is before the dialogue: part of an answer to reset, of a PPS exchange, or of
-//! neither.
+//! What a character is before the dialogue: part of an answer to reset, a PPS exchange, or neither.
 ghost use Rattle.std.specs.Prelude.{◌≡◌};
 ghost use Rattle.atr_core.specs.FirstFault.{first_fault};
 ghost use Rattle.trace_explain.specs.Openings.{after_answer, as_ts, begins_answer, has_begun, is_dialogue, is_direct, is_full, is_short, role_at, turned_by};
@@ -155,13 +154,8 @@ fn after_reading(fault: Option<AtrFault>) -> Stage
 {
     match fault {
         None => Stage::Ready,
-        Some(fault) => {
-            if is_short(fault.reason) {
-                Stage::Answer
-            } else {
-                Stage::Astray
-            }
-        }
+        Some(fault) if is_short(fault.reason) => Stage::Answer,
+        Some(_) => Stage::Astray,
     }
 }
 

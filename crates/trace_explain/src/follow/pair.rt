@@ -6,22 +6,26 @@ use crate::follow::tally::Tally;
 use crate::follow::tpdu::{Tpdu, are_status};
 use crate::read::digits::push;
 use std::alloc::{AllocError, Global};
-use std::fmt;
 use t0_core::Direction;
+use thiserror::Error;
 
 /// Why a command and its answer are not a TPDU.
-#[derive(Clone, Copy, Debug)]
+#[derive(Clone, Copy, Debug, Error)]
 pub enum PairFault {
     /// The command has fewer bytes than CLA INS P1 P2.
+    #[error("a command of fewer than 4 bytes")]
     Short,
     /// The command has extended length fields, which don't fit P3.
+    #[error("a command with extended length fields")]
     Extended,
-    /// After Lc the command has fewer bytes than it announces, or more than these and Le. Or one
-    /// byte follows Lc `00`.
+    /// Fewer bytes than Lc says follow it, or more than these and Le; or one byte after Lc `00`.
+    #[error("a command with more or fewer bytes than Lc says")]
     Length,
     /// The answer does not end with SW1 and SW2.
+    #[error("an answer without SW1-SW2 at its end")]
     NoStatus,
     /// Memory ran out.
+    #[error("out of memory")]
     OutOfMemory,
 }
 
@@ -33,18 +37,6 @@ impl From<AllocError> for PairFault {
 
     fn from(_error: AllocError) -> PairFault {
         PairFault::OutOfMemory
-    }
-}
-
-impl fmt::Display for PairFault {
-    fn fmt<W: fmt::Write>(&self, f: &mut fmt::Formatter<W>) -> fmt::Result {
-        f.write_str(match self {
-            PairFault::Short => "a command of fewer than 4 bytes",
-            PairFault::Extended => "a command with extended length fields",
-            PairFault::Length => "a command with more or fewer bytes than Lc says",
-            PairFault::NoStatus => "an answer without SW1-SW2 at its end",
-            PairFault::OutOfMemory => "out of memory",
-        })
     }
 }
 
@@ -125,8 +117,7 @@ fn with_p3(
     }
 }
 
-/// Returns the TPDU with this header, the terminal's data, Le after them, the card's data and the
-/// status.
+/// Returns the TPDU with this header, the terminal's data, Le, the card's data and the status.
 fn whole(
     alloc: Global,
     header: &[u8],

@@ -13,8 +13,7 @@ use t0_core::End;
 pub struct Preface {
     /// How far it is.
     pub stage: Stage,
-    /// What turned the answer's characters: the inverse convention if a receiver of the direct one
-    /// read an answer of the inverse one.
+    /// What turned the answer's characters: the inverse convention if read by the direct one.
     pub turned: Convention,
     /// The characters of the answer, as the card means them.
     pub answer: Vec<u8>,

@@ -5,8 +5,7 @@ use crate::instructions::SIM_CLASS;
 use apdu_core::{Header, Status, count};
 use std::alloc::{AllocError, Global};
 
-/// A response of this many bytes or more is not shown as a whole (profile): so a hostile trace
-/// can't fill the memory.
+/// From this many bytes on a response is not shown whole (profile): no hostile trace fills memory.
 pub const RESPONSE_LIMIT: usize = 65_536;
 
 /// Returns how many bytes wait after this status: `count(XX)` of `61XX`, and of `9FXX` in the class
@@ -80,8 +79,7 @@ impl PendingResponse {
         }
     }
 
-    /// Takes the data that a command brought. Returns `AllocError` if memory ran out: nothing has
-    /// changed.
+    /// Takes a command's response data. Returns `AllocError` if memory ran out: nothing changed.
     pub fn take(&mut self, part: &[u8]) -> Result<(), AllocError> {
         if part.is_empty() {
             return Ok(());

@@ -132,8 +132,7 @@ impl Story {
         self.chain.lose_some();
     }
 
-    /// Forgets the chain and the response after a reset; numbers continue. Returns whether that
-    /// drops a chain.
+    /// Forgets chain and response after a reset; numbers continue. Returns whether a chain drops.
     pub fn reset(&mut self) -> bool
         ensures { self.new.number ≡ self.old.number }
     {

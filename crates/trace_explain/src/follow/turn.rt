@@ -7,32 +7,19 @@ use crate::follow::opening::{PPSS, Stage, turned_by};
 use crate::follow::tpdu::Tpdu;
 use crate::read::ways::Ways;
 use atr_core::Convention;
-use std::fmt;
 use t0_core::{Direction, Due, End};
+use thiserror::Error;
 
 /// Why the sender of a character is unknown.
-#[derive(Clone, Copy, Debug, PartialEq, Eq)]
+#[derive(Clone, Copy, Debug, PartialEq, Eq, Error)]
 pub enum TurnFault {
-    /// It is the first data character, if the instruction with this INS has data, and their way is
-    /// unknown.
+    /// It is the first data character, if this INS has data, and their way is unknown.
+    #[error("which way the data of INS {0:02X} go is not known, unless \
+        `--to-card {0:02X}` or `--from-card {0:02X}` says it")]
     Way(u8),
     /// It follows an invalid answer to reset, and may be part of that.
+    #[error("which end sends what follows an answer to reset at fault is not known")]
     Answer,
-}
-
-impl fmt::Display for TurnFault {
-    fn fmt<W: fmt::Write>(&self, f: &mut fmt::Formatter<W>) -> fmt::Result {
-        match self {
-            TurnFault::Way(ins) => write!(
-                f,
-                "which way the data of INS {ins:02X} go is not known, unless \
-                 `--to-card {ins:02X}` or `--from-card {ins:02X}` says it"
-            ),
-            TurnFault::Answer => f.write_str(
-                "which end sends what follows an answer to reset at fault is not known",
-            ),
-        }
-    }
 }
 
 /// Returns who sends this character before the dialogue. `has_answered`: an answer has begun.

@@ -6,8 +6,7 @@ ghost use Rattle.trace_explain.specs.Lines.{AreBadDigits, byte_of, bytes_in, is_
 use crate::read::trace_line::LineFault;
 use std::alloc::{AllocError, Global};
 
-/// Returns the bytes that digits spell: two digits each, in either case, with any number of spaces
-/// before, between and after bytes.
+/// Returns the bytes that digits spell: two each, in either case, with any spaces around bytes.
 ///
 /// # Errors
 ///

@@ -42,8 +42,7 @@ pub enum LineKind {
 /// The content of a line.
 #[derive(Drop)]
 pub enum LogLine {
-    /// The first bytes of a command or an answer, and what the next line may continue. The head of
-    /// a dump has none.
+    /// The first bytes of a command or answer (none in a dump's head), and what may continue.
     Bytes(End, Vec<u8>, Open),
     /// The card was reset.
     Reset,
@@ -79,14 +78,10 @@ pub fn read_log_line(alloc: Global, line: &[u8]) -> Result<LogLine, LineFault>
 }
 
 /// Returns what an answer leaves open: itself, or nothing.
-fn open_if(may_continue: bool) -> Open
-    ensures { result ≡ open_if may_continue }
+fn open_if(goes_on: bool) -> Open
+    ensures { result ≡ open_if goes_on }
 {
-    if may_continue {
-        Open::Answer
-    } else {
-        Open::Nothing
-    }
+    if goes_on { Open::Answer } else { Open::Nothing }
 }
 
 /// Returns what a dump with `left` more bytes leaves open.

@@ -59,8 +59,7 @@ fn stamp_len(line: &[u8]) -> usize
     if is_stamp(&line[..size]) { size } else { 0 }
 }
 
-/// The same for such digits in brackets, perhaps with spaces before them. `rest` is the line behind
-/// the first bracket.
+/// The same for such digits in brackets, with any spaces before. `rest` follows the first bracket.
 fn bracket_len(rest: &[u8]) -> usize
     ensures value { result ≡ bracket_len rest.now }
     ensures within { result ≤ length rest.now + 1 }

@@ -1,10 +1,10 @@
 //! The lines of a trace of characters, with or without signs.
 ghost use Rattle.std.specs.Prelude.{◌≡◌, IfOk, IfErr};
-ghost use Rattle.trace_explain.specs.Lines.{Says, SaysSigned, SaysUnsigned, IsBadLine, IsBadSigned, IsBadUnsigned, ends_word, is_signed};
+ghost use Rattle.trace_explain.specs.Lines.{Says, SaysSigned, SaysUnsigned, IsBadLine, IsBadSigned, IsBadUnsigned};
 ghost use Rattle.trace_explain.specs.Times.{behind_time, time_in};
 
 use crate::read::digits::{bytes_of, is_digits};
-use crate::read::form::{Form, Sign};
+use crate::read::form::{Form, Sign, is_signed};
 use crate::read::reading::Reading;
 use crate::read::time::{behind_clock, place_of};
 use std::alloc::{AllocError, Global};
@@ -42,8 +42,7 @@ pub enum LineFault {
     /// Its sign has another form than this one, which `--form` or a line before gave.
     #[error("a sign of another form than {0}")]
     OtherForm(Form),
-    /// It contains digits alone, perhaps after a time. No line before has a sign, and `--form` is
-    /// missing.
+    /// It has digits alone, perhaps after a time; no line before has a sign; no `--form`.
     #[error("no sign says which end sent these digits, and no line before has one: \
         `--unsigned` reads such lines")]
     NoSign,
@@ -66,9 +65,8 @@ impl From<AllocError> for LineFault {
     }
 }
 
-/// Reads a line. `time` is its time, and `rest` is what follows that, without spaces before it. The
-/// sender is the end of the sign: `--swap` has no effect here. A note is the whole line, with its
-/// time.
+/// Reads a line. `time` is its time, `rest` what follows without leading spaces. The sender is the
+/// end of the sign, whatever `--swap` says. A note is the whole line, with its time.
 ///
 /// # Errors
 ///
@@ -105,11 +103,9 @@ fn read_signed<'a>(
 {
     let (word, digits) = rest.split_at(place_of(b' ', rest));
     let Some(sign) = Sign::of_word(word) else {
-        if is_signed(rest) {
-            return Err(LineFault::Hex);
-        }
         return match rest {
             b"reset" => Ok(TraceLine::Reset),
+            _ if is_signed(rest) => Err(LineFault::Hex),
             _ if known.is_none() && (is_digits(line) || is_digits(rest)) => Err(LineFault::NoSign),
             _ => Ok(TraceLine::Note(line)),
         };
@@ -142,31 +138,9 @@ fn read_unsigned<'a>(
     if is_digits(digits) {
         return Ok(TraceLine::Characters(Source::Turn, bytes_of(alloc, digits)?));
     }
-    if is_signed(rest) {
-        return Err(LineFault::Signed);
+    match rest {
+        b"reset" => Ok(TraceLine::Reset),
+        _ if is_signed(rest) => Err(LineFault::Signed),
+        _ => Ok(TraceLine::Note(line)),
     }
-    Ok(match rest {
-        b"reset" => TraceLine::Reset,
-        _ => TraceLine::Note(line),
-    })
-}
-
-/// Whether the line begins with a sign. A sign of letters alone must be a whole word.
-fn is_signed(line: &[u8]) -> bool
-    ensures { result ≡ is_signed line.now }
-{
-    match line {
-        [b'>' | b'<', ..] | [b'-' | b'=', b'>', ..] => true,
-        [b'T' | b'R', b'x', b':', ..] | [b'T' | b'C', b':', ..] => true,
-        [b'T' | b'R', b'X', rest @ ..] => ends_word(rest),
-        [b'I', b'F', b'D', rest @ ..] | [b'I', b'C', b'C', rest @ ..] => ends_word(rest),
-        _ => false,
-    }
-}
-
-/// Whether a word ends before these bytes: the first is not a letter or digit.
-fn ends_word(rest: &[u8]) -> bool
-    ensures { result ≡ ends_word rest.now }
-{
-    !matches!(rest, [b'0'..=b'9' | b'A'..=b'Z' | b'a'..=b'z', ..])
 }

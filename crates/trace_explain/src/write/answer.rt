@@ -99,8 +99,7 @@ fn push_protocols(text: &mut Sheet, answer: &Atr) {
     text.push('\n');
 }
 
-/// Adds Fi with its clock frequency, and Di, by their code in TA1 or PPS1. If a code is reserved,
-/// it adds that.
+/// Adds Fi with its clock frequency, and Di, by their code in TA1 or PPS1; or that one is reserved.
 pub fn push_rate(text: &mut Sheet, code: u8) {
     match Fi::of(code) {
         Ok(fi) => write!(text, "Fi {fi}; "),

@@ -24,7 +24,7 @@ pub fn is_text(bytes: &[u8]) -> bool
 }
 
 /// Whether each of the bytes is printable ASCII.
-fn are_printable(bytes: &[u8]) -> bool
+pub fn are_printable(bytes: &[u8]) -> bool
     ensures { result ≡ are_printable bytes.now }
 {
     for &byte in bytes {

@@ -15,12 +15,8 @@ pub fn tell_complaint(number: u64, complaint: Complaint, page: &mut Page) {
     page.row(Side::Nobody, "place");
     writeln!(page.lines, "{}", expected_text(complaint.expected));
     page.row(Side::Nobody, "expected");
-    let received = complaint.received;
-    writeln!(
-        page.lines,
-        "{received} from the {}",
-        end_text(complaint.from)
-    );
+    let (received, from) = (complaint.received, end_text(complaint.from));
+    writeln!(page.lines, "{received} from the {from}");
     page.row(Side::Nobody, "received");
     if complaint.is_astray {
         page.lines.push_str(ASTRAY);

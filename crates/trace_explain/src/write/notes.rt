@@ -3,6 +3,7 @@ ghost use Rattle.std.specs.Prelude.{◌<◌};
 
 use crate::describe::mask::{Mask, push_hidden_line};
 use crate::resuming::Passed;
+use crate::write::ascii::are_printable;
 use crate::write::page::Page;
 use crate::write::sheet::Sheet;
 
@@ -17,27 +18,22 @@ pub fn tell_passed(passed: Option<Passed>, page: &mut Page) {
     let Some(Passed { line, place, last }) = passed else {
         return;
     };
-    let character = place.saturating_add(1);
-    write!(
-        page.lines,
-        "skipped: line {line} from character {character}"
-    );
+    let place = place.saturating_add(1);
+    write!(page.lines, "skipped: line {line} from character {place}");
     if last > line {
         write!(page.lines, ", to line {last}");
     }
     page.note_line("\n");
 }
 
-/// Adds bytes outside of TPDUs, after words for them. If the mask hides anything, it hides the
-/// bytes.
+/// Adds bytes outside of TPDUs, after words for them. A mask that hides anything hides the bytes.
 pub fn tell_bytes(what: &str, bytes: &[u8], mask: &Mask, page: &mut Page) {
     page.lines.push_str(what);
     mask.push_unknown(&mut page.lines, bytes);
     page.note();
 }
 
-/// Adds a line without characters; nothing if it is empty. If the mask hides anything, it hides the
-/// line.
+/// Adds a line without characters, if not empty. A mask that hides anything hides the line.
 pub fn tell_note(note: &[u8], mask: &Mask, page: &mut Page) {
     if note.is_empty() {
         return;
@@ -62,12 +58,8 @@ fn push_note(text: &mut Sheet, note: &[u8]) {
 fn note_width(note: &[u8]) -> usize
     ensures { 0 < result }
 {
-    for &byte in note {
-        if !matches!(byte, b' '..=b'~') {
-            return ODD_BYTES;
-        }
-    }
-    NOTE_BYTES
+    let is_plain = are_printable(note);
+    if is_plain { NOTE_BYTES } else { ODD_BYTES }
 }
 
 /// Adds the bytes of a note: printable ASCII as it is, others as `\xHH`.

@@ -39,8 +39,7 @@ impl Page {
         }
     }
 
-    /// Adds the words since the last call of `clear` to a sheet. If memory ran out for them, it has
-    /// for the sheet.
+    /// Adds the words since the last `clear` to a sheet. If memory ran out for them, it has for it.
     pub fn write_to(&self, sheet: &mut Sheet)
         ensures { Joins sheet.old sheet.new }
     {
@@ -115,8 +114,7 @@ impl Page {
         self.lines.clear();
     }
 
-    /// Adds the lines that are not empty to the text, each after LF. The first begins in this
-    /// column.
+    /// Adds the lines that are not empty to the text, each after LF, the first from this column on.
     pub fn wrap(&mut self, begins: usize) {
         let mut begins = begins;
         for line in self.lines.as_str().lines() {
@@ -129,8 +127,7 @@ impl Page {
         self.clear_lines();
     }
 
-    /// Adds the lines to the text as the title of the TPDU with this number, which began in this
-    /// line.
+    /// Adds the lines to the text as a TPDU's title, with this number and the line where it began.
     pub fn wrap_title(&mut self, number: u64, line: u64) {
         let begins = "# ".len().saturating_add(digits(number));
         let column = push_wrapped(&mut self.text, self.lines.as_str(), begins, "\n", 4);
@@ -169,8 +166,7 @@ impl Page {
         self.add(Form::BlockEnd);
     }
 
-    /// Adds links to the lines of the first of `all` protocol errors, and how many more there are.
-    /// Text has no links.
+    /// Adds links to the first of `all` protocol errors, and how many are left. Text has no links.
     pub fn link_errors(&mut self, lines: &[u64], all: u64) {
         let mut number: u64 = 0;
         self.begin_links("protocol errors in", lines.is_empty());

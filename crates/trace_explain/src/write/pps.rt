@@ -33,8 +33,7 @@ pub fn tell_pps(mask: &Mask, preface: &Preface, page: &mut Page) {
     page.close();
 }
 
-/// Adds the characters of a request or response. Each mask hides those of an invalid one: they may
-/// be data.
+/// Adds the characters of a request or response. A mask hides invalid ones, which may be data.
 fn push_characters(text: &mut Sheet, mask: &Mask, bytes: &[u8], is_one: bool) {
     if is_one {
         push_hex_lines(text, bytes);
@@ -52,11 +51,8 @@ fn push_agreed(
     let (Ok(request), Ok(response)) = (request, response) else {
         return;
     };
-    text.push_str(if agreed(request, response) {
-        "agreed: "
-    } else {
-        "not agreed: "
-    });
+    let agree = agreed(request, response);
+    text.push_str(if agree { "agreed: " } else { "not agreed: " });
 }
 
 /// Adds the values of a request or response, or what is wrong with it.

@@ -138,8 +138,7 @@ pub fn push_row_of(sheet: &mut Sheet, side: Side, label: &str, lines: &Sheet)
     }
 }
 
-/// Adds lines as a row with this label, even if `lines` is empty. If memory ran out for them, it
-/// has for the sheet.
+/// Adds lines, or none, as a row with this label. If memory ran out for them, it has for the sheet.
 pub fn push_lines_row(sheet: &mut Sheet, side: Side, label: &str, lines: &Sheet)
     ensures { (text : List ℕ) → HasText lines.now text →
         Adds sheet.old (row sheet.old.layout.medium side label.now text) sheet.new }

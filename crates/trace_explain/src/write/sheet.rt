@@ -11,8 +11,7 @@ use crate::write::layout::Layout;
 use std::alloc::{AllocError, Global};
 use std::fmt;
 
-/// A text to which parts are added. Once memory ran out, nothing is added. So callers add without
-/// errors, and at the end ask `is_whole`.
+/// A text to which parts are added until memory runs out. Callers ask `is_whole` once, at the end.
 #[derive(Drop)]
 pub struct Sheet {
     alloc: Global,

@@ -123,12 +123,8 @@ pub fn push_status(sheet: &mut Sheet, side: Side, status: &[u8], words: &Sheet)
     } else {
         let medium = sheet.layout().medium;
         push_status_digits(sheet, side, status);
-        push_letters(
-            sheet,
-            medium,
-            ROW_INDENT,
-            cut(words.as_str().as_bytes(), 1).1,
-        );
+        let (_, letters) = cut(words.as_str().as_bytes(), 1);
+        push_letters(sheet, medium, ROW_INDENT, letters);
         sheet.push_str(marks(medium, side).1);
     }
 }

@@ -163,19 +163,15 @@ impl Teller {
     fn tell_reset(&mut self, words: &str)
         ensures { StaysWritten self.old self.new }
     {
-        let dropped = if self.story.reset() {
-            ": the chain is dropped"
-        } else {
-            ""
-        };
+        let drops = self.story.reset();
+        let dropped = if drops { ": the chain is dropped" } else { "" };
         writeln!(self.output.page.lines, "{words}{dropped}");
         self.output.page.note();
     }
 
     /// Hears a character of the dialogue, and writes the TPDU that ends with it or before it.
-    /// Returns whether a dialogue continues with it. If none does, the listener has not changed,
-    /// and no TPDU is written. Returns `AllocError` if memory ran out: use neither the teller nor
-    /// the listener any more.
+    /// Returns whether a dialogue continues with it; if not, nothing is changed or written. Returns
+    /// `AllocError` if memory ran out: use neither the teller nor the listener any more.
     pub fn hear(&mut self, listener: &mut Listener, from: End, byte: u8) -> Result<bool, AllocError>
         ensures { (events : List Event) (before : List Report) →
             HasNoted events before listener.old → IfOk result (λ continues.

@@ -81,15 +81,8 @@ fn tell_title(
     phrases::push_title(&mut output.page.lines, outline, name);
     phrases::push_links(&mut output.page.lines, links);
     output.page.wrap_title(links.number, began);
-    let (kind, number) = (kind_of(outline), links.number);
-    push_title(
-        &mut output.sheet,
-        kind,
-        number,
-        &output.page.text,
-        status,
-        began,
-    );
+    let (kind, number, words) = (kind_of(outline), links.number, &output.page.text);
+    push_title(&mut output.sheet, kind, number, words, status, began);
     output.page.text.clear();
 }
 
@@ -211,12 +204,9 @@ fn tell_status(outline: &Outline, side: Side, status: &[u8], output: &mut Output
 
 /// The column after a status of this many bytes.
 fn status_columns(bytes: usize) -> usize {
-    let space = usize::from(bytes > 0);
+    let gap = usize::from(bytes > 0);
     let digits = bytes.saturating_mul(2);
-    ROW_INDENT
-        .len()
-        .saturating_add(digits)
-        .saturating_add(space)
+    ROW_INDENT.len().saturating_add(digits).saturating_add(gap)
 }
 
 /// The end that sends the status: neither if it is cut off.
@@ -261,17 +251,12 @@ fn tell_whole(whole: Whole, shown: Shown, bytes: &[u8], mask: &Mask, output: &mu
     output.page.lines.clear();
     phrases::push_whole(&mut output.page.lines, whole, bytes.len() as u64);
     push_shown(&mut output.page.lines, shown, true, bytes, mask);
-    push_lines_row(
-        &mut output.sheet,
-        Side::Nobody,
-        "together",
-        &output.page.lines,
-    );
+    let lines = &output.page.lines;
+    push_lines_row(&mut output.sheet, Side::Nobody, "together", lines);
     output.page.lines.clear();
 }
 
-/// Whether the data of the terminal may be objects. They may not if they are a piece of a chain, a
-/// name or a path, or reference data.
+/// Whether the terminal's data may be objects: no piece of a chain, name, path, or reference data.
 fn may_be_objects(tpdu: &Tpdu, links: Links) -> bool {
     let is_whole = matches!(
         links.link,

@@ -14,9 +14,8 @@ const VALUE_BYTES: usize = 24;
 /// The same for a value with text beside it.
 const VALUE_TEXT: usize = 15;
 
-/// Adds a line for each object of data that may be objects and are some, and more lines for a long
-/// value. Each level is two spaces further in. Hidden values are `**`. Returns whether there are
-/// objects.
+/// Adds a line, or more for a long value, for each object of data that may be objects and are some.
+/// Each level is two spaces further in; hidden values are `**`. Returns whether there are any.
 pub fn push_tree(lines: &mut Sheet, may_be_objects: bool, bytes: &[u8], mask: &Mask) -> bool
     ensures { PutsAny (IsTree mask.now.tags.items may_be_objects bytes.now) result
         lines.old lines.new }

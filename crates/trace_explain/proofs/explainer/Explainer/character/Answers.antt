@@ -5,7 +5,8 @@ use Rattle.trace_explain.specs.Noted.{HasNoted}
 use Rattle.trace_explain.specs.Openings.{begins_answer}
 use Rattle.trace_explain.specs.Reports.{report_of}
 use Rattle.trace_explain.proofs.AccountLemmas.{boxes_both}
-use Rattle.trace_explain.proofs.ExplainedLemmas.{both_hold, explains_nothing, over_behind}
+use Rattle.trace_explain.proofs.ExplainedLemmas.{explains_nothing, over_behind}
+use Rattle.trace_explain.proofs.NotedLemmas.{both_hold}
 use Rattle.trace_explain.proofs.explainer.Explainer.character.Goals as goal
 
 pub returns-then-opens-clause-takes : goal.returns-then-opens-clause-takes

@@ -6,7 +6,7 @@ use Rattle.trace_explain.specs.Reports.{report_of}
 use Rattle.trace_explain.specs.Sheets.{Adds, IsRow, Puts}
 use Rattle.trace_explain.specs.Words.{IsWords}
 use Rattle.trace_explain.specs.Written.{box_end, header_row}
-use Rattle.trace_explain.proofs.BoxLemmas.{put_first, put_none}
+use Rattle.trace_explain.proofs.SheetLemmas.{put_first, put_none}
 use Rattle.trace_explain.proofs.write.tpdu_box.tell_box.Goals as goal
 
 pub returns-clause-puts : goal.returns-clause-puts

@@ -1,4 +1,4 @@
-use Rattle.trace_explain.proofs.WordLemmas.{none_joined, piece_joined}
+use Rattle.trace_explain.proofs.SheetLemmas.{none_joined, piece_joined}
 use Rattle.trace_explain.proofs.write.words.push_pieces.Goals as goal
 
 pub pieces-init : goal.pieces-init

@@ -2,7 +2,7 @@ use Rattle.std.proofs.Common.{ap, sym, ◌∙◌}
 use Rattle.std.specs.Result.{result_err}
 use Rattle.trace_explain.specs.Reports.{report_of}
 use Rattle.trace_explain.specs.Noted.{bared}
-use Rattle.trace_explain.proofs.BareLemmas.{header_refused, hears_behind}
+use Rattle.trace_explain.proofs.NotedLemmas.{header_refused, hears_behind}
 use Rattle.trace_explain.proofs.follow.listener.Listener.hear_behind_bare.Goals as goal
 
 pub returns-in_ok-note-in-Ok-clause-noted : goal.returns-in_ok-note-in-Ok-clause-noted

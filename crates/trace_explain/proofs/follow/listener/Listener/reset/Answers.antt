@@ -1,7 +1,7 @@
 use Rattle.std.proofs.Common.{◌∙◌, ap}
 use Rattle.trace_explain.specs.Noted.{is_bare}
 use Rattle.trace_explain.specs.Reports.{report_of}
-use Rattle.trace_explain.proofs.BareLemmas.{reset_noted}
+use Rattle.trace_explain.proofs.NotedLemmas.{reset_noted}
 use Rattle.trace_explain.proofs.follow.listener.Listener.reset.Goals as goal
 
 pub returns-clause-noted : goal.returns-clause-noted

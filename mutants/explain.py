@@ -140,7 +140,8 @@ fn run{number}(rt: &HostRuntime, part: &[u8]) {{
     let reading = m{number}::reading::Reading {{
         form: m{number}::form::Form::of_name(form),
         swaps: part[4] == b'w',
-        unsigned: (part[5] == b'u').then_some(ways),
+        is_unsigned: part[5] == b'u',
+        ways,
         of_tpdus: part[5] == b't',
     }};
     let mut trace = &part[size + 1..];

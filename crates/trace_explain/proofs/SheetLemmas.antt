@@ -50,8 +50,8 @@ pub completed : (first now : Sheet) (all : List ℕ) → Completes first all now
 completed first now all so_far = so_far now (adds_nothing now)
 
 -- a front that is added as it is, then one letter, and at last nothing
-pub letters_front : (f : ℕ → List ℕ) {front rest all : List ℕ} (others : List ℕ) {first now next : Sheet}
-    → rest ≡ front ++ others → flat_map f front ≡ front
+pub letters_front : (f : ℕ → List ℕ) {front rest all : List ℕ} (others : List ℕ)
+    {first now next : Sheet} → rest ≡ front ++ others → flat_map f front ≡ front
     → Completes first all now (flat_map f rest) → Adds now front next
     → Completes first all next (flat_map f others)
 letters_front f {front} {all = all} others {first} {now} {next} cut plain so_far more =

@@ -16,8 +16,8 @@ fronts-preserved c =
 pub returns-then-is_empty : goal.returns-then-is_empty
 returns-then-is_empty c =
     let f = letter c.args.medium c.args.indent.now in
-    letters_done f c.plain_front.result.1.now (search rules) (letters_front f
-    c.plain_front.result.1.now c.plain_front.ensures.cut
+    let others = c.plain_front.result.1.now in
+    letters_done f others (search rules) (letters_front f others c.plain_front.ensures.cut
     (c.plain_front.ensures.plain c.args.indent.now) c.fronts.invariant c.push_str.ensures)
 
 pub returns : goal.returns

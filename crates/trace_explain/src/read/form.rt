@@ -95,6 +95,7 @@ pub fn is_signed(line: &[u8]) -> bool
 }
 
 /// Returns the first sign in these rows that the line is, or else begins with.
+#[inline(always)]
 fn sign_in(rows: &[Row], line: &[u8], is_whole: bool) -> Option<Sign>
     requires { AllByRecursion IsRow rows.now }
     ensures { result ≡ sign_in (fits line.now is_whole) (map (λ row. row.0) rows.now) }
@@ -113,6 +114,7 @@ fn sign_in(rows: &[Row], line: &[u8], is_whole: bool) -> Option<Sign>
 }
 
 /// Whether the line is this sign, or else begins with it.
+#[inline(always)]
 fn fits(line: &[u8], is_whole: bool, sign: &[u8]) -> bool
     ensures { result ≡ fits line.now is_whole sign.now }
 {

@@ -46,7 +46,7 @@ ShowsData Objects tags may bytes lines = (tree : List (List ℕ)) × IsTree tags
     × Instead (λ all. all ≡ hidden ∷ []) tree lines
 ShowsData Nothing tags may bytes lines = lines ≡ hidden ∷ []
 
--- The mask shows data by their TPDU's command; under GET RESPONSE by that whose response they are.
+-- The mask shows data by a command: that of their TPDU, or under GET RESPONSE that of the response.
 pub record IsShown (mask : Mask) (way : Direction) (header : List ℕ) (shown : Shown) : Type 0 where
   pub origin : Origin
   pub way_is : origin.way ≡ way

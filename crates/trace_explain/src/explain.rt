@@ -28,7 +28,7 @@ pub const LINE_LIMIT: usize = 4_194_304;
 /// How many bytes a reader is asked for at once.
 pub const CHUNK: usize = 16_384;
 
-/// Explains a trace in writing. If it resumes, it continues after an unexpected character.
+/// Writes what a trace means. If it resumes, it continues after an unexpected character.
 ///
 /// # Errors
 ///

@@ -4,7 +4,7 @@ use crate::follow::links::Link;
 use apdu_core::Header;
 use std::alloc::{AllocError, Global};
 
-/// From this many bytes on a value is not shown whole (profile): no hostile trace fills memory.
+/// A value of this size or more is not shown whole (profile): no hostile trace fills memory.
 pub const VALUE_LIMIT: usize = 65_536;
 
 /// Bit 5 of CLA: more commands of the chain follow.

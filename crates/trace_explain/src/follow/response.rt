@@ -5,7 +5,7 @@ use crate::instructions::SIM_CLASS;
 use apdu_core::{Header, Status, count};
 use std::alloc::{AllocError, Global};
 
-/// From this many bytes on a response is not shown whole (profile): no hostile trace fills memory.
+/// A response of this size or more is not shown whole (profile): no hostile trace fills memory.
 pub const RESPONSE_LIMIT: usize = 65_536;
 
 /// Returns how many bytes wait after this status: `count(XX)` of `61XX`, and of `9FXX` in the class

@@ -132,7 +132,7 @@ impl Story {
         self.chain.lose_some();
     }
 
-    /// Forgets chain and response after a reset; numbers continue. Returns whether a chain drops.
+    /// Forgets chain and response at a reset; numbers continue. Returns whether it drops a chain.
     pub fn reset(&mut self) -> bool
         ensures { self.new.number ≡ self.old.number }
     {

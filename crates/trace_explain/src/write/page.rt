@@ -39,7 +39,7 @@ impl Page {
         }
     }
 
-    /// Adds the words since the last `clear` to a sheet. If memory ran out for them, it has for it.
+    /// Adds the words since the last `clear` to a sheet, which is cut if memory ran out for them.
     pub fn write_to(&self, sheet: &mut Sheet)
         ensures { Joins sheet.old sheet.new }
     {

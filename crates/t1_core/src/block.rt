@@ -20,7 +20,8 @@ pub enum Block<'a> {
 /// What an S-block controls (ISO/IEC 7816-3, clause 11).
 #[derive(Clone, Copy, Debug, PartialEq, Eq)]
 pub enum Control {
-    /// Both ends start again, as after a reset.
+    /// The card's end starts again, as after a reset; the card behind it stays as it is (profile).
+    /// The terminal's end never requests it. From the card, request or response, it spends a try.
     Resynch,
     /// The sender of the request takes fields of at most this size, 1 to 254 bytes, from now on.
     /// An end does not accept 0 and 255.

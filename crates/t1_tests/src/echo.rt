@@ -6,7 +6,8 @@ ghost use Rattle.t1_tests.specs.Echo.{echoes, size_at, requests_at};
 use std::alloc::{AllocError, Global};
 use t1_core::{Applet, Requests};
 
-/// A card that sends back each command.
+/// A card that sends back each command. The first, third, fifth and so on wait twice: before the
+/// response it asks for 3 times BWT. At each third command it announces IFSC 20.
 #[derive(Drop)]
 pub struct Echo {
     alloc: Global,
@@ -15,6 +16,7 @@ pub struct Echo {
 }
 
 impl Echo {
+    /// Makes a card that has carried out nothing.
     pub fn new(alloc: Global) -> Echo {
         Echo {
             alloc,
@@ -44,7 +46,7 @@ impl Applet for Echo {
     }
 }
 
-/// Every second command waits twice, and every third one announces IFSC 20.
+/// The requests at the command with this number, counted from 1.
 fn requests_at(count: usize) -> Requests
     ensures { result ≡ requests_at count }
 {

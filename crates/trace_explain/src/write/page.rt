@@ -210,7 +210,7 @@ impl Page {
         }
     }
 
-    /// Adds the lines as a note.
+    /// Adds the lines as a note, with their empty lines; nothing if there are no lines.
     pub fn note(&mut self) {
         if self.prints() && !self.lines.is_empty() {
             match self.layout.medium {

@@ -116,8 +116,8 @@ fn push_letter(sheet: &mut Sheet, medium: Medium, indent: &str, byte: u8)
     }
 }
 
-/// Adds lines as a row with this label. Each line begins with LF; the first LF is left out. Adds
-/// nothing if there are no lines.
+/// Adds lines as a row with this label, by `push_letters`. Each line begins with LF; the first LF
+/// is left out. Adds nothing without lines. The label is added as it is.
 pub fn push_some_row(sheet: &mut Sheet, side: Side, label: &str, lines: &[u8])
     ensures { Adds sheet.old (some_row sheet.old.layout.medium side label.now lines.now) sheet.new }
 {
@@ -138,7 +138,8 @@ pub fn push_row_of(sheet: &mut Sheet, side: Side, label: &str, lines: &Sheet)
     }
 }
 
-/// Adds lines, or none, as a row with this label. If memory ran out for them, it has for the sheet.
+/// Adds a text, even an empty one, as a row with this label, by `push_letters`: no LF is left out.
+/// If memory ran out for the text, it has for the sheet.
 pub fn push_lines_row(sheet: &mut Sheet, side: Side, label: &str, lines: &Sheet)
     ensures { (text : List ℕ) → HasText lines.now text →
         Adds sheet.old (row sheet.old.layout.medium side label.now text) sheet.new }

@@ -1441,7 +1441,8 @@ GT_MUST_CHECK int32_t gt_card_t1_receive_bytes(gt_card *c, const uint8_t *bytes,
 }
 
 /* Reports that a block of the terminal stopped for longer than CWT, or that a character had a wrong
- * parity. The bytes of the block are dropped.
+ * parity. The received part of the block is dropped. After a wrong parity its other bytes still
+ * come: before this call, drop all until none comes for CWT.
  *
  * - GT_SENDS: `gt_card_t1_send_bytes` has the answer.
  * - GT_STATE: the card does not speak T=1. Nothing changes. */
@@ -1540,7 +1541,8 @@ GT_FUNCTION void gt_card_free(gt_card *c) {
  * - 6884: CLA begins a chain, and INS is not PUT DATA.
  * - 6982: PUT DATA: the data object is locked.
  * - 6985: GET DATA, PUT DATA: nothing is selected; GET RESPONSE: nothing waits.
- * - 6A80: PUT DATA: the tag is that of a template, and the value is not a list of objects.
+ * - 6A80: PUT DATA: the tag is that of a template, and the value is not a list of objects, or has
+ *   more than 15 levels.
  * - 6A82: SELECT: there is no such application.
  * - 6A84: PUT DATA: the tag is new, and the application has 64 data objects.
  * - 6A86: P1-P2 are not the command's, or name no tag.
@@ -1587,9 +1589,9 @@ GT_MUST_CHECK int32_t gt_session_idle(gt_session *s) {
  * If it ends with 9000, a select is two TPDUs, SELECT and GET RESPONSE, and a put one for each 255
  * bytes, at least one. A get of up to 255 bytes (tag, length and value) is two: the first gets 6CXX
  * and moves no data, the second brings them all. A longer one is a TPDU for each 256 bytes or less
- * that are left, and more of them if a `cut` is smaller. So to have the bytes of a short get come
- * singly, plan "" first, and then an o for each byte of tag, length and value: "oooooo" for a value
- * of 3 bytes under 5F20.
+ * that are left. A select and a longer get are more TPDUs if a `cut` is smaller. So to have the
+ * bytes of a short get come singly, plan "" first, and then an o for each byte of tag, length and
+ * value: "oooooo" for a value of 3 bytes under 5F20.
  *
  * - GT_OK.
  * - GT_ARGUMENT: another letter, or another cut.

@@ -66,8 +66,9 @@ impl CardT1 {
     }
 
     /// Reports that a block of the terminal stopped for longer than CWT, or that a character had a
-    /// wrong parity. The bytes of the block are dropped, and [`block_into`](CardT1::block_into) has
-    /// the answer.
+    /// wrong parity. The received part of the block is dropped, and
+    /// [`block_into`](CardT1::block_into) has the answer. After a wrong parity the other bytes of
+    /// the block still come: before this call, drop all until none comes for CWT.
     ///
     /// # Errors
     ///

@@ -39,7 +39,8 @@ impl fmt::Debug for Turn {
 /// status such as `6982`. After all except `9000` and `61XX` no value is stored, what was selected
 /// stays selected, and a chain is dropped. So is a response that waits, unless GET RESPONSE itself
 /// gets `6CXX`. If more than one holds, the answer is the first of `6883`, `6E00`, `6D00`, `6884`,
-/// `6A86`, `6985`, `6982`, `6A88`, `6700`, `6CXX`. The others come after the data. A
+/// `6A86`, `6985`, `6982`, `6A88`, `6700`, `6CXX`. The others come after the data.
+/// [`Card::apdu`](crate::Card::apdu) has more cases of `6700`, which change nothing. A
 /// [`Card`](crate::Card) answers:
 ///
 /// | Status | Why |
@@ -52,7 +53,7 @@ impl fmt::Debug for Turn {
 /// | `6884` | CLA begins a chain, and INS is not PUT DATA |
 /// | `6982` | PUT DATA: the data object is locked |
 /// | `6985` | GET DATA, PUT DATA: nothing is selected; GET RESPONSE: nothing waits |
-/// | `6A80` | PUT DATA: the tag is that of a template, and the value is not a list of objects |
+/// | `6A80` | PUT DATA of a template: the value is no list of objects, or has more than 15 levels |
 /// | `6A82` | SELECT: there is no such application |
 /// | `6A84` | PUT DATA: the tag is new, and the application has 64 data objects |
 /// | `6A86` | P1-P2 are not the command's, or name no tag |

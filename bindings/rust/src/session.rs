@@ -67,15 +67,16 @@ impl Session {
         Ok(told(unsafe { raw::galliumtoad_session_idle(self.0.at()) })? == 1)
     }
 
-    /// Plans how the card answers one more of the next operation's TPDUs, in turn, as
-    /// [`Card::plan`]. That operation drops the plans that it leaves, and so does [`Session::end`].
+    /// Plans how the card answers one more TPDU of the next call that is carried out (select, get,
+    /// put or send), in turn, as [`Card::plan`]. That call drops the plans that it leaves, and so
+    /// does [`Session::end`].
     ///
     /// If it ends with `9000`, a select is two TPDUs, SELECT and GET RESPONSE, and a put one for
     /// each 255 bytes, at least one. A get of up to 255 bytes (tag, length and value) is two: the
     /// first gets `6CXX` and moves no data, the second brings them all. A longer one is a TPDU for
-    /// each 256 bytes or less that are left, and more of them if a `cut` is smaller. So to have the
-    /// bytes of a short get come singly, plan `""` first, and then an `o` for each byte of tag,
-    /// length and value: `"oooooo"` for a value of 3 bytes under `5F20`.
+    /// each 256 bytes or less that are left. A select and a longer get are more TPDUs if a `cut` is
+    /// smaller. So to have the bytes of a short get come singly, plan `""` first, and then an `o`
+    /// for each byte of tag, length and value: `"oooooo"` for a value of 3 bytes under `5F20`.
     ///
     /// # Errors
     ///

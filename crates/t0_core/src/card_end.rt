@@ -139,8 +139,8 @@ impl<C: TpduCard> CardEnd<C> {
         &self.came
     }
 
-    /// Whether the header is complete and the card has not yet answered it. If so, the next `turn`
-    /// takes the next plan.
+    /// Whether header and P3 are complete, and the card has sent nothing of this TPDU. If so, the
+    /// next `turn` takes the next plan.
     pub fn takes_plan(&self) -> bool
         ensures { result ≡ takes_plan self.now.stage }
     {

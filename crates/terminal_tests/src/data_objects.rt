@@ -51,7 +51,8 @@ fn begun<A: Allocator + Copy>(rt: &(impl Abort + AllocGlobal), memory: A) -> Car
     builder
 }
 
-/// A card with these data objects, in this memory.
+/// A card with these data objects, at least one, in its one application. Any other text ends the
+/// test.
 pub fn card_of<A: Allocator + Copy>(
     rt: &(impl Abort + AllocGlobal),
     memory: A,

@@ -28,7 +28,7 @@ pub enum Parts {
     Reference,
     /// What is done with a channel.
     Channel,
-    /// Which cryptogram is asked for.
+    /// Which cryptogram is asked for (EMV 4.3, Book 3, 6.5.5).
     Cryptogram,
     /// Something else. The program shows their digits, unless they are `0000`.
     Others,

@@ -267,11 +267,13 @@ class T1(Lasting):
     - OutOfMemory: memory ran out.
 
     It gives up after more than 4 fruitless receptions since the last progress, or more than 16
-    requests of the card in one command. A granted request is not fruitless.
+    requests of the card in one command. A granted request is not fruitless. It also gives up after
+    S(ABORT request), and if a response exceeds 258 bytes, which short commands never do.
 
     The line is a callable with two arguments. It sends the bytes of the first, if there are any,
     and returns the bytes received since. It returns no bytes if none came in time: within BWT times
-    the second argument after a block was sent, and within CWT inside a block.
+    the second argument after a block was sent, and within CWT inside a block. Nor does it after a
+    wrong parity: it drops the rest of that block. BGT passes before it sends a block.
 
     >>> from galliumtoad import T1, BlockError
     >>> with T1(lambda data, waits: b"") as no_card:

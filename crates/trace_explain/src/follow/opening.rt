@@ -21,9 +21,9 @@ pub enum Stage {
     Answer,
     /// The card sent an invalid answer, or characters that are not part of one.
     Astray,
-    /// A PPS request has started.
+    /// A PPS request has started. The card may respond, or begin an answer.
     Request,
-    /// The response to it is next.
+    /// The response to it is next, or an answer.
     Asked,
     /// The response has started.
     Response,

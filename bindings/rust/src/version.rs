@@ -4,6 +4,7 @@ use crate::raw;
 use std::sync::Once;
 
 /// Returns the version of the header that the library was built for: major, minor and patch number.
+/// It never panics.
 #[must_use]
 pub fn version() -> (u32, u32, u32) {
     // SAFETY: nothing is handed over.
@@ -14,7 +15,8 @@ pub fn version() -> (u32, u32, u32) {
 /// Whether the library fits this crate: major and minor number are the same. A library that
 /// `GALLIUMTOAD_LIB_DIR` names may be another.
 ///
-/// Every call of this crate that needs the library panics if this is `false`.
+/// Every call of this crate that needs the library, except this one and [`version`], panics if this
+/// is `false`.
 #[must_use]
 pub fn version_fits() -> bool {
     let own = (

@@ -7,7 +7,7 @@ ghost use Rattle.apdu_core.specs.Chaining.{IsLast};
 use apdu_core::{Header, pieces};
 use std::alloc::{AllocError, Allocator};
 
-/// Writes the commands that put a value, one after another. INS of the header must be valid, and
+/// Appends the commands that put a value, one after another. INS of the header must be valid, and
 /// bit 5 of its CLA clear. If memory runs out, `out` may contain some of the commands.
 pub fn write_put<A: Allocator>(
     header: Header,

@@ -49,7 +49,7 @@ impl Resuming {
         self.passed = Some(Passed { line, place, last });
     }
 
-    /// The same for a character whose sender is unknown.
+    /// The same for a character whose sender is unknown. The first becomes `first_unsent`.
     pub fn pass_unsent(&mut self, line: u64, place: usize) {
         self.pass(line, place);
         self.first_unsent = self.first_unsent.or(Some((line, place)));

@@ -35,8 +35,9 @@ pub enum TraceLine<'a> {
 #[derive(Clone, Copy, Debug, Error)]
 pub enum LineFault {
     /// It begins with a sign, and something other than a space and two digits for each byte
-    /// follows. A sign alone is valid. With `--unsigned`: it has not two digits for each byte. In a
-    /// log: it begins as one with bytes, or continues a dump, and does not spell bytes.
+    /// follows. A sign alone is valid. With `--unsigned`: it has digits and spaces alone, but not
+    /// two digits for each byte. In a log: it begins as a line with bytes, or continues a dump, and
+    /// does not spell bytes.
     #[error("bad hex")]
     Hex,
     /// Its sign has another form than this one, which `--form` or a line before gave.
@@ -121,7 +122,7 @@ fn read_signed<'a>(
 ///
 /// # Errors
 ///
-/// - `Hex`: it contains digits, but not two for each byte.
+/// - `Hex`: it has digits and spaces alone, but not two digits for each byte.
 /// - `Signed`: it begins with a sign.
 fn read_unsigned<'a>(
     alloc: Global,

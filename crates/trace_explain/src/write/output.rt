@@ -39,6 +39,7 @@ impl Output {
     }
 
     /// Adds the lines of the page as a row of a TPDU with this label. Adds nothing without lines.
+    /// Words that wait must be joined before.
     pub fn row(&mut self, side: Side, label: &str)
         ensures { Puts (IsRow side label.now) self.old.sheet self.new.sheet }
     {

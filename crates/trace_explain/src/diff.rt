@@ -2,7 +2,6 @@
 //! time, and would hide what differs.
 
 use crate::describe::mask::Mask;
-use crate::diff_fault::DiffFault;
 use crate::explain::{CHUNK, TRACE_LIMIT, explain_chunk, explain_last};
 use crate::explain_fault::ExplainFault;
 use crate::explainer::Explainer;
@@ -10,15 +9,39 @@ use crate::read::reading::Reading;
 use crate::write::kept::Kept;
 use crate::write::layout::{Layout, Medium};
 use crate::write::sheet::Sheet;
+use crate::write::sink::Sink;
 use std::alloc::{AllocError, Global};
-use std::io;
 use std::io::{Read, Write};
+use thiserror::Error;
 
 /// The layout of the TPDUs that differ.
 const LAYOUT: Layout = Layout {
     medium: Medium::Text,
     is_summary: false,
 };
+
+/// Why two traces can't be compared.
+#[derive(Debug, Drop, Error)]
+pub enum DiffFault {
+    /// The file of this trace can't be opened: `A` or `B`.
+    #[error("{0}: can't be opened")]
+    Open(&'static str),
+    /// This trace, `A` or `B`, has this fault. The other begins with the same TPDUs.
+    #[error("{0}: {1}")]
+    Trace(&'static str, ExplainFault),
+    /// The writer failed. How much it took is unknown.
+    #[error("write fault")]
+    Write,
+    /// Memory ran out.
+    #[error("out of memory")]
+    OutOfMemory,
+}
+
+impl From<AllocError> for DiffFault {
+    fn from(_error: AllocError) -> DiffFault {
+        DiffFault::OutOfMemory
+    }
+}
 
 #[derive(Drop)]
 struct Trace<'r, R: Read> {
@@ -60,9 +83,8 @@ pub fn diff<R: Read, S: Read, W: Write>(
     let mut text = Sheet::new(alloc, LAYOUT);
     let alike = compare(&mut a, &mut b, &mut text)?;
     text.is_whole()?;
-    match writer.write_all(text.as_str().as_bytes()) {
-        Ok(()) => Ok(alike),
-        Err(error) if error.kind() == io::ErrorKind::BrokenPipe => Ok(alike),
+    match writer.put(text.as_str().as_bytes()) {
+        Ok(()) | Err(ExplainFault::Closed) => Ok(alike),
         Err(_) => Err(DiffFault::Write),
     }
 }
@@ -75,14 +97,14 @@ fn compare<R: Read, S: Read>(
 ) -> Result<bool, DiffFault> {
     for number in 1..u64::MAX {
         let before = number - 1;
+        let unit = if before == 1 { "TPDU" } else { "TPDUs" };
         let unlike = match (a.front()?, b.front()?) {
             (None, None) => {
-                let unit = if before == 1 { "TPDU" } else { "TPDUs" };
                 writeln!(out, "alike: {before} {unit}");
                 return Ok(true);
             }
-            (Some(kept), None) => push_only(out, ("B", "A"), before, kept),
-            (None, Some(kept)) => push_only(out, ("A", "B"), before, kept),
+            (Some(kept), None) => push_only(out, ("B", "A"), (before, unit), kept),
+            (None, Some(kept)) => push_only(out, ("A", "B"), (before, unit), kept),
             (Some(one), Some(other)) => differ(out, number, one, other),
         };
         if unlike {
@@ -95,46 +117,37 @@ fn compare<R: Read, S: Read>(
 }
 
 /// Reports that this trace has no more TPDUs, and the next of the other. Returns true: they differ.
-fn push_only(out: &mut Sheet, names: (&str, &str), before: u64, next: &Kept) -> bool {
-    let unit = if before == 1 { "TPDU" } else { "TPDUs" };
-    let (one, more) = names;
-    writeln!(out, "{one} ends after {before} {unit}, and {more} goes on:");
+fn push_only(out: &mut Sheet, names: (&str, &str), before: (u64, &str), next: &Kept) -> bool {
+    let ((one, more), (count, unit)) = (names, before);
+    writeln!(out, "{one} ends after {count} {unit}, and {more} goes on:");
     out.push_str(next.text.as_str());
     true
 }
 
 /// Whether two TPDUs differ. Reports them, and in what they differ.
 fn differ(out: &mut Sheet, number: u64, a: &Kept, b: &Kept) -> bool {
+    let (one, other) = (&a.tpdu, &b.tpdu);
+    let moved = one.way == other.way && one.moved == other.moved && one.answer == other.answer;
     let parts = [
-        ("header", a.tpdu.header == b.tpdu.header),
-        (
-            "data",
-            a.tpdu.way == b.tpdu.way
-                && a.tpdu.moved == b.tpdu.moved
-                && a.tpdu.answer == b.tpdu.answer,
-        ),
-        ("Le", a.tpdu.le == b.tpdu.le),
-        ("status", a.tpdu.status == b.tpdu.status),
+        ("header", one.header == other.header),
+        ("data", moved),
+        ("Le", one.le == other.le),
+        ("status", one.status == other.status),
     ];
-    let mut is_first = true;
+    let mut sign = "";
     for (name, is_same) in parts {
         if !is_same {
-            if is_first {
-                write!(out, "TPDU {number} differs: {name}");
-            } else {
-                write!(out, ", {name}");
+            if sign.is_empty() {
+                write!(out, "TPDU {number} differs:");
             }
-            is_first = false;
+            write!(out, "{sign} {name}");
+            sign = ",";
         }
     }
-    if is_first {
-        return false;
+    if !sign.is_empty() {
+        write!(out, "\nA:\n{}B:\n{}", a.text, b.text);
     }
-    out.push_str("\nA:\n");
-    out.push_str(a.text.as_str());
-    out.push_str("B:\n");
-    out.push_str(b.text.as_str());
-    true
+    !sign.is_empty()
 }
 
 impl<'r, R: Read> Trace<'r, R> {

@@ -314,10 +314,7 @@ impl Explainer {
         let taken = self.log.take(line, &mut logged);
         self.has_characters = self.has_characters || self.log.has_begun();
         self.teller.tell_logged(logged.as_slice(), line)?;
-        match taken {
-            Ok(()) => Ok(()),
-            Err(why) => Err(refused(self.line, why)),
-        }
+        taken.map_err(|why| refused(self.line, why))
     }
 
     /// Returns an error if the lines so far contain a protocol error after which it continued, or

@@ -4,7 +4,6 @@
 mod command_line;
 mod describe;
 mod diff;
-mod diff_fault;
 mod explain;
 mod explain_fault;
 mod explainer;

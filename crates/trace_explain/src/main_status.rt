@@ -2,10 +2,9 @@
 ghost use Rattle.std.specs.Prelude.{◌≡◌, ◌≤◌, OnOk, IfErr};
 ghost use Rattle.trace_explain.specs.Trace.{status_of};
 
-use crate::command_line::{Request, parsed};
+use crate::command_line::parsed;
 use crate::describe::mask::Mask;
-use crate::diff::diff;
-use crate::diff_fault::DiffFault;
+use crate::diff::{DiffFault, diff};
 use crate::explain::explain;
 use crate::explain_fault::ExplainFault;
 use crate::help;
@@ -39,27 +38,18 @@ pub fn main_status<D: Files, R: Read, W: Write, F: Write>(
     ensures status { result ≤ 2 }
 {
     let forms = Form::names();
-    let Request {
-        layout,
-        mask,
-        resumes,
-        reading,
-        compared,
-    } = match parsed(alloc, words, &forms) {
+    let asked = match parsed(alloc, words, &forms) {
         Ok(request) => request,
         Err(error) => return answered(&error, output, faults),
     };
-    match compared {
-        Some(paths) => {
-            match diff_files(alloc, mask, resumes, reading, files, paths, output) {
-                Ok(alike) => u8::from(!alike),
-                Err(fault) => print_fault(&fault, faults),
-            }
-        }
-        None => status(
-            &explain(alloc, layout, mask, resumes, reading, input, output),
-            faults,
-        ),
+    let (layout, mask, resumes, reading) = (asked.layout, asked.mask, asked.resumes, asked.reading);
+    let Some(paths) = asked.compared else {
+        let outcome = explain(alloc, layout, mask, resumes, reading, input, output);
+        return status(&outcome, faults);
+    };
+    match diff_files(alloc, mask, resumes, reading, files, paths, output) {
+        Ok(alike) => u8::from(!alike),
+        Err(fault) => print_fault(&fault, faults),
     }
 }
 

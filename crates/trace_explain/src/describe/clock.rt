@@ -165,31 +165,26 @@ impl Moment {
 
     /// The moment after the one before it, from which a shift counts.
     fn behind(self, before: Option<Moment>) -> Moment {
-        let mut nanos = self.nanos;
-        if let Some(other) = before
-            && self.measure == Measure::Shift
-            && other.measure == Measure::Shift
-        {
-            nanos = nanos.saturating_add(other.nanos);
+        match before {
+            Some(other) if self.measure == Measure::Shift && other.measure == Measure::Shift => {
+                let nanos = self.nanos.saturating_add(other.nanos);
+                Moment { nanos, ..self }
+            }
+            _ => self,
         }
-        Moment { nanos, ..self }
     }
 }
 
 impl Measure {
     /// The start from which this text counts. `None` if it is empty.
     fn of(time: &[u8]) -> Option<Measure> {
-        if time.is_empty() {
-            None
-        } else if time.contains(&b'+') {
-            Some(Measure::Shift)
-        } else if time.contains(&b':') {
-            Some(Measure::Day)
-        } else if time.contains(&b'.') || time.contains(&b'[') {
-            Some(Measure::Seconds)
-        } else {
-            Some(Measure::Count)
-        }
+        Some(match time {
+            [] => return None,
+            _ if time.contains(&b'+') => Measure::Shift,
+            _ if time.contains(&b':') => Measure::Day,
+            _ if time.contains(&b'.') || time.contains(&b'[') => Measure::Seconds,
+            _ => Measure::Count,
+        })
     }
 
     /// The nanoseconds of the unit of this text.
@@ -227,10 +222,8 @@ fn sum(one: Option<u64>, other: Option<u64>) -> Option<u64> {
 fn push_duration(text: &mut Sheet, nanos: u64) {
     let micros = nanos / 1_000;
     if nanos < SECOND {
-        let (whole, rest) = (micros / 1_000, micros % 1_000);
-        write!(text, "{whole}.{rest:03} ms");
+        write!(text, "{}.{:03} ms", micros / 1_000, micros % 1_000);
     } else {
-        let (whole, rest) = (micros / 1_000_000, micros % 1_000_000);
-        write!(text, "{whole}.{rest:06} s");
+        write!(text, "{}.{:06} s", micros / 1_000_000, micros % 1_000_000);
     }
 }

@@ -22,8 +22,7 @@ impl fmt::Display for Seen {
         if self.hides {
             return f.write_str(HIDDEN);
         }
-        let byte = self.byte;
-        write!(f, "{byte:02X}")
+        write!(f, "{:02X}", self.byte)
     }
 }
 
@@ -46,11 +45,9 @@ pub struct Complaint {
 
 impl fmt::Display for Complaint {
     fn fmt<W: fmt::Write>(&self, f: &mut fmt::Formatter<W>) -> fmt::Result {
-        let line = self.line;
+        let (line, received) = (self.line, self.received);
         let character = self.place.saturating_add(1);
-        let expected = expected_text(self.expected);
-        let received = self.received;
-        let from = end_text(self.from);
+        let (from, expected) = (end_text(self.from), expected_text(self.expected));
         let is_astray = self.is_astray;
         let (or, astray) = if is_astray { ("; ", ASTRAY) } else { ("", "") };
         write!(

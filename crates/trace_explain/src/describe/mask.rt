@@ -72,11 +72,10 @@ impl Origin {
             (Direction::FromCard, Some(asker)) => asker,
             _ => header,
         };
-        let continues = links.continues;
         Some(Origin {
             header,
             way,
-            continues,
+            continues: links.continues,
         })
     }
 
@@ -199,10 +198,7 @@ impl Mask {
         if is_secret(origin.header.ins) {
             return Shown::Nothing;
         }
-        if self.tags.is_empty() {
-            return Shown::All;
-        }
-        if is_name(origin.header.ins, origin.way) {
+        if self.tags.is_empty() || is_name(origin.header.ins, origin.way) {
             return Shown::All;
         }
         match named(origin.header) {

@@ -22,7 +22,7 @@ pub fn push_meaning(text: &mut Sheet, header: Header, status: Status) {
         return push_waiting(text, status, bytes);
     }
     if let Some(bytes) = status.corrects() {
-        let unit = unit_of(u64::from(bytes));
+        let unit = unit_of(bytes);
         return write!(text, "wrong Le: ask for {bytes} {unit}");
     }
     match (header.cla, status.sw1(), status.sw2()) {
@@ -52,20 +52,15 @@ pub fn push_meaning(text: &mut Sheet, header: Header, status: Status) {
 fn push_waiting(text: &mut Sheet, status: Status, bytes: u16) {
     let is_least = status.sw1() == 0x61 && bytes == 256;
     let least = if is_least { "at least " } else { "" };
-    let (unit, verb) = if bytes == 1 {
-        ("byte", "waits")
-    } else {
-        ("bytes", "wait")
-    };
+    let unit = unit_of(bytes);
+    let verb = if bytes == 1 { "waits" } else { "wait" };
     write!(text, "{least}{bytes} {unit} of the response {verb}");
 }
 
 /// Adds the meaning of `63CX`: how many tries are left, if the command counts tries.
 fn push_counter(text: &mut Sheet, header: Header, left: u8) {
-    if !counts_tries(header) {
-        return write!(text, "a warning: a counter is at {left}");
-    }
     match left {
+        _ if !counts_tries(header) => write!(text, "a warning: a counter is at {left}"),
         0 => text.push_str("a warning: no try is left"),
         1 => text.push_str("a warning: 1 try is left"),
         _ => write!(text, "a warning: {left} tries are left"),

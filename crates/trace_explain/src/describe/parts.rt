@@ -32,8 +32,7 @@ pub fn push_command(text: &mut Sheet, header: Header, sent: &[u8]) {
             }
         }
         None => {
-            let ins = header.ins;
-            write!(text, "INS {ins:02X}");
+            write!(text, "INS {:02X}", header.ins);
             push_parameters(text, header);
         }
     }
@@ -45,8 +44,7 @@ pub fn push_command(text: &mut Sheet, header: Header, sent: &[u8]) {
 
 /// Adds P1 and P2 as they are.
 fn push_parameters(text: &mut Sheet, header: Header) {
-    let Header { p1, p2, .. } = header;
-    write!(text, " with P1-P2 {p1:02X}{p2:02X}");
+    write!(text, " with P1-P2 {:02X}{:02X}", header.p1, header.p2);
 }
 
 /// Adds P1 and P2, if they are not `0000`.
@@ -127,10 +125,7 @@ fn push_records(text: &mut Sheet, header: Header) {
         (0xB2 | 0x0C, 5, 1..) => write!(text, "S {p1} to the last"),
         (0xB2, 6, 1..) => write!(text, "S from the last to {p1}"),
         (0xB2 | 0xD2 | 0xDC, which @ 0..=3, 0) => text.push_str(occurrence(which)),
-        (0xB2, which @ 0..=3, _) => {
-            text.push_str(occurrence(which));
-            write!(text, " with identifier {p1:02X}");
-        }
+        (0xB2, which @ 0..=3, _) => write!(text, "{} with identifier {p1:02X}", occurrence(which)),
         _ => return push_parameters(text, header),
     }
     if file != 0 {

@@ -22,10 +22,7 @@ pub fn push_title(text: &mut Sheet, outline: &Outline, selected: &[u8]) {
 pub fn push_links(text: &mut Sheet, links: Links) {
     match links.link {
         Link::None => {}
-        Link::AskedAgain(count) => {
-            let unit = unit_of(u64::from(count));
-            write!(text, ", asked again for {count} {unit}");
-        }
+        Link::AskedAgain(count) => write!(text, ", asked again for {count} {}", unit_of(count)),
         Link::Fetches(count) => write!(text, ", fetches {count}"),
         Link::FetchesMore(count) => write!(text, ", fetches {count} more"),
         Link::Piece(number) => write!(text, ", piece {number} of a chain"),
@@ -52,8 +49,7 @@ pub fn push_procedure(text: &mut Sheet, tally: Tally) {
 pub fn push_most(text: &mut Sheet, le: Option<u8>) {
     if let Some(le) = le {
         let most = count(le);
-        let unit = unit_of(u64::from(most));
-        writeln!(text, "{le:02X} up to {most} {unit}");
+        writeln!(text, "{le:02X} up to {most} {}", unit_of(most));
     }
 }
 
@@ -63,18 +59,14 @@ pub fn push_cut_off(text: &mut Sheet, outline: &Outline) {
     text.push_str("cut off");
     match (outline.header, outline.way) {
         _ if outline.has_sw1 => {}
-        (None, _) => {
-            let came = outline.received;
-            write!(text, " after {came} of 5 characters");
-        }
+        (None, _) => write!(text, " after {} of 5 characters", outline.received),
         (Some(_), None) => {}
         (Some((_, p3)), Some(way)) => {
-            let came = outline.moved;
             let foreseen = match way {
                 Direction::ToCard => u16::from(p3),
                 Direction::FromCard => count(p3),
             };
-            let unit = unit_of(u64::from(foreseen));
+            let (came, unit) = (outline.moved, unit_of(foreseen));
             write!(text, " after {came} of {foreseen} {unit}");
         }
     }
@@ -83,12 +75,11 @@ pub fn push_cut_off(text: &mut Sheet, outline: &Outline) {
 
 /// Adds how many procedure bytes there are of one kind, and a comma if more follows.
 fn push_kind(text: &mut Sheet, count: u64, units: (&str, &str), more: bool) {
-    if count == 0 {
-        return;
+    if count > 0 {
+        let unit = if count == 1 { units.0 } else { units.1 };
+        let comma = if more { ", " } else { "" };
+        write!(text, "{count} {unit}{comma}");
     }
-    let unit = if count == 1 { units.0 } else { units.1 };
-    let comma = if more { ", " } else { "" };
-    write!(text, "{count} {unit}{comma}");
 }
 
 /// Adds the size of the data that are shown together, and how many TPDUs moved them.
@@ -113,6 +104,6 @@ fn push_size(lines: &mut Sheet, size: u64, count: u64, parts: &str)
 }
 
 /// The unit for this number of bytes.
-pub fn unit_of(count: u64) -> &'static str {
+pub fn unit_of(count: u16) -> &'static str {
     if count == 1 { "byte" } else { "bytes" }
 }

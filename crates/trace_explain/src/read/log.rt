@@ -148,8 +148,7 @@ impl Log {
         self.pending = next;
         match next {
             Open::Nothing => self.close(from, logged),
-            Open::Answer => Ok(()),
-            Open::Dump(_, _) => Ok(()),
+            Open::Answer | Open::Dump(..) => Ok(()),
         }
     }
 

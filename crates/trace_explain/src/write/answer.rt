@@ -6,9 +6,10 @@ ghost use Rattle.trace_explain.specs.Openings.{unread};
 use crate::describe::mask::Mask;
 use crate::follow::opening::{is_direct, is_short};
 use crate::follow::preface::Preface;
-use crate::write::ascii::{push_digits, push_hex_lines};
+use crate::write::ascii::push_digits;
 use crate::write::layout::{Anchor, Kind, Side};
 use crate::write::page::Page;
+use crate::write::pps::push_characters;
 use crate::write::sheet::Sheet;
 use atr_core::{Atr, AtrFault, Category, Fi, di};
 
@@ -19,11 +20,7 @@ pub fn tell_answer(mask: &Mask, preface: &Preface, page: &mut Page) {
     let read = Atr::read(bytes);
     let kind = kind_of(&read);
     page.open(kind, Anchor::None, "answer to reset", preface.line);
-    if read.is_err() {
-        mask.push_unknown(&mut page.lines, bytes);
-    } else {
-        push_hex_lines(&mut page.lines, bytes);
-    }
+    push_characters(&mut page.lines, mask, bytes, read.is_ok());
     page.row(Side::Card, "characters");
     if !is_direct(preface.turned) {
         let turned = "by the direct convention, so that TS was 03; all characters are shown turned
@@ -70,11 +67,8 @@ fn tell_values(answer: &Atr, page: &mut Page) {
 /// Adds a hint, if the program does not read the protocol that the card offers first.
 fn tell_unread(answer: &Atr, page: &mut Page) {
     if let Some(t) = unread(answer) {
-        writeln!(
-            page.lines,
-            "the card offers T={t} first, and this program reads T=0 only"
-        );
-        page.row(Side::Nobody, "hint");
+        write!(page.lines, "the card offers T={t} first");
+        page.line_row("hint", ", and this program reads T=0 only\n");
     }
 }
 
@@ -120,10 +114,8 @@ fn push_guard_times(text: &mut Sheet, answer: &Atr) {
 
 /// Adds the waiting time of T=0, if offered.
 fn push_waiting_time(text: &mut Sheet, answer: &Atr) {
-    if !answer.protocols().contains(&0) {
-        return;
-    }
     match answer.waiting_time() {
+        _ if !answer.protocols().contains(&0) => {}
         Ok(cycles) => writeln!(text, "T=0: {cycles} clock cycles"),
         Err(rfu) => writeln!(text, "T=0: {rfu}"),
     }

@@ -1,5 +1,4 @@
 //! Notes between boxes: lines without characters, bytes outside of TPDUs, and skipped lines.
-ghost use Rattle.std.specs.Prelude.{◌<◌};
 
 use crate::describe::mask::{Mask, push_hidden_line};
 use crate::resuming::Passed;
@@ -48,18 +47,11 @@ pub fn tell_note(note: &[u8], mask: &Mask, page: &mut Page) {
 
 /// Adds a note, in several lines if it is long.
 fn push_note(text: &mut Sheet, note: &[u8]) {
-    for piece in note.chunks(note_width(note)) {
+    let is_plain = are_printable(note);
+    for piece in note.chunks(if is_plain { NOTE_BYTES } else { ODD_BYTES }) {
         push_printable(text, piece);
         text.push('\n');
     }
-}
-
-/// The number of bytes of this note in a line.
-fn note_width(note: &[u8]) -> usize
-    ensures { 0 < result }
-{
-    let is_plain = are_printable(note);
-    if is_plain { NOTE_BYTES } else { ODD_BYTES }
 }
 
 /// Adds the bytes of a note: printable ASCII as it is, others as `\xHH`.

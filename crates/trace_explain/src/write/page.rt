@@ -181,14 +181,12 @@ impl Page {
     /// Adds links to the first of `all` TPDUs with a status other than `9000`, `61XX` and `6CXX`.
     /// Each is a number and a status. Text has no links.
     pub fn link_statuses(&mut self, tpdus: &[(u64, u16)], all: u64) {
-        let mut told: u64 = 0;
         self.begin_links("statuses other than 9000, 61XX and 6CXX:", tpdus.is_empty());
         for (number, word) in tpdus {
-            told = told.saturating_add(1);
             write!(self.text, "#{number} {word:04X}");
             self.add(Form::Link(Anchor::Tpdu(*number)));
         }
-        self.end_links(told, all);
+        self.end_links(tpdus.len() as u64, all);
     }
 
     /// Adds the start of a paragraph of links, unless it has none.
@@ -263,8 +261,5 @@ fn push_wrapped(out: &mut Sheet, words: &str, begins: usize, wrap: &str, indent:
 
 /// The number of decimal digits of a number.
 fn digits(number: u64) -> usize {
-    match number.checked_ilog10() {
-        Some(power) => (power as usize).saturating_add(1),
-        None => 1,
-    }
+    (number.checked_ilog10().unwrap_or(0) as usize).saturating_add(1)
 }

@@ -33,8 +33,9 @@ pub fn tell_pps(mask: &Mask, preface: &Preface, page: &mut Page) {
     page.close();
 }
 
-/// Adds the characters of a request or response. A mask hides invalid ones, which may be data.
-fn push_characters(text: &mut Sheet, mask: &Mask, bytes: &[u8], is_one: bool) {
+/// Adds the characters of an answer, request or response. A mask hides invalid ones, which may be
+/// data.
+pub fn push_characters(text: &mut Sheet, mask: &Mask, bytes: &[u8], is_one: bool) {
     if is_one {
         push_hex_lines(text, bytes);
     } else {
@@ -48,11 +49,10 @@ fn push_agreed(
     request: &Result<Pps, PpsFault>,
     response: &Result<Pps, PpsFault>,
 ) {
-    let (Ok(request), Ok(response)) = (request, response) else {
-        return;
-    };
-    let agree = agreed(request, response);
-    text.push_str(if agree { "agreed: " } else { "not agreed: " });
+    if let (Ok(request), Ok(response)) = (request, response) {
+        let agree = agreed(request, response);
+        text.push_str(if agree { "agreed: " } else { "not agreed: " });
+    }
 }
 
 /// Adds the values of a request or response, or what is wrong with it.

@@ -141,10 +141,7 @@ impl Sheet {
     pub fn into_text(self) -> Result<String, AllocError>
         ensures { IfOk result (λ text. (self.is_cut ≡ false) × (text ≡ self.text)) }
     {
-        if self.is_cut {
-            Err(AllocError)
-        } else {
-            Ok(self.text)
-        }
+        self.is_whole()?;
+        Ok(self.text)
     }
 }

@@ -31,9 +31,7 @@ impl<W: Write> Sink for W {
     ghost fails = { λ _. ⊤ };
 
     fn put(&mut self, bytes: &[u8]) -> Result<(), ExplainFault> {
-        match self.write_all(bytes) {
-            Ok(()) => Ok(()),
-            Err(error) => Err(ExplainFault::of_writing(&error)),
-        }
+        self.write_all(bytes)
+            .map_err(|error| ExplainFault::of_writing(&error))
     }
 }

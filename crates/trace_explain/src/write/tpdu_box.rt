@@ -157,16 +157,9 @@ fn push_shown(lines: &mut Sheet, shown: Shown, may_be_objects: bool, bytes: &[u8
 {
     match shown {
         Shown::Nothing => push_hidden(lines),
-        Shown::Objects => {
-            if !push_tree(lines, may_be_objects, bytes, mask) {
-                push_hidden(lines);
-            }
-        }
-        Shown::All => {
-            if !push_tree(lines, may_be_objects, bytes, mask) {
-                push_digits(lines, bytes);
-            }
-        }
+        _ if push_tree(lines, may_be_objects, bytes, mask) => {}
+        Shown::Objects => push_hidden(lines),
+        Shown::All => push_digits(lines, bytes),
     }
 }
 

@@ -104,37 +104,37 @@ fn command<'a>(alloc: Global, forms: &'a [&'a str]) -> Result<Command<'a>, Alloc
         .about(help::PROGRAM)
         .after_help(help::TRACE)
         .arg(
-            valued(alloc, "diff")
+            valued(alloc, "diff", help::DIFF)
                 .value_names(["A", "B"].as_slice())
                 .num_args(2..=2)
                 .conflicts_with("html")?
                 .conflicts_with("summary")?,
         )?
-        .arg(flag(alloc, "html"))?
+        .arg(flag(alloc, "html", help::HTML))?
         .arg(
-            valued(alloc, "mask")
+            valued(alloc, "mask", help::MASK)
                 .value_name("TAGS")
                 .num_args(0..=1)
                 .default_missing_value(""),
         )?
-        .arg(flag(alloc, "resume"))?
+        .arg(flag(alloc, "resume", help::RESUME))?
         .arg(
-            valued(alloc, "form")
+            valued(alloc, "form", help::FORM)
                 .action(ArgAction::Set)
                 .value_name("FORM")
                 .value_parser(forms),
         )?
-        .arg(flag(alloc, "swap"))?
+        .arg(flag(alloc, "swap", help::SWAP))?
         .arg(
-            flag(alloc, "unsigned")
+            flag(alloc, "unsigned", help::UNSIGNED)
                 .conflicts_with("form")?
                 .conflicts_with("swap")?,
         )?
-        .arg(way(alloc, "to-card")?)?
-        .arg(way(alloc, "from-card")?)?
-        .arg(flag(alloc, "summary"))?
+        .arg(way(alloc, "to-card", help::TO_CARD)?)?
+        .arg(way(alloc, "from-card", help::FROM_CARD)?)?
+        .arg(flag(alloc, "summary", help::SUMMARY))?
         .arg(
-            flag(alloc, "tpdu")
+            flag(alloc, "tpdu", help::TPDU)
                 .conflicts_with("form")?
                 .conflicts_with("resume")?
                 .conflicts_with("swap")?
@@ -143,19 +143,19 @@ fn command<'a>(alloc: Global, forms: &'a [&'a str]) -> Result<Command<'a>, Alloc
 }
 
 /// An option that lists instructions.
-fn way<'a>(alloc: Global, name: &'a str) -> Result<Arg<'a>, AllocError> {
-    valued(alloc, name)
+fn way<'a>(alloc: Global, name: &'a str, help: &'a str) -> Result<Arg<'a>, AllocError> {
+    valued(alloc, name, help)
         .action(ArgAction::Set)
         .value_name("INS")
         .requires_arg("unsigned")
 }
 
 /// An option without a value.
-fn flag<'a>(alloc: Global, name: &'a str) -> Arg<'a> {
-    valued(alloc, name).action(ArgAction::SetTrue)
+fn flag<'a>(alloc: Global, name: &'a str, help: &'a str) -> Arg<'a> {
+    valued(alloc, name, help).action(ArgAction::SetTrue)
 }
 
 /// An option with its help.
-fn valued<'a>(alloc: Global, name: &'a str) -> Arg<'a> {
-    Arg::new(alloc, name).long(name).help(help::about(name))
+fn valued<'a>(alloc: Global, name: &'a str, help: &'a str) -> Arg<'a> {
+    Arg::new(alloc, name).long(name).help(help)
 }

@@ -7,23 +7,28 @@ pub const PROGRAM: &str = "Explains the trace of a dialogue with a smart card ov
 /// The version.
 pub const VERSION: &str = "0.2.0";
 
-/// Returns the help of an option.
-pub fn about(option: &str) -> &'static str {
-    match option {
-        "diff" => "Compares the traces of two files, and shows the first TPDU that differs",
-        "html" => "Writes one page of HTML, which needs no other file, in place of text",
-        "mask" => "Shows `**` for reference data, and for objects with tags such as `5A,57`",
-        "resume" => "Continues after an unexpected byte",
-        "form" => "Sets the signs of the lines, in place of the first sign",
-        "swap" => "Takes each sign for that of the other end, if TX is the card's",
-        "unsigned" => "Reads lines without signs: the dialogue shows who sent each character",
-        "to-card" => "Lists instructions whose data go to the card, as `5A,F0`",
-        "from-card" => "Lists instructions whose data come from the card",
-        "summary" => "Writes the last block alone, which contains the counts",
-        "tpdu" => "Reads a log of whole TPDUs or APDUs, as programs of PC/SC write them",
-        _ => "",
-    }
-}
+// The help of each option.
+pub const DIFF: &str = "Compares the traces of two files, and shows the first TPDU that differs";
+
+pub const HTML: &str = "Writes one page of HTML, which needs no other file, in place of text";
+
+pub const MASK: &str = "Shows `**` for reference data, and for objects with tags such as `5A,57`";
+
+pub const RESUME: &str = "Continues after an unexpected byte";
+
+pub const FORM: &str = "Sets the signs of the lines, in place of the first sign";
+
+pub const SWAP: &str = "Takes each sign for that of the other end, if TX is the card's";
+
+pub const UNSIGNED: &str = "Reads lines without signs: the dialogue shows who sent each character";
+
+pub const TO_CARD: &str = "Lists instructions whose data go to the card, as `5A,F0`";
+
+pub const FROM_CARD: &str = "Lists instructions whose data come from the card";
+
+pub const SUMMARY: &str = "Writes the last block alone, which contains the counts";
+
+pub const TPDU: &str = "Reads a log of whole TPDUs or APDUs, as programs of PC/SC write them";
 
 /// What the program reads and prints.
 pub const TRACE: &str = "\

@@ -13,8 +13,8 @@ use Rattle.trace_explain.specs.declared.follow.listener.Listener.{Listener}
 use Rattle.trace_explain.specs.declared.read.reading.Reading.{Reading}
 use Rattle.trace_explain.specs.declared.read.trace_line.LineFault.{LineFault}
 use Rattle.trace_explain.specs.declared.read.trace_line.LineFault.TheVariants as bad
-use Rattle.trace_explain.specs.declared.read.trace_line.Source.{Source}
-use Rattle.trace_explain.specs.declared.read.trace_line.Source.TheVariants.{Sign, Turn}
+use Rattle.trace_explain.specs.declared.read.entry.Source.{Source}
+use Rattle.trace_explain.specs.declared.read.entry.Source.TheVariants.{Sign, Turn}
 use Rattle.trace_explain.specs.Reports.{Report, report_of, ReportsFront}
 use Rattle.trace_explain.specs.Openings.{opening_of}
 use Rattle.trace_explain.specs.Lines.{AreOver, IsBadLine, Says, Position, TakesCharacters, read_on, IsSent, TakesCharacter}
@@ -24,7 +24,7 @@ use Rattle.trace_explain.specs.Account.{AddsBoxes}
 use Rattle.trace_explain.proofs.AccountLemmas.{boxes_both}
 use Rattle.trace_explain.specs.Turns.{source_at}
 use Rattle.std.specs.Global.{Vec}
-use Rattle.trace_explain.specs.declared.read.trace_line.TraceLine.TheVariants as said
+use Rattle.trace_explain.specs.declared.read.entry.Entry.TheVariants as entry
 use Rattle.trace_explain.proofs.NotedLemmas.{size_of}
 
 -- A conclusion from a call that succeeded.
@@ -72,23 +72,23 @@ read_on_hears Turn reading is none = ap (λ (x : Reading). x.of_tpdus) is ∙ no
 -- A line is refused for what it is.
 pub line_refused : (why : LineFault) (line : List ℕ) (n : ℕ) (events : List Event)
     (before : List Report) (old : Explainer) → IsBadLine why old.reading line → n ≡ next_line old
-    → StopsAtLine (refused n why) line old events before
+    → StopsAtLine (refused n why) (next_line old) line (position_of old) events before
 line_refused bad.OutOfMemory line n events before old h n_is = tt
 line_refused other line n events before old h n_is = (n_is, h)
 
 -- What stops it among the characters of a line stops it in that line.
 pub line_stops : (f : ExplainFault) (line : List ℕ) (n : ℕ) (source : Source) (bytes : Vec ℕ)
     {r : Reading} {bs : List ℕ} (events : List Event) (before : List Report) (old : Explainer)
-    → Says old.reading line (said.Characters source bytes) → n ≡ next_line old
+    → Says old.reading line (entry.Characters source bytes)
     → r ≡ read_on source old.reading → bs ≡ bytes.items
     → StopsAmong f source n (record (position_of old) { reading = r }) bs events before
-    → StopsAtLine f line old events before
-line_stops (fault.NoDialogue c) line n source bytes events before old says n_is on are
-    (number, right) = (number ∙ n_is, (source, bytes, says, rw (on, are) at right))
-line_stops (fault.NoTurn m k why) line n source bytes events before old says n_is on are
-    (number, unsent) = (number ∙ n_is, (source, bytes, says, rw (on, are) at unsent))
-line_stops fault.OutOfMemory line n source bytes events before old says n_is on are h = tt
-line_stops other line n source bytes events before old says n_is on are h = absurd h
+    → StopsAtLine f n line (position_of old) events before
+line_stops (fault.NoDialogue c) line n source bytes events before old says on are
+    (number, right) = (number, (source, bytes, says, rw (on, are) at right))
+line_stops (fault.NoTurn m k why) line n source bytes events before old says on are
+    (number, unsent) = (number, (source, bytes, says, rw (on, are) at unsent))
+line_stops fault.OutOfMemory line n source bytes events before old says on are h = tt
+line_stops other line n source bytes events before old says on are h = absurd h
 
 -- One more character follows the others.
 taken_more : (source : Source) (so_far : List Event) (at mid after : Position) (front : List ℕ)

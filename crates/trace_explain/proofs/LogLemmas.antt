@@ -3,16 +3,16 @@ use Rattle.std.proofs.Common.{◌≡◌, List, [], ◌∷◌, ◌++◌, map, ap,
 use Rattle.std.proofs.lemmas.List.{map-append}
 use Rattle.t0_core.specs.declared.end.End.TheVariants as end
 use Rattle.trace_explain.specs.declared.read.log.Log.{Log}
-use Rattle.trace_explain.specs.declared.read.log.Logged.{Logged}
+use Rattle.trace_explain.specs.declared.read.entry.Entry.{Entry}
 use Rattle.trace_explain.specs.declared.read.log_line.LogLine.{LogLine}
-use Rattle.trace_explain.specs.Logs.{LogAt, Took, behind_answer, logged_of, closed, log_at, taken}
+use Rattle.trace_explain.specs.Logs.{LogAt, Took, behind_answer, entry_of, closed, log_at, taken}
 
-pub logged_more : (before after : List Logged) (one : Logged) → after ≡ before ++ one ∷ []
-    → map logged_of after ≡ map logged_of before ++ logged_of one ∷ []
-logged_more before after one is = ap (map logged_of) is ∙ map-append logged_of before (one ∷ [])
+pub entries_more : (before after : List Entry) (one : Entry) → after ≡ before ++ one ∷ []
+    → map entry_of after ≡ map entry_of before ++ entry_of one ∷ []
+entries_more before after one is = ap (map entry_of) is ∙ map-append entry_of before (one ∷ [])
 
 -- An answer ends, and then a line says something.
-pub both_took : (at : LogAt) (log_line : LogLine) (a b c : List Logged) (mid new : Log)
+pub both_took : (at : LogAt) (log_line : LogLine) (a b c : List Entry) (mid new : Log)
     → Took (closed at end.Card) a b mid → Took (taken (log_at mid) log_line) b c new
     → Took (behind_answer at log_line) a c new
 both_took at log_line a b c mid new first next =
@@ -21,7 +21,7 @@ both_took at log_line a b c mid new first next =
     record {
       gives_is = then_took.gives_is
           ∙ ap (λ cs. cs ++ (taken (closed at end.Card).at log_line).gives) first.gives_is
-          ∙ append_assoc (map logged_of a) (closed at end.Card).gives
+          ∙ append_assoc (map entry_of a) (closed at end.Card).gives
           (taken (closed at end.Card).at log_line).gives;
       at_is = then_took.at_is;
     }

@@ -1,5 +1,5 @@
 -- The reports of dialogues after one more character or reset.
-use Rattle.std.proofs.Common.{◌≡◌, ◌<◌, ℕ, List, [], ◌∷◌, ◌++◌, ◌==◌, if◌then◌else◌, Option, Some, refl, sym, subst, ◌∙◌, ap, inl, inr, lit<, true, false, append_assoc, append-nil, ◌+◌, length, arith, ◌≤◌, slice_index, fold, Bool, None, ◌&&◌}
+use Rattle.std.proofs.Common.{◌≡◌, ◌<◌, ℕ, List, [], ◌∷◌, ◌++◌, ◌==◌, if◌then◌else◌, Option, Some, refl, sym, subst, ◌∙◌, ap, inl, inr, lit<, true, false, append_assoc, append-nil, length, arith, ◌≤◌, slice_index, fold, Bool, None, ◌&&◌}
 use Rattle.std.specs.List.{AllByRecursion, flat_map}
 use Rattle.std.proofs.lemmas.Bool.{ne_eqb, eqb-true}
 use Rattle.std.proofs.lemmas.List.Concat.{flat_map-append}

@@ -232,13 +232,13 @@ too_long {line = line} left b n come bytes_is other long number =
 -- A line that stops an explainer.
 abbrev pub Stops : ExplainFault → List ℕ → Explainer → Type 0
 Stops f line old = (events : List Event) (before : List Report) → HasExplained events before old
-    → StopsAtLine f line old events before
+    → StopsAtLine f (next_line old) line (position_of old) events before
 
 stops_at : {front : Out} {reading : Reading} {all : List (List ℕ)} {line left : List ℕ}
     (f : ExplainFault) (n : Option ℕ) (given : List ℕ) (others : List (List ℕ)) {old : Explainer}
     → HasReceived front reading all line left old → lines_from line left ≡ given ∷ others
     → ((events : List Event) (before : List Report) → HasExplained events before old
-    → StopsIfAt n f given old events before)
+    → StopsIfAt n f (next_line old) given (position_of old) events before)
     → StopsInLine reading all f n
 unfolding reached
 stops_at f None given others come ends stops = tt
@@ -268,7 +268,7 @@ pub last_stops : {T : Type 0} {front : Out} {reading : Reading} {all : List (Lis
     (result : Result T ExplainFault) (line : List ℕ) {old : Explainer}
     → (length line == 0) ≡ false → HasReceived front reading all line [] old
     → ((events : List Event) (before : List Report) → HasExplained events before old
-    → IfErr result (λ f. StopsAtLine f line old events before))
+    → IfErr result (λ f. StopsAtLine f (next_line old) line (position_of old) events before))
     → IfErr result IsOfLines → IfErr result (StopsIn reading all)
 last_stops (Ok x) line some come stops of = tt
 last_stops (Err f) line some come stops of =

@@ -1,5 +1,5 @@
 -- The box of a TPDU, part by part.
-use Rattle.std.specs.Prelude.{◌≡◌, ◌≢◌, ◌<◌, ℕ, List, [], ◌∷◌, ◌++◌, codes, length, get_or, Bool, true, false, ◌==◌, ◌&&◌, if◌then◌else◌, Option, Some, None, IfSome}
+use Rattle.std.specs.Prelude.{◌≡◌, ◌≢◌, ◌<◌, ℕ, List, [], ◌∷◌, ◌++◌, codes, length, get_or, Bool, true, ◌==◌, ◌&&◌, if◌then◌else◌, Option, Some, None, IfSome}
 use Rattle.std.specs.Fmt.{decimal}
 use Rattle.t0_core.specs.declared.direction.Direction.{Direction}
 use Rattle.t0_core.specs.declared.direction.Direction.TheVariants.{ToCard, FromCard}

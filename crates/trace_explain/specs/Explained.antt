@@ -12,8 +12,8 @@ use Rattle.trace_explain.specs.declared.explainer.Explainer.{Explainer}
 use Rattle.trace_explain.specs.declared.follow.listener.Listener.{Listener}
 use Rattle.trace_explain.specs.declared.read.trace_line.LineFault.{LineFault}
 use Rattle.trace_explain.specs.declared.read.trace_line.LineFault.TheVariants as bad
-use Rattle.trace_explain.specs.declared.read.trace_line.Source.{Source}
-use Rattle.trace_explain.specs.declared.read.trace_line.TraceLine.TheVariants as trace_line
+use Rattle.trace_explain.specs.declared.read.entry.Source.{Source}
+use Rattle.trace_explain.specs.declared.read.entry.Entry.TheVariants as entry
 use Rattle.trace_explain.specs.declared.follow.turn.TurnFault.{TurnFault}
 use Rattle.trace_explain.specs.declared.write.teller.Teller.{Teller}
 use Rattle.trace_explain.specs.Account.{AddsBoxes}
@@ -129,7 +129,7 @@ line_of other = None
 -- A line says characters for which this holds.
 abbrev pub HoldsIn : (Source → Position → List ℕ → Type 0) → Position → List ℕ → Type 0
 HoldsIn Holds at line = (source : Source) × (bytes : Vec ℕ)
-    × Says at.reading line (trace_line.Characters source bytes)
+    × Says at.reading line (entry.Characters source bytes)
     × Holds source (record at { reading = read_on source at.reading }) bytes.items
 
 -- The fault is right for this line: for a character, or for the line itself. A line that is too
@@ -144,15 +144,16 @@ StopsRightly (fault.BadLine number why) at line events before = IsBadLine why at
 StopsRightly (fault.LineTooLong number) at line events before = 4194304 ≤ length line
 StopsRightly other at line events before = ⊥
 
-abbrev pub StopsIfAt : Option ℕ → ExplainFault → List ℕ → Explainer → List Event → List Report
+abbrev pub StopsIfAt : Option ℕ → ExplainFault → ℕ → List ℕ → Position → List Event → List Report
     → Type 0
-StopsIfAt None f line old events before = Unit {0}
-StopsIfAt (Some number) f line old events before =
-    (number ≡ next_line old) × StopsRightly f (position_of old) line events before
+StopsIfAt None f number line at events before = Unit {0}
+StopsIfAt (Some found) f number line at events before =
+    (found ≡ number) × StopsRightly f at line events before
 
--- Each fault has the number of its line.
-abbrev pub StopsAtLine : ExplainFault → List ℕ → Explainer → List Event → List Report → Type 0
-StopsAtLine f line old events before = StopsIfAt (line_of f) f line old events before
+-- It stops at the line with this number, which the fault has, at this position.
+abbrev pub StopsAtLine : ExplainFault → ℕ → List ℕ → Position → List Event → List Report → Type 0
+StopsAtLine f number line at events before =
+    StopsIfAt (line_of f) f number line at events before
 
 -- The fault of a refused line.
 abbrev pub refused : ℕ → LineFault → ExplainFault

@@ -16,10 +16,10 @@ use Rattle.trace_explain.specs.declared.read.reading.Reading.{Reading}
 use Rattle.trace_explain.specs.declared.follow.listener.Listener.{Listener}
 use Rattle.trace_explain.specs.declared.read.trace_line.LineFault.{LineFault}
 use Rattle.trace_explain.specs.declared.read.trace_line.LineFault.TheVariants as bad
-use Rattle.trace_explain.specs.declared.read.trace_line.Source.{Source}
-use Rattle.trace_explain.specs.declared.read.trace_line.Source.TheVariants.{Sign, Turn}
-use Rattle.trace_explain.specs.declared.read.trace_line.TraceLine.{TraceLine}
-use Rattle.trace_explain.specs.declared.read.trace_line.TraceLine.TheVariants as trace_line
+use Rattle.trace_explain.specs.declared.read.entry.Source.{Source}
+use Rattle.trace_explain.specs.declared.read.entry.Source.TheVariants.{Sign, Turn}
+use Rattle.trace_explain.specs.declared.read.entry.Entry.{Entry}
+use Rattle.trace_explain.specs.declared.read.entry.Entry.TheVariants as entry
 use Rattle.trace_explain.specs.Noted.{HasNoted, IsNoted, NoneContinues}
 use Rattle.trace_explain.specs.Openings.{Opening, begins_answer, has_begun, is_dialogue, opens, role_of, unopened}
 use Rattle.trace_explain.specs.Times.{behind_clock, behind_time, place_of}
@@ -146,27 +146,29 @@ Suits None form = Unit {0}
 Suits (Some known) form = form ≡ known
 
 -- What a line with signs of this form, if known, says: characters after a sign, a reset, or a note.
-abbrev pub SaysSigned : Option Form → List ℕ → TraceLine → Type 0
-SaysSigned known line (trace_line.Characters (Sign form from) bytes) =
+abbrev pub SaysSigned : Option Form → List ℕ → Entry → Type 0
+SaysSigned known line (entry.Characters (Sign form from) bytes) =
     SpellsCharacters form line from bytes.items × Suits known form
-SaysSigned known line (trace_line.Characters Turn bytes) = ⊥
-SaysSigned known line trace_line.Reset = behind_time line ≡ codes "reset"
-SaysSigned known line (trace_line.Note note) = (is_signed (behind_time line) ≡ false)
+SaysSigned known line (entry.Characters Turn bytes) = ⊥
+SaysSigned known line entry.Reset = behind_time line ≡ codes "reset"
+SaysSigned known line entry.Note = (is_signed (behind_time line) ≡ false)
     × (behind_time line ≢ codes "reset") × (known ≡ None → are_digits line ≡ false)
+SaysSigned known line of_log = ⊥
 
 -- The same without signs: characters are digits, perhaps after a time.
-abbrev pub SaysUnsigned : List ℕ → TraceLine → Type 0
-SaysUnsigned line (trace_line.Characters (Sign form from) bytes) = ⊥
-SaysUnsigned line (trace_line.Characters Turn bytes) = (is_digits (behind_clock line) ≡ true)
+abbrev pub SaysUnsigned : List ℕ → Entry → Type 0
+SaysUnsigned line (entry.Characters (Sign form from) bytes) = ⊥
+SaysUnsigned line (entry.Characters Turn bytes) = (is_digits (behind_clock line) ≡ true)
     × (bytes_in (behind_clock line) ≡ Some bytes.items)
-SaysUnsigned line trace_line.Reset = behind_time line ≡ codes "reset"
-SaysUnsigned line (trace_line.Note note) = (is_digits (behind_clock line) ≡ false)
+SaysUnsigned line entry.Reset = behind_time line ≡ codes "reset"
+SaysUnsigned line entry.Note = (is_digits (behind_clock line) ≡ false)
     × (is_signed (behind_time line) ≡ false) × (behind_time line ≢ codes "reset")
+SaysUnsigned line of_log = ⊥
 
 -- What a line says.
-abbrev pub Says : Reading → List ℕ → TraceLine → Type 0
-Says reading line trace_line = MatchBool reading.is_unsigned (SaysUnsigned line trace_line)
-    (SaysSigned reading.form line trace_line)
+abbrev pub Says : Reading → List ℕ → Entry → Type 0
+Says reading line entry = MatchBool reading.is_unsigned (SaysUnsigned line entry)
+    (SaysSigned reading.form line entry)
 
 -- These are not characters of an end in any form.
 abbrev pub SpellsNothing : List ℕ → Type 0
@@ -270,15 +272,16 @@ TakesCharacters source so_far at (b ∷ bytes) events after = (from : End)
     × TakesCharacter so_far at from b first next
     × (events ≡ first ++ rest) × TakesCharacters source (so_far ++ first) next bytes rest after
 
--- The events of a line.
-abbrev pub TakesLine : List Event → Position → TraceLine → List Event → Position → Type 0
-TakesLine so_far at (trace_line.Characters source bytes) events after =
+-- The events of an entry of a trace of characters.
+abbrev pub TakesEntry : List Event → Position → Entry → List Event → Position → Type 0
+TakesEntry so_far at (entry.Characters source bytes) events after =
     TakesCharacters source so_far (record at { reading = read_on source at.reading }) bytes.items
     events after
-TakesLine so_far at trace_line.Reset events after =
+TakesEntry so_far at entry.Reset events after =
     (events ≡ history.Reset ∷ []) × (after ≡ record at { opening = unopened })
-TakesLine so_far at (trace_line.Note note) events after = (events ≡ []) × (after ≡ at)
+TakesEntry so_far at entry.Note events after = (events ≡ []) × (after ≡ at)
+TakesEntry so_far at of_log events after = ⊥
 
 abbrev pub LineLeads : List Event → Position → List ℕ → List Event → Position → Type 0
 LineLeads so_far at line events after =
-    (this : TraceLine) × Says at.reading line this × TakesLine so_far at this events after
+    (this : Entry) × Says at.reading line this × TakesEntry so_far at this events after

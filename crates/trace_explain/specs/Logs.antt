@@ -2,9 +2,10 @@
 use Rattle.std.specs.Prelude.{◌≡◌, ℕ, ◌-◌, List, [], ◌∷◌, ◌++◌, length, map, Option, Some, None, Bool, true, false, ◌==◌}
 use Rattle.t0_core.specs.declared.end.End.{End}
 use Rattle.t0_core.specs.declared.end.End.TheVariants as end
+use Rattle.trace_explain.specs.declared.read.entry.Entry.{Entry}
+use Rattle.trace_explain.specs.declared.read.entry.Entry.TheVariants as entry
+use Rattle.trace_explain.specs.declared.read.entry.Source.{Source}
 use Rattle.trace_explain.specs.declared.read.log.Log.{Log}
-use Rattle.trace_explain.specs.declared.read.log.Logged.{Logged}
-use Rattle.trace_explain.specs.declared.read.log.Logged.TheVariants as logged
 use Rattle.trace_explain.specs.declared.read.log_line.Open.{Open}
 use Rattle.trace_explain.specs.declared.read.log_line.Open.TheVariants as going
 use Rattle.trace_explain.specs.declared.read.log_line.LogLine.{LogLine}
@@ -12,24 +13,26 @@ use Rattle.trace_explain.specs.declared.read.log_line.LogLine.TheVariants as log
 use Rattle.trace_explain.specs.declared.read.trace_line.LineFault.{LineFault}
 use Rattle.trace_explain.specs.LogLines.{IsBadDump, IsBadLogLine, SaysLog, dumped_in, left_of, rest_in, rest_open}
 
--- What a line adds.
-pub data LoggedOf : Type 0 where
-  Begins : LoggedOf
-  Pair : List ℕ → List ℕ → LoggedOf
-  Unanswered : List ℕ → LoggedOf
-  Stray : List ℕ → LoggedOf
-  Part : End → List ℕ → LoggedOf
-  Reset : LoggedOf
-  Note : LoggedOf
+-- What an entry says.
+pub data EntryOf : Type 0 where
+  Characters : Source → List ℕ → EntryOf
+  Begins : EntryOf
+  Pair : List ℕ → List ℕ → EntryOf
+  Unanswered : List ℕ → EntryOf
+  Stray : List ℕ → EntryOf
+  Part : End → List ℕ → EntryOf
+  Reset : EntryOf
+  Note : EntryOf
 
-abbrev pub logged_of : Logged → LoggedOf
-logged_of logged.Begins = Begins
-logged_of (logged.Pair command answer) = Pair command.items answer.items
-logged_of (logged.Unanswered command) = Unanswered command.items
-logged_of (logged.Stray bytes) = Stray bytes.items
-logged_of (logged.Part from bytes) = Part from bytes.items
-logged_of logged.Reset = Reset
-logged_of logged.Note = Note
+abbrev pub entry_of : Entry → EntryOf
+entry_of (entry.Characters source bytes) = Characters source bytes.items
+entry_of entry.Begins = Begins
+entry_of (entry.Pair command answer) = Pair command.items answer.items
+entry_of (entry.Unanswered command) = Unanswered command.items
+entry_of (entry.Stray bytes) = Stray bytes.items
+entry_of (entry.Part from bytes) = Part from bytes.items
+entry_of entry.Reset = Reset
+entry_of entry.Note = Note
 
 -- The state of a log between two lines: what the next one may continue, the bytes of that so far,
 -- and the last command if it has no answer yet.
@@ -48,18 +51,18 @@ abbrev pub log_at : Log → LogAt
 log_at l = record { pending = l.pending; bytes = l.bytes.items; command = command_at l }
 
 -- An answer belongs to the last command, if there is one.
-abbrev pub to_command : Option (List ℕ) → List ℕ → LoggedOf
+abbrev pub to_command : Option (List ℕ) → List ℕ → EntryOf
 to_command None answer = Stray answer
 to_command (Some command) answer = Pair command answer
 
 -- The last command without an answer.
-abbrev pub unanswered : Option (List ℕ) → List LoggedOf
+abbrev pub unanswered : Option (List ℕ) → List EntryOf
 unanswered None = []
 unanswered (Some command) = Unanswered command ∷ []
 
 -- What a step adds, and the state after it.
 pub record Step : Type 0 where
-  pub gives : List LoggedOf
+  pub gives : List EntryOf
   pub at : LogAt
 
 abbrev pub answered : LogAt → List ℕ → Step
@@ -87,7 +90,7 @@ continued at from more going.Nothing = closed (with_bytes at more going.Nothing)
 continued at from more next = record { gives = []; at = with_bytes at more next }
 
 -- These were added before.
-abbrev pub behind : List LoggedOf → Step → Step
+abbrev pub behind : List EntryOf → Step → Step
 behind gives step = record { gives = gives ++ step.gives; at = step.at }
 
 -- The last command has no answer; and then a command begins.
@@ -142,15 +145,15 @@ IsBadIn (going.Dump from count) why line = IsBadDump why count line
 IsBadIn other why line = IsBadLogLine why line
 
 -- What the end of a log adds.
-abbrev pub ended_in : Open → LogAt → List LoggedOf
+abbrev pub ended_in : Open → LogAt → List EntryOf
 ended_in going.Nothing at = unanswered at.command
 ended_in going.Answer at = (closed at end.Card).gives
 ended_in (going.Dump from count) at = Part from at.bytes ∷ unanswered at.command
 
-abbrev pub ended : LogAt → List LoggedOf
+abbrev pub ended : LogAt → List EntryOf
 ended at = ended_in at.pending at
 
 -- The log has made this step, and its additions follow the others.
-pub record Took (step : Step) (before after : List Logged) (new : Log) : Type 0 where
-  pub gives_is : map logged_of after ≡ map logged_of before ++ step.gives
+pub record Took (step : Step) (before after : List Entry) (new : Log) : Type 0 where
+  pub gives_is : map entry_of after ≡ map entry_of before ++ step.gives
   pub at_is : log_at new ≡ step.at

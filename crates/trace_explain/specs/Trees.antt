@@ -1,5 +1,5 @@
 -- The lines of a list of objects, one below another.
-use Rattle.std.specs.Prelude.{◌≡◌, ◌<◌, ℕ, suc, ◌+◌, ◌-◌, ◌*◌, List, [], ◌∷◌, ◌++◌, codes, length, take, drop, All, Bool, true, false}
+use Rattle.std.specs.Prelude.{◌≡◌, ℕ, suc, ◌+◌, ◌-◌, ◌*◌, List, [], ◌∷◌, ◌++◌, codes, take, drop, All, Bool, true, false}
 use Rattle.std.specs.List.{Contains}
 use Rattle.hex.specs.Hex.{encode_upper}
 use Rattle.tlv_core.specs.Spelling.{AreObjects, Begins}

@@ -14,8 +14,8 @@ use Rattle.trace_explain.specs.declared.follow.opening.Stage.TheVariants as stag
 use Rattle.trace_explain.specs.declared.follow.turn.TurnFault.{TurnFault}
 use Rattle.trace_explain.specs.declared.follow.turn.TurnFault.TheVariants as unknown
 use Rattle.trace_explain.specs.declared.read.reading.Reading.{Reading}
-use Rattle.trace_explain.specs.declared.read.trace_line.Source.{Source}
-use Rattle.trace_explain.specs.declared.read.trace_line.Source.TheVariants.{Sign, Turn}
+use Rattle.trace_explain.specs.declared.read.entry.Source.{Source}
+use Rattle.trace_explain.specs.declared.read.entry.Source.TheVariants.{Sign, Turn}
 use Rattle.trace_explain.specs.declared.read.ways.Ways.{Ways}
 use Rattle.trace_explain.specs.Openings.{Opening, has_answered, has_begun, turned_by}
 use Rattle.trace_explain.specs.Reports.{Report, report_of}

@@ -5,7 +5,7 @@ ghost use Rattle.t0_core.specs.History.{Event, Reset};
 ghost use Rattle.t0_core.specs.TapSide.{due_at};
 ghost use Rattle.trace_explain.specs.Account.{AddsBoxes, HasWritten, first_out};
 ghost use Rattle.trace_explain.specs.Explained.{HasExplained, ExplainsCharacters, ExplainsLine, ExplainsMore, StopsAmong, StopsAtLine, TakesOrStops, is_astray, next_line, refused, position_of};
-ghost use Rattle.trace_explain.specs.Lines.{first_of_all};
+ghost use Rattle.trace_explain.specs.Lines.{Says, first_of_all};
 ghost use Rattle.trace_explain.specs.Noted.{ended_by};
 ghost use Rattle.trace_explain.specs.Openings.{begins_answer, opening_of, unopened};
 ghost use Rattle.trace_explain.specs.Reports.{Report, report_of};
@@ -19,10 +19,11 @@ use crate::follow::listener::Listener;
 use crate::follow::opening::begins_answer;
 use crate::follow::preface::Preface;
 use crate::follow::turn::{TurnFault, turn_before, turn_within};
+use crate::read::entry::{Entry, Source};
 use crate::read::log::Log;
 use crate::read::reading::Reading;
 use crate::read::time::cut_time;
-use crate::read::trace_line::{LineFault, Source, TraceLine, read_line};
+use crate::read::trace_line::{LineFault, read_line};
 use crate::resuming::{Passed, Resuming};
 use crate::write::layout::Layout;
 use crate::write::notes::tell_passed;
@@ -98,7 +99,8 @@ impl Explainer {
             OnOk result (ExplainsLine line.now events before self.old self.new) }
         ensures stops { (events : List Event) (before : List Report) →
             HasExplained events before self.old →
-            IfErr result (λ fault. StopsAtLine fault line.now self.old events before) }
+            IfErr result (λ fault. StopsAtLine fault (next_line self.old) line.now
+            (position_of self.old) events before) }
         ensures counts { OnOk result (self.new.line ≡ next_line self.old) }
         ensures of_lines { IfErr result IsOfLines }
     {
@@ -110,13 +112,31 @@ impl Explainer {
             return self.log_line(line);
         }
         match read_line(self.alloc, &self.reading, line, time, rest) {
-            Ok(TraceLine::Characters(source, bytes)) => {
+            Ok(entry) => self.take(entry, line),
+            Err(why) => Err(refused(self.line, why)),
+        }
+    }
+
+    /// Explains an entry of this line, which is the current one.
+    fn take(&mut self, entry: Entry, line: &[u8]) -> Result<(), ExplainFault>
+        ensures explained { (events : List Event) (before : List Report) →
+            Says self.old.reading line.now entry → HasExplained events before self.old →
+            OnOk result (ExplainsLine line.now events before self.old self.new) }
+        ensures stops { (events : List Event) (before : List Report) →
+            Says self.old.reading line.now entry → HasExplained events before self.old →
+            IfErr result (λ fault. StopsAtLine fault self.old.line line.now
+            (position_of self.old) events before) }
+        ensures counts { OnOk result (self.new.line ≡ self.old.line) }
+        ensures of_lines { IfErr result IsOfLines }
+    {
+        match entry {
+            Entry::Characters(source, bytes) => {
                 self.reading.take(source);
                 self.characters(source, bytes.as_slice())
             }
-            Ok(TraceLine::Reset) => Ok(self.reset()?),
-            Ok(TraceLine::Note(note)) => Ok(self.teller.note(note)?),
-            Err(why) => Err(refused(self.line, why)),
+            Entry::Reset => Ok(self.reset()?),
+            Entry::Note => Ok(self.teller.note(line)?),
+            of_log => Ok(self.teller.tell_logged(&[of_log])?),
         }
     }
 
@@ -310,10 +330,12 @@ impl Explainer {
         ensures counts { OnOk result (self.new.line ≡ self.old.line) }
         ensures of_lines { IfErr result IsOfLines }
     {
-        let mut logged = Vec::new(self.alloc);
-        let taken = self.log.take(line, &mut logged);
+        let mut entries = Vec::new(self.alloc);
+        let taken = self.log.take(line, &mut entries);
         self.has_characters = self.has_characters || self.log.has_begun();
-        self.teller.tell_logged(logged.as_slice(), line)?;
+        for entry in entries {
+            self.take(entry, line)?;
+        }
         taken.map_err(|why| refused(self.line, why))
     }
 
@@ -356,9 +378,9 @@ impl Explainer {
             return Ok(());
         }
         if self.reading.of_tpdus {
-            let mut logged = Vec::new(self.alloc);
-            self.log.end(&mut logged)?;
-            self.teller.tell_logged(logged.as_slice(), &[])?;
+            let mut entries = Vec::new(self.alloc);
+            self.log.end(&mut entries)?;
+            self.teller.tell_logged(entries.as_slice())?;
             return self.teller.end(&self.preface, &mut self.listener);
         }
         tell_passed(self.resuming.end(), &mut self.teller.output.page);

@@ -1,5 +1,6 @@
 //! Reads one line: of a trace characters, a reset or a note; of a log a command or an answer.
 pub mod digits;
+pub mod entry;
 pub mod form;
 pub mod log;
 pub mod log_line;

@@ -4,9 +4,9 @@ ghost use Rattle.t0_core.specs.TapSide.{other_end};
 ghost use Rattle.trace_explain.specs.Lines.{read_on};
 ghost use Rattle.trace_explain.specs.Turns.{sender};
 
+use crate::read::entry::Source;
 use crate::read::form::Form;
 use crate::read::time::are_decimal;
-use crate::read::trace_line::Source;
 use crate::read::ways::Ways;
 use t0_core::End;
 

@@ -4,32 +4,12 @@ ghost use Rattle.trace_explain.specs.Lines.{Says, SaysSigned, SaysUnsigned, IsBa
 ghost use Rattle.trace_explain.specs.Times.{behind_time, time_in};
 
 use crate::read::digits::{bytes_of, is_digits};
+use crate::read::entry::{Entry, Source};
 use crate::read::form::{Form, Sign, is_signed};
 use crate::read::reading::Reading;
 use crate::read::time::{behind_clock, place_of};
 use std::alloc::{AllocError, Global};
-use t0_core::End;
 use thiserror::Error;
-
-/// Who sends the characters of a line.
-#[derive(Clone, Copy)]
-pub enum Source {
-    /// The end of the line's sign, which has this form.
-    Sign(Form, End),
-    /// The end whose turn it is.
-    Turn,
-}
-
-/// What a line of a trace contains.
-#[derive(Drop)]
-pub enum TraceLine<'a> {
-    /// Characters, perhaps after a time.
-    Characters(Source, Vec<u8>),
-    /// `reset`: the card was reset.
-    Reset,
-    /// Anything else.
-    Note(&'a [u8]),
-}
 
 /// Why a line is refused.
 #[derive(Clone, Copy, Debug, Error)]
@@ -67,21 +47,21 @@ impl From<AllocError> for LineFault {
 }
 
 /// Reads a line. `time` is its time, `rest` what follows without leading spaces. The sender is the
-/// end of the sign, whatever `--swap` says. A note is the whole line, with its time.
+/// end of the sign, whatever `--swap` says.
 ///
 /// # Errors
 ///
 /// Those of `LineFault`; `Hex` precedes `OtherForm`.
-pub fn read_line<'a>(
+pub fn read_line(
     alloc: Global,
     reading: &Reading,
-    line: &'a [u8],
+    line: &[u8],
     time: &[u8],
     rest: &[u8],
-) -> Result<TraceLine<'a>, LineFault>
+) -> Result<Entry, LineFault>
     requires time { time.now ≡ time_in line.now }
     requires rest { rest.now ≡ behind_time line.now }
-    ensures says { IfOk result (λ trace_line. Says reading.now line.now trace_line) }
+    ensures says { IfOk result (λ entry. Says reading.now line.now entry) }
     ensures refused { IfErr result (λ why. IsBadLine why reading.now line.now) }
 {
     if reading.is_unsigned {
@@ -92,29 +72,29 @@ pub fn read_line<'a>(
 }
 
 /// Reads a line of a trace with signs; `known` is their form.
-fn read_signed<'a>(
+fn read_signed(
     alloc: Global,
     known: Option<Form>,
-    line: &'a [u8],
+    line: &[u8],
     rest: &[u8],
-) -> Result<TraceLine<'a>, LineFault>
+) -> Result<Entry, LineFault>
     requires { rest.now ≡ behind_time line.now }
-    ensures says { IfOk result (λ trace_line. SaysSigned known line.now trace_line) }
+    ensures says { IfOk result (λ entry. SaysSigned known line.now entry) }
     ensures refused { IfErr result (λ why. IsBadSigned why known line.now) }
 {
     let (word, digits) = rest.split_at(place_of(b' ', rest));
     let Some(sign) = Sign::of_word(word) else {
         return match rest {
-            b"reset" => Ok(TraceLine::Reset),
+            b"reset" => Ok(Entry::Reset),
             _ if is_signed(rest) => Err(LineFault::Hex),
             _ if known.is_none() && (is_digits(line) || is_digits(rest)) => Err(LineFault::NoSign),
-            _ => Ok(TraceLine::Note(line)),
+            _ => Ok(Entry::Note),
         };
     };
     let bytes = bytes_of(alloc, digits)?;
     match known {
         Some(expected) if expected != sign.form => Err(LineFault::OtherForm(expected)),
-        _ => Ok(TraceLine::Characters(Source::Sign(sign.form, sign.from), bytes)),
+        _ => Ok(Entry::Characters(Source::Sign(sign.form, sign.from), bytes)),
     }
 }
 
@@ -124,24 +104,19 @@ fn read_signed<'a>(
 ///
 /// - `Hex`: it has digits and spaces alone, but not two digits for each byte.
 /// - `Signed`: it begins with a sign.
-fn read_unsigned<'a>(
-    alloc: Global,
-    line: &'a [u8],
-    time: &[u8],
-    rest: &[u8],
-) -> Result<TraceLine<'a>, LineFault>
+fn read_unsigned(alloc: Global, line: &[u8], time: &[u8], rest: &[u8]) -> Result<Entry, LineFault>
     requires time { time.now ≡ time_in line.now }
     requires rest { rest.now ≡ behind_time line.now }
-    ensures says { IfOk result (λ trace_line. SaysUnsigned line.now trace_line) }
+    ensures says { IfOk result (λ entry. SaysUnsigned line.now entry) }
     ensures refused { IfErr result (λ why. IsBadUnsigned why line.now) }
 {
     let digits = behind_clock(line, time, rest);
     if is_digits(digits) {
-        return Ok(TraceLine::Characters(Source::Turn, bytes_of(alloc, digits)?));
+        return Ok(Entry::Characters(Source::Turn, bytes_of(alloc, digits)?));
     }
     match rest {
-        b"reset" => Ok(TraceLine::Reset),
+        b"reset" => Ok(Entry::Reset),
         _ if is_signed(rest) => Err(LineFault::Signed),
-        _ => Ok(TraceLine::Note(line)),
+        _ => Ok(Entry::Note),
     }
 }

@@ -19,7 +19,7 @@ use crate::follow::pair::{PairFault, tpdu_of_command, tpdu_of_pair};
 use crate::follow::preface::Preface;
 use crate::follow::story::Story;
 use crate::follow::tpdu::Tpdu;
-use crate::read::log::Logged;
+use crate::read::entry::Entry;
 use crate::write::complaint_box::{tell_bad_pair, tell_complaint};
 use crate::write::counts::Counts;
 use crate::write::kept::{Keeping, Kept};
@@ -318,40 +318,34 @@ impl Teller {
         self.output.outcome()
     }
 
-    /// Writes what this line of a log completes. At the end of the log `line` is empty. Returns
-    /// `AllocError` if memory ran out: drop the teller.
-    pub fn tell_logged(&mut self, logged: &[Logged], line: &[u8]) -> Result<(), AllocError> {
-        for one in logged {
-            match one {
-                Logged::Pair(command, answer) => {
+    /// Writes entries that only a log has. Returns `AllocError` if memory ran out: drop the teller.
+    pub fn tell_logged(&mut self, entries: &[Entry]) -> Result<(), AllocError> {
+        for entry in entries {
+            match entry {
+                Entry::Begins => {
+                    self.clock.count();
+                    self.begin_if(true);
+                }
+                Entry::Pair(command, answer) => {
                     self.clock.count();
                     self.pair(command.as_slice(), Some(answer.as_slice()))?;
                 }
-                Logged::Unanswered(command) => self.pair(command.as_slice(), None)?,
-                other => self.tell_other(other, line),
+                Entry::Unanswered(command) => self.pair(command.as_slice(), None)?,
+                Entry::Stray(bytes) => {
+                    self.story.lose_some();
+                    self.tell_bytes("before a command, from the card:\n", bytes);
+                }
+                Entry::Part(End::Terminal, part) => self.tell_bytes("a part of a command:\n", part),
+                Entry::Part(End::Card, part) => self.tell_bytes("a part of an answer:\n", part),
+                Entry::Characters(..) | Entry::Reset | Entry::Note => {}
             }
         }
         self.output.outcome()
     }
 
-    /// Writes something of a log other than a command.
-    fn tell_other(&mut self, one: &Logged, line: &[u8]) {
-        let (what, bytes) = match one {
-            Logged::Begins => {
-                self.clock.count();
-                return self.begin_if(true);
-            }
-            Logged::Stray(bytes) => {
-                self.story.lose_some();
-                ("before a command, from the card:\n", bytes)
-            }
-            Logged::Part(End::Terminal, bytes) => ("a part of a command:\n", bytes),
-            Logged::Part(End::Card, bytes) => ("a part of an answer:\n", bytes),
-            Logged::Reset => return self.tell_reset("reset"),
-            Logged::Note => return tell_note(line, &self.mask, &mut self.output.page),
-            _ => return,
-        };
-        tell_bytes(what, bytes.as_slice(), &self.mask, &mut self.output.page);
+    /// Writes bytes of a log that are not a TPDU, after these words.
+    fn tell_bytes(&mut self, what: &str, bytes: &[u8]) {
+        tell_bytes(what, bytes, &self.mask, &mut self.output.page);
     }
 
     /// Writes a command with its answer, if any: as a TPDU, or as a protocol error.

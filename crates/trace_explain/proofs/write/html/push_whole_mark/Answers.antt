@@ -1,4 +1,4 @@
-use Rattle.std.proofs.Common.{◌≡◌, ℕ, List, [], ◌++◌, Bool, if◌then◌else◌, ◌==◌, ap, codes, subst, sym}
+use Rattle.std.proofs.Common.{ℕ, List, [], ◌++◌, Bool, if◌then◌else◌, ◌==◌, ap, codes, subst, sym}
 use Rattle.hex.specs.Hex.{encode_upper}
 use Rattle.trace_explain.specs.Sheets.{Adds}
 use Rattle.trace_explain.specs.Written.{class_of}

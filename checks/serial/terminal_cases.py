@@ -500,25 +500,30 @@ def all_cases():
 
 
 def guard_time():
-    """Each character follows the one before after 12 + N etu, which is 93.3 ms with N = 100. With
-    T=15 that is the same, since Fi/Di cycles are an etu here. N = 255 means the least guard time,
-    so the pause is much shorter than 12 + 255 etu."""
-    found = {}
-    for answer in ("3B4064", "3BC064801F0338", "3BD07164801F0359", "3B40FF"):
-        line = Line()
-        try:
-            words = ["--baud", "1200", "--slack", "5000", line.name, *SHORT]
-            program = Program("gt_serial", words)
-            other = Other(line)
-            play(other, f"< {answer} " + SHORT_WORDS + DONE, card=True)
-            look(program, program.end(), "= 9000\n", "", 0)
-            found[answer] = other.gaps
-        finally:
-            line.close()
-    # four pauses, less the time that this program may take to see the first character
+    """Each character follows the one before after 12 + N etu, which is 93.3 ms with N = 100: with
+    an echo and without. With T=15 that is the same, since Fi/Di cycles are an etu here. N = 255
+    means the least guard time, so the pause is much shorter than 12 + 255 etu."""
     for answer in ("3B4064", "3BC064801F0338", "3BD07164801F0359"):
-        assert 4 * 0.0933 - 0.02 <= sum(found[answer][1:]), f"{answer}: {found[answer]}"
-    assert sum(found["3B40FF"][1:]) < 0.5, f"N = 255: {found['3B40FF']}"
+        for echo in (True, False):
+            # four pauses, less the time that this program may take to see the first character
+            gaps = gaps_after(answer, echo)
+            assert 4 * 0.0933 - 0.02 <= sum(gaps), f"{answer}, echo {echo}: {gaps}"
+    gaps = gaps_after("3B40FF", True)
+    assert sum(gaps) < 0.5, f"N = 255: {gaps}"
+
+
+def gaps_after(answer, echo):
+    """Returns the pauses between the characters of a header, after this answer to reset."""
+    line = Line()
+    try:
+        words = ["--baud", "1200", "--slack", "5000", *([] if echo else ["--no-echo"]), line.name]
+        program = Program("gt_serial", [*words, *SHORT])
+        other = Other(line, echo=echo)
+        play(other, f"< {answer} " + SHORT_WORDS + DONE, card=True)
+        look(program, program.end(), "= 9000\n", "", 0)
+        return other.gaps[1:]
+    finally:
+        line.close()
 
 
 def puts_back(number):

@@ -50,3 +50,17 @@ impl<const N: usize> Drop for Wiped<N> {
         wipe(&mut self.0);
     }
 }
+
+#[cfg(test)]
+mod tests {
+    use super::wipe;
+
+    #[test]
+    fn each_place_is_wiped() {
+        for count in 0..40 {
+            let mut room = vec![0xA5_u8; count];
+            wipe(&mut room);
+            assert_eq!(room, vec![0; count]);
+        }
+    }
+}

@@ -185,16 +185,23 @@ fn a_card_leaves_nothing() {
         }),
         NOTHING
     );
+    // a second call would overwrite what the first leaves, so each has its own stack
+    for ask in [Card::tpdu, Card::apdu] {
+        assert_eq!(
+            left(|| {
+                let mut card = card();
+                own(ask(&mut card, &SELECT).expect("an answer"), false);
+                own(ask(&mut card, &PUT).expect("an answer"), false);
+                let (answer, _) = far_below(|| ask(&mut card, &GET).expect("an answer"));
+                own(answer, true);
+            }),
+            NOTHING
+        );
+    }
     assert_eq!(
         left(|| {
             let mut card = card();
             own(card.tpdu(&SELECT).expect("an answer"), false);
-            own(card.tpdu(&PUT).expect("an answer"), false);
-            let (answer, _) = far_below(|| card.tpdu(&GET).expect("an answer"));
-            own(answer, true);
-            own(card.apdu(&PUT).expect("an answer"), false);
-            let (answer, _) = far_below(|| card.apdu(&GET).expect("an answer"));
-            own(answer, true);
             let mut room = vec![0; 258];
             assert_eq!(card.tpdu_into(&PUT, &mut room), Ok(2));
             assert_eq!(card.tpdu_into(&GET, &mut room), Ok(21));

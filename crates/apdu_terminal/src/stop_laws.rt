@@ -23,10 +23,13 @@ use object_card::DataCard;
 /// How far an operation with a card of data objects is carried out if it stops. No chain is pending
 /// before its first command.
 ///
-/// - Before a GET RESPONSE the operation is carried out. Before every other of its commands no
-///   table has changed.
-/// - After a command with CLA `10`, a piece of a put that is not the last, no table has changed.
+/// - Before a GET RESPONSE the operation is carried out. Before every other of its commands nothing
+///   has changed.
+/// - After a command with CLA `10`, a piece of a put that is not the last, nothing has changed.
 ///   After every other of its commands the operation is carried out.
+///
+/// This is about the card's applications and its selection. Carried out means: they are as after
+/// the operation in one step, with some answer, which may be a refusal.
 pub fn an_operation_that_stops()
     ensures before { (old new : CardState) (operation : Operation) (pairs : List Pair)
         (due : Command) → is_idle old.pending ≡ true → IsUnderWay operation pairs due →

@@ -129,7 +129,8 @@ fn told(side: &T1Side, response: &mut [u8], len: &mut usize) -> i32
     copied(side.end.response(), response, len)
 }
 
-/// Writes why the end gave up, and what is known of the command.
+/// Writes why the end gave up, and what is known of the command, as the numbers of `gt_t1_fault`.
+/// Returns `NOT_FOUND` if it has not given up, and writes nothing.
 #[unsafe(no_mangle)]
 pub extern "C" fn galliumtoad_t1_fault(
     alloc: Global,

@@ -41,9 +41,12 @@ pub fn a_talk_is_answered_in_single_steps()
         × IsCardState last }
 {}
 
-/// An exchange of any command with a sound card of data objects brings at most a value with its tag
-/// and length. That is less than a terminal gathers. It holds at each point of the exchange. The
-/// plans have cuts of 1 to 256.
+/// After each TPDU of an exchange with a sound card of data objects, its data so far have at most
+/// `VALUE_LIMIT` + `HEAD_LIMIT` bytes (`so_far`): a value with its tag and length.
+///
+/// After each command with its repetition, if any, that includes what still waits in the card
+/// (`whole`). `RESPONSE_LIMIT` is larger, but a terminal may have a lower limit. The command is
+/// any, and the plans have cuts of 1 to 256.
 pub fn an_exchange_fits()
     ensures whole { (c : Command) (units : List UnitOf) (plans : List Course)
         (old new : CardState) → IsCardState old → HaveCuts plans → IsOpenExchange c units →

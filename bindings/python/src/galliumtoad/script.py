@@ -16,8 +16,11 @@ Row = Mapping[str, str]
 
 
 def read(path: str) -> tuple[IO[str], str]:
-    """Reads a text in UTF-8, and returns its lines and the SHA-256 of its bytes. Any other byte
-    becomes a character that no value can contain."""
+    """Reads a file in UTF-8. Returns its text as a stream in memory, and the SHA-256 of all its
+    bytes in hexadecimal digits.
+
+    The text lacks a byte order mark at its start. Any byte that is not UTF-8 becomes a character
+    that no value can contain. Raises `OSError` if the file can't be read."""
     data = Path(path).read_bytes()
     return io.StringIO(data.decode("utf-8-sig", "surrogateescape"), ""), sha256(data).hexdigest()
 

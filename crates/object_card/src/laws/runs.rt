@@ -101,10 +101,10 @@ pub fn what_is_announced_is_brought()
         × (length fetch.received ≡ count fetch.p3) × (corrects fetch.status ≡ None) }
 {}
 
-/// No exchange brings more than a terminal gathers (`RESPONSE_LIMIT`). From a sound state, a TPDU
-/// brings, and leaves waiting, together at most a value with its tag and length. `6CXX` comes
-/// without data, and each GET RESPONSE takes from what waits. That leaves room for the data of one
-/// more TPDU.
+/// No exchange brings more than `RESPONSE_LIMIT` bytes, the highest limit of a terminal. From a
+/// sound state, a TPDU brings, and leaves waiting, together at most a value with its tag and
+/// length. `6CXX` comes without data, and each GET RESPONSE takes from what waits. That leaves room
+/// for the data of one more TPDU.
 pub fn an_exchange_brings_no_more_than_is_gathered()
     ensures first { (old new : CardState) (cut : ℕ) (t : Tpdu) → Does old cut t new →
         IsCardState old →

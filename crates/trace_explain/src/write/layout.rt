@@ -25,7 +25,7 @@ pub enum Side {
     Terminal,
     /// The card.
     Card,
-    /// Neither: the program adds the row.
+    /// Neither: the program adds the row, or it is the status of a TPDU that is cut off.
     Nobody,
 }
 

@@ -76,7 +76,7 @@ pub const STYLE_BEGIN: &str = "\
 <style>
 ";
 
-/// The page from its style to its first box.
+/// The page from the end of its style to its first box or note.
 pub const STYLE_END: &str = "\
 </style>
 </head>

@@ -309,8 +309,8 @@ impl Teller {
         self.output.outcome()
     }
 
-    /// Writes a line without characters, as `tell_note`: nothing if it is empty. Returns
-    /// `AllocError` if memory ran out: drop the teller.
+    /// Writes a line without characters, as `tell_note`: nothing if it is empty, or for a summary.
+    /// Returns `AllocError` if memory ran out: drop the teller.
     pub fn note(&mut self, note: &[u8]) -> Result<(), AllocError>
         ensures { OnOk result (AddsBoxes [] self.old self.new) }
     {

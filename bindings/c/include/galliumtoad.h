@@ -172,8 +172,8 @@ enum {
     /* why a terminal's end at T=1 gave up; GT_TOO_LONG is another cause */
     GT_TRIES_SPENT = -90,   /* more than `tries` receptions were fruitless since the last progress:
                              * see `gt_t1_new` */
-    GT_EXTENSIONS_SPENT = -91, /* the card sent more than `extensions` S(WTX request) and S(IFS
-                             * request) in one command */
+    GT_EXTENSIONS_SPENT = -91, /* in one command the card sent more S(WTX request), and S(IFS
+                             * request) of 1 to 254, than `extensions` */
     GT_ABORTED = -92        /* the card sent S(ABORT request), and the end has answered it */
 };
 

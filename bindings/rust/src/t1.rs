@@ -20,8 +20,8 @@ codes! {
     Cause {
         /// More than [`T1Limits::tries`] receptions were fruitless since the last progress.
         TriesSpent = -90, "too many tries without progress";
-        /// The card sent more than [`T1Limits::extensions`] S(WTX request) and S(IFS request) in
-        /// one command.
+        /// In one command the card sent more S(WTX request), and S(IFS request) of 1 to 254, than
+        /// [`T1Limits::extensions`].
         ExtensionsSpent = -91, "too many requests from the card";
         /// The card sent S(ABORT request), and the end has answered it.
         Aborted = -92, "aborted by the card";

@@ -32,8 +32,9 @@ pub fn a_whole_exchange_of_commands_is_done()
         (ex.stage ≡ Done status) × (ex.gather.bytes ≡ gathered) }
 {}
 
-/// With any card, and after any list of pairs, an exchange holds the data that they brought. Or it
-/// has failed for one of two reasons: it stalled, or the data exceed its room.
+/// With any card, an exchange holds the data that the pairs which led to it brought. Or it has
+/// failed for one of two reasons: it stalled, or the data exceed its room. No pair brings more
+/// bytes than its command asks for.
 pub fn an_exchange_holds_what_came()
     ensures { (c : Command) (wanted : Wanted) (pairs : List Pair) (ex : ApduExchangeOf) →
         ComesTo c wanted pairs ex → (ex.gather.bytes ≡ all_content pairs)
@@ -48,9 +49,9 @@ pub fn an_exchange_has_few_commands()
         length pairs ≤ 2 * (length gathered + 2) }
 {}
 
-/// An operation by whole commands is that operation in one step. The card responds by its TPDUs,
-/// and no chain is pending before. Then its tables are those that the step leaves, and again no
-/// chain is pending.
+/// A card of data objects responds, by its TPDUs, to the whole commands of an operation. No chain
+/// is pending before. The answer is one that the operation in one step may give. The applications
+/// and the selection are then those that this step leaves, and again no chain is pending.
 pub fn an_operation_by_whole_commands_is_one_step()
     ensures { (old new : CardState) (operation : Operation) (exchanges : List (List Pair))
         (answer : Reply) → is_idle old.pending ≡ true
@@ -60,8 +61,10 @@ pub fn an_operation_by_whole_commands_is_one_step()
         × (is_idle new.pending ≡ true) }
 {}
 
-/// Operations by whole commands, one after another, have the answers of the card that carries out
-/// each in one step, and leave its tables. No chain is pending before, and none afterwards.
+/// A card of data objects responds, by its TPDUs, to operations by whole commands, one after
+/// another. Their answers are answers that the one-step card may give. The applications and the
+/// selection are then those that these steps leave. No chain is pending before, and none
+/// afterwards.
 pub fn operations_by_whole_commands_are_single_steps()
     ensures { (old new : CardState) (operations : List Operation)
         (talks : List (List (List Pair))) (replies : List Reply) → is_idle old.pending ≡ true

@@ -15,9 +15,9 @@ ghost use Rattle.apdu_terminal.specs.ApduTalk.{AreApdusOf, talk_pairs};
 ghost use Rattle.apdu_terminal.specs.ApduSide.{due_of};
 ghost use Rattle.apdu_terminal.specs.ApduOperations.{ApduOperationOf, Begins, HaveRoom, LeadsTo};
 
-/// The pairs settle the next command. Take whole exchanges of the operation's commands that begin
-/// with the pairs so far and are longer, and the data of each fit the room. The terminal's next
-/// command is theirs.
+/// The pairs settle the next command. Take whole exchanges of the operation's commands, up to the
+/// first status other than `9000`. They begin with the pairs so far and are longer, and the data of
+/// each fit the room. The terminal's next command is theirs.
 pub fn the_next_command_of_an_operation_is_settled()
     ensures { (commands : List Command) (came rest : List Pair) (p : Pair) (o : ApduOperationOf)
         (exchanges : List (List Pair)) (answer : Reply) → LeadsTo commands came (Some o) →
@@ -25,8 +25,8 @@ pub fn the_next_command_of_an_operation_is_settled()
         talk_pairs exchanges ≡ came ++ p ∷ rest → due_of o.exchange ≡ Some p.command }
 {}
 
-/// An operation whose pairs are whole exchanges of its commands has ended, with their answer, if
-/// there is room for the data of each.
+/// Take whole exchanges of an operation's commands, up to the first status other than `9000`. If
+/// these are its pairs, it has ended, with their answer. There must be room for the data of each.
 pub fn a_whole_operation_by_commands_is_done()
     ensures { (commands : List Command) (came : List Pair) (o : ApduOperationOf)
         (exchanges : List (List Pair)) (answer : Reply) → LeadsTo commands came (Some o) →
@@ -35,10 +35,10 @@ pub fn a_whole_operation_by_commands_is_done()
         × (o.exchange.gather.bytes ≡ answer.content) }
 {}
 
-/// Take what is unsent of an operation at a terminal of TPDUs (`Unsent`). An operation at a
-/// terminal of whole commands that begins with it carries out the same commands, and no pair has
-/// passed yet. Each command must have a valid INS, at most 255 bytes of data, and no Le or one of 1
-/// to 256.
+/// Take an operation at a terminal of TPDUs that has sent nothing yet, and its commands (`Unsent`).
+/// If an operation at a terminal of whole commands begins with them, its commands are the same, and
+/// no pair has passed yet. Each command must have a valid INS, at most 255 bytes of data, and no Le
+/// or one of 1 to 256.
 pub fn an_unsent_operation_begins_by_commands()
     ensures { (t : Option OperationOf) (unsent : Unsent) (o : ApduOperationOf)
         (commands : List Command) (came : List Character) → IsUnsent t (Some unsent) →

@@ -18,7 +18,7 @@ pub enum ProgramFault {
 }
 
 impl ProgramFault {
-    /// Returns the fault for an error of the reader.
+    /// Returns the fault for an error of the reader: `OutOfMemory` if memory ran out, else `Read`.
     pub fn of_reading(error: io::Error) -> ProgramFault {
         match error.kind() {
             io::ErrorKind::OutOfMemory => ProgramFault::OutOfMemory,

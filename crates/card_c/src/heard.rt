@@ -38,7 +38,8 @@ fn hear(alloc: Global, joined: &mut SessionSide)
     joined.heard = Listener::new(alloc, true);
 }
 
-/// Writes the characters of the last operation, each with its sender, and their number.
+/// Writes the recorded characters of the last operation, each with its sender, and their number.
+/// `BUFFER` writes only the number; `STATE` (it does not listen) and `MEMORY` write nothing.
 #[unsafe(no_mangle)]
 pub extern "C" fn galliumtoad_session_heard(
     alloc: Global,

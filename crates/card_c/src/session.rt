@@ -173,7 +173,8 @@ fn get(alloc: Global, side: &mut CardSide, number: u32) -> i32
     }
 }
 
-/// Carries out PUT DATA of a copy of this value, in pieces of at most 255 bytes.
+/// Carries out PUT DATA of a copy of this value, in pieces of at most 255 bytes. `OK` says nothing
+/// of the card's status, which `galliumtoad_session_answer` gives.
 #[unsafe(no_mangle)]
 pub extern "C" fn galliumtoad_session_put(
     alloc: Global,

@@ -18,9 +18,9 @@ ghost use Rattle.card_terminal.specs.Talk.{IsTalkOf, Talk, HaveCuts, talk_dialog
 
 use object_card::DataCard;
 
-/// A talk of one operation, under plans with cuts of 1 to 256, equals that operation in one step,
-/// if no chain is pending before. The card then has the tables that the step leaves, and again no
-/// chain is pending.
+/// The answer of a talk of one operation is one that the operation in one step may give. The plans
+/// have cuts of 1 to 256, and no chain is pending before. The card then has the applications and
+/// the selection that this step leaves, and again no chain is pending.
 pub fn a_talk_of_an_operation_is_one_step()
     ensures { (old new : CardState) (plans : List Course) (operation : Operation)
         (exchanges : List (List UnitOf)) (answer : Reply) → is_idle old.pending ≡ true
@@ -30,8 +30,9 @@ pub fn a_talk_of_an_operation_is_one_step()
         × (is_idle new.pending ≡ true) }
 {}
 
-/// A talk of operations, under plans with cuts of 1 to 256, has the answers and the tables of the
-/// one-step card. The card must be sound, with no chain pending; afterwards it is so again.
+/// The answers of a talk of operations are answers that the one-step card may give, one after
+/// another. The applications and the selection are then those that these steps leave. The plans
+/// have cuts of 1 to 256. The card must be sound, with no chain pending; afterwards it is so again.
 pub fn a_talk_is_answered_in_single_steps()
     ensures { (first last : CardState) (plans left : List Course) (operations : List Operation)
         (replies : List Reply) (line : List Character) → IsCardState first
@@ -69,9 +70,10 @@ pub fn no_exchange_stalls()
         HaveCuts plans → Runs Does old (flat_map dialogues_of units) plans new → Stall c units → ⊥ }
 {}
 
-/// A talk of operations with any `DataCard`, whatever its own states, has the answers and the
-/// tables of the one-step card. The plans have cuts of 1 to 256. The card must be sound, with no
-/// chain pending; afterwards it is so again.
+/// The answers of a talk of operations with any `DataCard`, whatever its own states, are answers
+/// that the one-step card may give. The applications and the selection are then those that these
+/// steps leave. The plans have cuts of 1 to 256. The card must be sound, with no chain pending;
+/// afterwards it is so again.
 pub fn a_talk_with_any_card_is_answered_in_single_steps<C: DataCard>()
     ensures { (before after : C) (plans left : List Course) (operations : List Operation)
         (replies : List Reply) (line : List Character) → IsCardState (C.state before) →

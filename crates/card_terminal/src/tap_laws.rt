@@ -15,9 +15,9 @@ ghost use Rattle.card_terminal.specs.Talk.{Talk};
 use t0_core::TpduCard;
 use t0_core::laws::a_tap_takes_dialogues_under_plans;
 
-/// A tap takes every character of a talk that a fresh watch heard without loss, and reports the
-/// dialogues of the talk, in turn. The characters must be bytes. The contract of `Session::run`
-/// states such a talk.
+/// A fresh tap takes every character of a talk that a fresh watch heard without loss. It reports
+/// the dialogues of the talk, in turn, and is then fresh again. The characters must be bytes. The
+/// contract of `Session::run` states such a talk.
 pub fn a_tap_follows_a_talk<C: TpduCard>()
     ensures { (first last : C.State) (plans left : List Course) (operations : List Operation)
         (replies : List Reply) (line : List Character) (hearing : Hearing)

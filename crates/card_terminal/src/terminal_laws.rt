@@ -35,11 +35,11 @@ pub fn a_whole_operation_is_done()
         × (o.exchange.gather.bytes ≡ answer.content) }
 {}
 
-/// The next character of an operation is settled. Take whole exchanges of its commands that begin
-/// with the characters that led to it, and whose data fit its room. If the next character is the
-/// terminal's, the operation sends it. If it is the card's, the operation listens and takes it
-/// without an error. In neither case has the operation failed, so it has not stalled. Each INS must
-/// be valid.
+/// The next character of an operation is settled. Take whole exchanges of its commands, up to the
+/// first status other than `9000`, that begin with the characters that led to it. The data of each
+/// fit its room. If the next character is the terminal's, the operation sends it. If it is the
+/// card's, the operation listens and takes it without an error. In neither case has the operation
+/// failed, so it has not stalled. Each INS must be valid.
 pub fn the_next_character_of_an_operation_is_settled()
     ensures next { (commands : List Command) (came : List Character) (o : OperationOf)
         (exchanges : List (List UnitOf)) (answer : Reply) (ch : Character)

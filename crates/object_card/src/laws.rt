@@ -87,9 +87,9 @@ pub fn only_a_put_changes_entries()
 {}
 
 /// From one state, unless memory runs out (`6581`), an operation has one reply and one next state.
-/// A command with one header, P3, data to the card and cut has one status, next state, and data
-/// from the card. Memory can run out only in an operation that would store a value; the card is
-/// then unchanged.
+/// With the same exception, a command with one header, P3, data to the card and cut has one status,
+/// next state, and data from the card. Memory can run out only in an operation that would store a
+/// value. The operation then leaves the card unchanged.
 pub fn a_command_has_one_outcome()
     ensures operation { (old a b : CardState) (operation : Operation) (r s : Reply) →
         Answers old operation r a → Answers old operation s b → r.status ≢ (0x65, 0x81) →

@@ -70,9 +70,11 @@ fn spell(alloc: Global, pcb: Pcb, info: &[u8]) -> Result<Vec<u8>, AllocError>
     Ok(out)
 }
 
-/// Decodes a whole block. `None` if a byte of it is wrong: NAD, PCB, LEN, the LRC, or the field of
-/// an R-block or an S-block. An empty I-block with the more-data bit is wrong too (profile). The
+/// Decodes a whole block. `None` if `parts` returns `None`, or if the field has a wrong size. The
 /// owner of the line then calls `damaged`.
+///
+/// S(IFS) and S(WTX) have one byte, whose value is not checked. R-blocks and other S-blocks have no
+/// field. An I-block with the more-data bit has at least one byte (profile).
 pub fn read(bytes: &[u8]) -> Option<Block<'_>>
     ensures exact { option_map said result ≡ block_of bytes.now }
 

@@ -26,7 +26,7 @@ pub enum DiffFault {
     /// The file of this trace can't be opened: `A` or `B`.
     #[error("{0}: can't be opened")]
     Open(&'static str),
-    /// This trace, `A` or `B`, has this fault. The other begins with the same TPDUs.
+    /// This trace, `A` or `B`, has this fault, or memory ran out. Both begin with the same TPDUs.
     #[error("{0}: {1}")]
     Trace(&'static str, ExplainFault),
     /// The writer failed. How much it took is unknown.
@@ -65,9 +65,9 @@ struct Trace<'r, R: Read> {
 ///
 /// # Errors
 ///
-/// - `Trace`: this trace has this fault, and no TPDU before it differs. Nothing is written.
+/// - `Trace`: it has this fault, or memory ran out. No TPDU before differs. Nothing is written.
 /// - `Write`: the writer failed.
-/// - `OutOfMemory`: memory ran out. Nothing is written.
+/// - `OutOfMemory`: memory ran out outside of a line. Nothing is written.
 pub fn diff<R: Read, S: Read, W: Write>(
     alloc: Global,
     mask: Mask,

@@ -87,8 +87,7 @@ fn answered<W: Write, F: Write>(error: &Error, output: &mut W, faults: &mut F) -
     }
 }
 
-/// The status for an outcome: 0, or 1 for a fault, which it writes to `faults`. A closed output is
-/// no fault.
+/// Returns 0, or 1 for a fault, which it writes to `faults`. A closed output is no fault.
 fn status<F: Write>(outcome: &Result<(), ExplainFault>, faults: &mut F) -> u8
     ensures success { OnOk outcome.now (result ≡ 0) }
     ensures fault { IfErr outcome.now (λ fault. result ≡ status_of fault) }

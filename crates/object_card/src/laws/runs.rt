@@ -38,8 +38,9 @@ pub fn so_are_those_of_any_card<C: DataCard>()
         (state_of last).applications ≡ with_puts (shown_puts items) (state_of first).applications }
 {}
 
-/// What is pending does not affect an operation: cards with the same tables give the same reply,
-/// and have the same tables afterwards.
+/// What is pending does not affect an operation. Take two cards with the same applications and the
+/// same selection. Each reply that one may give, the other may give, and then both are again the
+/// same in these.
 pub fn an_answer_does_not_hang_on_what_is_pending()
     ensures { (a b a' : CardState) (operation : Operation) (answer : Reply) → SameTables a b →
         Answers a operation answer a' → (b' : CardState) × Answers b operation answer b'

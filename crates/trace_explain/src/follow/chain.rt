@@ -72,10 +72,11 @@ impl PendingChain {
         }
     }
 
-    /// Takes the next command. It continues the pending chain, or drops that and may begin one.
-    /// `piece` is its data; `is_complete` means that all of them were received. After the last
-    /// piece no chain is pending, and the value remains. Returns `AllocError` if memory ran out:
-    /// the piece is counted, and `value` lacks it; drop the chain.
+    /// Takes the next command. It continues the pending chain, or drops chain and value, and may
+    /// begin one. `piece` is its data. If they were not all received (`is_complete`), the piece is
+    /// added, and the value is not whole. After the last piece no chain is pending, and the value
+    /// remains until the next call. Returns `AllocError` if memory ran out: the piece is counted,
+    /// and `value` lacks it; drop the chain.
     pub fn take(
         &mut self,
         header: Header,

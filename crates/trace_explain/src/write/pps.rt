@@ -33,8 +33,7 @@ pub fn tell_pps(mask: &Mask, preface: &Preface, page: &mut Page) {
     page.close();
 }
 
-/// Adds the characters of an answer, request or response. A mask hides invalid ones, which may be
-/// data.
+/// Adds characters of an answer, request or response. A mask hides invalid ones: they may be data.
 pub fn push_characters(text: &mut Sheet, mask: &Mask, bytes: &[u8], is_one: bool) {
     if is_one {
         push_hex_lines(text, bytes);

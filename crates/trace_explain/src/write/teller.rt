@@ -294,8 +294,9 @@ impl Teller {
         tell_part(stage, preface, &self.mask, &mut self.output.page);
     }
 
-    /// Counts an unexpected byte, and writes what it cuts off and its box. `listener` drops the
-    /// TPDU in progress. Returns `AllocError` if memory ran out: drop the teller.
+    /// Counts an unexpected byte, and writes what it cuts off and its box. A response ends, and
+    /// later pieces of a chain get no numbers. `listener` drops the TPDU in progress. Returns
+    /// `AllocError` if memory ran out: drop the teller.
     pub fn complain(
         &mut self,
         complaint: Complaint,

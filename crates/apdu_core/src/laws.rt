@@ -25,8 +25,8 @@ pub fn a_value_has_its_pieces()
 {}
 
 /// The commands of a chain carry the value. If bit 5 of CLA is clear in the chain's header, it is
-/// set in all commands except the last. If INS is valid too, each is a command without Le, whose
-/// header is the chain's apart from that bit.
+/// set in all commands except the last. If INS is valid too, and CLA is a byte, each is a command
+/// without Le, whose header is the chain's apart from that bit.
 pub fn the_commands_of_a_chain()
     ensures concatenate { (header : Header) (value : List ℕ) (p : List (List ℕ)) →
         IsPieces value p → concat (map (λ c. c.content) (chain_commands header p)) ≡ value }
@@ -38,7 +38,8 @@ pub fn the_commands_of_a_chain()
 {}
 
 /// An idle chain accepts all commands of a value, in turn, exactly if the value keeps to the limit.
-/// It then holds that value, and is pending. Bit 5 of CLA must be clear in the chain's header.
+/// It then holds that value, and is pending. In the chain's header CLA must be a byte, with bit 5
+/// clear.
 pub fn a_chain_gathers_the_value()
     ensures { (header : Header) (value : List ℕ) (p : List (List ℕ)) (limit : ℕ)
         (after : ChainState) → IsPieces value p → IsLast header → header.cla < 256 →

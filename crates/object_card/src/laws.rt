@@ -19,10 +19,10 @@ pub fn p1p2_name_the_tag()
     ensures { (tag : List ℕ) (p1 p2 : ℕ) → (named_tag p1 p2 ≡ Some tag) ↔ NamesTag tag p1 p2 }
 {}
 
-/// A TPDU under any cut, and a reset, leave a sound state sound. In one, identifiers and tags are
-/// distinct, values are sound, and each number keeps to its limit. The selected application exists.
-/// A chain is pending only if one is selected, with at most `VALUE_LIMIT` bytes. A pending response
-/// has 1 to `VALUE_LIMIT` and `HEAD_LIMIT` bytes together.
+/// A TPDU under any cut, and a reset, leave a sound state sound. In one, identifiers are distinct,
+/// and so are the tags of each application. Values are sound, and each number keeps to its limit.
+/// The selected application exists. A chain is pending only if one is selected, with at most
+/// `VALUE_LIMIT` bytes. A pending response has 1 to `VALUE_LIMIT` + `HEAD_LIMIT` bytes.
 pub fn a_card_state_stays_one()
     ensures step { (old new : CardState) (cut : ℕ) (tpdu : Tpdu) → Does old cut tpdu new →
         IsCardState old → IsCardState new }
@@ -86,10 +86,10 @@ pub fn only_a_put_changes_entries()
         × (tpdu.status ≡ ok)) }
 {}
 
-/// From one state, unless memory runs out (`6581`), an operation has one reply and one next state.
-/// With the same exception, a command with one header, P3, data to the card and cut has one status,
-/// next state, and data from the card. Memory can run out only in an operation that would store a
-/// value. The operation then leaves the card unchanged.
+/// From one state, the one-step card has at most one reply to an operation, and one next state,
+/// unless memory runs out (`6581`). With the same exception, one header, P3, data to the card and
+/// cut have at most one outcome: status, next state, and data from the card. Memory can run out
+/// only in an operation that would store a value. The one-step card is then unchanged.
 pub fn a_command_has_one_outcome()
     ensures operation { (old a b : CardState) (operation : Operation) (r s : Reply) →
         Answers old operation r a → Answers old operation s b → r.status ≢ (0x65, 0x81) →

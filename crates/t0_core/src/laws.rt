@@ -55,8 +55,8 @@ pub fn a_dialogue_is_gone_through()
 /// The characters determine what a terminal's end does. Take an end at a front, and a dialogue that
 /// it opened and that continues from there. If the next character is the terminal's, the end sends
 /// exactly that one. If it is the card's, the end listens. It takes the character without an error
-/// if the gather has room for the data still to come. No front of the end contains a whole dialogue
-/// that it opened.
+/// if the gather has room for the data still to come. No front of the end begins with a whole
+/// dialogue that it opened.
 pub fn the_next_character_is_settled()
     ensures sent { (host : Hosting) (front : Front) (d : Dialogue) (byte : ℕ)
         (rest : List Character) → IsRequest host → HostStandsAt host front → IsFront front →
@@ -91,10 +91,11 @@ pub fn dialogues_opened_alike_have_one_cutting()
         (d ≡ e) × (after_d ≡ after_e) }
 {}
 
-/// There is one way to cut what happened at a card's end into whole dialogues, parts that a reset
-/// cut off, and the part in progress. Equal events have equal items, except for a direction that
-/// nobody saw because no data moved. The characters must be bytes, and each dialogue must follow
-/// some plan or be cut off from one that does.
+/// There is at most one way to cut what happened at a card's end into whole dialogues, parts that a
+/// reset cut off, and the part in progress. Two cuttings of equal events have equal parts in
+/// progress. Their items are equal too, except for a direction that nobody saw because no data
+/// moved. The characters must be bytes, and each dialogue must follow some plan or be cut off from
+/// one that does.
 pub fn events_have_one_cutting()
     ensures { (items others : List Item) (part other : List Character) →
         AllByRecursion IsItem items → AllByRecursion IsItem others → IsPart part → IsPart other →
@@ -103,8 +104,9 @@ pub fn events_have_one_cutting()
         AreAlikeInTurn items others × (part ≡ other) }
 {}
 
-/// A tap takes the dialogues that it can read to their ends, one after another, and reports each of
-/// them, from any card and terminal. The characters must be bytes.
+/// Take dialogues, one after another, and all such that a tap can read them. A tap that is between
+/// dialogues takes all their characters, reports each of them, and is between dialogues again. The
+/// card and the terminal may be any. The characters must be bytes.
 pub fn a_tap_takes_the_dialogues_that_it_reads()
     ensures { (dialogues : List Dialogue) →
         AllByRecursion IsDialogue dialogues → AllByRecursion (λ d. IsRead d.body) dialogues →
@@ -113,8 +115,9 @@ pub fn a_tap_takes_the_dialogues_that_it_reads()
         × AreTold told dialogues }
 {}
 
-/// A tap can read each dialogue that follows a plan, whatever the plan. So it takes such dialogues
-/// to their ends, one after another, and reports each of them. The characters must be bytes.
+/// A tap can read each dialogue that follows a plan, whatever the plan. So from between dialogues
+/// it takes such dialogues, one after another, and reports each of them. The characters must be
+/// bytes.
 pub fn a_tap_takes_dialogues_under_plans()
     ensures { (dialogues : List Dialogue) (plans : List Course) →
         AllByRecursion IsDialogue dialogues → FollowInTurn dialogues plans →

@@ -47,9 +47,10 @@ pub fn an_answer_does_not_hang_on_what_is_pending()
         × SameTables a' b' }
 {}
 
-/// The commands that carry a value are the put of the value in one step. No chain may be pending
-/// before, and P1-P2 name the tag. Each is one TPDU under any cut. The first status other than
-/// `9000` ends them. Afterwards no chain is pending.
+/// The last status of the commands that carry a value is one that a put of the value in one step
+/// may get. Only `9000` stores it. The applications and the selection are then those after that
+/// step, and no chain is pending. No chain may be pending before, and P1-P2 name the tag. Each
+/// command is one TPDU under any cut. The first status other than `9000` ends them.
 pub fn the_commands_of_a_value_put_it()
     ensures { (old new : CardState) (tag value : List ℕ) (p1 p2 : ℕ) (pieces : List (List ℕ))
         (status : StatusWord) →
@@ -58,9 +59,11 @@ pub fn the_commands_of_a_value_put_it()
         IsCarriedOut old (Put tag value) status [] new }
 {}
 
-/// A SELECT, followed by GET RESPONSE for all that is announced, selects in one step. No chain may
-/// be pending before, and the identifier has 5 to 16 bytes. Each command is under any cut, 1 to
-/// 256. Afterwards no chain is pending.
+/// A SELECT, followed by GET RESPONSE for all that is announced, is a SELECT in one step. The last
+/// status and all data are a reply that the one-step card may give, be it success or not. The
+/// applications and the selection are then those after that step, and no chain is pending. No chain
+/// may be pending before, and the identifier has 5 to 16 bytes. Each command is under any cut, 1 to
+/// 256.
 pub fn a_select_with_its_fetches_selects()
     ensures { (old mid new : CardState) (cut : ℕ) (aid : List ℕ) (t : Tpdu) (fetches : List Tpdu)
         (last : StatusWord) →
@@ -69,10 +72,11 @@ pub fn a_select_with_its_fetches_selects()
         IsCarriedOut old (Select aid) last (flat_map (λ t. t.received) (t ∷ fetches)) new }
 {}
 
-/// A GET DATA, followed by GET RESPONSE for all that is announced, gets the object in one step. No
-/// chain may be pending before, and P1-P2 name the tag. If the status is `6CXX`, the GET DATA is
-/// first repeated with that length. Each command is under any cut, 1 to 256. Afterwards no chain is
-/// pending.
+/// A GET DATA, followed by GET RESPONSE for all that is announced, is a GET DATA in one step. The
+/// last status and all data are a reply that the one-step card may give, be it success or not. The
+/// applications and the selection are then those after that step, and no chain is pending. No chain
+/// may be pending before, and P1-P2 name the tag. If the status is `6CXX`, the GET DATA is first
+/// repeated with that length. Each command is under any cut, 1 to 256.
 pub fn a_get_with_its_fetches_gets()
     ensures once { (old mid new : CardState) (tag : List ℕ) (p1 p2 cut : ℕ) (t : Tpdu)
         (fetches : List Tpdu) (last : StatusWord) →
@@ -88,8 +92,8 @@ pub fn a_get_with_its_fetches_gets()
 {}
 
 /// What `61XX` announces waits, if the cut is 1 to 256. A GET RESPONSE for no more than what waits
-/// brings as many bytes as its P3 states. So a fetch that the card announced brings data, without a
-/// `6CXX`, and no exchange stalls.
+/// brings as many bytes as its P3 states. So a GET RESPONSE directly after `61XX`, for no more than
+/// that, brings data without a `6CXX`.
 pub fn what_is_announced_is_brought()
     ensures waits { (old new : CardState) (cut n : ℕ) (t : Tpdu) → Does old cut t new → IsCut cut →
         announces t.status ≡ Some n → (1 ≤ n) × (n ≤ length (waiting new.pending)) }
@@ -102,10 +106,10 @@ pub fn what_is_announced_is_brought()
         × (length fetch.received ≡ count fetch.p3) × (corrects fetch.status ≡ None) }
 {}
 
-/// No exchange brings more than `RESPONSE_LIMIT` bytes, the highest limit of a terminal. From a
-/// sound state, a TPDU brings, and leaves waiting, together at most a value with its tag and
-/// length. `6CXX` comes without data, and each GET RESPONSE takes from what waits. That leaves room
-/// for the data of one more TPDU.
+/// From a sound state, a TPDU brings, and leaves waiting, at most `VALUE_LIMIT` + `HEAD_LIMIT`
+/// bytes together. With all GET RESPONSEs directly after it, it brings no more than that. `6CXX`
+/// comes without data, and each GET RESPONSE takes from what waits. `RESPONSE_LIMIT` leaves room
+/// for the data of one more TPDU. A terminal may have a lower limit.
 pub fn an_exchange_brings_no_more_than_is_gathered()
     ensures first { (old new : CardState) (cut : ℕ) (t : Tpdu) → Does old cut t new →
         IsCardState old →

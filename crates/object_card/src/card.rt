@@ -98,8 +98,9 @@ impl<A: Allocator> ObjectCard<A> {
         Some(self.applications.get(place)?.aid())
     }
 
-    /// The data object at index `place` of the application at index `app`, both from 0: its tag,
-    /// its value, and whether it is locked. `None` after the last.
+    /// Returns the data object at index `place` of the application at index `app`: its tag, its
+    /// value, and whether it is locked. Both count from 0: applications in the order of `apps`,
+    /// objects in that of `entries`. `None` if either index is past the last.
     pub fn entry_at(&self, app: usize, place: usize) -> Option<(ObjectTag, &[u8], bool)>
         ensures { MatchOption result (entry_at app place self.now.state ≡ None)
             (λ e. entry_at app place self.now.state

@@ -8,11 +8,11 @@ use std::fmt;
 /// `TooDeep` and then the others in this order.
 #[derive(Clone, Copy, Debug, PartialEq, Eq, Hash)]
 pub enum Reason {
-    /// The list ends inside a tag.
+    /// The list ends inside a tag. For `Tag::read`: or there are no bytes.
     TagCut,
     /// No tag starts here.
     TagForm,
-    /// The list ends inside a length.
+    /// The list ends right after a tag, or inside a length.
     LengthCut,
     /// No length follows the tag: its first byte is `80` or `83` to `FF`.
     LengthForm,

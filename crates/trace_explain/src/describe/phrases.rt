@@ -32,7 +32,7 @@ pub fn push_links(text: &mut Sheet, links: Links) {
     }
 }
 
-/// Adds how many procedure bytes there are of each kind.
+/// Adds how many procedure bytes there are of each kind that occurs.
 pub fn push_procedure(text: &mut Sheet, tally: Tally) {
     let Tally { nulls, ones, alls } = tally;
     push_kind(text, nulls, ("NULL", "NULLs"), ones > 0 || alls > 0);

@@ -140,8 +140,8 @@ pub fn is_direct(turned: Convention) -> bool
     matches!(turned, Convention::Direct)
 }
 
-/// Returns the stage after these characters of an answer: `Answer` if more must follow, `Ready` if
-/// it is whole, or `Astray` if it is invalid.
+/// Returns the stage after these characters of an answer, turned by its convention: `Answer` if
+/// more must follow, `Ready` if it is whole, or `Astray` if it is invalid.
 pub fn after_answer(bytes: &[u8]) -> Stage
     ensures { result ≡ after_answer (first_fault bytes.now) }
 {

@@ -1,7 +1,7 @@
 """Tries the faults of explain.faults, for `try`: for each fault, a case of checks/explain must get
 another output, or none. No proof covers the words of trace_explain, so its cases must. `rt try`
-builds all copies as modules of one program, without proofs. In one copy, without a fault, every
-case must pass."""
+builds up to COPIES copies as modules of one program, without proofs. In one more copy, without a
+fault, every case must pass."""
 
 import re
 import subprocess
@@ -20,6 +20,8 @@ FOLDERS = ("read", "follow", "describe", "write")
 LEFT_OUT = ("main", "main_status", "command_line", "help", *FOLDERS)
 # A copy is one flat module.
 PATH = re.compile(rf"\bcrate::(?:(?:{'|'.join(FOLDERS)})::)?")
+# The faults of one program. To build 50 takes 8 GB of memory.
+COPIES = 30
 # The number of runs for a module's cases. A run may write a mebibyte at most.
 BATCHES = 3
 # Separates the cases in the program's input, and its outputs.
@@ -263,8 +265,17 @@ def faults_of(text, cases):
 
 
 def outcomes(folder, faults):
-    """Yields each fault with the first case that refuses it, after the copy without a fault."""
+    """Yields each fault with the first case that refuses it. Before those of each program it yields
+    the copy without a fault."""
     cases = all_cases()
+    for first in range(0, len(faults) or 1, COPIES):
+        room = folder / str(first)
+        room.mkdir()
+        yield from outcomes_of(room, faults[first : first + COPIES], cases)
+
+
+def outcomes_of(folder, faults, cases):
+    """Yields the same for the faults of one program."""
     crate = write_program(folder, faults)
     write_inputs(folder / "cases", cases, len(faults) + 1)
     texts = run_all(crate, folder / "cases")

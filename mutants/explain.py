@@ -20,7 +20,7 @@ FOLDERS = ("read", "follow", "describe", "write")
 LEFT_OUT = ("main", "main_status", "command_line", "help", *FOLDERS)
 # A copy is one flat module.
 PATH = re.compile(rf"\bcrate::(?:(?:{'|'.join(FOLDERS)})::)?")
-# The faults of one program. To build 50 takes 8 GB of memory.
+# The most faults in one program. A program of 50 took 8 GB of memory to build.
 COPIES = 30
 # The number of runs for a module's cases. A run may write a mebibyte at most.
 BATCHES = 3

@@ -1,6 +1,8 @@
 pub mod HeaderBytes
 pub mod StatusWord
+pub mod Meanings
 pub mod CommandBytes
+pub mod CommandLaws
 pub mod Chaining
 pub mod PieceList
 pub mod PiecesLeft

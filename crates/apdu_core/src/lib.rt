@@ -3,7 +3,8 @@
 //! A terminal makes a [`Command`] of a [`Header`], data and Le, and writes its bytes. [`pieces`]
 //! cuts a value that is too long for one command into the commands of a chain. The card parses a
 //! command by [`Command::read`], gathers a chain in a [`Chain`], and answers with a [`Status`].
-//! [`ApduFault`] and [`TooLong`] are the errors. This writes the commands that put a value:
+//! [`MEANINGS`] has its meanings. [`ApduFault`] and [`TooLong`] are the errors. This writes the
+//! commands that put a value:
 //!
 //! ```rust
 //! // crates/library_use/src/commands.rt
@@ -22,10 +23,12 @@ mod command;
 mod cut;
 mod header;
 pub mod laws;
+mod meaning;
 mod status;
 
 pub use chain::{Chain, TooLong};
 pub use command::{ApduFault, Command};
 pub use cut::{Pieces, pieces};
 pub use header::Header;
+pub use meaning::{Commands, MEANINGS, Meaning};
 pub use status::{Status, count};

@@ -2,6 +2,7 @@
 ghost use Rattle.std.specs.Prelude.{◌≡◌, ◌↔◌, IsTrue};
 ghost use Rattle.std.specs.Option.{SomeIff};
 ghost use Rattle.apdu_core.specs.StatusWord.{StatusWord, IsStatusWord, ok, count, announces, corrects};
+ghost use Rattle.apdu_core.specs.Meanings.{word_of};
 
 use std::marker::Model;
 
@@ -71,6 +72,13 @@ impl Status {
         ensures { result ≡ corrects self }
     {
         (self.sw1 == 0x6C).then(|| count(self.sw2))
+    }
+
+    /// SW1 and SW2 as one number, as `0x9000`.
+    pub fn word(self) -> u16
+        ensures { result ≡ word_of self }
+    {
+        u16::from(self.sw1) * 256 + u16::from(self.sw2)
     }
 }
 

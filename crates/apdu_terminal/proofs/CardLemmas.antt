@@ -1,5 +1,5 @@
 -- A whole command at a card's end: its bytes as a TPDU, one more TPDU, and the whole command.
-use Rattle.std.proofs.Common.{◌≡◌, ℕ, ◌+◌, ◌*◌, ◌%◌, ◌<◌, ◌≤◌, List, [], ◌∷◌, ◌++◌, length, take, refl, sym, subst, ◌∙◌, ap, arith, inl, inr, ◌⊎◌, true, false, Bool, Option, Some, None, Ok, Err, Result, length-append, append-nil, if◌then◌else◌}
+use Rattle.std.proofs.Common.{◌≡◌, ℕ, ◌+◌, ◌*◌, ◌%◌, ◌<◌, ◌≤◌, List, [], ◌∷◌, ◌++◌, length, take, refl, sym, subst, ◌∙◌, ap, arith, inl, inr, ◌⊎◌, true, false, Bool, Option, Some, None, Ok, Err, Result, append-nil, if◌then◌else◌}
 use Rattle.std.specs.Prelude.{unwrap_or, MatchResult, IfErr, nat_lt, nat_le}
 use Rattle.std.proofs.Math.Seq.{take-append_seam}
 use Rattle.std.proofs.lemmas.Bool.{eq-eqb, true≢false, le-ltb, le-leb}
@@ -7,6 +7,7 @@ use Rattle.apdu_core.specs.declared.header.Header.{Header}
 use Rattle.apdu_core.specs.HeaderBytes.{header_bytes}
 use Rattle.apdu_core.specs.StatusWord.{StatusWord, count}
 use Rattle.apdu_core.specs.CommandBytes.{Command, HasSizes, command_bytes, lc_field, le_field}
+use Rattle.apdu_core.specs.CommandLaws.{has_no_form}
 use Rattle.t0_core.specs.declared.tpdu_card.TpduCard.{Ghosts}
 use Rattle.t0_core.specs.declared.tpdu_fault.TpduFault.{TpduFault}
 use Rattle.t0_core.specs.declared.tpdu_fault.TpduFault.TheVariants as tpdu
@@ -36,7 +37,7 @@ use Rattle.apdu_terminal.specs.declared.apdu_fault.ApduFault.{ApduFault}
 use Rattle.apdu_terminal.specs.declared.apdu_fault.ApduFault.TheVariants as why
 use Rattle.apdu_terminal.specs.Apdus.{Pair, first_place, may_bring, GoesThrough, all_content, StallsAt}
 use Rattle.apdu_terminal.specs.ApduSide.{ApduExchangeOf, IsSound, ComesTo, place_of, command_of, excess, due_of, is_going, to_go, response_fault, answered_by}
-use Rattle.apdu_terminal.specs.CardApdu.{p3_of, tpdu_command, le_of, IsTpduOf, GoesAs, HasCome, HasFailed, HasResponse, Responds, HasHad}
+use Rattle.apdu_terminal.specs.CardApdu.{p3_of, tpdu_command, le_of, IsTpduOf, GoesAs, HasCome, HasFailed, HasResponse, Responds, HasHad, StopsBy}
 use Rattle.apdu_terminal.proofs.LedLemmas.{IsTaken, is_taken, is_going_true, at_stage, asked_number, asks_with, more_room}
 use Rattle.apdu_terminal.proofs.PlaceLemmas.{through, Fits, fits_first, fits_on, never_too_long, GoesAlone, alone_first, alone_on, Agrees, agrees_on, agrees_as_tpdu, total_within}
 use Rattle.apdu_terminal.proofs.StallLemmas.{card_never_stalls}
@@ -75,17 +76,8 @@ seen_falls inside seen content status gather gathered left a n same sound none r
 
 -- ---- a command as a TPDU
 
-few_bytes : (h : Header) (content : List ℕ) (le : Option ℕ) → length content ≤ 255
-    → length (header_bytes h ++ lc_field content ++ le_field le) ≤ 261
-few_bytes h [] None few = omega arith
-few_bytes h [] (Some n) few = omega arith
-few_bytes h (b ∷ bs) None few =
-    omega (arith, few, length-append (lc_field (b ∷ bs)) (le_field None))
-few_bytes h (b ∷ bs) (Some n) few =
-    omega (arith, few, length-append (lc_field (b ∷ bs)) (le_field (Some n)))
-
 pub command_is_short : (c : Command) → HasSizes c.content c.le → length (command_bytes c) ≤ 261
-command_is_short c sizes = few_bytes c.header c.content c.le sizes.fits
+command_is_short c sizes = omega (arith, has_no_form c (command_bytes c) sizes refl)
 
 so_many : (header : Header) (b : ℕ) (bs : List ℕ)
     → asked_with header (length (b ∷ bs) ∷ b ∷ bs)
@@ -129,7 +121,7 @@ gone_as card c bytes old new before plans room room' result sizes which are none
     let same : asked ≡ here = cc in
     subst (λ k. HasGone card here old k room result new plans room') none (rw same at gone)
 
--- the card does what it means, or is reset, and the command was not agreed
+-- the card does what it means, or stops and is reset
 abbrev pub TpduGoes : {C : Type 0} (card : Ghosts C) → Command → EndOf C
     → Result StatusWord TpduFault → EndOf C → List ℕ → Type 0
 TpduGoes card c old result new content = MatchResult result
@@ -138,79 +130,95 @@ TpduGoes card c old result new content = MatchResult result
     × card.Does (card.standing old.card) 256 t (card.standing new.card))
     × (length content ≤ may_bring c.le))
     (λ fault. (card.standing new.card ≡ card.after_reset (card.standing old.card))
-    × (IsAgreed card.MayReceive card.MaySend c → ⊥))
+    × StopsBy card.MayReceive card.MaySend c fault)
 
 pub may_be_few : (content : List ℕ) (le : Option ℕ) → HasSizes content le → may_bring le ≤ 256
 may_be_few content None sizes = omega arith
 may_be_few content (Some n) sizes = sizes.le_in_range.1
 
--- if they are agreed, all data to the card are given
-given_all : (R S : ℕ → Type 0) (c : Command) (b : Body) → IsAgreed R S c
-    → b.p3 ≡ p3_of c.content c.le → b.direction ≡ ToCard
-    → PermitsData R S c.header.ins b.direction → length b.moved < to_move b
-    → length c.content ≤ length b.moved → ⊥
-given_all R S c b agreed p3 to may due past =
-    by c.content c.le agreed p3 past
+-- the card takes data in case 2 alone
+wants : (R S : Header → Type 0) (c : Command) (b : Body) → b.p3 ≡ p3_of c.content c.le
+    → b.direction ≡ ToCard → PermitsData R S c.header b.direction
+    → length b.moved < to_move b → length c.content ≤ length b.moved
+    → StopsBy R S c tpdu.WantsData
+wants R S c b p3 to may due past = by c.content c.le p3 past
     (subst (λ d. to_move b ≤ foreseen d b.p3) to
     (all_moves-within b.segments (foreseen b.direction b.p3)))
   where
-    by : (content : List ℕ) (le : Option ℕ)
-        → IsAgreed R S (record { header = c.header; content = content; le = le })
-        → b.p3 ≡ p3_of content le → length content ≤ length b.moved → to_move b ≤ b.p3 → ⊥
-    by [] None agreed p3 past most = omega (arith, due, most, p3)
-    by [] (Some n) agreed p3 past most =
-        agreed.0 (rw to at may)
-    by (x ∷ xs) le agreed p3 past most = omega (arith, due, most, p3, past)
+    by : (content : List ℕ) (le : Option ℕ) → b.p3 ≡ p3_of content le
+        → length content ≤ length b.moved → to_move b ≤ b.p3
+        → R c.header × (content ≡ []) × ((n : ℕ) × (le ≡ Some n))
+    by [] None p3 past most = absurd (omega (arith, due, most, p3))
+    by [] (Some n) p3 past most = (rw to at may, refl, (n, refl))
+    by (x ∷ xs) le p3 past most = absurd (omega (arith, due, most, p3, past))
 
--- and there is room for all data from the card
-all_may_come : (R S : ℕ → Type 0) (c : Command) (b : Body) → HasSizes c.content c.le
-    → IsAgreed R S c → b.p3 ≡ p3_of c.content c.le → b.direction ≡ FromCard
-    → PermitsData R S c.header.ins b.direction → length b.moved < to_move b
-    → may_bring c.le ≤ length b.moved → ⊥
-all_may_come R S c b sizes agreed p3 from may due past =
-    by c.content c.le sizes agreed p3 past
-    (subst (λ d. to_move b ≤ foreseen d b.p3) from
-    (all_moves-within b.segments (foreseen b.direction b.p3)))
+-- there is room for all data that an Le asks for
+sends : (R S : Header → Type 0) (c : Command) (b : Body) → HasSizes c.content c.le
+    → (c.content ≡ []) ⊎ (c.le ≡ None) → b.p3 ≡ p3_of c.content c.le → b.direction ≡ FromCard
+    → PermitsData R S c.header b.direction → length b.moved < to_move b
+    → may_bring c.le ≤ length b.moved → StopsBy R S c tpdu.SendsData
+sends R S c b sizes which p3 from may due past = (
+  rw from at may,
+  by c.content c.le sizes which p3 past (subst (λ d. to_move b ≤ foreseen d b.p3) from
+      (all_moves-within b.segments (foreseen b.direction b.p3))),
+)
   where
-    sends : S c.header.ins
-    sends = rw from at may
-
     by : (content : List ℕ) (le : Option ℕ) → HasSizes content le
-        → IsAgreed R S (record { header = c.header; content = content; le = le })
-        → b.p3 ≡ p3_of content le → may_bring le ≤ length b.moved → to_move b ≤ count b.p3 → ⊥
-    by [] None sizes agreed p3 past most = agreed sends
-    by [] (Some n) sizes agreed p3 past most =
-        omega (
+        → (content ≡ []) ⊎ (le ≡ None) → b.p3 ≡ p3_of content le
+        → may_bring le ≤ length b.moved → to_move b ≤ count b.p3 → le ≡ None
+    by content None sizes which p3 past most = refl
+    by [] (Some n) sizes which p3 past most =
+        absurd (omega (
           arith,
           due,
           most,
           ap count p3,
           count_told n sizes.le_in_range.0 sizes.le_in_range.1,
           past,
-        )
-    by (x ∷ xs) None sizes agreed p3 past most = agreed sends
-    by (x ∷ xs) (Some n) sizes agreed p3 past most = agreed.0 sends
+        ))
+    by (x ∷ xs) (Some n) sizes (inl none) p3 past most = absurd (cc)
+    by (x ∷ xs) (Some n) sizes (inr none) p3 past most = absurd (cc)
 
--- the card does not stop in an agreed command
-no_cause : {C : Type 0} (card : Ghosts C) (first : card.State) (plan : Course) (c : Command)
+-- why the card stops in a command
+stops_by : {C : Type 0} (card : Ghosts C) (first : card.State) (plan : Course) (c : Command)
     (room : Room) (b : Body) (e : EndOf C) (fault : TpduFault) → HasSizes c.content c.le
-    → 256 ≤ room.limit
+    → (c.content ≡ []) ⊎ (c.le ≡ None) → 256 ≤ room.limit
     → IsStuck card first plan
     (asked_for c.header (p3_of c.content c.le) c.content (may_bring c.le)) [] room b e
     → IsCause (asked_for c.header (p3_of c.content c.le) c.content (may_bring c.le)) room b fault
-    → IsAgreed card.MayReceive card.MaySend c → ⊥
-no_cause card first plan c room b e tpdu.UnderWay sizes large stuck cause agreed = cause
-no_cause card first plan c room b e tpdu.NoTpdu sizes large stuck cause agreed = cause
-no_cause card first plan c room b e tpdu.WantsData sizes large stuck cause agreed =
-    given_all card.MayReceive card.MaySend c b agreed stuck.is_of.1 cause.0 stuck.permitted
+    → StopsBy card.MayReceive card.MaySend c fault
+stops_by card first plan c room b e tpdu.UnderWay sizes which large stuck cause = cause
+stops_by card first plan c room b e tpdu.NoTpdu sizes which large stuck cause = cause
+stops_by card first plan c room b e tpdu.WantsData sizes which large stuck cause =
+    wants card.MayReceive card.MaySend c b stuck.is_of.1 cause.0 stuck.permitted stuck.due cause.1
+stops_by card first plan c room b e tpdu.SendsData sizes which large stuck cause =
+    sends card.MayReceive card.MaySend c b sizes which stuck.is_of.1 cause.0 stuck.permitted
     stuck.due cause.1
-no_cause card first plan c room b e tpdu.SendsData sizes large stuck cause agreed =
-    all_may_come card.MayReceive card.MaySend c b sizes agreed stuck.is_of.1 cause.0
-    stuck.permitted stuck.due cause.1
-no_cause card first plan c room b e tpdu.TooLong sizes large stuck cause agreed =
+stops_by card first plan c room b e tpdu.TooLong sizes which large stuck cause =
     let came : length room.bytes ≡ length b.moved =
     ap length stuck.gathers ∙ ap (λ d. length (from_card d b.moved)) cause.0 in
-    omega (arith, came, cause.1, cause.2, large, may_be_few c.content c.le sizes)
+    absurd (omega (arith, came, cause.1, cause.2, large, may_be_few c.content c.le sizes))
+
+-- the command is not agreed then
+unagreed : (R S : Header → Type 0) (c : Command) (fault : TpduFault) → StopsBy R S c fault
+    → IsAgreed R S c → ⊥
+unagreed R S c tpdu.UnderWay stops agreed = stops
+unagreed R S c tpdu.NoTpdu stops agreed = stops
+unagreed R S c tpdu.TooLong stops agreed = stops
+unagreed R S c tpdu.WantsData (may, none, (n, is)) agreed = by c.content c.le none is agreed
+  where
+    by : (content : List ℕ) (le : Option ℕ) → content ≡ [] → le ≡ Some n
+        → IsAgreed R S (record { header = c.header; content = content; le = le }) → ⊥
+    by [] (Some k) none is agreed = agreed.0 may
+    by [] None none is agreed = absurd (cc)
+    by (x ∷ xs) le none is agreed = absurd (cc)
+unagreed R S c tpdu.SendsData (may, is) agreed = by c.content c.le is agreed
+  where
+    by : (content : List ℕ) (le : Option ℕ) → le ≡ None
+        → IsAgreed R S (record { header = c.header; content = content; le = le }) → ⊥
+    by [] None is agreed = agreed may
+    by (x ∷ xs) None is agreed = agreed may
+    by content (Some k) is agreed = absurd (cc)
 
 pub tpdu_goes : {C : Type 0} (card : Ghosts C) (c : Command) (bytes : List ℕ) (old new : EndOf C)
     (before plans : Cursor) (room room' : Room) (result : Result StatusWord TpduFault)
@@ -251,7 +259,7 @@ tpdu_goes {C} card c bytes old new before plans room room' result sizes which ar
         )
     by advances limit (Err fault) (b, stuck, is, cause, reset, leads) = (
       reset,
-      no_cause card (card.standing old.card) (plan_kept plans) c room' b stuck fault sizes
+      stops_by card (card.standing old.card) (plan_kept plans) c room' b stuck fault sizes which
           (omega (arith, large, limit))
           (rw empty at is) cause,
     )
@@ -313,16 +321,25 @@ one_had One c wanted first mid last old new p is led (pairs, comes, goes) = (
 -- or it is reset
 pub one_failed : {C : Type 0} (card : Ghosts C) (c : Command) (first mid last : card.State)
     (ex : ApduExchangeOf) (fault : TpduFault) (due : Command) → due_of ex ≡ Some due
-    → last ≡ card.after_reset mid → (IsAgreed card.MayReceive card.MaySend due → ⊥)
+    → last ≡ card.after_reset mid → StopsBy card.MayReceive card.MaySend due fault
     → HasCome card.Does c first mid ex → HasFailed card c first (why.Tpdu fault) last
-one_failed card c first mid last ex fault due is reset refused (pairs, comes, goes) =
+one_failed card c first mid last ex fault due is reset stops (pairs, comes, goes) =
     let (way, bytes, same) = at_place (tpdu_command c) (le_of c) pairs ex due is comes in (
       (λ agreed.
           let a = through (Agrees card.MayReceive card.MaySend)
           (agrees_on card.MayReceive card.MaySend) (first_place (tpdu_command c) (le_of c))
           (place_of ex) 0 pairs (agrees_as_tpdu card.MayReceive card.MaySend c agreed) way in
-          refused (subst (λ x. IsAgreed card.MayReceive card.MaySend x) same a.agreed)),
-      (pairs, place_of ex, mid, way, goes, reset),
+          unagreed card.MayReceive card.MaySend due fault stops
+          (subst (λ x. IsAgreed card.MayReceive card.MaySend x) same a.agreed)),
+      (
+        pairs,
+        place_of ex,
+        mid,
+        way,
+        goes,
+        subst (λ x. StopsBy card.MayReceive card.MaySend x fault) (sym same) stops,
+        reset,
+      ),
     )
 
 -- a response no longer than asked for fits, and is no fault

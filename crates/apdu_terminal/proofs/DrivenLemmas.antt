@@ -3,6 +3,7 @@
 use Rattle.std.proofs.Common.{◌≡◌, ℕ, ◌≤◌, List, [], ◌∷◌, ◌++◌, length, Option, Some, None, Result, Ok, Err, true, false, inl, inr, refl, sym, subst, ap, ◌∙◌, if◌then◌else◌}
 use Rattle.std.specs.Prelude.{IsOk, is_some}
 use Rattle.std.specs.List.{AllByRecursion}
+use Rattle.apdu_core.specs.declared.header.Header.{Header}
 use Rattle.apdu_core.specs.StatusWord.{StatusWord}
 use Rattle.apdu_core.specs.CommandBytes.{Command}
 use Rattle.t0_core.specs.Meaning.{Tpdu}
@@ -37,17 +38,17 @@ use Rattle.apdu_terminal.proofs.StallLemmas.{never_overflows, never_stalls, soun
 use Rattle.apdu_terminal.proofs.TalkLemmas.{own_responds, turns_both}
 
 -- the commands of an operation are agreed with a card of data objects
-pub commands_agreed : (R S : ℕ → Type 0) → KeepsTo R S → (o : Operation)
+pub commands_agreed : (R S : Header → Type 0) → KeepsTo R S → (o : Operation)
     (commands : List Command) → AreCommandsOf o commands
     → AllByRecursion (λ c. IsAgreed R S c) commands
 commands_agreed R S keeps (Select aid) commands (is_aid, are) =
     rw are (agreed_select R S keeps aid is_aid, tt)
 commands_agreed R S keeps (Get tag) commands (p1, p2, names, are) =
-    rw are ((to_terminal GetData refl, to_terminal GetResponse refl), tt)
+    rw are ((to_terminal _ GetData refl refl, to_terminal _ GetResponse refl refl), tt)
   where
-    to_terminal : (i : Instruction) → takes_data i ≡ false → R (ins_of i) → ⊥
-    to_terminal i gives takes =
-        one_way (ins_of i) ((keeps.receives (ins_of i)).0 takes) (i, refl, gives)
+    to_terminal : (h : Header) (i : Instruction) → h.ins ≡ ins_of i → takes_data i ≡ false → R h
+        → ⊥
+    to_terminal h i is gives takes = one_way h ((keeps.receives h).0 takes) (i, is, gives)
 commands_agreed R S keeps (Put tag value) commands (p1, p2, pieces, names, are_pieces, are) =
     rw are (agreed_pieces R S keeps (put_header p1 p2) refl pieces)
 
@@ -61,7 +62,7 @@ current_is P (d ∷ commands) (g ∷ gone) c left all taken =
     current_is P commands gone c left all.1 taken.2
 
 -- the next command is agreed with the card, as all commands of the operation are
-pub due_is_agreed : (R S : ℕ → Type 0) (commands : List Command) (pairs : List Pair)
+pub due_is_agreed : (R S : Header → Type 0) (commands : List Command) (pairs : List Pair)
     (t : Option ApduOperationOf) (due : Command) → operation_due t ≡ Some due
     → AllByRecursion (λ c. IsAgreed R S c) commands → LeadsTo commands pairs t → IsAgreed R S due
 due_is_agreed R S commands pairs None due is all leads = absurd leads

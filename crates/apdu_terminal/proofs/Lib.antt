@@ -10,3 +10,4 @@ pub mod OperationLemmas
 pub mod OperationCourse
 pub mod DrivenLemmas
 pub mod StopLemmas
+pub mod KeepLemmas

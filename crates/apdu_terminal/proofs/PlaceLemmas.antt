@@ -1,6 +1,7 @@
 -- The places of an exchange: what follows a response, and what holds of each place.
 use Rattle.std.proofs.Common.{◌≡◌, ℕ, ◌+◌, ◌-◌, ◌≤◌, min, List, [], ◌∷◌, ◌++◌, length, refl, sym, ◌∙◌, ap, arith, inl, inr, ◌⊎◌, true, false, not, ◌&&◌, ◌==◌, Bool, Option, Some, None, if◌then◌else◌, length-append, nat_le}
 use Rattle.std.proofs.lemmas.Bool.{leb-true, le-leb}
+use Rattle.apdu_core.specs.declared.header.Header.{Header}
 use Rattle.apdu_core.specs.StatusWord.{StatusWord, announces, corrects}
 use Rattle.apdu_core.specs.CommandBytes.{Command}
 use Rattle.t0_core.specs.DialogueLaws.{flat_map_last}
@@ -207,33 +208,33 @@ alone_on at next total came status alone few (fetch n told some is) =
     inl (ap (λ (x : Place). x.due.content) is)
 
 -- it is agreed with the card, and so is a GET RESPONSE while something is wanted
-pub record Agrees (R S : ℕ → Type 0) (total : ℕ) (at : Place) : Type 0 where
+pub record Agrees (R S : Header → Type 0) (total : ℕ) (at : Place) : Type 0 where
   pub agreed : IsAgreed R S at.due
-  pub later : wants_some at.left ≡ true → R get_response.ins → ⊥
+  pub later : wants_some at.left ≡ true → R get_response → ⊥
 
-none_later : (R S : ℕ → Type 0) (c : Command) (n : ℕ) → c.le ≡ Some n → IsAgreed R S c
-    → R get_response.ins → ⊥
+none_later : (R S : Header → Type 0) (c : Command) (n : ℕ) → c.le ≡ Some n → IsAgreed R S c
+    → R get_response → ⊥
 none_later R S c n le agreed =
     by c.content c.le le agreed
   where
     by : (content : List ℕ) (le : Option ℕ) → le ≡ Some n
         → IsAgreed R S (record { header = c.header; content = content; le = le })
-        → R get_response.ins → ⊥
+        → R get_response → ⊥
     by content None is agreed = absurd (cc)
     by [] (Some k) is agreed = agreed.1
     by (b ∷ bs) (Some k) is agreed = agreed.1
 
 -- at the terminal
-pub agrees_first : (R S : ℕ → Type 0) (c : Command) → IsAgreed R S c
+pub agrees_first : (R S : Header → Type 0) (c : Command) → IsAgreed R S c
     → Agrees R S 0 (first_place c (wanted_by c.le))
 agrees_first R S c agreed = record { agreed = agreed; later = by c.le refl }
   where
-    by : (le : Option ℕ) → c.le ≡ le → wants_some (wanted_by le) ≡ true → R get_response.ins → ⊥
+    by : (le : Option ℕ) → c.le ≡ le → wants_some (wanted_by le) ≡ true → R get_response → ⊥
     by None is wants = absurd (cc)
     by (Some n) is wants = none_later R S c n is agreed
 
 -- at the card
-pub agrees_as_tpdu : (R S : ℕ → Type 0) (c : Command) → IsAgreed R S c
+pub agrees_as_tpdu : (R S : Header → Type 0) (c : Command) → IsAgreed R S c
     → Agrees R S 0 (first_place (tpdu_command c) (le_of c))
 agrees_as_tpdu R S c agreed = record { agreed = by c.content c.le agreed; later = later c.le refl }
   where
@@ -246,7 +247,7 @@ agrees_as_tpdu R S c agreed = record { agreed = by c.content c.le agreed; later 
     by (b ∷ bs) (Some n) agreed = agreed.0
 
     later : (le : Option ℕ) → c.le ≡ le → wants_some (Bytes (may_bring le)) ≡ true
-        → R get_response.ins → ⊥
+        → R get_response → ⊥
     later None is wants = absurd (cc)
     later (Some n) is wants = none_later R S c n is agreed
 
@@ -255,7 +256,7 @@ wanted_before : (left : Wanted) (came : ℕ) → wants_some (less left came) ≡
 wanted_before (Bytes n) came is = le-leb 1 n (omega (arith, leb-true 1 (n - came) is))
 wanted_before Everything came is = refl
 
-of_case_2 : (R S : ℕ → Type 0) (c : Command) (n : ℕ) → is_case_2 c.content c.le ≡ true
+of_case_2 : (R S : Header → Type 0) (c : Command) (n : ℕ) → is_case_2 c.content c.le ≡ true
     → IsAgreed R S c → IsAgreed R S (asking c.header n)
 of_case_2 R S c n is agreed = by c.content c.le is agreed
   where
@@ -279,7 +280,7 @@ was_wanted left (Some m) n is = by (wants_some left) is
     by true is = refl
     by false is = absurd (cc)
 
-pub agrees_on : (R S : ℕ → Type 0) (at next : Place) (total came : ℕ) (status : StatusWord)
+pub agrees_on : (R S : Header → Type 0) (at next : Place) (total came : ℕ) (status : StatusWord)
     → Agrees R S total at → came ≤ may_bring at.due.le → Comes at came status next
     → Agrees R S (total + came) next
 agrees_on R S at next total came status agrees few (again n may wants told is) = record {
@@ -288,7 +289,7 @@ agrees_on R S at next total came status agrees few (again n may wants told is) =
       (ap (λ (x : Place). wants_some x.left) (sym is) ∙ some));
 }
 agrees_on R S at next total came status agrees few (fetch n told some is) =
-    let none : R get_response.ins → ⊥ =
+    let none : R get_response → ⊥ =
     agrees.later (wanted_before at.left came
     (was_wanted (less at.left came) (announces status) n told)) in
     record {

@@ -464,5 +464,5 @@ pub due_is_agreed : (operation : Operation) (pairs : List Pair) (due : Command)
     → IsUnderWay operation pairs due → IsAgreed MayReceive MaySend due
 due_is_agreed operation pairs due u =
     next_is_agreed MayReceive MaySend u.commands pairs (Some u.at) due u.due_is
-    (commands_agreed MayReceive MaySend (keeps_to MayReceive MaySend (λ ins. (λ m. m, λ m. m))
-    (λ ins. (λ m. m, λ m. m))) operation u.commands u.are) u.led
+    (commands_agreed MayReceive MaySend (keeps_to MayReceive MaySend (λ h. (λ m. m, λ m. m))
+    (λ h. (λ m. m, λ m. m))) operation u.commands u.are) u.led

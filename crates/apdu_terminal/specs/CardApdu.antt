@@ -1,9 +1,12 @@
 -- A whole command at a card whose end takes TPDUs: what a card at T=1 responds, and a reader that
 -- fetches by itself (ISO/IEC 7816-3, 12.2).
 use Rattle.std.specs.Prelude.{◌≡◌, ℕ, ◌%◌, ◌⊎◌, List, [], ◌∷◌, length, Option, Some, None, false}
+use Rattle.apdu_core.specs.declared.header.Header.{Header}
 use Rattle.apdu_core.specs.CommandBytes.{Command}
 use Rattle.apdu_core.specs.StatusWord.{StatusWord}
 use Rattle.t0_core.specs.declared.answer_fault.AnswerFault.TheVariants.{Stalled}
+use Rattle.t0_core.specs.declared.tpdu_fault.TpduFault.{TpduFault}
+use Rattle.t0_core.specs.declared.tpdu_fault.TpduFault.TheVariants.{UnderWay, NoTpdu, WantsData, SendsData, TooLong}
 use Rattle.t0_core.specs.declared.tpdu_card.TpduCard.{Ghosts}
 use Rattle.t0_core.specs.CardSide.{EndOf}
 use Rattle.t0_core.specs.CardTpdu.{rests}
@@ -90,8 +93,18 @@ abbrev pub HasCome : {State : Type 0} → (State → ℕ → Tpdu → State → 
     → State → ApduExchangeOf → Type 0
 HasCome Does c old new ex = HasHad (GoesAs Does) (tpdu_command c) (le_of c) old new ex
 
--- The state of a card that gives no response to a whole command. It did not finish a TPDU of a
--- command that is not agreed with it, and is reset after the TPDUs before. Or a GET RESPONSE
+-- Why the card does not finish the TPDU of a command. Under its header the card takes data, and the
+-- command, of case 2, has none. Or the card sends data, and the command has no Le.
+abbrev pub StopsBy : (Header → Type 0) → (Header → Type 0) → Command → TpduFault → Type 0
+StopsBy MayReceive MaySend c WantsData =
+    MayReceive c.header × (c.content ≡ []) × ((n : ℕ) × (c.le ≡ Some n))
+StopsBy MayReceive MaySend c SendsData = MaySend c.header × (c.le ≡ None)
+StopsBy MayReceive MaySend c UnderWay = ⊥
+StopsBy MayReceive MaySend c NoTpdu = ⊥
+StopsBy MayReceive MaySend c TooLong = ⊥
+
+-- The state of a card that gives no response to a whole command. The command is not agreed with
+-- it: it did not finish the TPDU after these, for this reason, and is reset. Or a GET RESPONSE
 -- brought no data, and the card announced more.
 abbrev pub HasFailed : {C : Type 0} (card : Ghosts C) → Command → card.State → ApduFault
     → card.State → Type 0
@@ -100,7 +113,8 @@ HasFailed card c old why.OutOfMemory new = ⊥
 HasFailed card c old (why.Tpdu fault) new = (IsAgreed card.MayReceive card.MaySend c → ⊥)
     × ((pairs : List Pair) × (at : Place) × (mid : card.State)
     × GoesThrough (first_place (tpdu_command c) (le_of c)) pairs at
-    × GoesBy card.Does old pairs mid × (new ≡ card.after_reset mid))
+    × GoesBy card.Does old pairs mid × StopsBy card.MayReceive card.MaySend at.due fault
+    × (new ≡ card.after_reset mid))
 HasFailed card c old (why.Response fault) new = (fault ≡ Stalled) × ((pairs : List Pair)
     × StallsAt (tpdu_command c) (le_of c) pairs × GoesBy card.Does old pairs new)
 

@@ -3,13 +3,12 @@ ghost use Rattle.std.specs.Prelude.{◌≡◌, ◌≤◌, ◌⊎◌, ℕ, [], So
 ghost use Rattle.apdu_terminal.specs.declared.apdu_fault.ApduFault.TheVariants as ApduFault;
 ghost use Rattle.apdu_core.specs.CommandBytes as spec;
 ghost use Rattle.apdu_core.specs.StatusWord.{StatusWord};
-ghost use Rattle.object_card.specs.Agreed.{IsAgreed};
 ghost use Rattle.t0_core.specs.CardTpdu.{rests};
 ghost use Rattle.t0_core.specs.Meaning.{Tpdu};
 ghost use Rattle.card_terminal.specs.ExchangeSide.{response_limit};
 ghost use Rattle.apdu_terminal.specs.Apdus.{may_bring};
 ghost use Rattle.apdu_terminal.specs.ApduSide.{has_failed};
-ghost use Rattle.apdu_terminal.specs.CardApdu.{HasCome, HasFailed, HasResponse, IsLeft, IsTpduOf, tpdu_command};
+ghost use Rattle.apdu_terminal.specs.CardApdu.{HasCome, HasFailed, HasResponse, IsLeft, IsTpduOf, StopsBy, tpdu_command};
 ghost use Rattle.apdu_terminal.specs.declared.stage.Stage.TheVariants.{Done};
 
 use crate::apdu_fault::ApduFault;
@@ -29,8 +28,9 @@ use t0_core::{CardEnd, Gather, Plan, Plans, TpduCard, TpduFault};
 /// # Errors
 /// - `UnderWay`: a TPDU is in progress at the card's end. Nothing changes.
 /// - `OutOfMemory`: memory for the response ran out. Nothing changes.
-/// - `Tpdu`: the card did not finish a TPDU, because the command is not agreed with it. The TPDUs
-///   before it are carried out, and then the card is reset.
+/// - `Tpdu`: the card did not finish a TPDU, because the command is not agreed with it:
+///   `WantsData` if the card takes data in case 2, `SendsData` if it sends data that no Le asks
+///   for. The TPDUs before it are carried out, and then the card is reset.
 /// - `Response` of `Stalled`: a GET RESPONSE brought no data, and the card announces more. The
 ///   TPDUs so far are carried out.
 pub fn apdu<'c, C: TpduCard, A: Allocator + Copy>(
@@ -143,7 +143,7 @@ fn sent<C: TpduCard, B: Allocator>(
         × C.Does (C.standing end.old.card) 256 t (C.standing end.new.card))
         × (length gather.new.bytes ≤ may_bring due.now.le))
         (λ fault. (C.standing end.new.card ≡ C.after_reset (C.standing end.old.card))
-        × (IsAgreed C.MayReceive C.MaySend due.now → ⊥)) }
+        × StopsBy C.MayReceive C.MaySend due.now fault) }
 {
     // For the proof: states how long the data are, and which Le there may be.
     let _le = due.le();

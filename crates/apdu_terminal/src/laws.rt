@@ -1,17 +1,22 @@
 //! Laws of exchanges by whole commands. Each function's contract is a law, for proofs above.
 ghost use Rattle.std.specs.Prelude.{◌≡◌, ◌≤◌, ◌++◌, ◌∷◌, ℕ, List, length, Some, true, ◌+◌, ◌*◌, ◌⊎◌};
+ghost use Rattle.apdu_terminal.specs.declared.apdu_fault.ApduFault.{ApduFault};
 ghost use Rattle.apdu_core.specs.CommandBytes.{Command};
-ghost use Rattle.apdu_core.specs.StatusWord.{StatusWord};
+ghost use Rattle.apdu_core.specs.StatusWord.{StatusWord, ok};
 ghost use Rattle.card_terminal.specs.declared.wanted.Wanted.{Wanted};
 ghost use Rattle.apdu_terminal.specs.declared.stage.Stage.TheVariants.{Done, Failed};
 ghost use Rattle.apdu_terminal.specs.Apdus.{Pair, Brings, StallsAt, IsTooLong, all_content};
 ghost use Rattle.apdu_terminal.specs.ApduSide.{ApduExchangeOf, ComesTo, due_of};
 ghost use Rattle.std.specs.List.{flat_map};
-ghost use Rattle.apdu_terminal.specs.CardApdu.{RespondsToAll};
+ghost use Rattle.apdu_terminal.specs.CardApdu.{HasFailed, Responds, RespondsToAll};
 ghost use Rattle.apdu_terminal.specs.ApduTalk.{AreApduTalksOf, IsApduTalkOf, talk_pairs};
 ghost use Rattle.object_card.specs.State.{CardState, is_idle};
 ghost use Rattle.object_card.specs.OneStep.{Operation, Reply, Answers, AnswersAll, SameTables};
 ghost use Rattle.object_card.specs.CardMeaning.{Does};
+ghost use Rattle.object_card.specs.DataCard.{StandsFor};
+
+use object_card::DataCard;
+use object_card::laws::only_a_put_changes_entries;
 
 /// The pairs settle the next command. Take a whole exchange that begins with the pairs so far and
 /// is longer, and whose data fit the room. The exchange's next command is that one's.
@@ -79,3 +84,19 @@ pub fn no_exchange_of_commands_stalls()
     ensures { (c : Command) (wanted : Wanted) (pairs : List Pair) (old new : CardState) →
         StallsAt c wanted pairs → RespondsToAll Does old pairs new → ⊥ }
 {}
+
+/// A whole command changes applications and their entries only if it is a PUT DATA with CLA `00`
+/// and its status is `9000`. A command that gets no response changes none.
+pub fn only_a_put_command_changes_entries<C: DataCard>()
+    ensures responds { (state_of : C.State → CardState) →
+        StandsFor C.Does C.after_reset state_of →
+        (old new : C.State) (p : Pair) → Responds C.Does old p new →
+        ((state_of new).applications ≡ (state_of old).applications)
+        ⊎ ((p.command.header.cla ≡ 0x00) × (p.command.header.ins ≡ 0xDA) × (p.status ≡ ok)) }
+    ensures failed { (state_of : C.State → CardState) → StandsFor C.Does C.after_reset state_of →
+        (old new : C.State) (c : Command) (fault : ApduFault) →
+        HasFailed C.TpduCard c old fault new →
+        (state_of new).applications ≡ (state_of old).applications }
+{
+    only_a_put_changes_entries();
+}

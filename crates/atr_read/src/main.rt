@@ -1,12 +1,12 @@
-//! The program `atr_read`: prints what answers to reset mean. Each line of standard input is an
-//! answer in hexadecimal digits.
+//! The program `atr_read`: prints what answers to reset mean. The words of the command line are one
+//! answer in hexadecimal digits, or each line of standard input is.
 #![tactic(auto)]
 
 mod program_fault;
 mod say;
 
 use clap::error::ErrorKind;
-use clap::{Command, Error};
+use clap::{Arg, ArgAction, Command, Error};
 use program_fault::ProgramFault;
 use say::say;
 use std::alloc::Global;
@@ -18,14 +18,17 @@ const VERSION: &str = "1.0";
 
 const ABOUT: &str = "Prints what answers to reset mean (ISO/IEC 7816-3), or what is wrong.";
 
+const HEX: &str = "The answer, in one or more words";
+
 const INPUT: &str = "\
-Each line of standard input is an answer in hexadecimal digits, with or without
-spaces between its bytes. The exit status is 0 if all lines are answers, 1 if
-one is not or the input can't be read, and 2 if the command line is refused.";
+HEX is hexadecimal digits, with or without spaces between the bytes. Without it
+each line of standard input is an answer. The exit status is 0 if all answers
+are, 1 if one is not or the input can't be read, and 2 if the command line is
+refused.";
 
 fn main(rt: HostRuntime) -> ExitCode {
     let status = match parsed(&rt) {
-        Ok(()) => match all_said(&rt) {
+        Ok(words) => match all_said(&rt, words) {
             Ok(true) => 0,
             Ok(false) => 1,
             Err(fault) => stopped(&rt, &fault),
@@ -41,24 +44,41 @@ fn stopped(rt: &HostRuntime, fault: &ProgramFault) -> u8 {
     1
 }
 
-/// Parses the command line, which accepts only options for help and version.
+/// Returns the answer on the command line, with a space between its words, or `None` if it is
+/// absent.
 ///
 /// # Errors
 /// - `DisplayHelp`, `DisplayVersion`: the words call for help or the version.
 /// - `OutOfMemory`: memory ran out.
 /// - Another kind: the words have a mistake.
-fn parsed(rt: &HostRuntime) -> Result<(), Error> {
+fn parsed(rt: &HostRuntime) -> Result<Option<String>, Error> {
     let alloc = rt.alloc();
     let words: Vec<String> = match env::args(rt) {
         Ok(words) => words.collect(alloc)?,
         Err(_) => Vec::new(alloc),
     };
-    Command::new(alloc, "atr_read")
+    let matches = Command::new(alloc, "atr_read")
         .version(VERSION)
         .about(ABOUT)
         .after_help(INPUT)
+        .arg(
+            Arg::new(alloc, "HEX")
+                .action(ArgAction::Append)
+                .num_args(1..)
+                .help(HEX),
+        )?
         .try_get_matches_from(words.as_slice())?;
-    Ok(())
+    let Some(parts) = matches.get_strs("HEX") else {
+        return Ok(None);
+    };
+    let mut answer = String::new(alloc);
+    for part in parts {
+        if !answer.is_empty() {
+            answer.push(' ')?;
+        }
+        answer.push_str(part)?;
+    }
+    Ok(Some(answer))
 }
 
 /// Prints what the error of `parsed` says, and returns the exit status:
@@ -82,13 +102,16 @@ fn answered(rt: &HostRuntime, error: &Error) -> u8 {
     }
 }
 
-/// Prints the meaning of each line of the input, and passes over blank ones. Returns whether all
-/// others are answers to reset.
+/// Prints the meaning of the answer in these words. Without them, prints that of each line of the
+/// input, and passes over blank ones. Returns whether all are answers to reset.
 ///
 /// # Errors
 /// - Those of `ProgramFault`: what the lines before print may be written.
-fn all_said(rt: &HostRuntime) -> Result<bool, ProgramFault> {
+fn all_said(rt: &HostRuntime, words: Option<String>) -> Result<bool, ProgramFault> {
     let mut output = io::writer(rt);
+    if let Some(words) = words {
+        return say(rt.alloc(), words.as_str(), &mut output).map_err(ProgramFault::of_writing);
+    }
     let mut well = true;
     let input = BufReader::new(rt.alloc(), rt.reader()).map_err(|_| ProgramFault::OutOfMemory)?;
     for line in input.lines(rt.alloc()) {

@@ -5,7 +5,8 @@ use Rattle.t0_core.specs.CardTpdu.{rests}
 use Rattle.t0_core.specs.Plan.{Cursor}
 use Rattle.t1_core.specs.declared.applet.Applet.{Ghosts}
 use Rattle.t1_core.specs.declared.card.Reply.{Reply}
-use Rattle.t1_core.specs.BlockBytes.{block_of, bytes_of, is_whole}
+use Rattle.t1_core.specs.declared.pcb.Reason.TheVariants.{Other}
+use Rattle.t1_core.specs.BlockBytes.{arrival_of, bytes_of, is_whole}
 use Rattle.t1_core.specs.CardSide.{card_after, card_damaged, card_hears, forgets, replies}
 use Rattle.t1_core.specs.Doing.{Goes, Keeps, Steps}
 use Rattle.object_card.specs.State.{CardState}
@@ -21,6 +22,7 @@ use Rattle.card_c.specs.Copying.{IsCopied}
 -- the card above the end: its states, and what a command does to them
 abbrev pub applet : Ghosts (EndOf CardView)
 applet = record {
+  LIMIT = 261;
   State = CardState;
   standing = λ end. end.card.state;
   Does = DoesAt Does;
@@ -29,7 +31,7 @@ applet = record {
 -- A card at rest begins to speak T=1: it has sent no block.
 abbrev pub begun : EndOf CardView → Cursor → CardT1Side
 begun end plans = record {
-  end = record { card = end; at = card_after [] };
+  end = record { card = end; at = card_after []; over = false };
   block = [];
   reply = None;
   plans = plans;
@@ -76,7 +78,7 @@ HearsBytes bytes n' old code new = (block : List ℕ) × (block ≡ old.block ++
     × (new ≡ record old { block = block }))
     ⊎ ((reply : Reply) × (is_whole block ≡ true) × (code ≡ gt_sends) × (new.block ≡ [])
     × (new.reply ≡ Some reply)
-    × Steps applet (λ m c. card_hears m (block_of block) c) old.end reply new.end)
+    × Steps applet (λ m c. card_hears m (arrival_of block) c) old.end reply new.end)
     ⊎ ((is_whole block ≡ true) × (code ≡ gt_memory) × (new.block ≡ []) × (new.reply ≡ None)
     × Keeps applet forgets old.end new.end))
 
@@ -84,4 +86,4 @@ HearsBytes bytes n' old code new = (block : List ℕ) × (block ≡ old.block ++
 abbrev pub Misses : CardT1Side → ℤ → CardT1Side → Type 0
 Misses old code new = (reply : Reply) × (code ≡ gt_sends)
     × (new ≡ record old { block = []; reply = Some reply })
-    × Goes card_damaged old.end reply new.end
+    × Goes (λ c. card_damaged Other c) old.end reply new.end

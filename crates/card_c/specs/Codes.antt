@@ -3,6 +3,7 @@ use Rattle.std.specs.Prelude.{ℤ, pos, negsuc}
 use Rattle.atr_core.specs.declared.fault.Reason as atr
 use Rattle.atr_core.specs.declared.pps.PpsFault as pps
 use Rattle.object_card.specs.declared.builder_fault.BuilderFault as builder
+use Rattle.t0_core.specs.declared.data_sent.DataSent as sent
 use Rattle.t0_core.specs.declared.line_fault.LineFault as line
 use Rattle.tlv_core.specs.declared.fault.Reason as reason
 use Rattle.apdu_core.specs.declared.command.ApduFault as command
@@ -20,6 +21,20 @@ gt_sends = pos 1
 
 abbrev pub gt_done : ℤ
 gt_done = pos 2
+
+abbrev pub gt_all_sent : ℤ
+gt_all_sent = pos 10
+
+abbrev pub gt_not_all_sent : ℤ
+gt_not_all_sent = pos 11
+
+abbrev pub gt_sent_unknown : ℤ
+gt_sent_unknown = pos 12
+
+abbrev pub sent_code : sent.DataSent → ℤ
+sent_code sent.TheVariants.All = gt_all_sent
+sent_code sent.TheVariants.NotAll = gt_not_all_sent
+sent_code sent.TheVariants.NotKnown = gt_sent_unknown
 
 -- negsuc n is -(n + 1): -2, and so on
 abbrev pub gt_empty : ℤ

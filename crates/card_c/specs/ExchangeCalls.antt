@@ -11,7 +11,7 @@ use Rattle.t0_core.specs.declared.line_fault.LineFault.{LineFault}
 use Rattle.t0_core.specs.Front.{fresh}
 use Rattle.card_terminal.specs.declared.unsent.Unsent.{Unsent}
 use Rattle.card_terminal.specs.Unsent.{IsFirst}
-use Rattle.card_terminal.specs.ExchangeSide.{ExchangeOf, UnderWay, exchange_turn, response_limit}
+use Rattle.card_terminal.specs.ExchangeSide.{ExchangeOf, UnderWay, GoesByCharacters, exchange_turn, response_limit}
 use Rattle.card_terminal.specs.ExchangeSteps.{IsTurn, IsTaking, IsAnswer}
 use Rattle.apdu_terminal.specs.ApduOperations.{IsOperationAnswer, at_rest}
 use Rattle.card_c.specs.declared.apdu_side.ApduSide.{ApduSide}
@@ -45,6 +45,7 @@ IsRefused bytes limit code =
 abbrev pub IsBegun : List ℕ → ℕ → ExchangeOf → Type 0
 IsBegun bytes limit ex = (c : Command) × IsCommand c × (bytes ≡ command_bytes c)
     × (ex.gather.limit ≡ limit) × UnderWay c ex [] None fresh × ComesTo c [] ex
+    × GoesByCharacters ex
 
 -- it goes neither by TPDUs nor by whole commands yet
 pub record HasBegun (bytes : List ℕ) (limit : ℕ) (side : ExchangeSide) : Type 0 where

@@ -16,6 +16,7 @@ pub mod PlanLetters
 pub mod PpsCalls
 pub mod Reading
 pub mod SendCalls
+pub mod SentCalls
 pub mod SessionCalls
 pub mod T1Calls
 pub mod TableCalls

@@ -58,14 +58,24 @@ pub record OnBegin (Does : Option OperationOf → ℤ → Option OperationOf →
   pub stays : (code ≡ gt_ok → ⊥) → new.apdus.leads ≡ old.apdus.leads
 
 -- A call by whole commands does this, on an operation that goes by them, or that begins by them
--- now. Once it goes by them, the terminal of TPDUs is at rest.
+-- now.
 pub record OnApdus (Does : ApduSide → ℤ → ApduSide → Type 0) (old : TerminalSide) (code : ℤ)
     (new : TerminalSide) : Type 0 where
   pub goes_so : old.apdus.leads ≡ true → Does old.apdus code new.apdus
   pub opens : old.apdus.leads ≡ false → (unsent : Option Unsent)
       × IsUnsent old.terminal.operation unsent × Opens Does unsent old.apdus code new.apdus
-  pub terminal : (new.terminal ≡ old.terminal)
-      ⊎ ((new.apdus.leads ≡ true) × (new.terminal ≡ at_rest old.terminal.limit))
+
+-- A call that only looks for the next command leaves the terminal of TPDUs as it is.
+abbrev pub LooksAtApdus : (ApduSide → ℤ → ApduSide → Type 0) → TerminalSide → ℤ → TerminalSide
+    → Type 0
+LooksAtApdus Does old code new = OnApdus Does old code new × (new.terminal ≡ old.terminal)
+
+-- Once the operation goes by whole commands, the terminal of TPDUs is at rest, so that another
+-- operation can begin. Before, it stays as it is.
+abbrev pub TakesByApdus : (ApduSide → ℤ → ApduSide → Type 0) → TerminalSide → ℤ → TerminalSide
+    → Type 0
+TakesByApdus Does old code new = OnApdus Does old code new
+    × (new.terminal ≡ (if new.apdus.leads then at_rest old.terminal.limit else old.terminal))
 
 -- no operation has begun, by TPDUs or by whole commands
 pub record IsAtRest (limit : ℕ) (side : TerminalSide) : Type 0 where

@@ -131,7 +131,8 @@ fn receive(side: &mut CardSide, bytes: &[u8], count: &mut usize) -> i32
     answer
 }
 
-/// Reports that the terminal's block stopped, or that a character was damaged.
+/// Reports that the terminal's block stopped, or that a character was damaged. The answer asks for
+/// the block because of another error than the EDC.
 #[unsafe(no_mangle)]
 pub extern "C" fn galliumtoad_card_t1_missed(alloc: Global, card: &mut GtCard) -> i32
     ensures { OnHandle (OnLine Misses ⊤) (held_by card.old) result (held_by card.new) }
@@ -140,7 +141,7 @@ pub extern "C" fn galliumtoad_card_t1_missed(alloc: Global, card: &mut GtCard) -
         let CardSide::AtT1(at) = side else {
             return code::STATE;
         };
-        at.reply = Some(at.end.damaged());
+        at.reply = Some(at.end.invalid());
         at.block.clear();
         code::SENDS
     })

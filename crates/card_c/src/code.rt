@@ -2,7 +2,7 @@
 //!
 //! What a handle holds stays as it was after `EMPTY`, `STATE`, `ARGUMENT`, `BUSY` and `PLANS`.
 ghost use Rattle.std.specs.Prelude.{◌≡◌};
-ghost use Rattle.card_c.specs.Codes.{atr_code, begin_code, builder_code, cause_code, command_code, line_code, outcome_number, pps_code, reason_code, tpdu_code};
+ghost use Rattle.card_c.specs.Codes.{atr_code, begin_code, builder_code, cause_code, command_code, line_code, outcome_number, pps_code, reason_code, sent_code, tpdu_code};
 ghost use Rattle.card_c.specs.ExchangeCalls.{turn_code, taking_code};
 ghost use Rattle.card_c.specs.BufferCalls.{stop_code};
 ghost use Rattle.card_c.specs.TpduCalls.{answered_code};
@@ -10,7 +10,7 @@ ghost use Rattle.card_c.specs.TpduCalls.{answered_code};
 use apdu_core::ApduFault;
 use atr_core::{PpsFault, Reason as AtrReason};
 use object_card::BuilderFault;
-use t0_core::{AnswerFault, HostTurn, LineFault, TpduFault};
+use t0_core::{AnswerFault, DataSent, HostTurn, LineFault, TpduFault};
 use t1_core::{BeginFault, Cause, Outcome};
 use tlv_core::Reason;
 
@@ -21,6 +21,13 @@ pub const OK: i32 = 0;
 pub const SENDS: i32 = 1;
 /// The exchange or operation has ended with an answer. At T=1: there is no block to send.
 pub const DONE: i32 = 2;
+
+/// All data of the command have left the terminal, or it has no data.
+pub const ALL_SENT: i32 = 10;
+/// Not all have.
+pub const NOT_ALL_SENT: i32 = 11;
+/// It is not known: a TPDU or command went as a whole, or an error ended it.
+pub const SENT_UNKNOWN: i32 = 12;
 
 // -1 is `GT_NULL`, which only the header's functions return.
 
@@ -61,6 +68,17 @@ pub fn of_builder(fault: BuilderFault) -> i32
         BuilderFault::ValueTooLong => -23,
         BuilderFault::NotObjects => -24,
         BuilderFault::Full => -25,
+    }
+}
+
+/// Returns whether all data of a command have left the terminal.
+pub fn of_sent(sent: DataSent) -> i32
+    ensures { result ≡ sent_code sent }
+{
+    match sent {
+        DataSent::All => ALL_SENT,
+        DataSent::NotAll => NOT_ALL_SENT,
+        DataSent::NotKnown => SENT_UNKNOWN,
     }
 }
 

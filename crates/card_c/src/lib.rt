@@ -28,6 +28,7 @@ mod card_tpdu;
 mod character_record;
 mod code;
 mod copied;
+mod data_sent;
 mod exchange;
 mod exchange_apdu;
 mod exchange_buffers;

@@ -25,7 +25,7 @@ pub extern "C" fn galliumtoad_t1_new(
     edc: u8,
     ifsc: u8,
     tries: u8,
-    extensions: u8,
+    extensions: u16,
     limit: usize,
 ) -> i32
     ensures { HasBegun edc ifsc tries extensions limit (t1_in t1.old) result (t1_in t1.new) }
@@ -48,7 +48,7 @@ pub extern "C" fn galliumtoad_t1_new(
 }
 
 /// Returns the settings with these numbers, or `None` if one is out of its range.
-fn settings(edc: u8, ifsc: u8, tries: u8, extensions: u8, limit: usize) -> Option<Settings>
+fn settings(edc: u8, ifsc: u8, tries: u8, extensions: u16, limit: usize) -> Option<Settings>
     ensures { MatchOption result (IsTaken edc ifsc → ⊥)
         (λ s. IsTaken edc ifsc × HasSettings ifsc tries extensions limit s) }
 {

@@ -5,7 +5,7 @@ ghost use Rattle.card_c.specs.Codes.{gt_ok};
 ghost use Rattle.card_terminal.specs.declared.unsent.Unsent.{Unsent};
 ghost use Rattle.card_terminal.specs.Unsent.{IsUnsent};
 ghost use Rattle.card_c.specs.ApduCalls.{TellsDue, TakesResponse, Opens};
-ghost use Rattle.card_c.specs.TerminalCalls.{OnApdus};
+ghost use Rattle.card_c.specs.TerminalCalls.{LooksAtApdus, TakesByApdus};
 
 use crate::code;
 use crate::handle::{Handle, on, with};
@@ -25,7 +25,7 @@ pub extern "C" fn galliumtoad_terminal_apdu(
 ) -> i32
     ensures still { (result ≡ gt_ok → ⊥) → (apdu.new ≡ apdu.old) × (len.new ≡ len.old)
         × (most.new ≡ most.old) }
-    ensures told { OnHandle (OnApdus (TellsDue apdu.old len.old most.old apdu.new len.new
+    ensures told { OnHandle (LooksAtApdus (TellsDue apdu.old len.old most.old apdu.new len.new
         most.new))
         (terminal_in terminal.old) result (terminal_in terminal.new) }
 {
@@ -35,7 +35,7 @@ pub extern "C" fn galliumtoad_terminal_apdu(
 fn due(side: &mut TerminalSide, apdu: &mut [u8], len: &mut usize, most: &mut usize) -> i32
     ensures still { (result ≡ gt_ok → ⊥) → (apdu.new ≡ apdu.old) × (len.new ≡ len.old)
         × (most.new ≡ most.old) }
-    ensures told { OnApdus (TellsDue apdu.old len.old most.old apdu.new len.new most.new)
+    ensures told { LooksAtApdus (TellsDue apdu.old len.old most.old apdu.new len.new most.new)
         side.old result side.new }
 {
     if !side.apdus.leads {
@@ -53,7 +53,7 @@ pub extern "C" fn galliumtoad_terminal_responded(
     terminal: &mut TerminalHandle,
     response: &[u8],
 ) -> i32
-    ensures { OnHandle (OnApdus (TakesResponse response.now))
+    ensures { OnHandle (TakesByApdus (TakesResponse response.now))
         (terminal_in terminal.old) result (terminal_in terminal.new) }
 {
     with(alloc, terminal, |side| {

@@ -15,8 +15,9 @@ use Rattle.t0_core.specs.FrontLaws.{goes_on}
 use Rattle.t0_core.specs.DialogueLaws.{flat_map_last, ends_with, all_more}
 use Rattle.t0_core.specs.HostSide.{Hosting, turn_of, fault_of, at_stage, after_fault}
 use Rattle.t0_core.specs.HostLaws.{after_done, after_failure, going}
+use Rattle.t0_core.specs.DataSent.{sent_in_all, Tells}
 use Rattle.card_terminal.specs.Gathered.{UnitOf, Gathers, dialogues_of}
-use Rattle.card_terminal.specs.ExchangeSide.{ExchangeOf, UnderWay, IsOver, IsKept, IsAtEnd, Stall, Continues, so_far, ended_with, exchange_turn, is_final}
+use Rattle.card_terminal.specs.ExchangeSide.{ExchangeOf, UnderWay, IsOver, IsKept, IsAtEnd, Stall, Continues, so_far, ended_with, exchange_turn, exchange_sent, is_final}
 use Rattle.card_terminal.specs.ExchangeHistory.{unit_characters, characters_to, ComesTo, to_front, to_end, to_stall, to_fault}
 use Rattle.card_terminal.proofs.UnitLemmas.{unit_ends, unit_goes_on, unit_dialogues}
 use Rattle.card_terminal.proofs.EndLemmas.{ended_at}
@@ -224,13 +225,14 @@ pub end_leads : (c : Command) (came : List Character) (ex : ExchangeOf) (status 
     → exchange_turn ex ≡ Done status → ComesTo c came ex
     → (units : List UnitOf) × Gathers c units ex.gather.bytes status
     × (came ≡ unit_characters units) × AllByRecursion IsDialogue (flat_map dialogues_of units)
+    × Tells (exchange_sent ex) (sent_in_all (flat_map dialogues_of units))
 end_leads c came ex status done (to_front units first front under is) =
     absurd (going ex.host front status under.stands
     (ap (λ b. if b then Failed else turn_of ex.host) (sym under.going) ∙ done))
 end_leads c came ex status done (to_end units other over is) =
     let turn = over_turn c ex units other over in
     let same : other ≡ status = cc in
-    (units, rw same at over.gathers, is, over.are_dialogues)
+    (units, rw same at over.gathers, is, over.are_dialogues, over.sent_is)
 end_leads c came ex status done (to_stall units stall are failed is) = absurd (cc)
 end_leads c came ex status done
     (to_fault units first front before b fault under why final failed same is) = absurd (cc)

@@ -16,15 +16,18 @@ use Rattle.t0_core.specs.Meaning.{received}
 use Rattle.t0_core.specs.Front.{Front, In_header, In_body, After_first, Ends, IsFront, brought, fresh}
 use Rattle.t0_core.specs.DialogueLaws.{flat_map_last, all_more}
 use Rattle.t0_core.specs.Room.{Room}
-use Rattle.t0_core.specs.HostSide.{Hosting, IsOpenedBy, HostStandsAt, turn_of, IsRequest}
+use Rattle.t0_core.specs.HostSide.{Hosting, IsOpenedBy, HostStandsAt, turn_of, data_sent, IsRequest}
 use Rattle.t0_core.specs.HostLaws.{opened}
 use Rattle.card_terminal.specs.declared.wanted.Wanted.{Wanted}
 use Rattle.card_terminal.specs.declared.attempt.Attempt.{Attempt}
 use Rattle.card_terminal.specs.declared.attempt.Next.{Next}
 use Rattle.card_terminal.specs.declared.attempt.Next.TheVariants as next
 use Rattle.object_card.specs.CarryingOut.{get_response}
+use Rattle.t0_core.specs.declared.data_sent.DataSent.{DataSent}
+use Rattle.t0_core.specs.DataSent.{both, sent_in_all, Tells}
+use Rattle.t0_core.specs.DataSentLaws.{tells_both, sent_in-last, told_at_end}
 use Rattle.card_terminal.specs.Gathered.{Asks, SendsFrom, Opens, wanted_by, less, wants_at_least, correction_of, repeated_with, after_dialogue, after_unit, fetched_after, Opening, By_command, By_fetch, OpensWith, UnitOf, Single, first_of, last_of, unit_data, IsUnit, BringsSome, IsOpenExchange}
-use Rattle.card_terminal.specs.Attempts.{again_with, next_by, following, repetition, fetch}
+use Rattle.card_terminal.specs.Attempts.{with_sent, again_with, next_by, following, repetition, fetch}
 use Rattle.card_terminal.specs.ExchangeSide.{ExchangeOf, HostAsks, HostSends, HostOpens, HostOpensBy, IsOpenedAs, UnderWay, Stall, Continues, so_far, begun_with, ended_with, asks_card, is_fetch}
 use Rattle.card_terminal.proofs.UnitLemmas.{followed_left, one_more, less_less, unit_ends, unit_goes_on, unit_dialogues, unit_data_received, ended_data, gathered_parts, received_of}
 
@@ -238,6 +241,22 @@ asked_is a gathered None (Some m) attempt n e =
     let asked = fetch_asked (a.fetches && gathered == a.before) a gathered m attempt n e in
     inr (refl, ap Some asked.1, asked.2, asked.0)
 
+-- the next TPDU has the same before it
+next_keeps : (a : Attempt) (gathered : ℕ) (again fetched : Option ℕ) (attempt : Attempt)
+    (n : ℕ) → next.Asks attempt n ≡ next_by a gathered again fetched → attempt.sent ≡ a.sent
+next_keeps a gathered again fetched attempt n is =
+    elim (asked_is a gathered again fetched attempt n (sym is)) [
+      | inl (repeated, same) ↦ ap (λ (x : Attempt). x.sent) same
+      | inr (none, told, same, brings) ↦ ap (λ (x : Attempt). x.sent) same
+    ]
+
+pub following_keeps : (a : Attempt) (gathered : ℕ) (left : Wanted) (status : StatusWord)
+    (attempt : Attempt) (n : ℕ) → next.Asks attempt n ≡ following a gathered left status
+    → attempt.sent ≡ a.sent
+following_keeps a gathered left status attempt n is =
+    next_keeps a gathered (again_with a left (corrects status)) (fetched_after left status) attempt
+    n is
+
 stall_is_when : (v : Bool) (attempt : Attempt) (n : ℕ)
     → (if v then next.Stalls else next.Asks attempt n) ≡ next.Stalls → v ≡ true
 stall_is_when true attempt n e = refl
@@ -273,6 +292,20 @@ abbrev pub taken_on : ExchangeOf → Hosting → Room → Attempt → ExchangeOf
 taken_on ex host gather attempt =
     record ex { host = host; gather = gather; attempt = attempt }
 
+-- what the TPDUs of the exchange have sent by the end of this dialogue
+pub sent_by_end : (c : Command) (ex : ExchangeOf) (units : List UnitOf) (first : Option Dialogue)
+    (front : Front) (byte : ℕ) (d : Dialogue) (sent : DataSent) → UnderWay c ex units first front
+    → Ends front (Card, byte) d → sent ≡ data_sent ex.host
+    → Tells (both ex.attempt.sent sent) (sent_in_all (so_far units first ++ d ∷ []))
+sent_by_end c ex units first front byte d sent under ends is =
+    rw (is, sent_in-last (so_far units first) d) (tells_both ex.attempt.sent (data_sent ex.host) _ _
+    under.place.sent_is (told_at_end ex.host front byte d under.stands ends))
+
+again_same : (a : Attempt) (sent : DataSent) (left : Wanted) (corrected : Option ℕ)
+    → again_with (with_sent a sent) left corrected ≡ again_with a left corrected
+again_same a sent left None = refl
+again_same a sent left (Some n) = refl
+
 abbrev next_exchange : ExchangeOf → Hosting → Attempt → ExchangeOf
 next_exchange ex host attempt = taken_on ex host ex.gather attempt
 
@@ -284,12 +317,13 @@ asked_card FromCard left corrected n e = refl
 
 repeats : {c : Command} {ex : ExchangeOf} {units : List UnitOf} (first : Option Dialogue)
     {front : Front} {d : Dialogue} {under : UnderWay c ex units first front} (host : Hosting)
-    (n : ℕ) → AtEnd c ex units first front d under
+    (n : ℕ) (sent : DataSent) → AtEnd c ex units first front d under
+    → Tells sent (sent_in_all (so_far units first ++ d ∷ []))
     → again_of first (repeated_with under.left d) ≡ Some n → HostAsks ex.attempt.header n host
     → HostStandsAt host fresh → IsRequest host
-    → (first ≡ None) × UnderWay c (next_exchange ex host (repetition ex.attempt)) units (Some d)
-    fresh
-repeats {units = units} None {d = d} {under = under} host n end again asks stands request =
+    → (first ≡ None) × UnderWay c
+    (next_exchange ex host (repetition (with_sent ex.attempt sent))) units (Some d) fresh
+repeats {units = units} None {d = d} {under = under} host n s end told again asks stands request =
     let more = unit_goes_on units d in (
       refl,
       record {
@@ -309,6 +343,7 @@ repeats {units = units} None {d = d} {under = under} host n end again asks stand
           number_is = ap (λ k. k + 1)
               (under.place.number_is ∙ sym (length-append (so_far units None) (d ∷ []))
               ∙ ap length (sym more));
+          sent_is = rw more told;
         };
         stands = stands;
         request = request;
@@ -319,7 +354,7 @@ repeats {units = units} None {d = d} {under = under} host n end again asks stand
         going = under.going;
       },
     )
-repeats (Some e) host n end again asks stands request = absurd (cc)
+repeats (Some e) host n s end told again asks stands request = absurd (cc)
 
 -- more is fetched
 some_brought : (opening : Opening) (u : UnitOf) (a : Attempt) (gathered before : ℕ)
@@ -356,12 +391,15 @@ module _ {c : Command} {ex : ExchangeOf} {units : List UnitOf} {first : Option D
   abbrev fetched_after_it : Option ℕ
   fetched_after_it = fetched_after (after_unit under.left u) (last_of u).status
 
-  fetches : (host : Hosting) (n : ℕ) → again_after ≡ None → fetched_after_it ≡ Some n
+  fetches : (host : Hosting) (n : ℕ) (sent : DataSent)
+      → Tells sent (sent_in_all (so_far units first ++ d ∷ [])) → again_after ≡ None
+      → fetched_after_it ≡ Some n
       → (ex.attempt.fetches && length ex.gather.bytes == ex.attempt.before) ≡ false
       → HostAsks get_response n host → HostStandsAt host fresh → IsRequest host
-      → UnderWay c (next_exchange ex host (fetch ex.attempt (length ex.gather.bytes)))
+      → UnderWay c
+      (next_exchange ex host (fetch (with_sent ex.attempt sent) (length ex.gather.bytes)))
       (units ++ u ∷ []) None fresh
-  fetches host n none fetched not_stalled asks stands request =
+  fetches host n sent told none fetched not_stalled asks stands request =
       let more = unit_ends units first d in
       record {
         opening = By_fetch n;
@@ -388,6 +426,7 @@ module _ {c : Command} {ex : ExchangeOf} {units : List UnitOf} {first : Option D
           number_is = ap (λ k. k + 1)
               (under.place.number_is ∙ sym (length-append (so_far units first) (d ∷ []))
               ∙ ap length (sym more));
+          sent_is = rw more told;
         };
         stands = stands;
         request = request;
@@ -414,12 +453,14 @@ module _ {c : Command} {ex : ExchangeOf} {units : List UnitOf} {first : Option D
   -- ---- in the terms of the code
 
   pub follows_as : (bytes : List ℕ) (gather : Room) (left : Wanted) (status : StatusWord)
-      (after : Next) → after ≡ following ex.attempt (length bytes) left status
+      (after : Next) (sent : DataSent)
+      → after ≡ following (with_sent ex.attempt sent) (length bytes) left status
       → bytes ≡ gather.bytes → gather ≡ ex.gather → left ≡ less ex.wanted (length bytes)
       → Some status ≡ Some d.status
-      → after ≡ next_by ex.attempt (length ex.gather.bytes) again_after fetched_after_it
-  follows_as bytes gather left status after is bytes_are room left_is status_is =
-      let a = ex.attempt in
+      → after ≡ next_by (with_sent ex.attempt sent) (length ex.gather.bytes) again_after
+      fetched_after_it
+  follows_as bytes gather left status after sent is bytes_are room left_is status_is =
+      let a = with_sent ex.attempt sent in
       let n = length ex.gather.bytes in
       let w = less ex.wanted n in
       let number : length bytes ≡ n = ap length bytes_are ∙ ap (λ (r : Room). length r.bytes) room
@@ -427,30 +468,36 @@ module _ {c : Command} {ex : ExchangeOf} {units : List UnitOf} {first : Option D
       is ∙ ap (λ k. following a k left status) number
       ∙ ap (λ v. following a n v status) (left_is ∙ ap (less ex.wanted) number)
       ∙ ap (following a n w) (same_status status d.status status_is)
-      ∙ ap (λ r. next_by a n r (fetched_after w d.status)) end.again
+      ∙ ap (λ r. next_by a n r (fetched_after w d.status))
+      (again_same ex.attempt sent w (corrects d.status) ∙ end.again)
       ∙ ap (next_by a n again_after) end.fetched
 
-  pub asks_next : (host : Hosting) (gather : Room) (attempt : Attempt) (n : ℕ)
+  pub asks_next : (host : Hosting) (gather : Room) (attempt : Attempt) (n : ℕ) (sent : DataSent)
+      → Tells sent (sent_in_all (so_far units first ++ d ∷ []))
       → gather ≡ ex.gather → next.Asks attempt n
-      ≡ next_by ex.attempt (length ex.gather.bytes) again_after fetched_after_it
+      ≡ next_by (with_sent ex.attempt sent) (length ex.gather.bytes) again_after fetched_after_it
       → HostAsks attempt.header n host → HostStandsAt host fresh → IsRequest host
       → Continues c (taken_on ex host gather attempt) units first d
-  asks_next host gather attempt n room is asks stands request =
-      elim (asked_is ex.attempt (length ex.gather.bytes) _ _ attempt n (sym is)) [
+  asks_next host gather attempt n sent told room is asks stands request =
+      elim (asked_is (with_sent ex.attempt sent) (length ex.gather.bytes) _ _ attempt n (sym is)) [
         | inl (again, same) ↦
-            let next = repeats first host n end again (rw same at asks) stands request in
+            let next = repeats first host n sent end told again (rw same at asks) stands request in
             inl (next.0, rw (room, same) next.1)
         | inr (none, fetched, same, not_stalled) ↦
-            inr (inl (rw (room, same) (fetches host n none fetched not_stalled (rw same at asks)
-            stands request)))
+            inr (inl (rw (room, same) (fetches host n sent told none fetched not_stalled
+            (rw same at asks) stands request)))
       ]
 
-  pub ends_over : (host : Hosting) (gather : Room) → gather ≡ ex.gather
-      → next.Ends ≡ next_by ex.attempt (length ex.gather.bytes) again_after fetched_after_it
+  pub ends_over : (host : Hosting) (gather : Room) (sent : DataSent)
+      → Tells (both ex.attempt.sent (data_sent host))
+      (sent_in_all (so_far units first ++ d ∷ []))
+      → gather ≡ ex.gather
+      → next.Ends ≡ next_by (with_sent ex.attempt sent) (length ex.gather.bytes) again_after
+      fetched_after_it
       → turn_of host ≡ Done d.status
       → Continues c (taken_on ex host gather ex.attempt) units first d
-  ends_over host gather room is done =
-      let over = end_is ex.attempt (length ex.gather.bytes) _ _ (sym is) in
+  ends_over host gather sent told room is done =
+      let over = end_is (with_sent ex.attempt sent) (length ex.gather.bytes) _ _ (sym is) in
       inr (inr (record {
         gathers = record {
           is_open = is_open over.0;
@@ -462,15 +509,17 @@ module _ {c : Command} {ex : ExchangeOf} {units : List UnitOf} {first : Option D
         };
         are_dialogues = rw (unit_dialogues units first d) end.are_dialogues;
         done = done;
+        sent_is = rw (unit_dialogues units first d) told;
         going = under.going;
       }))
 
-  pub ends_stalled :
-      next.Stalls ≡ next_by ex.attempt (length ex.gather.bytes) again_after fetched_after_it
+  pub ends_stalled : (sent : DataSent)
+      → next.Stalls ≡ next_by (with_sent ex.attempt sent) (length ex.gather.bytes) again_after
+      fetched_after_it
       → Stall c (units ++ u ∷ [])
-  ends_stalled is =
-      let (none, stalled, n, fetched) = stall_is ex.attempt (length ex.gather.bytes) _ _ (sym is)
-      in
+  ends_stalled sent is =
+      let (none, stalled, n, fetched) = stall_is (with_sent ex.attempt sent)
+      (length ex.gather.bytes) _ _ (sym is) in
       let (asked, is_fetch) = no_command_stalls under.opening ex.attempt
       (length ex.gather.bytes == ex.attempt.before) under.place.fetches_is stalled in
       let same = eqb-true (length ex.gather.bytes) ex.attempt.before

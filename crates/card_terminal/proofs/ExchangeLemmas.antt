@@ -76,6 +76,7 @@ place_too a opening units first old new same place = record {
   repeats_is = place.repeats_is;
   before_is = place.before_is;
   number_is = place.number_is;
+  sent_is = place.sent_is;
 }
 
 -- the terminal's characters bring no data

@@ -2,6 +2,7 @@ pub mod BufferLemmas
 pub mod UnitLemmas
 pub mod OwnedLemmas
 mod HandingLemmas
+mod SentLemmas
 mod TakingLemmas
 mod TerminalBufferLemmas
 pub mod ExchangeLemmas

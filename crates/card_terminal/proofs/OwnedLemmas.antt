@@ -7,8 +7,10 @@ use Rattle.t0_core.specs.declared.host_end.HostTurn.TheVariants.{Sends, Done, Fa
 use Rattle.t0_core.specs.declared.host_mark.HostMark.{HostMark}
 use Rattle.t0_core.specs.Front.{Front, GoesOn}
 use Rattle.t0_core.specs.Room.{Room}
-use Rattle.t0_core.specs.HostSide.{Hosting, HostStandsAt, IsRequest, at_stage, turn_of, after_turn}
+use Rattle.t0_core.specs.HostSide.{Hosting, HostStandsAt, IsRequest, at_stage, turn_of, after_turn, data_sent}
 use Rattle.t0_core.specs.HostMark.{HasOnly, with_data}
+use Rattle.t0_core.specs.DataSent.{IsKnown}
+use Rattle.t0_core.specs.DataSentLaws.{sends_known}
 use Rattle.card_terminal.specs.declared.attempt.Attempt.{Attempt}
 use Rattle.card_terminal.specs.declared.wanted.Wanted.{Wanted}
 use Rattle.card_terminal.specs.Attempts.{most_begun, one_more}
@@ -92,6 +94,11 @@ turned ex turn host kept going is after request stays goes_on =
       goes_on = λ c units first front byte under sends.
           sends_further c ex host units first front byte under after request
           (goes_on front byte under.stands sends);
+      by_characters = λ known. (
+        known.0,
+        subst (λ (h : Hosting). IsKnown (data_sent h)) (sym after)
+            (sends_known ex.host known.1),
+      );
       led = λ c came byte leads sends.
           next_leads c came ex (with_host ex host ex.gather) byte (sym does ∙ sends)
           (λ units first front under.

@@ -9,16 +9,18 @@ use Rattle.apdu_core.specs.CommandBytes.{Command}
 use Rattle.apdu_core.specs.Chaining.{IsPieces, link, with_more, chain_commands}
 use Rattle.tlv_core.specs.Address.{NamesTag}
 use Rattle.t0_core.specs.declared.host_end.HostTurn.TheVariants.{Sends, Done, Failed}
+use Rattle.t0_core.specs.declared.data_sent.DataSent.{DataSent}
+use Rattle.t0_core.specs.declared.data_sent.DataSent.TheVariants.{All}
 use Rattle.t0_core.specs.Front.{fresh}
 use Rattle.t0_core.specs.HostSide.{turn_of}
 use Rattle.object_card.specs.CarryingOut.{put_header}
 use Rattle.object_card.specs.OneStep.{Put}
 use Rattle.card_terminal.specs.Talk.{AreCommandsOf}
-use Rattle.card_terminal.specs.ExchangeSide.{ExchangeOf, UnderWay, exchange_turn}
+use Rattle.card_terminal.specs.ExchangeSide.{ExchangeOf, UnderWay, GoesByCharacters, exchange_turn}
 use Rattle.card_terminal.specs.ExchangeHistory.{ComesTo}
 use Rattle.card_terminal.specs.OwnedExchange.{ExchangeMarkOf, over_data, IsSound}
 use Rattle.card_terminal.specs.OperationRoom.{IsPart, BeginsWith}
-use Rattle.card_terminal.specs.TerminalSide.{OperationOf, AreLeft, LeadsTo, GoesToNext}
+use Rattle.card_terminal.specs.TerminalSide.{OperationOf, AreLeft, LeadsTo, GoesToNext, GoByCharacters, operation_sent}
 use Rattle.card_terminal.specs.PieceLaws.{IsFrontOf, left_is, left_after, chain_of, opening_front, next_front, rest_seen}
 use Rattle.card_terminal.proofs.OwnedLemmas.{bounded}
 use Rattle.card_terminal.proofs.TurnLemmas.{opening_turn}
@@ -44,14 +46,16 @@ pub begins_with : (first : Command) (value items : List ℕ) (ex : ExchangeMarkO
     → items ≡ value → (more : List ℕ) × (value ≡ first.content ++ more)
     → until ≡ length first.content → p1 ≡ first.header.p1 → p2 ≡ first.header.p2
     → UnderWay first (over_data ex first.content) [] None fresh
-    → ComesTo first [] (over_data ex first.content) → BeginsWith first value (record {
+    → ComesTo first [] (over_data ex first.content)
+    → GoesByCharacters (over_data ex first.content) → BeginsWith first value (record {
       exchange = over_data ex (slice_range items 0 until);
       p1 = p1;
       p2 = p2;
       rest = drop until items;
       first = true;
+      sent = All;
     })
-begins_with first value items ex until p1 p2 copied some is p1_is p2_is under led =
+begins_with first value items ex until p1 p2 copied some is p1_is p2_is under led by_characters =
     let front = opening_front value items until first.content copied some is in
     let (byte, sends) = begins_by_sending first (over_data ex first.content) under in
     let turn : exchange_turn (over_data ex (slice_range items 0 until)) ≡ Sends byte =
@@ -63,7 +67,14 @@ begins_with first value items ex until p1 p2 copied some is p1_is p2_is under le
       rest_is = ap (λ n. drop n items) is ∙ ap (λ z. drop (length first.content) z) copied;
       settled = λ done. absurd (cc);
       is_first = refl;
+      sent_is = refl;
+      by_characters = rw front.slice by_characters;
     }
+
+-- all of it goes character by character so far
+pub begins_by_characters : {first : Command} {content : List ℕ} (o : OperationOf)
+    (new : Option OperationOf) → new ≡ Some o → BeginsWith first content o → GoByCharacters new
+begins_by_characters o new is begins = rw (is, begins.sent_is) (tt, begins.by_characters)
 
 pub command_begins : (c : Command) (content : List ℕ) (o : OperationOf)
     (new : Option OperationOf) → content ≡ c.content → new ≡ Some o → BeginsWith c content o
@@ -72,7 +83,7 @@ command_begins c content o new whole is begins =
     let none : drop (length c.content) content ≡ [] =
     ap (λ z. drop (length c.content) z) (whole ∙ sym (append-nil c.content))
     ∙ drop-append_seam c.content [] in
-    rw is (one_begins c o (begins.rest_is ∙ none) begins.led, begins.settled)
+    rw is (one_begins c o (begins.rest_is ∙ none) begins.led begins.sent_is, begins.settled)
 
 -- ---- a put
 
@@ -100,29 +111,40 @@ put_begins tag value p1 p2 header pieces list others c o new header_is names are
     (left_after p1 p2 value pieces c others are chain) in (
       c ∷ others,
       (p1, p2, pieces, names, are, sym chain),
-      rw is (first_begins c others o left begins.led, begins.settled),
+      rw is (first_begins c others o left begins.led begins.sent_is, begins.settled),
     )
 
 -- ---- the next piece
 
 pub next_begins : (old : OperationOf) (ex : ExchangeOf) (new : ExchangeMarkOf)
-    (items seen : List ℕ) (until p1 p2 size : ℕ) (first : Bool) (header : Header)
+    (items seen : List ℕ) (until p1 p2 size : ℕ) (first : Bool)
+    (before sent : DataSent) (header : Header)
     (pieces : List (List ℕ)) (list others : List Command) (c : Command)
-    → record { exchange = ex; p1 = p1; p2 = p2; rest = drop until items; first = first } ≡ old
+    → record {
+      exchange = ex;
+      p1 = p1;
+      p2 = p2;
+      rest = drop until items;
+      first = first;
+      sent = before;
+    } ≡ old → sent ≡ operation_sent old
     → exchange_turn old.exchange ≡ Done ok → (old.rest ≡ [] → ⊥) → seen ≡ items
     → header ≡ put_header p1 p2 → IsPieces (slice_range seen until (length seen)) pieces
     → list ≡ chain_commands header pieces → list ≡ c ∷ others → until ≤ length items
     → size ≡ length c.content → UnderWay c (over_data new c.content) [] None fresh
     → ComesTo c [] (over_data new c.content) → IsSound (over_data new c.content)
-    → new.gather.limit ≡ ex.gather.limit → GoesToNext old (record {
+    → GoesByCharacters (over_data new c.content) → new.gather.limit ≡ ex.gather.limit
+    → GoesToNext old (record {
       exchange = over_data new (slice_range items until (until + size));
       p1 = p1;
       p2 = p2;
       rest = drop (until + size) items;
       first = false;
+      sent = sent;
     })
-next_begins old ex new items seen until p1 p2 size first header pieces list others c view done more
-    same_items header_is are same steps few is under led sound kept =
+next_begins old ex new items seen until p1 p2 size first before sent header pieces list others c
+    view sent_is done more
+    same_items header_is are same steps few is under led sound by_characters kept =
     let rest_is = rest_seen items seen until same_items in
     let are_now : IsPieces (drop until items) pieces = rw rest_is at are in
     let chain = chain_of header p1 p2 pieces list others c header_is same steps in
@@ -144,6 +166,8 @@ next_begins old ex new items seen until p1 p2 size first header pieces list othe
         rw after_is at (left_after p1 p2 (drop until items) pieces c others are_now chain),
       );
       later = refl;
+      sent = sent_is;
+      by_characters = rw front.slice by_characters;
       bounds = rw front.slice (bounded (over_data new c.content) sound.1);
       limit = kept ∙ ap (λ (o : OperationOf). o.exchange.gather.limit) view;
       sends = let (byte, turn) = begins_by_sending c (over_data new c.content) under in

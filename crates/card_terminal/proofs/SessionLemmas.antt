@@ -136,24 +136,25 @@ has_plan card before front l new silent (stands, on, at_plan) is taken =
 
 -- if the terminal sends data with an instruction, the card never does; if it asks for data, the
 -- card never takes any
-abbrev pub Never : (ℕ → Type 0) → (ℕ → Type 0) → Direction → ℕ → Type 0
-Never R S ToCard ins = S ins → ⊥
-Never R S FromCard ins = R ins → ⊥
+abbrev pub Never : (Header → Type 0) → (Header → Type 0) → Direction → Header → Type 0
+Never R S ToCard h = S h → ⊥
+Never R S FromCard h = R h → ⊥
 
-never_asks : (R S : ℕ → Type 0) (h : Header) (n : ℕ) (host : Hosting) → HostAsks h n host
-    → (R h.ins → ⊥) → Never R S host.direction host.header.ins
+never_asks : (R S : Header → Type 0) (h : Header) (n : ℕ) (host : Hosting) → HostAsks h n host
+    → (R h → ⊥) → Never R S host.direction host.header
 never_asks R S h n host asks never =
     rw (asks.from_card, asks.header_is) never
 
-never_sends : (R S : ℕ → Type 0) (h : Header) (content : List ℕ) (host : Hosting)
-    → HostSends h content host → (S h.ins → ⊥) → Never R S host.direction host.header.ins
+never_sends : (R S : Header → Type 0) (h : Header) (content : List ℕ) (host : Hosting)
+    → HostSends h content host → (S h → ⊥) → Never R S host.direction host.header
 never_sends R S h content host sends never =
     rw (sends.to_card, sends.header_is) never
 
-never_opens : (R S : ℕ → Type 0) (h : Header) (content : List ℕ) (le : Option ℕ) (host : Hosting)
+never_opens : (R S : Header → Type 0) (h : Header) (content : List ℕ) (le : Option ℕ)
+    (host : Hosting)
     → HostOpensBy h content le host
     → IsAgreed R S (record { header = h; content = content; le = le })
-    → Never R S host.direction host.header.ins
+    → Never R S host.direction host.header
 never_opens R S h [] None host opens agreed = never_sends R S h [] host opens agreed
 never_opens R S h [] (Some n) host opens agreed = never_asks R S h n host opens agreed.0
 never_opens R S h (b ∷ bs) None host opens agreed = never_sends R S h (b ∷ bs) host opens agreed
@@ -167,9 +168,9 @@ none_fetched k (Some n) =
     let nothing : 0 - k ≡ 0 = omega arith in
     ap (λ m. fetched_of (Bytes m) (Some n)) nothing
 
-never_fetches : (R S : ℕ → Type 0) (h : Header) (content : List ℕ) (le : Option ℕ) (k n : ℕ)
+never_fetches : (R S : Header → Type 0) (h : Header) (content : List ℕ) (le : Option ℕ) (k n : ℕ)
     (status : StatusWord) → IsAgreed R S (record { header = h; content = content; le = le })
-    → fetched_after (less (wanted_by le) k) status ≡ Some n → R get_response.ins → ⊥
+    → fetched_after (less (wanted_by le) k) status ≡ Some n → R get_response → ⊥
 never_fetches R S h content None k n status agreed fetched = let e : None ≡ Some n =
     sym (none_fetched k (announces status)) ∙ fetched in absurd (cc)
 never_fetches R S h [] (Some m) k n status agreed fetched = agreed.1
@@ -178,9 +179,9 @@ never_fetches R S h (b ∷ bs) (Some m) k n status agreed fetched = agreed.1
 fetch_is_no_command : (n : ℕ) (c : Command) → By_fetch n ≡ By_command c → ⊥
 fetch_is_no_command n c e = absurd (cc)
 
-never_followed : (R S : ℕ → Type 0) (c : Command) (units : List UnitOf) (n : ℕ) (left : Wanted)
+never_followed : (R S : Header → Type 0) (c : Command) (units : List UnitOf) (n : ℕ) (left : Wanted)
     → IsAgreed R S c → AreFollowed (By_command c) (wanted_by c.le) units (By_fetch n) left
-    → R get_response.ins → ⊥
+    → R get_response → ⊥
 never_followed R S c [] n left agreed followed = absurd (fetch_is_no_command n c followed.0)
 never_followed R S c (u ∷ units) n left agreed followed =
     never_fetches R S c.header c.content c.le (length (unit_data u)) followed.0
@@ -189,10 +190,11 @@ never_followed R S c (u ∷ units) n left agreed followed =
 to_is_not_from : ToCard ≡ FromCard → ⊥
 to_is_not_from e = absurd (cc)
 
-never_repeats : (R S : ℕ → Type 0) (h : Header) (content : List ℕ) (le : Option ℕ) (d : Dialogue)
+never_repeats : (R S : Header → Type 0) (h : Header) (content : List ℕ) (le : Option ℕ)
+    (d : Dialogue)
     → OpensWith (By_command (record { header = h; content = content; le = le })) d
     → d.body.direction ≡ FromCard
-    → IsAgreed R S (record { header = h; content = content; le = le }) → R d.body.header.ins → ⊥
+    → IsAgreed R S (record { header = h; content = content; le = le }) → R d.body.header → ⊥
 never_repeats R S h [] None d opens from agreed = absurd (to_is_not_from (sym opens.to_card ∙ from))
 never_repeats R S h [] (Some n) d opens from agreed = rw opens.header_is agreed.0
 never_repeats R S h (b ∷ bs) le d opens from agreed =
@@ -214,10 +216,10 @@ same_command c other (u ∷ units) left followed =
     absurd (fetched_no_command followed.0 (after_unit (wanted_by c.le) u) units other left
     followed.2)
 
-pub never : (R S : ℕ → Type 0) (c : Command) (units : List UnitOf) (opening : Opening)
+pub never : (R S : Header → Type 0) (c : Command) (units : List UnitOf) (opening : Opening)
     (left : Wanted) (tried : Option Dialogue) (host : Hosting) → IsAgreed R S c
     → AreFollowed (By_command c) (wanted_by c.le) units opening left
-    → IsOpenedAs opening left tried host → Never R S host.direction host.header.ins
+    → IsOpenedAs opening left tried host → Never R S host.direction host.header
 never R S c units (By_fetch n) left None host agreed followed opens =
     never_asks R S get_response n host opens (never_followed R S c units n left agreed followed)
 never R S c units (By_fetch n) left (Some d) host agreed followed (opens, m, corrected, asks) =
@@ -234,30 +236,30 @@ never R S c units (By_command other) left (Some d) host agreed followed
     (rw (same_command c other units left followed) at agreed))
 
 -- the direction of the data, if any are to move, is that of the front
-agree : (R S : ℕ → Type 0) (ins : ℕ) (a b : Direction) → Never R S a ins → PermitsData R S ins b
+agree : (R S : Header → Type 0) (h : Header) (a b : Direction) → Never R S a h → PermitsData R S h b
     → a ≡ b
-agree R S ins ToCard ToCard none permitted = refl
-agree R S ins ToCard FromCard none permitted = absurd (none permitted)
-agree R S ins FromCard ToCard none permitted = absurd (none permitted)
-agree R S ins FromCard FromCard none permitted = refl
+agree R S h ToCard ToCard none permitted = refl
+agree R S h ToCard FromCard none permitted = absurd (none permitted)
+agree R S h FromCard ToCard none permitted = absurd (none permitted)
+agree R S h FromCard FromCard none permitted = refl
 
-suits_body : (R S : ℕ → Type 0) (ins : ℕ) (direction : Direction) (b : Body) (stage : Stage)
-    → b.direction ≡ direction → Never R S direction ins → IsPermitted R S ins stage
+suits_body : (R S : Header → Type 0) (h : Header) (direction : Direction) (b : Body) (stage : Stage)
+    → b.direction ≡ direction → Never R S direction h → IsPermitted R S h stage
     → SuitsFront stage (In_body b)
-suits_body R S ins direction b (Serving s came) is none permitted = is
-    ∙ agree R S ins direction _ none permitted
-suits_body R S ins direction b _ is none permitted = tt
+suits_body R S h direction b (Serving s came) is none permitted = is
+    ∙ agree R S h direction _ none permitted
+suits_body R S h direction b _ is none permitted = tt
 
 suits_header : (stage : Stage) (bytes : List ℕ) → SuitsFront stage (In_header bytes)
 suits_header (Taking_header others) bytes = tt
 suits_header _ bytes = tt
 
 pub suits : {State : Type 0} (Does : State → ℕ → Tpdu → State → Type 0) (standing : State)
-    (prepared : Prepared State) (R S : ℕ → Type 0) (host : Hosting) (stage next : Stage)
+    (prepared : Prepared State) (R S : Header → Type 0) (host : Hosting) (stage next : Stage)
     (cut : ℕ) (front : Front)
-    → Never R S host.direction host.header.ins → HostStandsAt host front
+    → Never R S host.direction host.header → HostStandsAt host front
     → ((h : Header) (p3 : ℕ) → stage ≡ Taking_header (begins_with h p3)
-    → IsPermitted R S h.ins next)
+    → IsPermitted R S h next)
     → takes_plan stage ≡ true → StandsAt Does standing prepared stage cut front
     → SuitsFront next front
 suits Does s p R S host (Taking_header bytes) next cut (In_header f) none host_stands permitted
@@ -267,7 +269,7 @@ suits Does s p R S host (Taking_header bytes) next cut (After_first b sw1) none 
 suits Does s p R S host (Taking_header bytes) next cut (In_body b) none host_stands permitted
     takes stands =
     let by = opened host (In_body b) host_stands in
-    suits_body R S b.header.ins host.direction b next by.2 (rw by.0 none)
+    suits_body R S b.header host.direction b next by.2 (rw by.0 none)
     (permitted b.header b.p3 (ap Taking_header stands.0))
 suits Does s p R S host _ next cut front none host_stands permitted takes stands = absurd (cc)
 
@@ -279,9 +281,9 @@ hears_on : (since now later : Hearing) (came more : List Character) (ch : Charac
 hears_on since now later came more ch before this is =
     rw is (hears_more since now later came (ch ∷ []) before this)
 
-never_under : (R S : ℕ → Type 0) (c : Command) (ex : ExchangeOf) (units : List UnitOf)
+never_under : (R S : Header → Type 0) (c : Command) (ex : ExchangeOf) (units : List UnitOf)
     (tried : Option Dialogue) (front : Front) → IsAgreed R S c → UnderWay c ex units tried front
-    → Never R S ex.host.direction ex.host.header.ins
+    → Never R S ex.host.direction ex.host.header
 never_under R S c ex units tried front agreed under =
     never R S c units under.opening under.left tried ex.host agreed under.followed under.opened_as
 
@@ -291,7 +293,7 @@ pub turned : {C : Type 0} (card : Ghosts C) (s : Start card.State) (l : Line C) 
     (new : Cursor) (byte : ℕ) (under : IsGoing card s l)
     → HasPlan l.end.stage under.before l.cursor new
     → ((h : Header) (p3 : ℕ) → l.end.stage ≡ Taking_header (begins_with h p3)
-    → IsPermitted card.MayReceive card.MaySend h.ins end.stage)
+    → IsPermitted card.MayReceive card.MaySend h end.stage)
     → ((cut : ℕ) (front : Front) → (takes_plan l.end.stage ≡ true
     → (cut ≡ (plan_kept new).cut) × SuitsFront end.stage front)
     → StandsAt card.Does (card.standing l.end.card) (card.prepared l.end.card) l.end.stage cut front

@@ -15,7 +15,7 @@ use Rattle.t0_core.specs.HostMark.{HasOnly}
 use Rattle.t0_core.specs.Buffers.{Steps}
 use Rattle.card_terminal.specs.Buffers.{IsTakingAll}
 use Rattle.card_terminal.proofs.BufferLemmas.{one_taken}
-use Rattle.card_terminal.specs.ExchangeSide.{ExchangeOf, UnderWay, IsKept, IsBounded, Continues, Stall, ended_with, exchange_turn, is_final}
+use Rattle.card_terminal.specs.ExchangeSide.{ExchangeOf, UnderWay, IsKept, IsBounded, Continues, Stall, GoesByCharacters, ended_with, exchange_turn, exchange_sent, is_final}
 use Rattle.card_terminal.specs.ExchangeSteps.{IsTaking}
 use Rattle.card_terminal.proofs.OwnedLemmas.{bounded}
 use Rattle.card_terminal.proofs.ComesToLemmas.{at_end_fault, none_at_end, take_leads, stall_leads, fault_leads}
@@ -52,8 +52,9 @@ module _ (ex new : ExchangeOf) (byte : ℕ) (kept : IsKept ex) (bounds : IsBound
       → UnderWay c ex units first front
       → ((next : Front) × GoesOn front (Card, byte) next)
       ⊎ ((d : Dialogue) × Ends front (Card, byte) d))
+      → (GoesByCharacters ex → GoesByCharacters new) → exchange_sent new ≡ exchange_sent ex
       → IsTaking ex byte (Ok tt) new
-  takes taken goes_on ends came = record {
+  takes taken goes_on ends came by_characters sent = record {
     fault = sym taken;
     bounds = bounds;
     limit = limit;
@@ -64,6 +65,8 @@ module _ (ex new : ExchangeOf) (byte : ℕ) (kept : IsKept ex) (bounds : IsBound
     full = λ c units first front next under goes. tt;
     came = came;
     ends = ends;
+    by_characters = by_characters;
+    sent = sent;
     led = λ c before leads.
         take_leads c before ex new byte kept taken (goes_on c) (ends c) (came c) leads;
   }
@@ -92,6 +95,8 @@ module _ (ex new : ExchangeOf) (byte : ℕ) (kept : IsKept ex) (bounds : IsBound
     full = λ c units first front next under goes.
         absurd (goes_on c units first front next under goes);
     came = λ c units first front under. tt;
+    by_characters = tt;
+    sent = tt;
     ends = λ c units first front d under end. (refl, ends c units first front d under end);
     led = λ c before leads final.
         stall_leads c before ex new byte kept taken failed (goes_on c) (ends c) (came c) leads;
@@ -120,6 +125,8 @@ module _ (ex new : ExchangeOf) (byte : ℕ) (kept : IsKept ex) (bounds : IsBound
     full = λ c units first front next under goes.
         let all = long c units first front next under goes in (all.1, all.2);
     came = λ c units first front under. tt;
+    by_characters = tt;
+    sent = tt;
     ends = λ c units first front d under end. absurd (ends c units first front d under end);
     led = λ c before leads final.
         fault_leads c before ex new byte fault kept is final (failed final) (sym limit) leads;

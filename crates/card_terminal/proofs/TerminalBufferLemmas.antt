@@ -112,6 +112,7 @@ out_of_turn o sent byte sends bounds = record {
   bounds = bounds;
   unchanged = λ _. refl;
   failed = λ final. absurd (cc);
+  by_characters = tt;
   led = λ commands came l final. absurd (cc);
 }
 

@@ -6,21 +6,26 @@ use Rattle.std.proofs.lemmas.Grind.{flat_map-append}
 use Rattle.apdu_core.specs.StatusWord.{StatusWord, ok}
 use Rattle.apdu_core.specs.CommandBytes.{Command}
 use Rattle.t0_core.specs.declared.host_end.HostTurn.TheVariants.{Done}
+use Rattle.t0_core.specs.declared.data_sent.DataSent.{DataSent}
+use Rattle.t0_core.specs.declared.data_sent.DataSent.TheVariants.{All}
+use Rattle.t0_core.specs.DataSent.{both, sent_in_all, Tells}
+use Rattle.t0_core.specs.DataSentLaws.{tells_both, sent_in-append}
 use Rattle.t0_core.specs.Character.{Character}
 use Rattle.t0_core.specs.Dialogue.{IsDialogue, characters}
 use Rattle.card_terminal.specs.Gathered.{UnitOf, dialogues_of}
 use Rattle.card_terminal.specs.Talk.{AreExchangesOf, talk_dialogues, talk_characters}
-use Rattle.card_terminal.specs.ExchangeSide.{ExchangeOf, exchange_turn}
+use Rattle.card_terminal.specs.ExchangeSide.{ExchangeOf, exchange_turn, exchange_sent}
 use Rattle.card_terminal.specs.ExchangeHistory.{ComesTo, unit_characters}
-use Rattle.card_terminal.specs.TerminalSide.{OperationOf, AreLeft, HasCome, LeadsThrough, IsSettled, GoesToNext, GoesOver, with_exchange}
+use Rattle.card_terminal.specs.TerminalSide.{OperationOf, AreLeft, HasCome, LeadsThrough, IsSettled, GoesToNext, GoesOver, operation_sent, with_exchange}
 use Rattle.card_terminal.proofs.ComesToLemmas.{end_leads}
 use Rattle.card_terminal.proofs.TalkListLemmas.{taken_more, taken_to_end, one_more_exchange, all_both}
 use Rattle.card_terminal.specs.TalkLaws.{is_ok_or_not}
 
 -- an operation of several commands begins
 pub first_begins : (c : Command) (left : List Command) (o : OperationOf)
-    → AreLeft o.p1 o.p2 o.rest left → ComesTo c [] o.exchange → LeadsThrough (c ∷ left) [] o
-first_begins c left o are_left led = record {
+    → AreLeft o.p1 o.p2 o.rest left → ComesTo c [] o.exchange → o.sent ≡ All
+    → LeadsThrough (c ∷ left) [] o
+first_begins c left o are_left led sent = record {
   gone = [];
   current = c;
   left = left;
@@ -28,6 +33,7 @@ first_begins c left o are_left led = record {
   is_first = λ _. refl;
   are_dialogues = tt;
   are_left = are_left;
+  sent_is = rw sent refl;
   here = [];
   led = led;
   came_is = refl;
@@ -35,8 +41,8 @@ first_begins c left o are_left led = record {
 
 -- an operation of one command begins
 pub one_begins : (c : Command) (o : OperationOf) → o.rest ≡ [] → ComesTo c [] o.exchange
-    → LeadsThrough (c ∷ []) [] o
-one_begins c o none led = first_begins c [] o (rw none refl) led
+    → o.sent ≡ All → LeadsThrough (c ∷ []) [] o
+one_begins c o none led sent = first_begins c [] o (rw none refl) led sent
 
 -- more characters of the current exchange, and nothing else changes
 pub come_on : (Led New : Command → List Character → Type 0) (commands : List Command)
@@ -51,6 +57,7 @@ come_on Led New commands came cs o ex l led = record {
   is_first = l.is_first;
   are_dialogues = l.are_dialogues;
   are_left = l.are_left;
+  sent_is = l.sent_is;
   here = l.here ++ cs;
   led = led;
   came_is = ap (λ z. z ++ cs) l.came_is ∙ append_assoc (talk_characters l.gone) l.here cs;
@@ -68,6 +75,7 @@ come_as Led New commands came o ex l led = record {
   is_first = l.is_first;
   are_dialogues = l.are_dialogues;
   are_left = l.are_left;
+  sent_is = l.sent_is;
   here = l.here;
   led = led;
   came_is = l.came_is;
@@ -80,11 +88,25 @@ talk_characters_more exchanges units =
     ap (λ ds. flat_map characters ds) (one_more_exchange exchanges units)
     ∙ flat_map-append characters (talk_dialogues exchanges) (flat_map dialogues_of units)
 
+-- the data of one more exchange
+sent_more : (exchanges : List (List UnitOf)) (units : List UnitOf) (a b sent : DataSent)
+    → sent ≡ both a b → Tells a (sent_in_all (talk_dialogues exchanges))
+    → Tells b (sent_in_all (flat_map dialogues_of units))
+    → Tells sent (sent_in_all (talk_dialogues (exchanges ++ units ∷ [])))
+sent_more exchanges units a b sent is before last =
+    rw (
+      is,
+      one_more_exchange exchanges units,
+      sent_in-append (talk_dialogues exchanges) (flat_map dialogues_of units),
+    )
+    (tells_both a b _ _ before last)
+
 -- a command has ended with 9000, and the next begins
 to_next : (commands : List Command) (came : List Character) (o new : OperationOf)
     → GoesToNext o new → LeadsThrough commands came o → LeadsThrough commands came new
 to_next commands came o new next l =
-    let (units, gathers, is, are) = end_leads l.current l.here o.exchange ok next.done l.led in
+    let (units, gathers, is, are, sent) = end_leads l.current l.here o.exchange ok next.done l.led
+    in
     let (c, after, left_is, led, are_left) = next.next l.left l.are_left in
     record {
       gone = l.gone ++ units ∷ [];
@@ -96,6 +118,8 @@ to_next commands came o new next l =
       are_dialogues = rw (one_more_exchange l.gone units) (all_both IsDialogue
           (talk_dialogues l.gone) (flat_map dialogues_of units) l.are_dialogues are);
       are_left = are_left;
+      sent_is = sent_more l.gone units o.sent (exchange_sent o.exchange) new.sent next.sent
+          l.sent_is sent;
       here = [];
       led = led;
       came_is = l.came_is ∙ ap (λ z. talk_characters l.gone ++ z) is
@@ -122,14 +146,17 @@ pub answer_led : (commands : List Command) (came : List Character) (o : Operatio
     × AreExchangesOf commands exchanges
     (record { status = status; content = o.exchange.gather.bytes })
     × (came ≡ talk_characters exchanges)
+    × Tells (operation_sent o) (sent_in_all (talk_dialogues exchanges))
 answer_led commands came o status settled done l =
-    let (units, gathers, is, are) = end_leads l.current l.here o.exchange status done l.led in (
+    let (units, gathers, is, are, sent) = end_leads l.current l.here o.exchange status done l.led
+    in (
       l.gone ++ units ∷ [],
       taken_to_end commands l.gone l.current l.left units
           (record { status = status; content = o.exchange.gather.bytes }) l.taken gathers
           (ends (is_ok_or_not status)),
       l.came_is ∙ ap (λ z. talk_characters l.gone ++ z) is
           ∙ sym (talk_characters_more l.gone units),
+      sent_more l.gone units o.sent (exchange_sent o.exchange) _ refl l.sent_is sent,
     )
   where
     ends : (status ≡ ok) ⊎ (status ≢ ok) → (l.left ≡ []) ⊎ (status ≢ ok)

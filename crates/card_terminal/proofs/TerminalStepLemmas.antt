@@ -1,6 +1,6 @@
 -- Each step of an exchange is one of its terminal.
 use Rattle.std.proofs.Common.{◌≡◌, ℕ, List, [], ◌∷◌, ◌++◌, ◌⊎◌, inl, inr, refl, sym, subst, ◌∙◌, ap, true, false, Option, Some, None, Bool}
-use Rattle.std.specs.Prelude.{Result, Ok, Err, MatchResult, IfErr, IfSome, not}
+use Rattle.std.specs.Prelude.{Result, Ok, Err, MatchResult, OnOk, IfErr, IfSome, not}
 use Rattle.apdu_core.specs.StatusWord.{StatusWord, ok}
 use Rattle.apdu_core.specs.CommandBytes.{Command}
 use Rattle.t0_core.specs.declared.end.End.TheVariants.{Terminal, Card}
@@ -12,14 +12,19 @@ use Rattle.t0_core.specs.declared.answer_fault.AnswerFault.{AnswerFault}
 use Rattle.t0_core.specs.declared.answer_fault.AnswerFault.TheVariants as answer
 use Rattle.t0_core.specs.Character.{Character}
 use Rattle.t0_core.specs.Dialogue.{Dialogue, characters}
+use Rattle.t0_core.specs.declared.data_sent.DataSent.{DataSent}
+use Rattle.t0_core.specs.declared.data_sent.DataSent.TheVariants.{All, NotAll, NotKnown}
+use Rattle.t0_core.specs.DataSent.{both, IsKnown}
+use Rattle.t0_core.specs.DataSentLaws.{known_both}
+use Rattle.t0_core.specs.HostSide.{data_sent}
 use Rattle.t0_core.specs.HostAnswer.{fails_with}
 use Rattle.card_terminal.specs.Conversing.{is_done}
-use Rattle.card_terminal.specs.ExchangeSide.{ExchangeOf, IsBounded, IsAtEnd, exchange_turn, is_final}
+use Rattle.card_terminal.specs.ExchangeSide.{ExchangeOf, IsBounded, IsAtEnd, GoesByCharacters, exchange_turn, exchange_sent, is_final}
 use Rattle.card_terminal.specs.ExchangeHistory.{ComesTo, ComesTooFar}
 use Rattle.card_terminal.specs.ExchangeSteps.{IsTurn, IsTaking, IsAnswering, IsAnswer}
 use Rattle.card_terminal.specs.Gathered.{UnitOf}
 use Rattle.card_terminal.specs.Talk.{AreExchangesOf, talk_characters}
-use Rattle.card_terminal.specs.TerminalSide.{OperationOf, TerminalOf, LeadsThrough, LeadsThroughTooFar, LeadsTo, IsSettled, GoesOver, with_exchange}
+use Rattle.card_terminal.specs.TerminalSide.{OperationOf, TerminalOf, LeadsThrough, LeadsThroughTooFar, LeadsTo, IsSettled, GoesOver, GoByCharacters, operation_sent, with_exchange}
 use Rattle.card_terminal.specs.TerminalSteps.{IsTerminalTurn, IsTerminalTaking, IsTerminalAnswering, IsTerminalAnswer}
 use Rattle.card_terminal.proofs.TerminalLemmas.{come_on, come_as, goes_over, answer_led}
 
@@ -41,6 +46,8 @@ turns o new turn step same bounds settled = record {
   stays = λ none. ap (λ x. Some x) (same ∙ ap (λ ex. with_exchange o ex)
       (step.stays (λ byte is. none byte (ap (λ t. Some t) is))));
   bounds = bounds;
+  by_characters = λ known. subst (λ x. GoByCharacters (Some x)) (sym same)
+      (known.0, step.by_characters known.1);
   led = λ commands came byte l is.
       let sends : turn ≡ Sends byte = same_turn turn (Sends byte) is in (
         subst (λ x. LeadsThrough commands (came ++ (Terminal, byte) ∷ []) x) (sym same)
@@ -82,6 +89,23 @@ bounds_over o new ex bounds (inl same) =
     rw same.1 bounds
 bounds_over o new ex bounds (inr next) = next.bounds
 
+-- if one TPDU is not known, all data are never known to be sent
+never_all : (a b : DataSent) → both a (both b NotKnown) ≡ All → ⊥
+never_all NotAll b e = absurd (cc)
+never_all All All e = absurd (cc)
+never_all All NotAll e = absurd (cc)
+never_all All NotKnown e = absurd (cc)
+never_all NotKnown All e = absurd (cc)
+never_all NotKnown NotAll e = absurd (cc)
+never_all NotKnown NotKnown e = absurd (cc)
+
+all_of_both : (a b : DataSent) → both a b ≡ All → a ≡ All
+all_of_both All b e = refl
+all_of_both NotAll b e = absurd (cc)
+all_of_both NotKnown All e = absurd (cc)
+all_of_both NotKnown NotAll e = absurd (cc)
+all_of_both NotKnown NotKnown e = absurd (cc)
+
 -- what a call does to an operation, by what it does to the exchange
 module _ (o new : OperationOf) (ex : ExchangeOf) (settled : IsSettled o)
     (over : GoesOver (with_exchange o ex) new) where
@@ -106,6 +130,35 @@ module _ (o new : OperationOf) (ex : ExchangeOf) (settled : IsSettled o)
     settles (with_exchange o ex) new over,
   )
 
+  known_on : (r : Result (Unit {0}) LineFault)
+      → OnOk r (GoesByCharacters o.exchange → GoesByCharacters ex)
+      → OnOk r (GoByCharacters (Some o) → GoByCharacters (Some new))
+  known_on (Ok u) stays = λ known. known_over new over known.0 (stays known.1)
+    where
+      known_over : (n : OperationOf) → GoesOver (with_exchange o ex) n → IsKnown o.sent
+          → GoesByCharacters ex → GoByCharacters (Some n)
+      known_over n (inl is) before here = rw is.1 (before, here)
+      known_over n (inr next) before here = (
+        rw next.sent (known_both o.sent (exchange_sent ex) before
+            (known_both ex.attempt.sent (data_sent ex.host) here.0 here.1)),
+        next.by_characters,
+      )
+  known_on (Err fault) stays = tt
+
+  unknown_on : (r : Result (Unit {0}) AnswerFault)
+      → OnOk r (exchange_sent ex ≡ both o.exchange.attempt.sent NotKnown)
+      → OnOk r (operation_sent new ≡ All → ⊥)
+  unknown_on (Ok u) whole = λ all. unknown_over new over all
+    where
+      unknown_over : (n : OperationOf) → GoesOver (with_exchange o ex) n
+          → operation_sent n ≡ All → ⊥
+      unknown_over n (inl is) all = never_all o.sent o.exchange.attempt.sent
+          (ap (both o.sent) (sym whole) ∙ sym (ap operation_sent is.1) ∙ all)
+      unknown_over n (inr next) all = never_all o.sent o.exchange.attempt.sent
+          (ap (both o.sent) (sym whole) ∙ sym next.sent
+          ∙ all_of_both n.sent (exchange_sent n.exchange) all)
+  unknown_on (Err fault) whole = tt
+
   pub takes : (byte : ℕ) (result : Result (Unit {0}) LineFault) → IsTaking o.exchange byte result ex
       → IsTerminalTaking (Some o) byte result (Some new)
   takes byte result step = record {
@@ -114,6 +167,7 @@ module _ (o new : OperationOf) (ex : ExchangeOf) (settled : IsSettled o)
     bounds = bounds_over o new ex step.bounds over;
     unchanged = same is_final result step.unchanged;
     failed = broken is_final result step.failed;
+    by_characters = known_on result step.by_characters;
     led = λ commands came l. on commands came l.0 result (step.led l.0.current l.0.here l.0.led);
   }
     where
@@ -136,6 +190,7 @@ module _ (o new : OperationOf) (ex : ExchangeOf) (settled : IsSettled o)
     bounds = bounds_over o new ex step.bounds over;
     unchanged = same fails_with result step.unchanged;
     failed = broken fails_with result step.failed;
+    whole = unknown_on result step.whole;
     led = λ commands came d l gives.
         on commands came d l.0 result step.failed (step.led l.0.current l.0.here d l.0.led gives);
     given = step.given;
@@ -192,7 +247,9 @@ led_answer o answer settled is = by (exchange_turn o.exchange) refl
     by Listens e = none (λ status done. absurd (cc))
     by Failed e = none (λ status done. absurd (cc))
     by (Done status) e = rw (is.done status e)
-        (λ commands came l. answer_led commands came o status settled e l.0)
+        (λ commands came l.
+        let (exchanges, are, is, tells) = answer_led commands came o status settled e l.0 in
+        (exchanges, are, is))
 
 pub answers_for : (o : OperationOf) (answer : Option (StatusWord × List ℕ)) → IsSettled o
     → IsAnswer o.exchange answer → IsTerminalAnswer (Some o) answer
@@ -216,6 +273,7 @@ idle_turn = record {
   turn_is = refl;
   stays = λ _. refl;
   bounds = tt;
+  by_characters = λ known. known;
   led = λ commands came byte l is. absurd l;
 }
 
@@ -226,6 +284,7 @@ idle_take byte = record {
   bounds = tt;
   unchanged = λ _. refl;
   failed = λ final. absurd (cc);
+  by_characters = tt;
   led = λ commands came l. absurd l;
 }
 
@@ -236,6 +295,7 @@ idle_answered bytes status = record {
   bounds = tt;
   unchanged = λ _. refl;
   failed = λ final. absurd (cc);
+  whole = tt;
   led = λ commands came d l gives. absurd l;
   given = λ final. absurd (cc);
 }

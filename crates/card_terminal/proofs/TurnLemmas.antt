@@ -43,8 +43,8 @@ over_at host (SendingHeader sent) status e =
     absurd (sending_on host (nat_lt sent 4) (sent + 1) status e)
 over_at host (Awaiting moved) status e = refl
 over_at host (Moving moved until) status e = data_over host host.direction moved until status e
-over_at host (AwaitingSecond sw1) status e = refl
-over_at host (Ended other) status e = refl
+over_at host (AwaitingSecond sw1 sent) status e = refl
+over_at host (Ended other sent) status e = refl
 over_at host Broken status e = refl
 
 -- if it has ended after a turn, it had before, and nothing has changed
@@ -63,8 +63,8 @@ opens_at : (host : Hosting) (stage : HostStage) → HostStandsAt (at_stage host 
 opens_at host (SendingHeader sent) stands = (_, refl)
 opens_at host (Awaiting moved) stands = absurd stands
 opens_at host (Moving moved until) stands = absurd stands
-opens_at host (AwaitingSecond sw1) stands = absurd stands
-opens_at host (Ended status) stands = absurd stands
+opens_at host (AwaitingSecond sw1 sent) stands = absurd stands
+opens_at host (Ended status sent) stands = absurd stands
 opens_at host Broken stands = absurd stands
 
 pub opening_turn : (host : Hosting) → HostStandsAt host fresh
@@ -84,8 +84,8 @@ not_listening_at host (SendingHeader n) sent gather byte e = refl
 not_listening_at host (Awaiting moved) sent gather byte e = absurd (cc)
 not_listening_at host (Moving moved until) sent gather byte e =
     data_not_due host.direction host.content moved sent gather e
-not_listening_at host (AwaitingSecond sw1) sent gather byte e = absurd (cc)
-not_listening_at host (Ended status) sent gather byte e = absurd (cc)
+not_listening_at host (AwaitingSecond sw1 known) sent gather byte e = absurd (cc)
+not_listening_at host (Ended status known) sent gather byte e = absurd (cc)
 not_listening_at host Broken sent gather byte e = absurd (cc)
 
 -- a character of the card is `NotListening` then

@@ -13,20 +13,22 @@ use Rattle.t0_core.specs.declared.host_end.HostTurn.TheVariants.{Sends, Failed}
 use Rattle.t0_core.specs.declared.answer_fault.AnswerFault.{AnswerFault}
 use Rattle.t0_core.specs.declared.answer_fault.AnswerFault.TheVariants.{NotDue, TooLong as AnswerTooLong}
 use Rattle.t0_core.specs.declared.line_fault.LineFault.TheVariants.{TooLong}
+use Rattle.t0_core.specs.declared.data_sent.DataSent.TheVariants.{NotKnown}
+use Rattle.t0_core.specs.DataSent.{both}
 use Rattle.t0_core.specs.Character.{Character}
 use Rattle.t0_core.specs.Dialogue.{Dialogue, IsDialogue, characters}
 use Rattle.t0_core.specs.Meaning.{received}
 use Rattle.t0_core.specs.Front.{Front, In_body, After_first, IsFront, Ends, brought, front_characters, from_card, fresh}
 use Rattle.t0_core.specs.DialogueLaws.{ends_with}
 use Rattle.t0_core.specs.Room.{Room}
-use Rattle.t0_core.specs.HostSide.{Hosting, HostStandsAt, IsOpenedBy, IsRequest, at_stage, gathered, fault_of, data_fault, turn_of}
+use Rattle.t0_core.specs.HostSide.{Hosting, HostStandsAt, IsOpenedBy, IsRequest, at_stage, gathered, fault_of, data_fault, turn_of, data_sent}
 use Rattle.t0_core.specs.HostAnswer.{is_due, excess, answer_fault, after_answer_fault, before_sw2, moving_in, Gives}
 use Rattle.t0_core.specs.declared.whole_tpdu.WholeTpdu.{WholeTpdu}
 use Rattle.t0_core.specs.TpduBytes.{Asked, asked_of, asked_by, due_by}
 use Rattle.t0_core.specs.WholeLaws.{whole_front}
 use Rattle.t0_core.specs.AnswerLaws.{due_is_fresh, fresh_is_due, due_sends, dialogue_overflows}
 use Rattle.card_terminal.specs.Gathered.{UnitOf}
-use Rattle.card_terminal.specs.ExchangeSide.{ExchangeOf, UnderWay, IsKept, so_far, exchange_turn}
+use Rattle.card_terminal.specs.ExchangeSide.{ExchangeOf, UnderWay, IsKept, so_far, exchange_turn, exchange_sent}
 use Rattle.card_terminal.specs.ExchangeHistory.{ComesTo, ComesTooFar, to_front, to_end, to_stall, to_fault, characters_to}
 use Rattle.card_terminal.proofs.UnitLemmas.{received_of}
 use Rattle.card_terminal.proofs.ExchangeLemmas.{IsSameRequest, opened_too, place_too, with_host, sending_is_going}
@@ -154,6 +156,15 @@ took ex host room bytes sw kept no_fault taken stands = record {
   room_is = taken.1;
   stands = stands;
 }
+
+-- which data left in it is not known
+pub whole_sent : (ex seen : ExchangeOf) (host : Hosting) (room : Room)
+    (new : ExchangeOf) (sw : StatusWord) → ex ≡ seen → host ≡ before_sw2 ex.host sw
+    → exchange_sent new ≡ exchange_sent (with_host ex host room)
+    → exchange_sent new ≡ both seen.attempt.sent NotKnown
+whole_sent ex seen host room new sw is host_is same =
+    same ∙ ap (λ (h : Hosting). both ex.attempt.sent (data_sent h)) host_is
+    ∙ ap (λ (x : ExchangeOf). both x.attempt.sent NotKnown) is
 
 due_where : (due more fits : Bool) (x : AnswerFault)
     → (if due then (if more then Some x else (if fits then None else Some AnswerTooLong))

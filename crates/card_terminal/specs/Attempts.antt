@@ -2,12 +2,17 @@
 use Rattle.std.specs.Prelude.{◌≡◌, ℕ, ◌+◌, ◌*◌, ◌≤◌, Option, Some, None, Bool, true, false, not, ◌&&◌, ◌==◌, if◌then◌else◌}
 use Rattle.apdu_core.specs.HeaderBytes.{ins_is_valid}
 use Rattle.apdu_core.specs.StatusWord.{StatusWord, corrects}
+use Rattle.t0_core.specs.declared.data_sent.DataSent.{DataSent}
 use Rattle.card_terminal.specs.declared.wanted.Wanted.{Wanted}
 use Rattle.card_terminal.specs.declared.attempt.Attempt.{Attempt}
 use Rattle.card_terminal.specs.declared.attempt.Next.{Next}
 use Rattle.card_terminal.specs.declared.attempt.Next.TheVariants.{Asks, Stalls, Ends}
 use Rattle.object_card.specs.CarryingOut.{get_response}
 use Rattle.card_terminal.specs.Gathered.{wants_at_least, fetched_after}
+
+-- the same place, where the TPDUs up to its own have sent this
+abbrev pub with_sent : Attempt → DataSent → Attempt
+with_sent a sent = record a { sent = sent }
 
 abbrev pub repetition : Attempt → Attempt
 repetition a = record {
@@ -18,6 +23,7 @@ repetition a = record {
       true;
   before = a.before;
   number = a.number + 1;
+  sent = a.sent;
 }
 
 abbrev pub fetch : Attempt → ℕ → Attempt
@@ -29,6 +35,7 @@ fetch a gathered = record {
   before =
       gathered;
   number = a.number + 1;
+  sent = a.sent;
 }
 
 -- The count to repeat a TPDU with: if it asked for data and repeats none, the count of 6CXX, unless

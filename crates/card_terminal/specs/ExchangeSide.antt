@@ -10,11 +10,13 @@ use Rattle.t0_core.specs.declared.host_end.HostTurn.{HostTurn}
 use Rattle.t0_core.specs.declared.host_end.HostTurn.TheVariants.{Done, Failed}
 use Rattle.t0_core.specs.declared.line_fault.LineFault.{LineFault}
 use Rattle.t0_core.specs.declared.line_fault.LineFault.TheVariants.{BadProcedure, AfterEnd, TooLong, Stalled, NotListening}
+use Rattle.t0_core.specs.declared.data_sent.DataSent.{DataSent}
+use Rattle.t0_core.specs.DataSent.{both, sent_in_all, IsKnown, Tells}
 use Rattle.t0_core.specs.Dialogue.{Dialogue, IsDialogue}
 use Rattle.t0_core.specs.Meaning.{received}
 use Rattle.t0_core.specs.Front.{Front, IsFront, brought, fresh}
 use Rattle.t0_core.specs.Room.{Room}
-use Rattle.t0_core.specs.HostSide.{Hosting, HostStandsAt, IsRequest, turn_of}
+use Rattle.t0_core.specs.HostSide.{Hosting, HostStandsAt, IsRequest, turn_of, data_sent}
 use Rattle.card_terminal.specs.declared.wanted.Wanted.{Wanted}
 use Rattle.card_terminal.specs.declared.attempt.Attempt.{Attempt}
 use Rattle.card_terminal.specs.declared.exchange.TheConstants.{RESPONSE_LIMIT}
@@ -92,6 +94,7 @@ pub record IsPlaceOf (a : Attempt) (opening : Opening) (units : List UnitOf)
   pub repeats_is : a.repeats ≡ is_some first
   pub before_is : a.before ≡ length (flat_map unit_data units)
   pub number_is : a.number ≡ length (so_far units first) + 1
+  pub sent_is : Tells a.sent (sent_in_all (so_far units first))
 
 -- the most bytes of any response: no exchange has more room
 abbrev pub response_limit : ℕ
@@ -114,12 +117,21 @@ pub record UnderWay (c : Command) (ex : ExchangeOf) (units : List UnitOf)
   pub wanted_is : ex.wanted ≡ wanted_by c.le
   pub going : ex.stalled ≡ false
 
+-- whether the TPDUs of the exchange have sent all their data
+abbrev pub exchange_sent : ExchangeOf → DataSent
+exchange_sent ex = both ex.attempt.sent (data_sent ex.host)
+
+-- all TPDUs so far went character by character, and no error has ended the last
+abbrev pub GoesByCharacters : ExchangeOf → Type 0
+GoesByCharacters ex = IsKnown ex.attempt.sent × IsKnown (data_sent ex.host)
+
 -- the exchange has ended: these are its units, and it has their data and their status
 pub record IsOver (c : Command) (ex : ExchangeOf) (units : List UnitOf)
     (status : StatusWord) : Type 0 where
   pub gathers : Gathers c units ex.gather.bytes status
   pub are_dialogues : AllByRecursion IsDialogue (flat_map dialogues_of units)
   pub done : turn_of ex.host ≡ Done status
+  pub sent_is : Tells (exchange_sent ex) (sent_in_all (flat_map dialogues_of units))
   pub going : ex.stalled ≡ false
 
 -- the exchange of these units has stalled: the last is a fetch that brought nothing, and the card

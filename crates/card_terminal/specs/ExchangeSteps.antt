@@ -9,6 +9,8 @@ use Rattle.t0_core.specs.declared.line_fault.LineFault.{LineFault}
 use Rattle.t0_core.specs.declared.line_fault.LineFault.TheVariants.{AfterEnd, TooLong, Stalled}
 use Rattle.t0_core.specs.declared.answer_fault.AnswerFault.{AnswerFault}
 use Rattle.t0_core.specs.declared.answer_fault.AnswerFault.TheVariants as answer
+use Rattle.t0_core.specs.declared.data_sent.DataSent.TheVariants.{NotKnown}
+use Rattle.t0_core.specs.DataSent.{both}
 use Rattle.t0_core.specs.Character.{Character}
 use Rattle.t0_core.specs.Dialogue.{Dialogue, characters}
 use Rattle.t0_core.specs.Front.{Front, GoesOn, Ends, brought, fresh}
@@ -17,7 +19,7 @@ use Rattle.t0_core.specs.HostAnswer.{answer_fault, fails_with, Gives}
 use Rattle.card_terminal.specs.declared.start_fault.StartFault.{StartFault}
 use Rattle.card_terminal.specs.declared.start_fault.StartFault.TheVariants.{OutOfMemory, OverLimit}
 use Rattle.card_terminal.specs.Gathered.{UnitOf, Gathers}
-use Rattle.card_terminal.specs.ExchangeSide.{ExchangeOf, UnderWay, IsBounded, IsAtEnd, Continues, Stall, exchange_turn, ended_with, is_final, response_limit}
+use Rattle.card_terminal.specs.ExchangeSide.{ExchangeOf, UnderWay, IsBounded, IsAtEnd, Continues, Stall, GoesByCharacters, exchange_turn, exchange_sent, ended_with, is_final, response_limit}
 use Rattle.card_terminal.specs.ExchangeHistory.{ComesTo, ComesTooFar, unit_characters}
 
 -- An exchange with this limit has begun. Or the limit exceeds that of any response. Or it does not,
@@ -39,10 +41,12 @@ pub record IsTurn (old : ExchangeOf) (turn : HostTurn) (new : ExchangeOf) : Type
   pub goes_on : (c : Command) (units : List UnitOf) (first : Option Dialogue) (front : Front)
       (byte : ℕ) → UnderWay c old units first front → turn ≡ Sends byte
       → (next : Front) × GoesOn front (Terminal, byte) next × UnderWay c new units first next
+  pub by_characters : GoesByCharacters old → GoesByCharacters new
   pub led : (c : Command) (came : List Character) (byte : ℕ) → ComesTo c came old
       → turn ≡ Sends byte → ComesTo c (came ++ (Terminal, byte) ∷ []) new
 
--- The exchange takes a character of the card, or it is a fault. A fault that is not final changes
+-- The exchange takes a character of the card, which leaves as it is what the terminal has sent; or
+-- it is a fault. A fault that is not final changes
 -- nothing; after a final one the exchange has failed.
 pub record IsTaking (old : ExchangeOf) (byte : ℕ) (result : Result (Unit {0}) LineFault)
     (new : ExchangeOf) : Type 0 where
@@ -69,11 +73,14 @@ pub record IsTaking (old : ExchangeOf) (byte : ℕ) (result : Result (Unit {0}) 
       (d : Dialogue) → UnderWay c old units first front → Ends front (Card, byte) d
       → MatchResult result (λ _. Continues c new units first d)
       (λ fault. (fault ≡ Stalled) × Stall c (units ++ ended_with first d ∷ []))
+  pub by_characters : OnOk result (GoesByCharacters old → GoesByCharacters new)
+  pub sent : OnOk result (exchange_sent new ≡ exchange_sent old)
   pub led : (c : Command) (came : List Character) → ComesTo c came old
       → MatchResult result (λ _. ComesTo c (came ++ (Card, byte) ∷ []) new)
       (λ fault. is_final fault ≡ true → ComesTo c (came ++ (Card, byte) ∷ []) new)
 
--- The exchange takes the answer to a whole TPDU, or it is a fault. After any dialogue with this
+-- The exchange takes the answer to a whole TPDU, or it is a fault. Which data left in it is not
+-- known. After any dialogue with this
 -- answer it continues as after its characters, or fails as there. A fault that is not final changes
 -- nothing.
 pub record IsAnswering (old : ExchangeOf) (bytes : List ℕ) (status : StatusWord)
@@ -91,6 +98,7 @@ pub record IsAnswering (old : ExchangeOf) (bytes : List ℕ) (status : StatusWor
       (λ fault. ((fault ≡ answer.Stalled) × Stall c (units ++ ended_with first d ∷ []))
       ⊎ ((fault ≡ answer.TooLong)
       × (old.gather.limit < length old.gather.bytes + length bytes)))
+  pub whole : OnOk result (exchange_sent new ≡ both old.attempt.sent NotKnown)
   pub led : (c : Command) (came : List Character) (d : Dialogue) → ComesTo c came old
       → Gives old.host d bytes status
       → MatchResult result (λ _. ComesTo c (came ++ characters d) new)

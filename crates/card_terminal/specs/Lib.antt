@@ -5,6 +5,7 @@ pub mod ExchangeSide
 pub mod Conversing
 pub mod ExchangeHistory
 pub mod ExchangeSteps
+pub mod SentData
 pub mod OwnedExchange
 pub mod Talk
 pub mod AnswerList

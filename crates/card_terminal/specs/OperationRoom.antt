@@ -1,7 +1,8 @@
 -- The data of an operation at a terminal, and how an operation begins.
 use Rattle.std.specs.Prelude.{◌≡◌, ℕ, ◌≤◌, List, [], length, drop, true}
 use Rattle.apdu_core.specs.CommandBytes.{Command}
-use Rattle.card_terminal.specs.ExchangeSide.{ExchangeOf}
+use Rattle.t0_core.specs.declared.data_sent.DataSent.TheVariants.{All}
+use Rattle.card_terminal.specs.ExchangeSide.{ExchangeOf, GoesByCharacters}
 use Rattle.card_terminal.specs.ExchangeHistory.{ComesTo}
 use Rattle.card_terminal.specs.OwnedExchange.{IsSound}
 use Rattle.card_terminal.specs.TerminalSide.{OperationOf, IsSettled}
@@ -22,3 +23,5 @@ pub record BeginsWith (first : Command) (content : List ℕ) (o : OperationOf) :
   pub rest_is : o.rest ≡ drop (length first.content) content
   pub settled : IsSettled o
   pub is_first : o.first ≡ true
+  pub sent_is : o.sent ≡ All
+  pub by_characters : GoesByCharacters o.exchange

@@ -6,23 +6,27 @@ use Rattle.apdu_core.specs.CommandBytes.{Command}
 use Rattle.apdu_core.specs.Chaining.{IsPieces, chain_commands}
 use Rattle.t0_core.specs.declared.host_end.HostTurn.{HostTurn}
 use Rattle.t0_core.specs.declared.host_end.HostTurn.TheVariants.{Sends, Done}
+use Rattle.t0_core.specs.declared.data_sent.DataSent.{DataSent}
+use Rattle.t0_core.specs.DataSent.{both, sent_in_all, IsKnown, Tells}
 use Rattle.t0_core.specs.Character.{Character}
 use Rattle.t0_core.specs.Dialogue.{IsDialogue}
 use Rattle.object_card.specs.CarryingOut.{put_header}
 use Rattle.card_terminal.specs.Gathered.{UnitOf}
 use Rattle.card_terminal.specs.Talk.{AreTakenUpTo, talk_dialogues, talk_characters}
-use Rattle.card_terminal.specs.ExchangeSide.{ExchangeOf, IsBounded, exchange_turn, response_limit}
+use Rattle.card_terminal.specs.ExchangeSide.{ExchangeOf, IsBounded, GoesByCharacters, exchange_turn, exchange_sent, response_limit}
 use Rattle.card_terminal.specs.ExchangeHistory.{ComesTo, ComesTooFar}
 use Rattle.card_terminal.specs.Conversing.{is_done}
 
 -- The exchange of the operation's current command; the bytes still to put after its data (`rest`),
--- under the tag that these P1-P2 name; and whether that command is the first.
+-- under the tag that these P1-P2 name; and whether that command is the first. `sent` is whether
+-- those before it have sent all their data.
 pub record OperationOf : Type 0 where
   pub exchange : ExchangeOf
   pub p1 : ℕ
   pub p2 : ℕ
   pub rest : List ℕ
   pub first : Bool
+  pub sent : DataSent
 
 -- the view of a terminal: the most bytes that a response may have, and the last operation, if any
 pub record TerminalOf : Type 0 where
@@ -60,6 +64,7 @@ pub record HasCome (Led : Command → List Character → Type 0) (commands : Lis
   pub is_first : o.first ≡ true → gone ≡ []
   pub are_dialogues : AllByRecursion IsDialogue (talk_dialogues gone)
   pub are_left : AreLeft o.p1 o.p2 o.rest left
+  pub sent_is : Tells o.sent (sent_in_all (talk_dialogues gone))
   pub here : List Character
   pub led : Led current here
   pub came_is : came ≡ talk_characters gone ++ here
@@ -107,7 +112,23 @@ is_going (Some o) = not (is_done (exchange_turn o.exchange))
 
 abbrev pub with_exchange : OperationOf → ExchangeOf → OperationOf
 with_exchange o ex =
-    record { exchange = ex; p1 = o.p1; p2 = o.p2; rest = o.rest; first = o.first }
+    record {
+      exchange = ex;
+      p1 = o.p1;
+      p2 = o.p2;
+      rest = o.rest;
+      first = o.first;
+      sent = o.sent;
+    }
+
+-- whether all data of its commands so far have left the terminal
+abbrev pub operation_sent : OperationOf → DataSent
+operation_sent o = both o.sent (exchange_sent o.exchange)
+
+-- all TPDUs so far went character by character, and no error has ended the last
+abbrev pub GoByCharacters : Option OperationOf → Type 0
+GoByCharacters None = Unit {0}
+GoByCharacters (Some o) = IsKnown o.sent × GoesByCharacters o.exchange
 
 -- the exchange of the next command has begun, and the terminal sends next
 pub record GoesToNext (old new : OperationOf) : Type 0 where
@@ -118,6 +139,8 @@ pub record GoesToNext (old new : OperationOf) : Type 0 where
       × AreLeft new.p1 new.p2 new.rest after
   pub sends : (byte : ℕ) × (exchange_turn new.exchange ≡ Sends byte)
   pub later : new.first ≡ false
+  pub sent : new.sent ≡ operation_sent old
+  pub by_characters : GoesByCharacters new.exchange
   pub bounds : IsBounded new.exchange
   pub limit : new.exchange.gather.limit ≡ old.exchange.gather.limit
 

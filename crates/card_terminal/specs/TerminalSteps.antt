@@ -1,5 +1,5 @@
 -- What each call does to a `Terminal`.
-use Rattle.std.specs.Prelude.{◌≡◌, ℕ, List, [], ◌∷◌, ◌++◌, Option, Some, None, true, false, ◌⊎◌, Result, MatchResult, IfErr, IsErrOf, IfSome, is_some}
+use Rattle.std.specs.Prelude.{◌≡◌, ℕ, List, [], ◌∷◌, ◌++◌, Option, Some, None, true, false, ◌⊎◌, Result, MatchResult, OnOk, IfErr, IsErrOf, IfSome, is_some}
 use Rattle.apdu_core.specs.StatusWord.{StatusWord}
 use Rattle.apdu_core.specs.CommandBytes.{Command}
 use Rattle.t0_core.specs.declared.end.End.TheVariants.{Terminal, Card}
@@ -9,6 +9,7 @@ use Rattle.t0_core.specs.declared.line_fault.LineFault.{LineFault}
 use Rattle.t0_core.specs.declared.line_fault.LineFault.TheVariants.{AfterEnd, Stalled}
 use Rattle.t0_core.specs.declared.answer_fault.AnswerFault.{AnswerFault}
 use Rattle.t0_core.specs.declared.answer_fault.AnswerFault.TheVariants as answer
+use Rattle.t0_core.specs.declared.data_sent.DataSent.TheVariants.{All}
 use Rattle.t0_core.specs.Character.{Character}
 use Rattle.t0_core.specs.Dialogue.{Dialogue, characters}
 use Rattle.t0_core.specs.HostSide.{fault_of, data_due}
@@ -21,7 +22,7 @@ use Rattle.card_terminal.specs.Buffers.{IsHandingOut}
 use Rattle.card_terminal.specs.Gathered.{UnitOf}
 use Rattle.card_terminal.specs.Talk.{AreExchangesOf, talk_characters}
 use Rattle.card_terminal.specs.ExchangeSide.{IsBounded, is_final}
-use Rattle.card_terminal.specs.TerminalSide.{OperationOf, LeadsTo, LeadsTooFarTo, terminal_turn, is_going}
+use Rattle.card_terminal.specs.TerminalSide.{OperationOf, LeadsTo, LeadsTooFarTo, GoByCharacters, operation_sent, terminal_turn, is_going}
 
 -- An operation with these commands has begun. Or another is in progress, or memory ran out, and
 -- nothing has changed.
@@ -33,6 +34,7 @@ pub record IsBeginning (AreIts : List Command → Type 0) (old : Option Operatio
   pub under_way : MatchResult result (λ _. is_going old ≡ false)
       (λ fault. ((fault ≡ UnderWay) × (is_going old ≡ true))
       ⊎ ((fault ≡ OutOfMemory) × (is_going old ≡ false)))
+  pub by_characters : OnOk result (GoByCharacters new)
 
 -- the exchange keeps within the bounds on its data and its TPDUs
 abbrev pub KeepsBounds : Option OperationOf → Type 0
@@ -45,6 +47,7 @@ pub record IsTerminalTurn (old : Option OperationOf) (turn : Option HostTurn)
   pub turn_is : turn ≡ terminal_turn old
   pub stays : ((byte : ℕ) → turn ≡ Some (Sends byte) → ⊥) → new ≡ old
   pub bounds : KeepsBounds new
+  pub by_characters : GoByCharacters old → GoByCharacters new
   pub led : (commands : List Command) (came : List Character) (byte : ℕ)
       → LeadsTo commands came old → turn ≡ Some (Sends byte)
       → LeadsTo commands (came ++ (Terminal, byte) ∷ []) new
@@ -78,6 +81,7 @@ pub record IsTerminalTaking (old : Option OperationOf) (byte : ℕ)
   pub bounds : KeepsBounds new
   pub unchanged : IfErr result (λ fault. is_final fault ≡ false → new ≡ old)
   pub failed : IfErr result (λ fault. is_final fault ≡ true → terminal_turn new ≡ Some Failed)
+  pub by_characters : OnOk result (GoByCharacters old → GoByCharacters new)
   pub led : (commands : List Command) (came : List Character) → LeadsTo commands came old
       → MatchResult result (λ _. LeadsTo commands (came ++ (Card, byte) ∷ []) new)
       (λ fault. is_final fault ≡ true → LeadsTo commands (came ++ (Card, byte) ∷ []) new)
@@ -111,7 +115,8 @@ abbrev pub GivesTo : Option OperationOf → Dialogue → List ℕ → StatusWord
 GivesTo None d bytes status = ⊥
 GivesTo (Some o) d bytes status = Gives o.exchange.host d bytes status
 
--- The terminal takes the answer to a whole TPDU, or it is a fault. After any dialogue with this
+-- The terminal takes the answer to a whole TPDU, or it is a fault. Which data left in it is not
+-- known. After any dialogue with this
 -- answer it continues as after its characters, or fails as there. A fault that is not final changes
 -- nothing. Some dialogue gives each answer that is taken or makes the operation fail.
 pub record IsTerminalAnswering (old : Option OperationOf) (bytes : List ℕ) (status : StatusWord)
@@ -122,6 +127,7 @@ pub record IsTerminalAnswering (old : Option OperationOf) (bytes : List ℕ) (st
   pub bounds : KeepsBounds new
   pub unchanged : IfErr result (λ fault. fails_with fault ≡ false → new ≡ old)
   pub failed : IfErr result (λ fault. fails_with fault ≡ true → terminal_turn new ≡ Some Failed)
+  pub whole : OnOk result (IfSome new (λ o. operation_sent o ≡ All → ⊥))
   pub led : (commands : List Command) (came : List Character) (d : Dialogue)
       → LeadsTo commands came old → GivesTo old d bytes status
       → MatchResult result (λ _. LeadsTo commands (came ++ characters d) new)

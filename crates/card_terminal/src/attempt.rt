@@ -7,6 +7,7 @@ ghost use Rattle.card_terminal.specs.Attempts.{again_with, following, IsCounted,
 
 use crate::wanted::Wanted;
 use apdu_core::{Header, Status};
+use t0_core::DataSent;
 
 /// The header of a GET RESPONSE, `00C00000` (ISO/IEC 7816-4, GET RESPONSE).
 pub const GET_RESPONSE: Header = Header {
@@ -31,6 +32,8 @@ pub struct Attempt {
     pub before: usize,
     /// Its number in the exchange, from 1.
     pub number: usize,
+    /// Whether the TPDUs before it have sent all their data.
+    pub sent: DataSent,
 }
 
 /// What follows when a TPDU has ended.
@@ -83,6 +86,7 @@ impl Attempt {
                     repeats: false,
                     before: gathered,
                     number: self.number + 1,
+                    sent: self.sent,
                 },
                 count,
             },

@@ -9,7 +9,7 @@ ghost use Rattle.t0_core.specs.Front.{fresh};
 ghost use Rattle.t0_core.specs.HostSide.{HostStandsAt, IsRequest};
 ghost use Rattle.t0_core.specs.HostMark.{HasOnly};
 ghost use Rattle.t0_core.specs.TpduBytes.{asked_of, due_by};
-ghost use Rattle.card_terminal.specs.ExchangeSide.{HostOpensBy, asks_card, response_limit};
+ghost use Rattle.card_terminal.specs.ExchangeSide.{GoesByCharacters, HostOpensBy, asks_card, response_limit};
 
 mod exchange_mark;
 mod handing;
@@ -28,7 +28,7 @@ use handing::handed_by;
 pub use owned::OwnedExchange;
 use std::alloc::{AllocError, Allocator, Global};
 use std::marker::Model;
-use t0_core::{AnswerFault, Gather, HostEnd, HostTurn, LineFault, WholeTpdu};
+use t0_core::{AnswerFault, DataSent, Gather, HostEnd, HostTurn, LineFault, WholeTpdu};
 use taking::{all_taken_by, taken_by};
 
 /// The most data bytes of a response that any exchange gathers (profile).
@@ -85,6 +85,7 @@ impl<'a, A: Allocator> Exchange<'a, A> {
     ghost use Rattle.card_terminal.specs.ExchangeSteps.{IsTurn, IsTaking, IsAnswering, IsLimited};
     ghost use Rattle.card_terminal.specs.Gathered.{UnitOf, Gathers};
     ghost use Rattle.card_terminal.specs.ExchangeHistory.{ComesTo, unit_characters};
+    ghost use Rattle.card_terminal.specs.SentData.{TellsSent};
     ghost use Rattle.t0_core.specs.Character.{Character};
     ghost use Rattle.card_terminal.specs.ExchangeSide.{UnderWay, IsKept, exchange_turn};
 
@@ -98,6 +99,7 @@ impl<'a, A: Allocator> Exchange<'a, A> {
         ensures led { IfOk result (λ ex. ComesTo command.entry [] ex) }
         ensures data { IfOk result (λ ex. HasOnly command.entry.content ex.host) }
         ensures limit { IfOk result (λ ex. ex.gather.limit ≡ RESPONSE_LIMIT) }
+        ensures by_characters { IfOk result (λ ex. GoesByCharacters ex) }
     {
         Exchange::in_room(alloc, command, RESPONSE_LIMIT)
     }
@@ -121,6 +123,7 @@ impl<'a, A: Allocator> Exchange<'a, A> {
         ensures led { IfOk result (λ ex. ComesTo command.entry [] ex) }
         ensures data { IfOk result (λ ex. HasOnly command.entry.content ex.host) }
         ensures limited { IsLimited limit result }
+        ensures by_characters { IfOk result (λ ex. GoesByCharacters ex) }
     {
         if limit > RESPONSE_LIMIT {
             return Err(StartFault::OverLimit);
@@ -136,6 +139,7 @@ impl<'a, A: Allocator> Exchange<'a, A> {
         ensures led { IfOk result (λ ex. ComesTo command.entry [] ex) }
         ensures data { IfOk result (λ ex. HasOnly command.entry.content ex.host) }
         ensures limit { IfOk result (λ ex. ex.gather.limit ≡ limit) }
+        ensures by_characters { IfOk result (λ ex. GoesByCharacters ex) }
     {
         let gather = Gather::with_room(alloc, limit)?;
         Ok(Exchange::begin(gather, command))
@@ -147,6 +151,7 @@ impl<'a, A: Allocator> Exchange<'a, A> {
         ensures begins { UnderWay command.entry result [] None fresh }
         ensures led { ComesTo command.entry [] result }
         ensures limit { result.gather.limit ≡ self.entry.gather.limit }
+        ensures by_characters { GoesByCharacters result }
     {
         let Exchange { mut gather, .. } = self;
         gather.clear();
@@ -160,6 +165,7 @@ impl<'a, A: Allocator> Exchange<'a, A> {
         ensures begins { UnderWay command.entry result [] None fresh }
         ensures data { HasOnly command.entry.content result.host }
         ensures room { result.gather ≡ gather }
+        ensures by_characters { GoesByCharacters result }
     {
         let header = command.header();
         let le = command.le();
@@ -174,6 +180,7 @@ impl<'a, A: Allocator> Exchange<'a, A> {
                 repeats: false,
                 before: 0,
                 number: 1,
+                sent: DataSent::All,
             },
             wanted: Wanted::by(le),
             stalled: false,
@@ -285,6 +292,18 @@ impl<'a, A: Allocator> Exchange<'a, A> {
             → IsSome result ↔ (front ≡ fresh) }
     {
         self.end.whole()
+    }
+
+    /// Whether all data of the command have left the terminal. A card may end a TPDU before it
+    /// takes the data, with any status (ISO/IEC 7816-3, 10.3.3).
+    ///
+    /// - `All`: the terminal has sent each data character, or the command has no data.
+    /// - `NotAll`: it has not. This stays if the card has ended the TPDU.
+    /// - `NotKnown`: a TPDU went as a whole (`answered`), or an error has ended the last.
+    pub fn data_sent(&self) -> DataSent
+        ensures { TellsSent self.now result }
+    {
+        self.attempt.sent.and(self.end.data_sent())
     }
 
     /// Takes the answer of the card to the TPDU that `tpdu` returns: its data, `bytes`, and its

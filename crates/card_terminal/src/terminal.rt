@@ -10,6 +10,7 @@ ghost use Rattle.card_terminal.specs.OperationRoom.{BeginsWith};
 ghost use Rattle.card_terminal.specs.Buffers.{IsTakingAll};
 ghost use Rattle.card_terminal.specs.TerminalSteps.{IsBeginning, IsTerminalTurn, IsTerminalHandingOut, IsTerminalTaking, IsTerminalAnswering, IsTerminalAnswer, terminal_due, terminal_data};
 ghost use Rattle.card_terminal.specs.Unsent.{IsUnsent};
+ghost use Rattle.card_terminal.specs.SentData.{TellsTerminalSent};
 ghost use Rattle.t0_core.specs.TpduBytes.{asked_of};
 
 mod begin_fault;
@@ -27,7 +28,7 @@ use object_card::Aid;
 use operation::Operation;
 use std::alloc::{AllocError, Allocator, Global};
 use std::marker::Model;
-use t0_core::{AnswerFault, HostTurn, LineFault, WholeTpdu};
+use t0_core::{AnswerFault, DataSent, HostTurn, LineFault, WholeTpdu};
 use tlv_core::ObjectTag;
 
 /// A terminal that carries out operations with a card over any line. Its caller sends the
@@ -283,6 +284,18 @@ impl<A: Allocator + Copy> Terminal<A> {
         match &self.operation {
             None => None,
             Some(operation) => operation.unsent(),
+        }
+    }
+
+    /// Whether all data of the operation's commands so far have left the terminal, as
+    /// `Exchange::data_sent`; `None` if no operation has begun. If the card ends a piece of a put
+    /// before it takes the piece, `NotAll` stays for the rest of the operation.
+    pub fn data_sent(&self) -> Option<DataSent>
+        ensures { TellsTerminalSent self.now.operation result }
+    {
+        match &self.operation {
+            None => None,
+            Some(operation) => Some(operation.data_sent()),
         }
     }
 

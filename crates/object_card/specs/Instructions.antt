@@ -1,6 +1,7 @@
 -- The instructions of a card of data objects: the INS of each, and the direction of its data
 -- (ISO/IEC 7816-4, SELECT, GET DATA, PUT DATA and GET RESPONSE).
 use Rattle.std.specs.Prelude.{◌≡◌, ℕ, Option, Some, None, Bool, true, false, ◌==◌, if◌then◌else◌}
+use Rattle.apdu_core.specs.declared.header.Header.{Header}
 use Rattle.object_card.specs.declared.instructions.Instruction.{Instruction}
 use Rattle.object_card.specs.declared.instructions.Instruction.TheVariants.{Select, GetData, PutData, GetResponse}
 
@@ -25,10 +26,10 @@ instruction_of ins =
     else if ins == ins_of PutData then Some PutData
     else if ins == ins_of GetResponse then Some GetResponse else None
 
--- data to the card may follow this INS
-abbrev pub MayReceive : ℕ → Type 0
-MayReceive ins = (i : Instruction) × (ins ≡ ins_of i) × (takes_data i ≡ true)
+-- data to the card may follow this header
+abbrev pub MayReceive : Header → Type 0
+MayReceive h = (i : Instruction) × (h.ins ≡ ins_of i) × (takes_data i ≡ true)
 
--- data from the card may follow this INS
-abbrev pub MaySend : ℕ → Type 0
-MaySend ins = (i : Instruction) × (ins ≡ ins_of i) × (takes_data i ≡ false)
+-- data from the card may follow this header
+abbrev pub MaySend : Header → Type 0
+MaySend h = (i : Instruction) × (h.ins ≡ ins_of i) × (takes_data i ≡ false)

@@ -2,6 +2,7 @@
 ghost use Rattle.std.specs.Prelude.{◌≡◌, ◌↔◌, ℕ, ◌≤◌, length};
 ghost use Rattle.object_card.specs.State.{CardState, IsCardState, is_idle, waiting};
 ghost use Rattle.object_card.specs.DataCard.{StandsFor};
+ghost use Rattle.apdu_core.specs.declared.header.Header.{Header};
 ghost use Rattle.object_card.specs.Instructions.{MayReceive, MaySend};
 
 use crate::limits::RESPONSE_LIMIT;
@@ -31,8 +32,8 @@ pub trait DataCard: TpduCard {
         × StandsFor Self.Does Self.after_reset state_of };
 
     /// Data go to the card only for SELECT and PUT DATA.
-    ghost receives: { (ins : ℕ) → Self.MayReceive ins ↔ MayReceive ins };
+    ghost receives: { (h : Header) → Self.MayReceive h ↔ MayReceive h };
 
     /// Data come from the card only for GET DATA and GET RESPONSE.
-    ghost sends: { (ins : ℕ) → Self.MaySend ins ↔ MaySend ins };
+    ghost sends: { (h : Header) → Self.MaySend h ↔ MaySend h };
 }

@@ -36,7 +36,7 @@ pub(crate) fn judged<A: Allocator>(
     ensures fits { FitsView view.now result.1 }
     ensures keeps { standing_chain view.now.chain.now result.1 ≡ view.now.chain.now }
     ensures invalid { ins_is_valid header.ins ≡ false → IsRefusal result.0 }
-    ensures permitted { Permits MayReceive MaySend header.ins result.0 }
+    ensures permitted { Permits MayReceive MaySend header result.0 }
 {
     let sends = to_send(view, header);
     if let Some(status) = refusal(view, header, p3, &sends) {

@@ -677,13 +677,14 @@ header_taken phase bytes came taken h p3 is held due whole =
     sym (whole_header bytes taken held.0 held.1 due) ∙ e) due whole
 
 -- what a verdict permits stays permitted until the status
-pub stays_permitted : (MayReceive MaySend : ℕ → Type 0) (ins : ℕ) (judged stage : Stage)
-    → KeepsDirection judged stage → IsPermitted MayReceive MaySend ins judged
-    → IsPermitted MayReceive MaySend ins stage
-stays_permitted MayReceive MaySend ins judged (Taking_header bytes) keeps permitted = tt
-stays_permitted MayReceive MaySend ins judged (Refusing h p3 status done) keeps permitted = tt
-stays_permitted MayReceive MaySend ins judged (Ending status) keeps permitted = tt
-stays_permitted MayReceive MaySend ins judged (Serving s came) keeps permitted =
-    let At : Stage → Type 0 = λ j. IsPermitted MayReceive MaySend ins j in
-    let By : Direction → Type 0 = λ d. PermitsData MayReceive MaySend ins d in
+pub stays_permitted : (MayReceive MaySend : Header → Type 0) (header : Header)
+    (judged stage : Stage)
+    → KeepsDirection judged stage → IsPermitted MayReceive MaySend header judged
+    → IsPermitted MayReceive MaySend header stage
+stays_permitted MayReceive MaySend header judged (Taking_header bytes) keeps permitted = tt
+stays_permitted MayReceive MaySend header judged (Refusing h p3 status done) keeps permitted = tt
+stays_permitted MayReceive MaySend header judged (Ending status) keeps permitted = tt
+stays_permitted MayReceive MaySend header judged (Serving s came) keeps permitted =
+    let At : Stage → Type 0 = λ j. IsPermitted MayReceive MaySend header j in
+    let By : Direction → Type 0 = λ d. PermitsData MayReceive MaySend header d in
     subst By keeps.3 (subst At keeps.2 permitted)

@@ -16,6 +16,8 @@ use Rattle.t0_core.specs.declared.direction.Direction.{Direction}
 use Rattle.t0_core.specs.declared.direction.Direction.TheVariants.{ToCard, FromCard}
 use Rattle.t0_core.specs.Dialogue.{Body, data_sender, foreseen, procedure_byte, moves, to_move}
 use Rattle.t0_core.specs.Front.{Front, In_header, In_body, After_first, GoesOn, IsBetween, header_only, with_segment, with_moved}
+use Rattle.t0_core.specs.DataSent.{sent_by_now}
+use Rattle.t0_core.specs.DataSentLaws.{tells_itself}
 use Rattle.t0_core.specs.HostSide.{Hosting, HostStandsAt, IsOpenedBy, AreOwn, IsInRange, at_stage, turn_of, after_turn, after_taking, step_of, fault_of}
 use Rattle.t0_core.specs.Room.{Room}
 use Rattle.t0_core.specs.FrontLaws.{all_moves-more}
@@ -130,8 +132,8 @@ host_sends h p3 FromCard content (Moving m u) (In_body b) byte range at e = absu
 host_sends h p3 d content (Moving m u) (In_header bytes) byte range at e = absurd at
 host_sends h p3 d content (Moving m u) (After_first b sw1) byte range at e = absurd at
 host_sends h p3 d content (Awaiting m) front byte range at e = absurd (cc)
-host_sends h p3 d content (AwaitingSecond sw1) front byte range at e = absurd (cc)
-host_sends h p3 d content (Ended status) front byte range at e = absurd (cc)
+host_sends h p3 d content (AwaitingSecond sw1 sent) front byte range at e = absurd (cc)
+host_sends h p3 d content (Ended status sent) front byte range at e = absurd (cc)
 host_sends h p3 d content Broken front byte range at e = absurd (cc)
 
 card_is_no_terminal : Card ≡ Terminal → ⊥
@@ -186,7 +188,11 @@ ends_data : (h : Header) (p3 : ℕ) (d : Direction) (content : List ℕ) (m : �
 ends_data h p3 d content m room byte b range at status =
     let none = status_is_no_step h.ins byte range.0.0 range.0.1 status in
     record {
-      stands = rw none (at.0, refl);
+      stands = rw none (
+        at.0,
+        refl,
+        rw (at.0.2, at.0.1, at.2) (tells_itself (sent_by_now d p3 m)),
+      );
       fault = λ f e. absurd (none_is_some f (rw (none, status.0) at e));
     }
 
@@ -223,7 +229,8 @@ host_takes h p3 d content (Moving m u) room byte (In_body b) new range at
     (inr (inl (between, from, others))) = absurd (omega (arith, between, at.1, at.2, at.3))
 host_takes h p3 d content (Moving m u) room byte (In_body b) new range at
     (inr (inr (between, from, status, is))) = absurd (omega (arith, between, at.1, at.2, at.3))
-host_takes h p3 d content (AwaitingSecond sw1) room byte (After_first b first) new range at goes =
+host_takes h p3 d content (AwaitingSecond sw1 sent) room byte (After_first b first) new range at
+    goes =
     absurd goes
 host_takes h p3 d content (SendingHeader sent) room byte (In_body b) new range at goes = absurd at
 host_takes h p3 d content (SendingHeader sent) room byte (After_first b first) new range at goes =
@@ -232,8 +239,9 @@ host_takes h p3 d content (Awaiting m) room byte (In_header bytes) new range at 
 host_takes h p3 d content (Awaiting m) room byte (After_first b first) new range at goes = absurd at
 host_takes h p3 d content (Moving m u) room byte (In_header bytes) new range at goes = absurd at
 host_takes h p3 d content (Moving m u) room byte (After_first b first) new range at goes = absurd at
-host_takes h p3 d content (AwaitingSecond sw1) room byte (In_header bytes) new range at goes =
+host_takes h p3 d content (AwaitingSecond sw1 sent) room byte (In_header bytes) new range at goes =
     absurd at
-host_takes h p3 d content (AwaitingSecond sw1) room byte (In_body b) new range at goes = absurd at
-host_takes h p3 d content (Ended status) room byte front new range at goes = absurd at
+host_takes h p3 d content (AwaitingSecond sw1 sent) room byte (In_body b) new range at goes =
+    absurd at
+host_takes h p3 d content (Ended status sent) room byte front new range at goes = absurd at
 host_takes h p3 d content Broken room byte front new range at goes = absurd at

@@ -112,16 +112,18 @@ host_took h p3 FromCard content (Moving m u) room byte (In_header bytes) small r
     absurd at
 host_took h p3 FromCard content (Moving m u) room byte (After_first b first) small range at none =
     absurd at
-host_took h p3 d content (AwaitingSecond sw1) room byte (After_first b first) small range at none =
+host_took h p3 d content (AwaitingSecond sw1 sent) room byte (After_first b first) small range at
+    none =
     inr (
       record { body = b; status = (first, byte) },
       (refl, small, refl),
       ap (λ x. Done (x, byte)) (sym at.1),
     )
-host_took h p3 d content (AwaitingSecond sw1) room byte (In_header bytes) small range at none =
+host_took h p3 d content (AwaitingSecond sw1 sent) room byte (In_header bytes) small range at none =
     absurd at
-host_took h p3 d content (AwaitingSecond sw1) room byte (In_body b) small range at none = absurd at
-host_took h p3 d content (Ended status) room byte front small range at none = absurd (cc)
+host_took h p3 d content (AwaitingSecond sw1 sent) room byte (In_body b) small range at none =
+    absurd at
+host_took h p3 d content (Ended status sent) room byte front small range at none = absurd (cc)
 host_took h p3 d content Broken room byte front small range at none = absurd (cc)
 
 -- the gather contains the data
@@ -151,16 +153,16 @@ brings h p3 d content (Moving m u) byte (In_body b) new at (inr (inl (between, f
     absurd (omega (arith, between, at.1, at.2, at.3))
 brings h p3 d content (Moving m u) byte (In_body b) new at (inr (inr (between, from, status, is))) =
     absurd (omega (arith, between, at.1, at.2, at.3))
-brings h p3 d content (AwaitingSecond sw1) byte (After_first b first) new at goes = absurd goes
+brings h p3 d content (AwaitingSecond sw1 sent) byte (After_first b first) new at goes = absurd goes
 brings h p3 d content (SendingHeader sent) byte (In_body b) new at goes = absurd at
 brings h p3 d content (SendingHeader sent) byte (After_first b first) new at goes = absurd at
 brings h p3 d content (Awaiting m) byte (In_header bytes) new at goes = absurd at
 brings h p3 d content (Awaiting m) byte (After_first b first) new at goes = absurd at
 brings h p3 d content (Moving m u) byte (In_header bytes) new at goes = absurd at
 brings h p3 d content (Moving m u) byte (After_first b first) new at goes = absurd at
-brings h p3 d content (AwaitingSecond sw1) byte (In_header bytes) new at goes = absurd at
-brings h p3 d content (AwaitingSecond sw1) byte (In_body b) new at goes = absurd at
-brings h p3 d content (Ended status) byte front new at goes = absurd at
+brings h p3 d content (AwaitingSecond sw1 sent) byte (In_header bytes) new at goes = absurd at
+brings h p3 d content (AwaitingSecond sw1 sent) byte (In_body b) new at goes = absurd at
+brings h p3 d content (Ended status sent) byte front new at goes = absurd at
 brings h p3 d content Broken byte front new at goes = absurd at
 
 pub gathers : (before : List ℕ) (old new : Room) (stage : HostStage) (byte : ℕ) (one two : List ℕ)

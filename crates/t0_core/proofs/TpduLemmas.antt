@@ -7,6 +7,7 @@ use Rattle.std.proofs.lemmas.Bool.{ltb-true, ltb-false, eqb-true}
 use Rattle.std.proofs.lemmas.List.{take_more, take_all}
 use Rattle.std.proofs.lemmas.Option.{get_or_from_slice_get, slice_get_within}
 use Rattle.std.proofs.Math.Seq.{take-nil}
+use Rattle.apdu_core.specs.declared.header.Header.{Header}
 use Rattle.apdu_core.specs.StatusWord.{StatusWord, IsStatusWord}
 use Rattle.t0_core.specs.declared.tpdu_card.TpduCard.{Ghosts}
 use Rattle.t0_core.specs.declared.tpdu_fault.TpduFault.TheVariants.{WantsData}
@@ -305,7 +306,7 @@ pub answers_header : {C : Type 0} (card : Ghosts C) (first : card.State) (plan :
     → ((at : Front) → SuitsFront e.stage at → StandsAt card.Does first prepared stage plan.cut at
     → Advances card.Does plan.cut plan stage at byte first (card.standing e.card)
     (card.prepared e.card) e.stage)
-    → IsPermitted card.MayReceive card.MaySend asked.header.ins e.stage
+    → IsPermitted card.MayReceive card.MaySend asked.header e.stage
     → IsAnswering card first plan asked got got e
 answers_header card first plan asked got prepared stage e byte whole is advances permitted =
     let d = direction_in e.stage FromCard in
@@ -383,7 +384,7 @@ further card first plan asked before got more old new byte b on is grows falls k
               on_plan = goes.4 (subst On is on.on_plan);
               stays = goes.3 ∙ on.stays;
               is_of = more_is.0;
-              permitted = stays_permitted card.MayReceive card.MaySend asked.header.ins old.stage
+              permitted = stays_permitted card.MayReceive card.MaySend asked.header old.stage
                   new.stage keeps on.permitted;
               begun = under;
               gathers = ap (λ x. x ++ more) (on.gathers ∙ ap (λ x. before ++ brought x) is)
@@ -478,10 +479,11 @@ passes_second card first plan asked before room old new sw1 byte cut on is steps
           )
     ]
 
-taken_permitted : (MayReceive MaySend : ℕ → Type 0) (ins : ℕ) (stage : Stage) (byte : ℕ)
-    → IsPermitted MayReceive MaySend ins stage
-    → IsPermitted MayReceive MaySend ins (with_character stage byte)
-taken_permitted MayReceive MaySend ins (Taking_header bytes) byte may = tt
+taken_permitted : (MayReceive MaySend : Header → Type 0) (header : Header) (stage : Stage)
+    (byte : ℕ)
+    → IsPermitted MayReceive MaySend header stage
+    → IsPermitted MayReceive MaySend header (with_character stage byte)
+taken_permitted MayReceive MaySend header (Taking_header bytes) byte may = tt
 taken_permitted _ _ _ _ _ may = may
 
 -- a data character of the terminal
@@ -506,7 +508,7 @@ passes_own {C = C} card first plan asked before got old new place byte on is byt
     let later = In_body (with_moved b byte) in
     let Goes : Front → Type 0 = λ x. GoesOn x (Terminal, byte) later in
     let May : EndOf C → Type 0 =
-    λ x. IsPermitted card.MayReceive card.MaySend asked.header.ins x.stage in
+    λ x. IsPermitted card.MayReceive card.MaySend asked.header x.stage in
     let step = steps plan.cut on.front later on.stands
     (subst Goes (sym at) (inl (lt, ap data_sender (sym to), refl))) in (
       record {
@@ -525,7 +527,7 @@ passes_own {C = C} card first plan asked before got old new place byte on is byt
               (own_was b.direction asked b.moved to of.2) place_is byte_is),
         );
         permitted = subst May (sym taken)
-            (taken_permitted card.MayReceive card.MaySend asked.header.ins old.stage byte
+            (taken_permitted card.MayReceive card.MaySend asked.header old.stage byte
             on.permitted);
         begun = ap (λ (e : EndOf C). under_way e.stage plan) taken
             ∙ taken_stays old.stage plan byte ∙ on.begun;
@@ -540,21 +542,24 @@ passes_own {C = C} card first plan asked before got old new place byte on is byt
 
 -- data move only as permitted
 moves_permitted : {State : Type 0} (Does : State → ℕ → Tpdu → State → Type 0) (s : State)
-    (p : Prepared State) (stage : Stage) (cut : ℕ) (b : Body) (MayReceive MaySend : ℕ → Type 0)
-    (ins : ℕ) → StandsAt Does s p stage cut (In_body b) → length b.moved < to_move b
-    → IsPermitted MayReceive MaySend ins stage → PermitsData MayReceive MaySend ins b.direction
-moves_permitted Does s p (Taking_header bytes) cut b MayReceive MaySend ins stands due may =
+    (p : Prepared State) (stage : Stage) (cut : ℕ) (b : Body) (MayReceive MaySend : Header → Type 0)
+    (header : Header) → StandsAt Does s p stage cut (In_body b) → length b.moved < to_move b
+    → IsPermitted MayReceive MaySend header stage
+    → PermitsData MayReceive MaySend header b.direction
+moves_permitted Does s p (Taking_header bytes) cut b MayReceive MaySend header stands due
+    may =
     absurd (omega (arith, due, ap to_move stands.1))
-moves_permitted Does s p (Refusing h p3 status done) cut b MayReceive MaySend ins stands due may =
+moves_permitted Does s p (Refusing h p3 status done) cut b MayReceive MaySend header stands due
+    may =
     absurd (omega (
       arith,
       due,
       nulls_move_nothing b.segments (foreseen b.direction b.p3) stands.nulls,
     ))
-moves_permitted Does s p (Serving service came) cut b MayReceive MaySend ins stands due may =
-    let P : Direction → Type 0 = λ d. PermitsData MayReceive MaySend ins d in
+moves_permitted Does s p (Serving service came) cut b MayReceive MaySend header stands due may =
+    let P : Direction → Type 0 = λ d. PermitsData MayReceive MaySend header d in
     subst P (sym stands.direction_is) may
-moves_permitted Does s p (Ending status) cut b MayReceive MaySend ins stands due may =
+moves_permitted Does s p (Ending status) cut b MayReceive MaySend header stands due may =
     absurd stands
 
 stuck : {C : Type 0} (card : Ghosts C) (first : card.State) (plan : Course)
@@ -573,7 +578,7 @@ stuck card first plan asked before room e b on at lt =
       is_of = is_of_body asked on.front b at on.is_of;
       gathers = on.gathers ∙ ap (λ x. before ++ brought x) at;
       permitted = moves_permitted card.Does (card.standing e.card) (card.prepared e.card) e.stage
-          plan.cut b card.MayReceive card.MaySend asked.header.ins (subst At at on.stands) lt
+          plan.cut b card.MayReceive card.MaySend asked.header (subst At at on.stands) lt
           on.permitted;
       due = lt;
     }

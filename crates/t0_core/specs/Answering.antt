@@ -38,7 +38,7 @@ IsFrontOf asked (After_first b sw1) = IsOf asked b
 abbrev pub IsWhole : Asked → Type 0
 IsWhole asked = (asked.content ≡ []) ⊎ (length asked.content ≡ asked.p3)
 
--- The card has begun to answer, with a verdict that this instruction permits. Its state is still
+-- The card has begun to answer, with a verdict that this header permits. Its state is still
 -- the one before the TPDU. The data from it are gathered after those before.
 pub record IsAnswering {C : Type 0} (card : Ghosts C) (first : card.State) (plan : Course)
     (asked : Asked) (before got : List ℕ) (e : EndOf C) : Type 0 where
@@ -50,7 +50,7 @@ pub record IsAnswering {C : Type 0} (card : Ghosts C) (first : card.State) (plan
   pub on_plan : IsOnPlan e.stage plan front
   pub stays : card.standing e.card ≡ first
   pub is_of : IsFrontOf asked front
-  pub permitted : IsPermitted card.MayReceive card.MaySend asked.header.ins e.stage
+  pub permitted : IsPermitted card.MayReceive card.MaySend asked.header e.stage
   pub begun : under_way e.stage plan ≡ plan ∷ []
   pub gathers : got ≡ before ++ brought front
 

@@ -1,5 +1,6 @@
 -- What the line requires of a card: its verdict on a header, and what may be called then.
 use Rattle.std.specs.Prelude.{◌≡◌, ℕ, length}
+use Rattle.apdu_core.specs.declared.header.Header.{Header}
 use Rattle.apdu_core.specs.StatusWord.{count}
 use Rattle.t0_core.specs.declared.tpdu_card.Verdict.{Verdict}
 use Rattle.t0_core.specs.declared.tpdu_card.Verdict.TheVariants.{Refuse, Receive, Send}
@@ -11,11 +12,11 @@ IsRefusal (Refuse status) = Unit {0}
 IsRefusal Receive = ⊥
 IsRefusal Send = ⊥
 
--- Data move only for instructions for which the card may give this verdict.
-abbrev pub Permits : (ℕ → Type 0) → (ℕ → Type 0) → ℕ → Verdict → Type 0
-Permits MayReceive MaySend ins (Refuse status) = Unit {0}
-Permits MayReceive MaySend ins Receive = MayReceive ins
-Permits MayReceive MaySend ins Send = MaySend ins
+-- Data move only for headers for which the card may give this verdict.
+abbrev pub Permits : (Header → Type 0) → (Header → Type 0) → Header → Verdict → Type 0
+Permits MayReceive MaySend header (Refuse status) = Unit {0}
+Permits MayReceive MaySend header Receive = MayReceive header
+Permits MayReceive MaySend header Send = MaySend header
 
 -- an answer is decided, and its SW2 is still to be sent
 abbrev pub IsDecided : {State : Type 0} → Prepared State → Type 0

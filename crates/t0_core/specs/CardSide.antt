@@ -205,16 +205,17 @@ GoesByCount (Serving s came) plan byte stage =
     ⊎ ((s.until ≤ s.moved) × BeginsNext s.header.ins (Serving s came) plan byte stage)
 GoesByCount (Ending status) plan byte stage = Unit {0}
 
--- data move only under instructions for which the card may give this verdict
-abbrev pub PermitsData : (ℕ → Type 0) → (ℕ → Type 0) → ℕ → Direction → Type 0
-PermitsData MayReceive MaySend ins ToCard = MayReceive ins
-PermitsData MayReceive MaySend ins FromCard = MaySend ins
+-- data move only under headers for which the card may give this verdict
+abbrev pub PermitsData : (Header → Type 0) → (Header → Type 0) → Header → Direction → Type 0
+PermitsData MayReceive MaySend header ToCard = MayReceive header
+PermitsData MayReceive MaySend header FromCard = MaySend header
 
-abbrev pub IsPermitted : (ℕ → Type 0) → (ℕ → Type 0) → ℕ → Stage → Type 0
-IsPermitted MayReceive MaySend ins (Taking_header bytes) = Unit {0}
-IsPermitted MayReceive MaySend ins (Refusing header p3 status done) = Unit {0}
-IsPermitted MayReceive MaySend ins (Serving s came) = PermitsData MayReceive MaySend ins s.direction
-IsPermitted MayReceive MaySend ins (Ending status) = Unit {0}
+abbrev pub IsPermitted : (Header → Type 0) → (Header → Type 0) → Header → Stage → Type 0
+IsPermitted MayReceive MaySend header (Taking_header bytes) = Unit {0}
+IsPermitted MayReceive MaySend header (Refusing h p3 status done) = Unit {0}
+IsPermitted MayReceive MaySend header (Serving s came) =
+    PermitsData MayReceive MaySend header s.direction
+IsPermitted MayReceive MaySend header (Ending status) = Unit {0}
 
 -- the direction of the data, if any are to move, is that of the front
 abbrev pub SuitsFront : Stage → Front → Type 0

@@ -49,7 +49,7 @@ pub record IsCarriedOut {State : Type 0} (Does : State → ℕ → Tpdu → Stat
   pub status_is : d.status ≡ status
 
 -- The end is in the middle of the TPDU that was asked, the card's state is unchanged, and data move
--- next, as this instruction permits.
+-- next, as this header permits.
 pub record IsStuck {C : Type 0} (card : Ghosts C) (first : card.State) (plan : Course)
     (asked : Asked) (before : List ℕ) (room : Room) (b : Body) (e : EndOf C) : Type 0 where
   pub is_front : IsFront (In_body b)
@@ -59,7 +59,7 @@ pub record IsStuck {C : Type 0} (card : Ghosts C) (first : card.State) (plan : C
   pub stays : card.standing e.card ≡ first
   pub is_of : IsOf asked b
   pub gathers : room.bytes ≡ before ++ brought (In_body b)
-  pub permitted : PermitsData card.MayReceive card.MaySend asked.header.ins b.direction
+  pub permitted : PermitsData card.MayReceive card.MaySend asked.header b.direction
   pub due : length b.moved < to_move b
 
 -- Why the data can't move: the card takes more than were given, or sends more than may come, or

@@ -10,6 +10,7 @@ use Rattle.t0_core.specs.declared.end.End.{End}
 use Rattle.t0_core.specs.declared.end.End.TheVariants.{Terminal, Card}
 use Rattle.t0_core.specs.declared.plan.Step.{Step}
 use Rattle.t0_core.specs.declared.plan.Step.TheVariants.{Null}
+use Rattle.t0_core.specs.declared.data_sent.DataSent.{DataSent}
 use Rattle.t0_core.specs.declared.direction.Direction.{Direction}
 use Rattle.t0_core.specs.declared.direction.Direction.TheVariants.{ToCard, FromCard}
 use Rattle.t0_core.specs.declared.host_end.HostStage.{HostStage}
@@ -377,13 +378,14 @@ between host moved b d (c ∷ cs) r rest request of_b all
       ),
     )
 
-second : (host : Hosting) (sw1 first : ℕ) (b : Body) (d : Dialogue) (more r rest : List Character)
+second : (host : Hosting) (sw1 first : ℕ) (sent : DataSent) (b : Body) (d : Dialogue)
+    (more r rest : List Character)
     → GoesThrough (After_first b first) more d → more ++ r ≡ rest
-    → HasNext (at_stage host (AwaitingSecond sw1)) (After_first b first) d rest
-second host sw1 first b d [] r rest on e = absurd on
-second host sw1 first b d (c ∷ cs) r rest (inl ((from, small, is), none)) e =
+    → HasNext (at_stage host (AwaitingSecond sw1 sent)) (After_first b first) d rest
+second host sw1 first sent b d [] r rest on e = absurd on
+second host sw1 first sent b d (c ∷ cs) r rest (inl ((from, small, is), none)) e =
     (c, cs ++ r, sym e, inr (from, refl, λ gather fits. refl))
-second host sw1 first b d (c ∷ cs) r rest (inr (new, goes, on)) e = absurd goes
+second host sw1 first sent b d (c ∷ cs) r rest (inr (new, goes, on)) e = absurd goes
 
 small_ins : (host : Hosting) (d : Dialogue) → IsRequest host → IsOpenedBy host d.body
     → d.body.header.ins < 256
@@ -405,10 +407,11 @@ next_at host (Moving moved until) (In_body b) d r rest request stands front_is i
     let by = comes_by b (In_body b) d r rest (stands.0.2 ∙ sym of_d.2)
     (small_ins host d request of_d) (itself b) front_is is e in
     in_segment host moved until b d by.0 r rest stands.0 of_d stands.1 stands.2 stands.3 by.1 by.2
-next_at host (AwaitingSecond sw1) (After_first b first) d r rest request stands front_is is of_d e =
+next_at host (AwaitingSecond sw1 sent) (After_first b first) d r rest request stands front_is is
+    of_d e =
     let by = comes_by b (After_first b first) d r rest (stands.0.2 ∙ sym of_d.2)
     (small_ins host d request of_d) (itself b) front_is is e in
-    second host sw1 first b d by.0 r rest by.1 by.2
+    second host sw1 first sent b d by.0 r rest by.1 by.2
 next_at _ _ _ _ _ _ _ stands _ _ _ _ = absurd stands
 
 -- there is one next character

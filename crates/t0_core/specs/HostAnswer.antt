@@ -5,6 +5,7 @@ use Rattle.t0_core.specs.declared.answer_fault.AnswerFault.{AnswerFault}
 use Rattle.t0_core.specs.declared.answer_fault.AnswerFault.TheVariants.{NotDue, NotAsked, TooMany, TooLong, Stalled}
 use Rattle.t0_core.specs.declared.host_end.HostStage.{HostStage}
 use Rattle.t0_core.specs.declared.host_end.HostStage.TheVariants.{SendingHeader, Moving, AwaitingSecond, Broken}
+use Rattle.t0_core.specs.declared.data_sent.DataSent.TheVariants.{NotKnown}
 use Rattle.t0_core.specs.declared.direction.Direction.{Direction}
 use Rattle.t0_core.specs.declared.direction.Direction.TheVariants.{ToCard, FromCard}
 use Rattle.t0_core.specs.Room.{Room}
@@ -49,9 +50,9 @@ fails_with Stalled = true
 abbrev pub after_answer_fault : HostStage → AnswerFault → HostStage
 after_answer_fault stage fault = if fails_with fault then Broken else stage
 
--- the end as it waits for SW2 of this status
+-- the end as it waits for SW2 of this status; which data left in the TPDU is not known
 abbrev pub before_sw2 : Hosting → StatusWord → Hosting
-before_sw2 host sw = at_stage host (AwaitingSecond sw.0)
+before_sw2 host sw = at_stage host (AwaitingSecond sw.0 NotKnown)
 
 -- the end inside a segment: these data have moved, and more follow
 abbrev pub moving_in : Hosting → Body → Hosting

@@ -40,7 +40,7 @@ opened_at : (host : Hosting) (stage : HostStage) (front : Front)
 opened_at host (SendingHeader sent) (In_header bytes) stands = header_front host sent bytes stands
 opened_at host (Awaiting moved) (In_body b) stands = stands.0
 opened_at host (Moving moved until) (In_body b) stands = stands.0
-opened_at host (AwaitingSecond sw1) (After_first b first) stands = stands.0
+opened_at host (AwaitingSecond sw1 sent) (After_first b first) stands = stands.0
 opened_at _ _ _ stands = absurd stands
 
 pub opened : (host : Hosting) (front : Front) → HostStandsAt host front → IsOpenedFront host front
@@ -61,7 +61,7 @@ going_at : (host : Hosting) (stage : HostStage) (front : Front) (status : Status
     → HostStandsAt (at_stage host stage) front → turn_of (at_stage host stage) ≡ Done status → ⊥
 going_at host (Moving moved until) front status stands e =
     data_is_going host.direction host.content moved status e
-going_at host (Ended other) front status stands e = stands
+going_at host (Ended other sent) front status stands e = stands
 going_at host Broken front status stands e = stands
 going_at host _ front status stands e = absurd (cc)
 
@@ -73,7 +73,7 @@ unbroken_at : (host : Hosting) (stage : HostStage) (front : Front)
     → HostStandsAt (at_stage host stage) front → turn_of (at_stage host stage) ≡ Failed → ⊥
 unbroken_at host (Moving moved until) front stands e =
     data_fails_not host.direction host.content moved e
-unbroken_at host (Ended other) front stands e = stands
+unbroken_at host (Ended other sent) front stands e = stands
 unbroken_at host Broken front stands e = stands
 unbroken_at host _ front stands e = absurd (cc)
 
@@ -87,7 +87,7 @@ after_done_at : (host : Hosting) (stage : HostStage) (room : Room) (byte : ℕ) 
     → fault_of (at_stage host stage) room byte ≡ Some AfterEnd
 after_done_at host (Moving moved until) room byte status e =
     absurd (data_is_going host.direction host.content moved status e)
-after_done_at host (Ended other) room byte status e = refl
+after_done_at host (Ended other sent) room byte status e = refl
 after_done_at host Broken room byte status e = refl
 after_done_at host _ room byte status e = absurd (cc)
 
@@ -100,7 +100,7 @@ after_failure_at : (host : Hosting) (stage : HostStage) (room : Room) (byte : �
     → fault_of (at_stage host stage) room byte ≡ Some AfterEnd
 after_failure_at host (Moving moved until) room byte e =
     absurd (data_fails_not host.direction host.content moved e)
-after_failure_at host (Ended other) room byte e = refl
+after_failure_at host (Ended other sent) room byte e = refl
 after_failure_at host Broken room byte e = refl
 after_failure_at host _ room byte e = absurd (cc)
 
@@ -146,7 +146,7 @@ too_long_at host (Moving moved until) room byte (In_body b) new stands e
 too_long_at host (Moving moved until) room byte (In_body b) new stands e (inr begins) =
     let between = begins_between b (Card, byte) new begins in
     absurd (omega (arith, between.0, stands.1, stands.2, stands.3))
-too_long_at host (AwaitingSecond sw1) room byte front new stands e goes = absurd (cc)
+too_long_at host (AwaitingSecond sw1 sent) room byte front new stands e goes = absurd (cc)
 too_long_at _ _ _ _ _ _ stands _ _ = absurd stands
 
 pub too_long : (host : Hosting) (room : Room) (byte : ℕ) (front new : Front)

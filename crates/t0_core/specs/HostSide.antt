@@ -14,6 +14,9 @@ use Rattle.t0_core.specs.declared.plan.Step.TheVariants.{Null, One, All}
 use Rattle.t0_core.specs.declared.direction.Direction.{Direction}
 use Rattle.t0_core.specs.declared.direction.Direction.TheVariants.{ToCard, FromCard}
 use Rattle.t0_core.specs.Dialogue.{Body, Dialogue, foreseen, moves, procedure_byte, to_move}
+use Rattle.t0_core.specs.declared.data_sent.DataSent.{DataSent}
+use Rattle.t0_core.specs.declared.data_sent.DataSent.TheVariants.{NotKnown}
+use Rattle.t0_core.specs.DataSent.{sent_by_now, sent_in, Tells}
 use Rattle.t0_core.specs.Meaning.{received}
 use Rattle.t0_core.specs.Front.{Front, In_header, In_body, After_first, IsBetween, brought}
 use Rattle.t0_core.specs.Room.{Room}
@@ -57,16 +60,17 @@ HostStandsAt host front = At host.stage front where
   At (Awaiting moved) (In_body b) = IsOpenedBy host b × IsBetween b × (length b.moved ≡ moved)
   At (Moving moved until) (In_body b) = IsOpenedBy host b × (length b.moved ≡ moved)
       × (moved < until) × (to_move b ≡ until)
-  At (AwaitingSecond sw1) (After_first b first) = IsOpenedBy host b × (first ≡ sw1)
+  At (AwaitingSecond sw1 sent) (After_first b first) =
+      IsOpenedBy host b × (first ≡ sw1) × Tells sent (sent_in b)
   At (SendingHeader sent) (In_body b) = ⊥
   At (SendingHeader sent) (After_first b first) = ⊥
   At (Awaiting moved) (In_header bytes) = ⊥
   At (Awaiting moved) (After_first b first) = ⊥
   At (Moving moved until) (In_header bytes) = ⊥
   At (Moving moved until) (After_first b first) = ⊥
-  At (AwaitingSecond sw1) (In_header bytes) = ⊥
-  At (AwaitingSecond sw1) (In_body b) = ⊥
-  At (Ended status) front = ⊥
+  At (AwaitingSecond sw1 sent) (In_header bytes) = ⊥
+  At (AwaitingSecond sw1 sent) (In_body b) = ⊥
+  At (Ended status sent) front = ⊥
   At Broken front = ⊥
 
 -- what it does while data move
@@ -81,8 +85,8 @@ turn_of host = Turn host.stage where
   Turn (SendingHeader sent) = Sends (slice_index (header_bytes host.header ++ host.p3 ∷ []) sent)
   Turn (Awaiting moved) = Listens
   Turn (Moving moved until) = data_turn host.direction host.content moved
-  Turn (AwaitingSecond sw1) = Listens
-  Turn (Ended status) = Done status
+  Turn (AwaitingSecond sw1 sent) = Listens
+  Turn (Ended status sent) = Done status
   Turn Broken = Failed
 
 -- the data character of its own that it sends next, if any
@@ -96,8 +100,8 @@ data_due host = Due host.stage where
   Due (SendingHeader sent) = None
   Due (Awaiting moved) = None
   Due (Moving moved until) = own_due host.direction host.content moved
-  Due (AwaitingSecond sw1) = None
-  Due (Ended status) = None
+  Due (AwaitingSecond sw1 sent) = None
+  Due (Ended status sent) = None
   Due Broken = None
 
 -- the data of a segment move up to a number, or have all moved
@@ -115,8 +119,8 @@ after_turn host = After host.stage where
   After (SendingHeader sent) = if nat_lt sent 4 then SendingHeader (sent + 1) else Awaiting 0
   After (Awaiting moved) = Awaiting moved
   After (Moving moved until) = after_data_turn host.direction moved until
-  After (AwaitingSecond sw1) = AwaitingSecond sw1
-  After (Ended status) = Ended status
+  After (AwaitingSecond sw1 sent) = AwaitingSecond sw1 sent
+  After (Ended status sent) = Ended status sent
   After Broken = Broken
 
 -- the step that a byte starts as a procedure byte of this INS, if it is one
@@ -143,8 +147,8 @@ fault_of host gather byte = Fault host.stage where
   Fault (SendingHeader sent) = Some NotListening
   Fault (Awaiting moved) = procedure_fault (step_of host.header.ins byte) byte
   Fault (Moving moved until) = data_fault host.direction gather
-  Fault (AwaitingSecond sw1) = None
-  Fault (Ended status) = Some AfterEnd
+  Fault (AwaitingSecond sw1 sent) = None
+  Fault (Ended status sent) = Some AfterEnd
   Fault Broken = Some AfterEnd
 
 -- the stage after an error: a character that the end does not understand or has no room for breaks
@@ -156,10 +160,11 @@ after_fault stage Stalled = Broken
 after_fault stage AfterEnd = stage
 after_fault stage NotListening = stage
 
--- the stage after a procedure byte, if `remain` data characters are left, or after SW1
-abbrev pub after_procedure : Option Step → ℕ → ℕ → ℕ → HostStage
-after_procedure (Some step) moved remain byte = moving moved (moved + moves step remain)
-after_procedure None moved remain byte = AwaitingSecond byte
+-- the stage after a procedure byte, if `remain` data characters are left, or after SW1, with what
+-- is sent by then
+abbrev pub after_procedure : Option Step → ℕ → ℕ → ℕ → DataSent → HostStage
+after_procedure (Some step) moved remain byte sent = moving moved (moved + moves step remain)
+after_procedure None moved remain byte sent = AwaitingSecond byte sent
 
 -- the stage after a character that is not an error
 abbrev pub after_taking : Hosting → ℕ → HostStage
@@ -168,19 +173,30 @@ after_taking host byte = After host.stage where
   After (SendingHeader sent) = SendingHeader sent
   After (Awaiting moved) =
       after_procedure (step_of host.header.ins byte) moved (foreseen host.direction host.p3 - moved)
-      byte
+      byte (sent_by_now host.direction host.p3 moved)
   After (Moving moved until) = moving (moved + 1) until
-  After (AwaitingSecond sw1) = Ended (sw1, byte)
-  After (Ended status) = Ended status
+  After (AwaitingSecond sw1 sent) = Ended (sw1, byte) sent
+  After (Ended status sent) = Ended status sent
   After Broken = Broken
+
+-- whether the end has sent all its data
+abbrev pub data_sent : Hosting → DataSent
+data_sent host = Sent host.stage where
+  Sent : HostStage → DataSent
+  Sent (SendingHeader sent) = sent_by_now host.direction host.p3 0
+  Sent (Awaiting moved) = sent_by_now host.direction host.p3 moved
+  Sent (Moving moved until) = sent_by_now host.direction host.p3 moved
+  Sent (AwaitingSecond sw1 sent) = sent
+  Sent (Ended status sent) = sent
+  Sent Broken = NotKnown
 
 -- the data in a character that is taken
 abbrev pub data_in : HostStage → ℕ → List ℕ
 data_in (SendingHeader sent) byte = []
 data_in (Awaiting moved) byte = []
 data_in (Moving moved until) byte = byte ∷ []
-data_in (AwaitingSecond sw1) byte = []
-data_in (Ended status) byte = []
+data_in (AwaitingSecond sw1 sent) byte = []
+data_in (Ended status sent) byte = []
 data_in Broken byte = []
 
 -- the gather with those
@@ -197,8 +213,8 @@ abbrev pub IsStage : ℕ → HostStage → Type 0
 IsStage n (SendingHeader sent) = sent < 5
 IsStage n (Awaiting moved) = moved ≤ n
 IsStage n (Moving moved until) = (moved < until) × (until ≤ n)
-IsStage n (AwaitingSecond sw1) = IsStatusWord (sw1, 0)
-IsStage n (Ended status) = Unit {0}
+IsStage n (AwaitingSecond sw1 sent) = IsStatusWord (sw1, 0)
+IsStage n (Ended status sent) = Unit {0}
 IsStage n Broken = Unit {0}
 
 -- the properties of an end that hold throughout its TPDU

@@ -1,5 +1,6 @@
 pub mod Character
 pub mod Dialogue
+pub mod DataSent
 pub mod Plan
 pub mod Meaning
 pub mod Front
@@ -22,6 +23,7 @@ pub mod DialogueLaws
 pub mod WholeLaws
 pub mod WatchLaws
 pub mod CardLaws
+pub mod DataSentLaws
 pub mod HostLaws
 pub mod OwnLaws
 pub mod AnswerLaws

@@ -91,7 +91,7 @@ begins_at host (SendingHeader sent) (In_header bytes) request stands is =
     in_header host sent bytes stands.0 stands.1
 begins_at host (Awaiting m) (In_body b) request stands is = in_body host b request stands.0 is
 begins_at host (Moving m until) (In_body b) request stands is = in_body host b request stands.0 is
-begins_at host (AwaitingSecond sw1) (After_first b first) request stands is =
+begins_at host (AwaitingSecond sw1 sent) (After_first b first) request stands is =
     let d : Dialogue = record { body = b; status = (first, 0) } in (
       d,
       (Card, 0),

@@ -262,7 +262,7 @@ impl<C: TpduCard> CardEnd<C> {
         // The card may give this verdict to this instruction.
         ensures permitted { (header : Header) (p3 : ℕ) →
             self.old.stage ≡ Taking_header (begins_with header p3) →
-            IsPermitted C.MayReceive C.MaySend header.ins self.new.stage }
+            IsPermitted C.MayReceive C.MaySend header self.new.stage }
         ensures keeps { (byte : ℕ) → result ≡ Turn.Sends byte →
             takes_plan self.old.stage ≡ false → KeepsDirection self.old.stage self.new.stage }
 
@@ -415,7 +415,7 @@ fn hand_out<C: TpduCard, A: Allocator>(
         (stage_of phase.new came.now) }
     ensures permitted { (header : Header) (p3 : ℕ)
         → stage_of phase.old came.now ≡ Taking_header (begins_with header p3) →
-        IsPermitted C.MayReceive C.MaySend header.ins (stage_of phase.new came.now) }
+        IsPermitted C.MayReceive C.MaySend header (stage_of phase.new came.now) }
     ensures keeps { takes_plan (stage_of phase.old came.now) ≡ false →
         KeepsDirection (stage_of phase.old came.now) (stage_of phase.new came.now) }
     ensures advances { (cut : ℕ) (front : Front) →
@@ -448,7 +448,7 @@ fn judge<C: TpduCard>(card: &mut C, phase: &mut Phase, bytes: [u8; 5], cut: u16)
     ensures stands { C.standing card.new ≡ C.standing card.old }
     ensures permitted { (header : Header) (p3 : ℕ) (came : List ℕ)
         → bytes ≡ begins_with header p3 →
-        IsPermitted C.MayReceive C.MaySend header.ins (stage_of phase.new came) }
+        IsPermitted C.MayReceive C.MaySend header (stage_of phase.new came) }
     ensures opens { (header : Header) (p3 : ℕ) (direction : Direction) (came : List ℕ)
         → bytes ≡ begins_with header p3 →
         SuitsFront (stage_of phase.new came) (In_body (header_only header p3 direction)) →

@@ -6,7 +6,8 @@ ghost use Rattle.apdu_core.specs.HeaderBytes.{ins_is_valid};
 ghost use Rattle.apdu_core.specs.StatusWord.{StatusWord, count};
 ghost use Rattle.t0_core.specs.declared.host_end.HostStage.TheVariants.{Awaiting, Moving};
 ghost use Rattle.t0_core.specs.declared.direction.Direction.TheVariants.{ToCard, FromCard};
-ghost use Rattle.t0_core.specs.HostSide.{IsInRange, IsStage, turn_of, data_turn, data_due, after_turn, moving, fault_of, data_fault, procedure_fault, step_of, after_fault, after_taking, data_in, gathered};
+ghost use Rattle.t0_core.specs.DataSent.{sent_by_now, sent_in, Tells};
+ghost use Rattle.t0_core.specs.HostSide.{IsInRange, IsStage, data_sent, turn_of, data_turn, data_due, after_turn, moving, fault_of, data_fault, procedure_fault, step_of, after_fault, after_taking, data_in, gathered};
 ghost use Rattle.t0_core.specs.HostView.{host_of, direction_of, content_of};
 ghost use Rattle.t0_core.specs.HostMark.{HasOnly, with_data};
 ghost use Rattle.t0_core.specs.TpduBytes.{asked_by, asked_of, due_by};
@@ -14,6 +15,7 @@ ghost use Rattle.t0_core.specs.Buffers.{HandsOut, IsDataTurn};
 ghost use Rattle.t0_core.specs.HostAnswer.{is_start, may_come, excess, answer_fault, after_answer_fault, Gives};
 
 use crate::answer_fault::AnswerFault;
+use crate::data_sent::DataSent;
 use crate::direction::Direction;
 use crate::gather::Gather;
 use crate::host_mark::HostMark;
@@ -48,10 +50,10 @@ pub enum HostStage {
     Awaiting { moved: u16 },
     /// Data characters follow, in one direction, until `until` have moved.
     Moving { moved: u16, until: u16 },
-    /// SW2 follows.
-    AwaitingSecond { sw1: u8 },
+    /// SW2 follows; `sent` is what was sent before SW1.
+    AwaitingSecond { sw1: u8, sent: DataSent },
     /// The TPDU has ended.
-    Ended { status: Status },
+    Ended { status: Status, sent: DataSent },
     /// An error has ended it.
     Broken,
 }
@@ -81,8 +83,8 @@ impl<'a> Model for HostEnd<'a> {
 impl<'a> HostEnd<'a> {
     ghost use Rattle.t0_core.specs.declared.end.End.TheVariants.{Terminal, Card};
     ghost use Rattle.t0_core.specs.declared.host_end.HostStage.TheVariants.{SendingHeader, AwaitingSecond, Ended};
-    ghost use Rattle.t0_core.specs.Dialogue.{Dialogue};
-    ghost use Rattle.t0_core.specs.Front.{Front, After_first, GoesOn, Ends, brought, fresh};
+    ghost use Rattle.t0_core.specs.Dialogue.{Dialogue, Body};
+    ghost use Rattle.t0_core.specs.Front.{Front, In_body, After_first, GoesOn, Ends, brought, fresh};
     ghost use Rattle.t0_core.specs.HostSide.{at_stage, HostStandsAt, IsRequest};
     ghost use Rattle.t0_core.specs.HostMark.{HasOnly, with_data};
 
@@ -220,8 +222,30 @@ impl<'a> HostEnd<'a> {
             ↔ (turn_of self.now ≡ HostTurn.Done status) }
     {
         match self.stage {
-            HostStage::Ended { status } => Some(status),
+            HostStage::Ended { status, .. } => Some(status),
             _ => None,
+        }
+    }
+
+    /// Whether the end has sent all data of its TPDU: as many characters as P3 states, or none if
+    /// it asks for data. The value at SW1 stays: a card may end a TPDU before it takes the data
+    /// (ISO/IEC 7816-3, 10.3.3). `NotKnown` after the answer to the whole TPDU, and after an error
+    /// for good.
+    pub fn data_sent(&self) -> DataSent
+        ensures value { result ≡ data_sent self.now }
+        ensures in_body { (b : Body) → HostStandsAt self.now (In_body b) → result ≡ sent_in b }
+        ensures after_sw1 { (b : Body) (sw1 : ℕ) → HostStandsAt self.now (After_first b sw1)
+            → Tells result (sent_in b) }
+    {
+        match self.stage {
+            HostStage::SendingHeader { .. } => {
+                sent_by_now(&self.request.transfer, self.request.p3, 0)
+            }
+            HostStage::Awaiting { moved } | HostStage::Moving { moved, .. } => {
+                sent_by_now(&self.request.transfer, self.request.p3, moved)
+            }
+            HostStage::AwaitingSecond { sent, .. } | HostStage::Ended { sent, .. } => sent,
+            HostStage::Broken => DataSent::NotKnown,
         }
     }
 
@@ -267,7 +291,7 @@ impl<'a> HostEnd<'a> {
             → OnOk result (gather.new.bytes ≡ before ++ brought new) }
         ensures ends { (front : Front) (d : Dialogue) → HostStandsAt self.old front
             → Ends front (Card, byte) d →
-            IsOk result × (self.new.stage ≡ Ended d.status) }
+            IsOk result × (self.new.stage ≡ Ended d.status (data_sent self.old)) }
         ensures done { (front : Front) (d : Dialogue) → HostStandsAt self.old front
             → Ends front (Card, byte) d →
             (turn_of self.new ≡ HostTurn.Done d.status) × (gather.new ≡ gather.old) }
@@ -316,7 +340,8 @@ impl<'a> HostEnd<'a> {
         ensures refused { IfErr result
             (λ fault. (self.new ≡ at_stage self.old (after_answer_fault self.old.stage fault))
             × (gather.new ≡ gather.old)) }
-        ensures taken { OnOk result ((self.new ≡ at_stage self.old (AwaitingSecond status.0))
+        ensures taken { OnOk result ((self.new
+            ≡ at_stage self.old (AwaitingSecond status.0 DataSent.NotKnown))
             × (gather.new ≡ gathered gather.old bytes.now)) }
         ensures unchanged { IsErrOf result AnswerFault.NotDue
             ⊎ IsErrOf result AnswerFault.NotAsked
@@ -338,7 +363,10 @@ impl<'a> HostEnd<'a> {
         let sw1 = status.sw1();
         match take_answer(&self.request, self.stage, bytes, gather) {
             Ok(()) => {
-                self.stage = HostStage::AwaitingSecond { sw1 };
+                self.stage = HostStage::AwaitingSecond {
+                    sw1,
+                    sent: DataSent::NotKnown,
+                };
                 Ok(())
             }
             Err(fault) => {
@@ -346,6 +374,16 @@ impl<'a> HostEnd<'a> {
                 Err(fault)
             }
         }
+    }
+}
+
+/// Whether all data are sent once `moved` data characters have moved.
+fn sent_by_now(transfer: &Transfer, p3: u8, moved: u16) -> DataSent
+    ensures { result ≡ sent_by_now (direction_of transfer.now) p3 moved }
+{
+    match transfer {
+        Transfer::Sending(_) if moved != u16::from(p3) => DataSent::NotAll,
+        _ => DataSent::All,
     }
 }
 
@@ -548,7 +586,7 @@ fn turn_at(request: &Request, stage: &mut HostStage) -> HostTurn
             HostTurn::Sends(byte)
         }
         HostStage::Awaiting { .. } | HostStage::AwaitingSecond { .. } => HostTurn::Listens,
-        HostStage::Ended { status } => HostTurn::Done(*status),
+        HostStage::Ended { status, .. } => HostTurn::Done(*status),
         HostStage::Broken => HostTurn::Failed,
     }
 }
@@ -597,9 +635,10 @@ fn take_at<A: Allocator>(
         HostStage::Awaiting { moved } => {
             *stage = after_procedure_byte(request, *moved, byte)?;
         }
-        HostStage::AwaitingSecond { sw1 } => {
+        HostStage::AwaitingSecond { sw1, sent } => {
             *stage = HostStage::Ended {
                 status: Status::new(*sw1, byte).unwrap(),
+                sent: *sent,
             };
         }
         HostStage::Ended { .. } | HostStage::Broken => return Err(LineFault::AfterEnd),
@@ -621,7 +660,10 @@ fn after_procedure_byte(request: &Request, moved: u16, byte: u8) -> Result<HostS
         return Ok(stage_moving(moved, moved + moves(step, remain)));
     }
     match byte {
-        0x61..=0x6F | 0x90..=0x9F => Ok(HostStage::AwaitingSecond { sw1: byte }),
+        0x61..=0x6F | 0x90..=0x9F => Ok(HostStage::AwaitingSecond {
+            sw1: byte,
+            sent: sent_by_now(&request.transfer, request.p3, moved),
+        }),
         _ => Err(LineFault::BadProcedure(byte)),
     }
 }

@@ -1,5 +1,6 @@
 //! What the card's end of the line requires of the card behind it.
 ghost use Rattle.std.specs.Prelude.{◌≡◌, ℕ, ◌<◌, ◌≤◌, List, length, slice_get, Some, false};
+ghost use Rattle.apdu_core.specs.declared.header.Header.{Header};
 ghost use Rattle.apdu_core.specs.HeaderBytes.{ins_is_valid};
 ghost use Rattle.apdu_core.specs.StatusWord.{count};
 ghost use Rattle.t0_core.specs.Meaning.{Tpdu, Ask, Prepared, Nothing, Decided, IsReceiving, IsSending, Decides, taken_with, answered_with};
@@ -36,25 +37,25 @@ pub trait TpduCard {
     /// The state after a reset.
     ghost after_reset: { State → State };
 
-    /// The instructions for which `header` may return `Receive`, and those for `Send`.
-    ghost MayReceive: { ℕ → Type 0 };
+    /// The headers for which `header` may return `Receive`, and those for `Send`.
+    ghost MayReceive: { Header → Type 0 };
 
-    ghost MaySend: { ℕ → Type 0 };
+    ghost MaySend: { Header → Type 0 };
 
     /// What the card has prepared for the TPDU in progress.
     ghost prepared: { Self → Prepared State };
 
     /// Judges a header. It may be called at any time, and drops what an unfinished TPDU prepared.
     /// `cut` is the most bytes, 1 to 256, that one `61XX` announces. A card must refuse an INS of
-    /// `6X` or `9X`. It may return `Receive` only for INS of `MayReceive`, `Send` only for INS of
-    /// `MaySend`.
+    /// `6X` or `9X`. It may return `Receive` only for headers of `MayReceive`, and `Send` only for
+    /// those of `MaySend`.
     fn header(&mut self, header: Header, p3: u8, cut: u16) -> Verdict
         requires { (1 ≤ cut) × (cut ≤ 256) }
         ensures stands { standing self.new ≡ standing self.old }
         ensures judged { Judges Does (standing self.old)
             (record { header = header; p3 = p3; cut = cut }) result (prepared self.new) }
         ensures invalid { ins_is_valid header.ins ≡ false → IsRefusal result }
-        ensures permitted { Permits MayReceive MaySend header.ins result };
+        ensures permitted { Permits MayReceive MaySend header result };
 
     /// Takes the data to the card, exactly P3 bytes, and returns the status. It may be called once,
     /// after the verdict `Receive`.

@@ -1,5 +1,5 @@
 -- A terminal is in a fault exactly if there is a reason, whatever any peer sends.
-use Rattle.std.proofs.Common.{◌≡◌, refl, sym, ap, subst, ℕ, zero, suc, ◌+◌, ◌≤◌, ◌<◌, Bool, true, false, List, [], ◌∷◌, ◌++◌, length, length-append, nat_lt, Option, Some, None, cond, ◌==◌, arith}
+use Rattle.std.proofs.Common.{◌≡◌, refl, sym, ap, subst, ◌∙◌, ℕ, zero, suc, ◌+◌, ◌≤◌, ◌<◌, Bool, true, false, List, [], ◌∷◌, ◌++◌, length, length-append, nat_lt, Option, Some, None, cond, ◌==◌, arith}
 use Rattle.t1_core.specs.declared.block.Control.{Control}
 use Rattle.t1_core.specs.declared.block.Control.TheVariants.{Resynch, Ifs, Abort, Wtx}
 use Rattle.t1_core.specs.declared.settings.Settings.{Settings}
@@ -8,10 +8,12 @@ use Rattle.t1_core.specs.declared.terminal.Out.{Out}
 use Rattle.t1_core.specs.declared.terminal.Out.TheVariants.{Own, Asks, Grants}
 use Rattle.t1_core.specs.declared.terminal.Phase.{Phase}
 use Rattle.t1_core.specs.declared.terminal.Phase.TheVariants.{Opening, Sending, Receiving, Aborting, Over, GivenUp}
-use Rattle.t1_core.specs.Block.{Block, I, R, Request, Response, other, same, is_size}
-use Rattle.t1_core.specs.BlockBytes.{block_of}
+use Rattle.t1_core.specs.declared.pcb.Reason.{Reason}
+use Rattle.t1_core.specs.declared.pcb.Reason.TheVariants.{Other}
+use Rattle.t1_core.specs.Block.{I, R, Request, Response, Arrival, Came, Bad, other, same, is_size}
+use Rattle.t1_core.specs.BlockBytes.{arrival_of}
 use Rattle.t1_core.specs.History.{Event, Begins, Takes, Misses, Resets, happens, Account, nothing, stays, without_step, counted, counts, account, after, accounts, reason, cause_in, IsAccounted}
-use Rattle.t1_core.specs.TerminalSide.{Terminal, fresh, begins, first_phase, spend, takes, gathers, acknowledged, answered, asked, extend, longest}
+use Rattle.t1_core.specs.TerminalSide.{Terminal, fresh, begins, begins_sending, shortened, without_try, first_phase, spend, takes, gathers, acknowledged, answered, asked, extend, longest}
 use Rattle.t1_core.proofs.Bits.{same_self, same_other_2}
 
 module _ (s : Settings) where
@@ -28,7 +30,7 @@ module _ (s : Settings) where
       × (a.arrived ≡ length t.got) × (a.aborts ≡ aborts)
 
   abbrev InPhase : Phase → Terminal → Account → Type 0
-  InPhase Opening t a = Active 0 t a
+  InPhase Opening t a = Active 0 t a × (t.opened ≡ false)
   InPhase Sending t a = Active 0 t a
   InPhase Receiving t a = Active 0 t a
   InPhase Aborting t a = Active 1 t a
@@ -59,21 +61,22 @@ module _ (s : Settings) where
   abort_reason a f g l b = grind (arith, f, g, l, b)
 
   -- one reception: it counts by whether N(S) and N(R) stay the same
-  abbrev Next : Option Block → (old new : Terminal) → Account → Type 0
+  abbrev Next : Arrival → (old new : Terminal) → Account → Type 0
   Next b old new a = (v : Bool) × (stays old new ≡ v) × Stands new (counted v old.phase b a)
 
   -- without progress, with these counts
   abbrev Stays : (old new : Terminal) → Account → Type 0
   Stays old new a = (stays old new ≡ true) × Stands new a
 
-  abbrev Waits : Phase → Type 0
-  Waits Opening = Unit {0}
-  Waits Sending = Unit {0}
-  Waits Receiving = Unit {0}
-  Waits _ = ⊥
+  abbrev Waits : Phase → (opened : Bool) → Type 0
+  Waits Opening opened = opened ≡ false
+  Waits Sending opened = Unit {0}
+  Waits Receiving opened = Unit {0}
+  Waits _ opened = ⊥
 
-  waiting : (p : Phase) (t : Terminal) (a : Account) → Waits p → Active 0 t a → InPhase p t a
-  waiting Opening t a w h = h
+  waiting : (p : Phase) (t : Terminal) (a : Account) → Waits p t.opened → Active 0 t a
+      → InPhase p t a
+  waiting Opening t a w h = (h, w)
   waiting Sending t a w h = h
   waiting Receiving t a w h = h
   waiting _ t a w h = absurd w
@@ -84,15 +87,20 @@ module _ (s : Settings) where
   abbrev fruitless : Account → Account
   fruitless a = record a { fruitless = a.fruitless + 1 }
 
-  all_stay : (number due : Bool) → cond (same number number) (same due due) false ≡ true
-  all_stay number due = rw (same_self number, same_self due) refl
+  all_stay : (number due opened : Bool)
+      → cond (same number number) (cond (same due due) (same opened opened) false) false ≡ true
+  all_stay number due opened = rw (same_self number, same_self due, same_self opened) refl
 
-  number_moves : (number due now : Bool)
-      → cond (same number (other number)) (same due now) false ≡ false
-  number_moves number due now = rw (same_other_2 number) refl
+  number_moves : (number now : Bool) → cond (same number (other number)) now false ≡ false
+  number_moves number now = rw (same_other_2 number) refl
 
-  due_moves : (number due : Bool) → cond (same number number) (same due (other due)) false ≡ false
-  due_moves number due = rw (same_self number, same_other_2 due) refl
+  due_moves : (number due now : Bool)
+      → cond (same number number) (cond (same due (other due)) now false) false ≡ false
+  due_moves number due now = rw (same_self number, same_other_2 due) refl
+
+  opened_moves : (number due opened : Bool) → opened ≡ false
+      → cond (same number number) (cond (same due due) (same opened true) false) false ≡ false
+  opened_moves number due opened e = rw (same_self number, same_self due, e) refl
 
   -- N(S) does not matter here
   renumbered : (t : Terminal) (a : Account) (number : Bool) → Stands t a
@@ -102,42 +110,64 @@ module _ (s : Settings) where
     again Opening x = x
     again _ x = x
 
-  requests_count : (p : Phase) (control : Control) (a : Account) → Waits p
-      → without_step p (Some (Request control)) a
-      ≡ without_step Sending (Some (Request control)) a
-  requests_count Opening (Wtx multiple) a w = refl
-  requests_count Receiving (Wtx multiple) a w = refl
-  requests_count Aborting control a w = absurd w
-  requests_count Over control a w = absurd w
-  requests_count (GivenUp cause) control a w = absurd w
-  requests_count _ control a w = refl
+  requests_count : (p : Phase) (control : Control) (a : Account) (opened : Bool) → Waits p opened
+      → without_step p (Came (Request control)) a
+      ≡ without_step Sending (Came (Request control)) a
+  requests_count Opening (Wtx multiple) a opened w = refl
+  requests_count Receiving (Wtx multiple) a opened w = refl
+  requests_count Aborting control a opened w = absurd w
+  requests_count Over control a opened w = absurd w
+  requests_count (GivenUp cause) control a opened w = absurd w
+  requests_count _ control a opened w = refl
 
   module _ (t : Terminal) (a : Account) (within : Within t) (h : Active 0 t a) where
-    spends : (p : Phase) (out : Out) (n : ℕ) → t.tries ≡ n → Waits p
-        → Stays (on p t) (spend n (on p t) out) (fruitless a)
-    spends p out zero e w =
-        let x = h.0 in (
-          all_stay t.number t.due,
-          record { within = within; in_phase = tries_reason (fruitless a) (omega (arith, x, e)) },
-        )
-    spends p out (suc n) e w =
-        let x = h.0 in let y = within.1 in (
-          all_stay t.number t.due,
+    -- S(IFS request) has its response, or is given up
+    begins_next : (b : Arrival) → t.opened ≡ false
+        → Next b (on Opening t) (begins_sending (on Opening t)) a
+    begins_next b e =
+        let same = ap (λ x. x.tries) within.0 in (
+          false,
+          opened_moves t.number t.due t.opened e,
           record {
-            within = (within.0, omega (arith, y, e), within.2, within.3, within.4);
-            in_phase = waiting p (record t { phase = p; tries = n; out = out }) (fruitless a) w
-                (omega (arith, x, e), h.1, h.2, h.3);
+            within = (within.0, omega (arith, same), within.2, within.3, within.4);
+            in_phase = (omega (arith, same), h.1, h.2, h.3);
           },
         )
 
     -- a fruitless reception
-    spent : (b : Option Block) (p : Phase) (out : Out) → Waits p
+    spent : (b : Arrival) (p : Phase) (out : Out) → Waits p t.opened
         → without_step p b a ≡ fruitless a → Next b (on p t) (spend t.tries (on p t) out) a
-    spent b p out w is =
-        let x = spends p out t.tries refl w in
-        (true, x.0, subst (Stands (spend t.tries (on p t) out)) (sym is) x.1)
+    spent b p out w is = Of p t.tries refl w is where
+      given_up : (p : Phase) → t.tries ≡ 0 → without_step p b a ≡ fruitless a
+          → Next b (on p t) (on (GivenUp TriesSpent) t) a
+      given_up p e is =
+          let x = h.0 in (
+            true,
+            all_stay t.number t.due t.opened,
+            subst (Stands (on (GivenUp TriesSpent) t)) (sym is) (record {
+              within = within;
+              in_phase = tries_reason (fruitless a) (omega (arith, x, e));
+            }),
+          )
 
-    either : (b : Option Block) (p : Phase) (x y : Terminal) (c : Bool) → Next b (on p t) x a
+      Of : (p : Phase) (n : ℕ) → t.tries ≡ n → Waits p t.opened
+          → without_step p b a ≡ fruitless a → Next b (on p t) (spend n (on p t) out) a
+      Of Opening zero e w is = begins_next b w
+      Of Sending zero e w is = given_up Sending e is
+      Of Receiving zero e w is = given_up Receiving e is
+      Of _ zero e w is = absurd w
+      Of p (suc n) e w is =
+          let x = h.0 in let y = within.1 in (
+            true,
+            all_stay t.number t.due t.opened,
+            subst (Stands (record t { phase = p; tries = n; out = out })) (sym is) (record {
+              within = (within.0, omega (arith, y, e), within.2, within.3, within.4);
+              in_phase = waiting p (record t { phase = p; tries = n; out = out }) (fruitless a) w
+                  (omega (arith, x, e), h.1, h.2, h.3);
+            }),
+          )
+
+    either : (b : Arrival) (p : Phase) (x y : Terminal) (c : Bool) → Next b (on p t) x a
         → Next b (on p t) y a → Next b (on p t) (cond c x y) a
     either b p x y true first second = first
     either b p x y false first second = second
@@ -167,7 +197,7 @@ module _ (s : Settings) where
           let same = ap (λ x. x.limit) within.0 in
           let arrived = h.2 in
           rw e (
-            due_moves t.number t.due,
+            due_moves t.number t.due _,
             record {
               within = within;
               in_phase = long_reason now (omega arith) grants_le (grind (arith, e, same, arrived));
@@ -179,7 +209,7 @@ module _ (s : Settings) where
           let n = length-append t.got f in
           let fit = fits e in
           rw e (
-            due_moves t.number t.due,
+            due_moves t.number t.due _,
             record {
               within = (within.0, omega (arith, same), within.2, fit, within.4);
               in_phase = (omega (arith, same), h.1, omega (arith, arrived, n), h.3);
@@ -191,7 +221,7 @@ module _ (s : Settings) where
           let n = length-append t.got f in
           let fit = fits e in
           rw e (
-            due_moves t.number t.due,
+            due_moves t.number t.due _,
             record {
               within = (within.0, within.1, within.2, fit, within.4);
               in_phase = no_reason now (omega arith) grants_le (omega (arith, fit, arrived, n))
@@ -200,23 +230,23 @@ module _ (s : Settings) where
           )
 
     answered_next : (n more : Bool) (rest f : List ℕ)
-        → Next (Some (I n more f)) (on Sending t) (answered rest (on Sending t) more f) a
+        → Next (Came (I n more f)) (on Sending t) (answered rest (on Sending t) more f) a
     answered_next n more [] f = (
       false,
-      number_moves t.number t.due _,
+      number_moves t.number _,
       renumbered (gathers more (on Sending t) f) _ (other t.number)
           (field_counts Sending more f).1,
     )
-    answered_next n more (b ∷ bytes) f = spent _ Sending Asks tt refl
+    answered_next n more (b ∷ bytes) f = spent _ Sending (Asks Other) tt refl
 
-    acknowledged_next : (n : Bool) (rest : List ℕ)
-        → Next (Some (R n)) (on Sending t) (acknowledged rest (on Sending t)) a
-    acknowledged_next n [] = spent _ Sending Asks tt refl
-    acknowledged_next n (b ∷ bytes) =
+    acknowledged_next : (n : Bool) (error : Reason) (rest : List ℕ)
+        → Next (Came (R n error)) (on Sending t) (acknowledged rest (on Sending t)) a
+    acknowledged_next n error [] = spent _ Sending (Asks Other) tt refl
+    acknowledged_next n error (b ∷ bytes) =
         let same = ap (λ x. x.tries) within.0 in
         let arrived = h.2 in (
           false,
-          number_moves t.number t.due _,
+          number_moves t.number _,
           record {
             within = (within.0, omega (arith, same), within.2, within.3, within.4);
             in_phase = (omega (arith, same), h.1, omega (arith, arrived), h.3);
@@ -224,13 +254,13 @@ module _ (s : Settings) where
         )
 
     -- a request of the card
-    extended : (p : Phase) (size : ℕ) (control : Control) (n : ℕ) → Waits p → t.extensions ≡ n
-        → is_size size ≡ true
+    extended : (p : Phase) (size : ℕ) (control : Control) (n : ℕ) → Waits p t.opened
+        → t.extensions ≡ n → is_size size ≡ true
         → Stays (on p t) (extend n (record t { phase = p; size = size }) control)
         (record a { grants = a.grants + 1 })
     extended p size control zero w e is =
         let x = h.0 in let y = h.1 in (
-          all_stay t.number t.due,
+          all_stay t.number t.due t.opened,
           record {
             within = (within.0, within.1, within.2, within.3, is);
             in_phase = extensions_reason (record a { grants = a.grants + 1 }) (omega (arith, x))
@@ -239,7 +269,7 @@ module _ (s : Settings) where
         )
     extended p size control (suc n) w e is =
         let y = h.1 in let z = within.2 in (
-          all_stay t.number t.due,
+          all_stay t.number t.due t.opened,
           record {
             within = (within.0, within.1, omega (arith, z, e), within.3, is);
             in_phase = waiting p
@@ -248,69 +278,85 @@ module _ (s : Settings) where
           },
         )
 
-    resized : (p : Phase) (size : ℕ) (v : Bool) → Waits p → is_size size ≡ v
-        → Stays (on p t)
+    -- a request that is granted
+    granted : (p : Phase) (control : Control) (new : Terminal) → Waits p t.opened
+        → without_step Sending (Came (Request control)) a ≡ record a { grants = a.grants + 1 }
+        → Stays (on p t) new (record a { grants = a.grants + 1 })
+        → Next (Came (Request control)) (on p t) new a
+    granted p control new w is x =
+        (true, x.0, subst (Stands new) (sym (requests_count p control a t.opened w ∙ is)) x.1)
+
+    resized : (p : Phase) (size : ℕ) (v : Bool) → Waits p t.opened → is_size size ≡ v
+        → Next (Came (Request (Ifs size))) (on p t)
         (cond v (extend t.extensions (record t { phase = p; size = size }) (Ifs size))
-        (spend t.tries (on p t) Asks))
-        (cond v (record a { grants = a.grants + 1 }) (fruitless a))
-    resized p size true w e = extended p size (Ifs size) t.extensions w refl e
-    resized p size false w e = spends p Asks t.tries refl w
+        (spend t.tries (on p t) (Asks Other))) a
+    resized p size true w e =
+        granted p (Ifs size) _ w
+        (ap (λ v. cond v (record a { grants = a.grants + 1 }) (fruitless a)) e)
+        (extended p size (Ifs size) t.extensions w refl e)
+    resized p size false w e =
+        spent _ p (Asks Other) w
+        (requests_count p (Ifs size) a t.opened w
+        ∙ ap (λ v. cond v (record a { grants = a.grants + 1 }) (fruitless a)) e)
 
-    asked_stays : (p : Phase) (control : Control) → Waits p
-        → Stays (on p t) (asked control (on p t)) (without_step Sending (Some (Request control)) a)
-    asked_stays p (Wtx multiple) w = extended p t.size (Wtx multiple) t.extensions w refl within.4
-    asked_stays p (Ifs size) w = resized p size (is_size size) w refl
-    asked_stays p Abort w =
+    asked_next : (p : Phase) (control : Control) → Waits p t.opened
+        → Next (Came (Request control)) (on p t) (asked control (on p t)) a
+    asked_next p (Wtx multiple) w =
+        granted p (Wtx multiple) _ w refl
+        (extended p t.size (Wtx multiple) t.extensions w refl within.4)
+    asked_next p (Ifs size) w = resized p size (is_size size) w refl
+    asked_next p Abort w =
         let x = h.3 in (
-          all_stay t.number t.due,
-          record { within = within; in_phase = (h.0, h.1, h.2, omega (arith, x)) },
+          true,
+          all_stay t.number t.due t.opened,
+          subst (Stands (on Aborting t)) (sym (requests_count p Abort a t.opened w)) (record {
+            within = within;
+            in_phase = (h.0, h.1, h.2, omega (arith, x));
+          }),
         )
-    asked_stays p Resynch w = spends p Asks t.tries refl w
+    asked_next p Resynch w =
+        spent _ p (Asks Other) w (requests_count p Resynch a t.opened w)
 
-    asked_next : (p : Phase) (control : Control) → Waits p
-        → Next (Some (Request control)) (on p t) (asked control (on p t)) a
-    asked_next p control w =
-        let x = asked_stays p control w in
-        let same = sym (requests_count p control a w) in
-        (true, x.0, subst (Stands (asked control (on p t))) same x.1)
+    opening_next : (b : Arrival) → t.opened ≡ false
+        → Next b (on Opening t) (takes (on Opening t) b) a
+    opening_next (Came (Request control)) w = asked_next Opening control w
+    opening_next (Came (Response (Ifs size))) w =
+        either _ Opening _ _ (size == longest) (begins_next _ w)
+        (spent _ Opening (Asks Other) w refl)
+    opening_next (Came b) w = spent (Came b) Opening (Asks Other) w refl
+    opening_next (Bad reason) w = spent (Bad reason) Opening (Asks reason) w refl
 
-    -- the response to S(IFS request)
-    opened : (size : ℕ) (v : Bool) → (size == longest) ≡ v
-        → Next (Some (Response (Ifs size))) (on Opening t)
-        (cond v (record t { phase = Sending; opened = true; out = Own })
-        (spend t.tries (on Opening t) Asks)) a
-    opened size true e =
-        (true, all_stay t.number t.due, rw e (record { within = within; in_phase = h }))
-    opened size false e = spent _ Opening Asks tt (ap (λ v. cond v a (fruitless a)) e)
-
-    opening_next : (b : Option Block) → Next b (on Opening t) (takes (on Opening t) b) a
-    opening_next (Some (Request control)) = asked_next Opening control tt
-    opening_next (Some (Response (Ifs size))) = opened size (size == longest) refl
-    opening_next b = spent b Opening Asks tt refl
-
-    sending_next : (b : Option Block) → Next b (on Sending t) (takes (on Sending t) b) a
-    sending_next (Some (I n more f)) =
-        either _ Sending _ _ (same n t.due) (answered_next n more t.rest f)
-        (spent _ Sending Asks tt refl)
-    sending_next (Some (R n)) =
-        either _ Sending _ _ (same n t.number) (spent _ Sending Own tt refl)
-        (acknowledged_next n t.rest)
-    sending_next (Some (Request control)) = asked_next Sending control tt
-    sending_next b = spent b Sending Asks tt refl
-
-    receiving_next : (b : Option Block) → Next b (on Receiving t) (takes (on Receiving t) b) a
-    receiving_next (Some (I n more f)) =
+    receiving_next : (b : Arrival) → Next b (on Receiving t) (takes (on Receiving t) b) a
+    receiving_next (Came (I n more f)) =
         let y = field_counts Receiving more f in
-        either _ Receiving _ _ (same n t.due) (false, y.0, y.1) (spent _ Receiving Asks tt refl)
-    receiving_next (Some (Request control)) = asked_next Receiving control tt
-    receiving_next b = spent b Receiving Asks tt refl
+        either _ Receiving _ _ (same n t.due) (false, y.0, y.1)
+        (spent _ Receiving (Asks Other) tt refl)
+    receiving_next (Came (Request control)) = asked_next Receiving control tt
+    receiving_next (Came b) = spent (Came b) Receiving (Asks Other) tt refl
+    receiving_next (Bad reason) = spent (Bad reason) Receiving (Asks reason) tt refl
 
-  aborted_next : (t : Terminal) (a : Account) (b : Option Block) → Within t → Active 1 t a
+  sending_next : (t : Terminal) (a : Account) → Within t → Active 0 t a → (b : Arrival)
+      → Next b (on Sending t) (takes (on Sending t) b) a
+  sending_next t a within h (Came (I n more f)) =
+      either t a within h _ Sending _ _ (same n t.due) (answered_next t a within h n more t.rest f)
+      (spent t a within h _ Sending (Asks Other) tt refl)
+  sending_next t a within h (Came (R n error)) =
+      either t a within h _ Sending _ _ (same n t.number)
+      (spent (shortened t) a within h (Came (R n error)) Sending Own tt refl)
+      (acknowledged_next t a within h n error t.rest)
+  sending_next t a within h (Came (Request control)) =
+      asked_next t a within h Sending control tt
+  sending_next t a within h (Came b) =
+      spent t a within h (Came b) Sending (Asks Other) tt refl
+  sending_next t a within h (Bad reason) =
+      spent t a within h (Bad reason) Sending (Asks reason) tt refl
+
+  aborted_next : (t : Terminal) (a : Account) (b : Arrival) → Within t → Active 1 t a
       → Next b (on Aborting t) (on (GivenUp Aborted) t) a
   aborted_next t a b within h =
       let x = h.0 in let y = h.1 in let n = h.2 in let z = h.3 in let m = within.3 in (
         true,
-        all_stay t.number t.due,
+        all_stay t.number t.due t.opened,
         record {
           within = within;
           in_phase = abort_reason (record a { aborts = a.aborts + 1 }) (omega (arith, x))
@@ -318,14 +364,14 @@ module _ (s : Settings) where
         },
       )
 
-  by_next : (b : Option Block) (old new : Terminal) (a : Account) → Next b old new a
+  by_next : (b : Arrival) (old new : Terminal) (a : Account) → Next b old new a
       → Stands new (counted (stays old new) old.phase b a)
   by_next b old new a n = subst (λ v. Stands new (counted v old.phase b a)) (sym n.1) n.2
 
-  reception : (p : Phase) (t : Terminal) (a : Account) (b : Option Block) → Stands (on p t) a
+  reception : (p : Phase) (t : Terminal) (a : Account) (b : Arrival) → Stands (on p t) a
       → Stands (takes (on p t) b) (counts (on p t) b a)
   reception Opening t a b h =
-      by_next b (on Opening t) _ a (opening_next t a h.within h.in_phase b)
+      by_next b (on Opening t) _ a (opening_next t a h.within h.in_phase.0 b h.in_phase.1)
   reception Sending t a b h =
       by_next b (on Sending t) _ a (sending_next t a h.within h.in_phase b)
   reception Receiving t a b h =
@@ -343,13 +389,13 @@ module _ (s : Settings) where
       let tries = ap (λ x. x.tries) h.0 in
       let extensions = ap (λ x. x.extensions) h.0 in record {
         within = (h.0, omega (arith, tries), omega (arith, extensions), omega arith, h.4);
-        in_phase = of_first t.opened
+        in_phase = of_first t.opened refl
             (omega (arith, tries), omega (arith, extensions), refl, refl);
       } where
-        of_first : (v : Bool) → Active 0 (begins command t) nothing
+        of_first : (v : Bool) → t.opened ≡ v → Active 0 (begins command t) nothing
             → InPhase (first_phase v) (begins command t) nothing
-        of_first true x = x
-        of_first false x = x
+        of_first true e x = x
+        of_first false e x = (x, e)
 
   reset : Stands (fresh s) nothing
   reset = record {
@@ -361,8 +407,8 @@ module _ (s : Settings) where
       → Stands (happens e (on p t)) (account e (on p t) a)
   event (Begins command) Over t a h = begun (on Over t) command h.within
   event (Begins command) _ t a h = h
-  event (Takes bytes) p t a h = reception p t a (block_of bytes) h
-  event Misses p t a h = reception p t a None h
+  event (Takes bytes) p t a h = reception p t a (arrival_of bytes) h
+  event (Misses reason) p t a h = reception p t a (Bad reason) h
   event Resets p t a h = subst (λ x. Stands (fresh x) nothing) (sym h.within.0) reset
 
   all_stand : (events : List Event) (t : Terminal) (a : Account) → Stands t a
@@ -383,6 +429,7 @@ module _ (s : Settings) where
   cause_is (GivenUp cause) t a w h = sym h
   cause_is Over t a w h = sym h
   cause_is Aborting t a w h = none 1 t a w h (omega arith)
+  cause_is Opening t a w h = none 0 t a w h.0 (omega arith)
   cause_is _ t a w h = none 0 t a w h (omega arith)
 
 pub each_fault_has_its_reason : (settings : Settings) (events : List Event)

@@ -4,6 +4,8 @@ use Rattle.std.proofs.lemmas.List.{take-append-drop}
 use Rattle.t1_core.specs.declared.line.Fate.{Fate}
 use Rattle.t1_core.specs.declared.line.Fate.TheVariants.{Delivers, Damages, Loses}
 use Rattle.t1_core.specs.declared.line.Fates.{Fates}
+use Rattle.t1_core.specs.declared.pcb.Reason.{Reason}
+use Rattle.t1_core.specs.declared.pcb.Reason.TheVariants.{Edc, Other}
 use Rattle.t1_core.specs.declared.settings.Settings.{Settings}
 use Rattle.t1_core.specs.declared.terminal.Cause.{Cause}
 use Rattle.t1_core.specs.declared.terminal.Cause.TheVariants.{TriesSpent, ExtensionsSpent}
@@ -65,7 +67,7 @@ module _ (m : Meaning) (before : List (List ℕ)) (f : ℕ) where
       × Grants left k s extensions
 
   abbrev CalmAt : ℕ → Place → Type 0
-  CalmAt left (Going k s tries extensions) = Calm left k s tries extensions
+  CalmAt left (Going k s why tries extensions) = Calm left k s tries extensions
   CalmAt left (Given_up w cause) = ⊥
   CalmAt left (Finished w) = Unit {0}
 
@@ -135,10 +137,14 @@ module _ (m : Meaning) (before : List (List ℕ)) (f : ℕ) where
       unasked k s left tries extensions
       (asked k s left tries tries extensions (omega arith) h)
 
-  missed : (out : Out) (k : Kept) (s : Spot) (left tries extensions : ℕ)
+  missed : (why : Reason) (out : Out) (k : Kept) (s : Spot) (left tries extensions : ℕ)
       → Calm (left + 1) k s tries extensions
-      → Goes left (k.number, k.due) (misses m before out k s tries extensions)
-  missed out k s left tries extensions h =
+      → Goes left (k.number, k.due) (misses m before why out k s tries extensions)
+  missed why out k (Opens rest asks) left zero extensions h =
+      absurd (let q = h.0.tries_left in omega (arith, q))
+  missed why out k (Opens rest asks) left (suc n) extensions h =
+      inl (refl, asked k (Opens rest asks) left (suc n) n extensions (omega arith) h)
+  missed why out k s left tries extensions h =
       let q = h.0.tries_left in
       uses_goes TriesSpent tries left _ _ _ (omega (arith, q))
       (λ i e. inl (refl, asked k s left tries i extensions (omega (arith, e)) h))
@@ -242,7 +248,11 @@ module _ (m : Meaning) (before : List (List ℕ)) (f : ℕ) where
   comes_goes : (out : Out) (k : Kept) (s : Spot) (left tries extensions : ℕ) → IsHeard k s
       → Calm left k (asking s) tries extensions
       → Goes left (k.number, k.due) (comes m before out k s tries extensions)
-  comes_goes out k (Opens rest asks) left tries extensions a h = inl (refl, h)
+  comes_goes out k (Opens rest asks) left tries extensions a h =
+      let l = h.0.left_le in let e = h.0.enough.tries in inl (
+        refl,
+        (quiet k.settings.tries (2 * left + 0) [] h.0 (omega (arith, l, e)) h.0.fits, h.1),
+      )
   comes_goes out k (Behind asks collected rest answering) left tries extensions a h =
       let q = h.0.tries_left in
       uses_goes TriesSpent tries left _ _ _ (omega (arith, q)) (λ i e. inl (
@@ -264,14 +274,26 @@ module _ (m : Meaning) (before : List (List ℕ)) (f : ℕ) where
       next_goes (is_long k got) out (numbered first k) k.number got rest left tries extensions refl
       h.0
 
-  garbled_goes : (up : Fate) (k : Kept) (s : Spot) (left tries extensions : ℕ)
+  garbled_goes : (up : Fate) (k : Kept) (s : Spot) (why : Reason) (left tries extensions : ℕ)
       → Calm (left + 1) k s tries extensions
-      → Goes left (k.number, k.due) (garbled m before up k s tries extensions)
-  garbled_goes up k s left tries extensions h =
-      garbled_by m before (Goes left (k.number, k.due)) up k s tries extensions
-      (missed (out_at k s) k s left tries extensions h)
-      (λ a. comes_goes (out_at k s) k s left tries extensions a
+      → Goes left (k.number, k.due) (garbled m before up k s why tries extensions)
+  garbled_goes up k s why left tries extensions h =
+      garbled_by m before (Goes left (k.number, k.due)) up k s why tries extensions
+      (λ now. missed now (out_at k s why) k s left tries extensions h)
+      (λ a. comes_goes (out_at k s why) k s left tries extensions a
       (asked k s left tries tries extensions (omega arith) h))
+
+  -- the card's reply does not arrive
+  replied_goes : (now : Reason) (out : Out) (k : Kept) (s : Spot) (left tries extensions : ℕ)
+      → Calm (left + 1) k s tries extensions
+      → Goes left (k.number, k.due)
+      (misses m before now out (heard m before k s).0 (heard m before k s).1 tries extensions)
+  replied_goes now out k s left tries extensions h =
+      let j : Kept = (heard m before k s).0 in
+      let r : Spot = (heard m before k s).1 in
+      subst (λ n. Goes left n (misses m before now out j r tries extensions)) (heard_stays k s)
+      (missed now out j r left tries extensions (unasked j r (left + 1) tries extensions
+      (heard_calm k s (left + 1) tries extensions h)))
 
   -- one exchange; `bad_of` counts the blocks that fail to arrive
   step_goes : (down up : Fate) (p : Place) (left : ℕ)
@@ -279,28 +301,26 @@ module _ (m : Meaning) (before : List (List ℕ)) (f : ℕ) where
       → Goes left (numbers p) (step m before down up p)
   step_goes down up (Given_up w cause) left h = absurd h
   step_goes down up (Finished w) left h = inl (refl, tt)
-  step_goes Delivers Delivers (Going k s tries extensions) left h =
+  step_goes Delivers Delivers (Going k s why tries extensions) left h =
       let h0 : Calm left k s tries extensions =
       subst (λ l. Calm l k s tries extensions) (omega arith) h in
-      subst (λ n. Goes left n (step m before Delivers Delivers (Going k s tries extensions)))
-      (heard_stays k s) (comes_goes (out_at k s) _ _ left tries extensions (is_heard m before k s)
-      (heard_calm k s left tries extensions h0))
-  step_goes Delivers up (Going k s tries extensions) left h =
-      let j : Kept = (heard m before k s).0 in
-      let r : Spot = (heard m before k s).1 in
-      subst (λ n. Goes left n (step m before Delivers up (Going k s tries extensions)))
-      (heard_stays k s) (missed (out_at k s) j r left tries extensions
-      (unasked j r (left + 1) tries extensions (heard_calm k s (left + 1) tries extensions h)))
-  step_goes Damages Delivers (Going k s tries extensions) left h =
-      garbled_goes Delivers k s left tries extensions h
-  step_goes Damages up (Going k s tries extensions) left h =
-      garbled_goes up k s left tries extensions (weaker k s (left + 1) tries extensions
+      subst (λ n. Goes left n (step m before Delivers Delivers (Going k s why tries extensions)))
+      (heard_stays k s) (comes_goes (out_at k s why) _ _ left tries extensions
+      (is_heard m before k s) (heard_calm k s left tries extensions h0))
+  step_goes Delivers Damages (Going k s why tries extensions) left h =
+      replied_goes Edc (out_at k s why) k s left tries extensions h
+  step_goes Delivers Loses (Going k s why tries extensions) left h =
+      replied_goes Other (out_at k s why) k s left tries extensions h
+  step_goes Damages Delivers (Going k s why tries extensions) left h =
+      garbled_goes Delivers k s why left tries extensions h
+  step_goes Damages up (Going k s why tries extensions) left h =
+      garbled_goes up k s why left tries extensions (weaker k s (left + 1) tries extensions
       (subst (λ l. Calm l k s tries extensions) (omega arith) h))
-  step_goes Loses Delivers (Going k s tries extensions) left h =
-      missed (out_at k s) k s left tries extensions h
-  step_goes Loses up (Going k s tries extensions) left h =
-      missed (out_at k s) k s left tries extensions (weaker k s (left + 1) tries extensions
-      (subst (λ l. Calm l k s tries extensions) (omega arith) h))
+  step_goes Loses Delivers (Going k s why tries extensions) left h =
+      missed Other (out_at k s why) k s left tries extensions h
+  step_goes Loses up (Going k s why tries extensions) left h =
+      missed Other (out_at k s why) k s left tries extensions (weaker k s (left + 1) tries
+      extensions (subst (λ l. Calm l k s tries extensions) (omega arith) h))
 
   -- all worlds
 
@@ -309,7 +329,7 @@ module _ (m : Meaning) (before : List (List ℕ)) (f : ℕ) where
       → (run m fates (world_of m before p)).terminal.phase ≡ GivenUp cause → ⊥
   stays_calm [] left (Given_up w c) cause h mild = λ e. h
   stays_calm [] left (Finished w) cause h mild = λ e. absurd (cc)
-  stays_calm [] left (Going k s tries extensions) cause h mild =
+  stays_calm [] left (Going k s why tries extensions) cause h mild =
       λ e. absurd (let no = sym (moves s) ∙ ap has_stopped e in cc)
   stays_calm (x ∷ xs) left p cause h mild =
       let w : World = world_of m before p in

@@ -16,8 +16,8 @@ use Rattle.t1_core.specs.declared.terminal.Phase.TheVariants.{Opening, Sending, 
 use Rattle.t1_core.specs.Block.{Block}
 use Rattle.t1_core.specs.CardSide.{Card, Did, Meaning, card_after, card_meets}
 use Rattle.t1_core.specs.Carried.{EndsOf, HasCarried, Past, adds, answers_in, at_rest, more, nothing_yet, with_command, world_now}
-use Rattle.t1_core.specs.Conversing.{Conversed}
-use Rattle.t1_core.specs.Doing.{Agrees, IsOfSome, after, commands_of, meaning_of, ran_with}
+use Rattle.t1_core.specs.Conversing.{Conversed, HasEnded}
+use Rattle.t1_core.specs.Doing.{Agrees, IsKeeping, IsOfSome, after, commands_of, meaning_of, ran_with}
 use Rattle.t1_core.specs.Passing.{Passes, PassesWith}
 use Rattle.t1_core.specs.TerminalSide.{Terminal, begins, first_phase, fresh, is_ready, has_stopped, fault_in, fault_of, outcome_of, sends, sends_in, takes}
 use Rattle.t1_core.specs.World.{World, IsAtMostOnce, IsFrontOf, IsRight, IsTrue, all_blocks, arrives, exchange, exchanged, most_exchanges, responses, run, settle, size_after, start}
@@ -121,7 +121,10 @@ all_more m size ran (d ∷ commands) cs =
 pub most_more : (settings : Settings) (m : Meaning) (commands cs : List (List ℕ))
     → most_exchanges settings m [] commands ≤ most_exchanges settings m [] (commands ++ cs)
 most_more settings m commands cs =
-    let le = mul-le-mul_right (settings.tries + 1) (all_more m settings.ifsc [] commands cs) in
+    let blocks = all_more m settings.ifsc [] commands cs in
+    let le = mul-le-mul_right (settings.tries + 1)
+    (let n : 1 + all_blocks m settings.ifsc [] commands
+    ≤ 1 + all_blocks m settings.ifsc [] (commands ++ cs) = omega (arith, blocks) in n) in
     let e = length-append commands cs in
     let n = mul-le-mul_right settings.extensions
     (let n : length commands ≤ length (commands ++ cs) = omega (arith, e) in n) in
@@ -133,7 +136,7 @@ module _ {C : Type 0} (a : Ghosts C) where
   pub carried_at_first : (settings : Settings) (card : C) (passed : List Fates) (e : EndsOf C)
       → e ≡ record {
         terminal = fresh settings;
-        card = record { card = card; at = card_after [] };
+        card = record { card = card; at = card_after []; over = false };
       }
       → HasCarried a (nothing_yet settings (a.standing card) passed) passed e
   carried_at_first settings card passed e is =
@@ -143,6 +146,8 @@ module _ {C : Type 0} (a : Ghosts C) where
         did = [];
         does = refl;
         short = tt;
+        sent = [];
+        keeping = omega arith;
         fates = [];
         passed = sym (append-nil passed);
         sized = settings.inside.0;
@@ -153,11 +158,12 @@ module _ {C : Type 0} (a : Ghosts C) where
   -- the commands so far led to both ends
   here : (past : Past a.State) (now : List Fates) (e : EndsOf C) (h : HasCarried a past now e)
       (m : Meaning) → Agrees m [] h.did
-      → run m h.fates (start past.settings [] past.commands) ≡ world_now e h.did past.answers
+      → run m h.fates (start past.settings [] past.commands) ≡ world_now e h.did h.sent past.answers
   here past now e h m g =
       ap (λ cs. run m h.fates (start past.settings [] cs)) (sym (append-nil past.commands))
       ∙ h.leads m g []
-      ∙ none_behind e.terminal.phase e.terminal (after e.card (commands_of h.did)) past.answers
+      ∙ none_behind e.terminal.phase e.terminal (after e.card (commands_of h.did) h.sent)
+      past.answers
 
   -- the next command begins, while none is in progress
   pub carried_begins : (past : Past a.State) (now : List Fates) (e f : EndsOf C) (c : List ℕ)
@@ -170,6 +176,8 @@ module _ {C : Type 0} (a : Ghosts C) where
         did = h.did;
         does = h.does;
         short = h.short;
+        sent = h.sent;
+        keeping = h.keeping;
         fates = h.fates;
         passed = h.passed;
         sized = h.sized;
@@ -177,10 +185,10 @@ module _ {C : Type 0} (a : Ghosts C) where
             ap (λ all. run m h.fates (start past.settings [] all))
             (append_assoc past.commands (c ∷ []) cs)
             ∙ h.leads m g (c ∷ cs)
-            ∙ ap (λ p. adds p (c ∷ cs) (world_now e h.did past.answers))
+            ∙ ap (λ p. adds p (c ∷ cs) (world_now e h.did h.sent past.answers))
             (is_over e.terminal.phase ready)
             ∙ sym (behind_it (first_phase e.terminal.opened) (begins c e.terminal)
-            (after e.card (commands_of h.did)) [] cs past.answers
+            (after e.card (commands_of h.did) h.sent) [] cs past.answers
             (first_moves e.terminal.opened));
         few = λ m g.
             let le = h.few m g in
@@ -192,22 +200,25 @@ module _ {C : Type 0} (a : Ghosts C) where
       first_moves false = refl
 
   -- the terminal takes the block of an exchange
-  pub received : (x : Fates) (e f : EndsOf C) → has_stopped e.terminal.phase ≡ false
+  pub received : (x : Fates) (e f : EndsOf C) (sent : List ℕ) → IsKeeping a.LIMIT e.card sent
+      → has_stopped e.terminal.phase ≡ false
       → 0 < e.terminal.size → Passes a x e.terminal f.terminal e.card f.card
       → Takes e.terminal f.terminal
-  received x e f moving sized (did, goes, step) =
-      by (sends e.terminal) refl (step (meaning_of (log_with [] did)) [] (own did))
+  received x e f sent keeping moving sized p =
+      let (did, later, keeps, goes, step) = p sent keeping in
+      by did later (sends e.terminal) refl (step (meaning_of (log_with [] did)) [] (own did))
     where
       own : (did : Option Did) → IsOfSome (meaning_of (log_with [] did)) [] did
       own None = tt
       own (Some d) = (refl, refl)
 
-      by : (o : Option Block) → sends e.terminal ≡ o
-          → PassesWith (meaning_of (log_with [] did)) x o e.terminal f.terminal (after e.card [])
-          (after f.card (ran_with [] did))
+      by : (did : Option Did) (later : List ℕ) (o : Option Block) → sends e.terminal ≡ o
+          → PassesWith (meaning_of (log_with [] did)) x o e.terminal f.terminal
+          (after e.card [] sent) (after f.card (ran_with [] did) later)
           → Takes e.terminal f.terminal
-      by None none p = absurd (sends_some e.terminal.phase e.terminal.out e.terminal moving none)
-      by (Some b) some (is, kept, filled) =
+      by did later None none q =
+          absurd (sends_some e.terminal.phase e.terminal.out e.terminal moving none)
+      by did later (Some b) some (is, kept, filled) =
           subst (λ u. Takes e.terminal u) (sym is)
           (takes_spends e.terminal sized _ e.terminal.phase filled refl)
 
@@ -232,24 +243,26 @@ module _ {C : Type 0} (a : Ghosts C) where
         → Passes a x e.terminal f.terminal e.card f.card
         → HasCarried a (with_command past command f.terminal) next f
     carried_next one_more p =
-        let did = p.0 in record {
+        let (did, later, keeps, goes, step) = p h.sent h.keeping in record {
           did = log_with h.did did;
           does = does_with a.Does past.first (a.standing e.card.card) (a.standing f.card.card) h.did
-              did h.does p.1;
+              did h.does goes;
           short = short_with a.Does (a.standing e.card.card) (a.standing f.card.card) h.did did
-              h.short p.1;
+              h.short goes;
+          sent = later;
+          keeping = keeps;
           fates = h.fates ++ x ∷ [];
           passed = one_more ∙ ap (λ l. l ++ x ∷ []) h.passed
               ∙ append_assoc past.passed h.fates (x ∷ []);
-          sized = (received x e f moving h.sized p).0.1;
+          sized = (received x e f h.sent h.keeping moving h.sized p).0.1;
           leads = λ m g cs.
               let b = before_it m h.did did g in
               let ran = commands_of h.did in
               run_more m h.fates x (start past.settings [] (so_far.commands ++ cs))
               ∙ ap (exchange m x) (h.leads m b.0 cs)
-              ∙ passed_on m x e.terminal f.terminal (after e.card ran)
-              (after f.card (ran_with ran did)) cs past.answers moving (p.2 m ran b.1)
-              ∙ ap (λ r. more cs (at_rest f.terminal (after f.card r)
+              ∙ passed_on m x e.terminal f.terminal (after e.card ran h.sent)
+              (after f.card (ran_with ran did) later) cs past.answers moving (step m ran b.1)
+              ∙ ap (λ r. more cs (at_rest f.terminal (after f.card r later)
               (answers_in f.terminal.phase f.terminal.got past.answers)))
               (sym (commands_with h.did did));
           few = λ m g.
@@ -271,14 +284,15 @@ module _ {C : Type 0} (a : Ghosts C) where
       agrees = own_meaning [] h.did
 
       abbrev end : World
-      end = world_with e.terminal (after e.card (commands_of h.did)) rest past.answers
+      end = world_with e.terminal (after e.card (commands_of h.did) h.sent) rest past.answers
 
       end_is : run own h.fates (start past.settings [] all) ≡ end
       end_is = ap (λ cs. run own h.fates (start past.settings [] cs)) (sym whole)
           ∙ h.leads own agrees rest ∙ by e.terminal.phase ends
         where
           by : (p : Phase) → (is_ready p ≡ true → rest ≡ [])
-              → adds p rest (at_rest e.terminal (after e.card (commands_of h.did)) past.answers)
+              → adds p rest
+              (at_rest e.terminal (after e.card (commands_of h.did) h.sent) past.answers)
               ≡ end
           by Over none = rw (none refl) refl
           by _ none = refl
@@ -297,6 +311,14 @@ module _ {C : Type 0} (a : Ghosts C) where
           record {
             did = h.did;
             does = h.does;
+            fates = h.fates;
+            passed = h.passed;
+            by_blocks = subst (λ v. HasEnded v ran past.answers (fault_of t)) (sym end_is) (record {
+              stopped = stop;
+              ran_is = refl;
+              answers_are = refl;
+              fault_is = refl;
+            });
             carried_out = right.carried_out;
             answered = subst (λ rs. IsFrontOf past.answers rs) responses_so right.answered;
             all_but_one =
@@ -311,8 +333,6 @@ module _ {C : Type 0} (a : Ghosts C) where
             finished = λ is.
                 let done = once.finished (over_by t.phase t stop is) in
                 (same ∙ done.0, done.1 ∙ ap (responses own.does []) (sym same) ∙ responses_so);
-            fates = h.fates;
-            passed = h.passed;
             few =
                 let le = h.few own agrees in
                 let most = most_more past.settings own past.commands rest in

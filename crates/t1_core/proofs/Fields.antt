@@ -1,5 +1,6 @@
 -- The fields that a chain is cut into.
-use Rattle.std.proofs.Common.{◌≡◌, refl, ap, ◌∙◌, ℕ, ◌-◌, List, [], ◌∷◌, length, drop, length-drop, arith, nat_lt, rules, tests}
+use Rattle.std.proofs.Common.{◌≡◌, refl, ap, ◌∙◌, ℕ, zero, suc, ◌-◌, ◌<◌, List, [], ◌∷◌, ◌++◌, length, take, drop, length-drop, arith, nat_lt, rules, tests}
+use Rattle.std.proofs.lemmas.List.{take-append-drop}
 use Rattle.t1_core.specs.Block.{more}
 
 more_is : (rest : List ℕ) → nat_lt 0 (length rest) ≡ more rest
@@ -15,3 +16,13 @@ follow_is from cut place bytes is =
     (length (drop cut (drop place bytes))) =
     grind (arith, both, is) in
     same ∙ more_is (drop cut (drop place bytes))
+
+-- a field that is cut again is a shorter cut of the same bytes
+pub shorter_cut : (size cut : ℕ) (bytes : List ℕ) → size < cut
+    → (take size (take cut bytes) ≡ take size bytes)
+    × (drop size (take cut bytes) ++ drop cut bytes ≡ drop size bytes)
+shorter_cut zero cut bytes less = (refl, take-append-drop cut bytes)
+shorter_cut (suc n) zero bytes less = absurd (omega (arith, less))
+shorter_cut (suc n) (suc m) [] less = (refl, refl)
+shorter_cut (suc n) (suc m) (b ∷ bytes) less =
+    let e = shorter_cut n m bytes (omega (arith, less)) in (ap (λ x. b ∷ x) e.0, e.1)

@@ -4,6 +4,8 @@ use Rattle.std.proofs.lemmas.List.{take-append-drop}
 use Rattle.t1_core.specs.declared.line.Fate.{Fate}
 use Rattle.t1_core.specs.declared.line.Fate.TheVariants.{Delivers, Damages, Loses}
 use Rattle.t1_core.specs.declared.line.Fates.{Fates}
+use Rattle.t1_core.specs.declared.pcb.Reason.{Reason}
+use Rattle.t1_core.specs.declared.pcb.Reason.TheVariants.{NoError, Edc, Other}
 use Rattle.t1_core.specs.declared.settings.Settings.{Settings}
 use Rattle.t1_core.specs.declared.terminal.Cause.{Cause}
 use Rattle.t1_core.specs.declared.terminal.Cause.TheVariants.{TriesSpent, ExtensionsSpent, TooLong}
@@ -11,9 +13,9 @@ use Rattle.t1_core.specs.declared.terminal.Out.{Out}
 use Rattle.t1_core.specs.declared.terminal.Phase.TheVariants.{Over, GivenUp}
 use Rattle.t1_core.specs.Block.{is_size, other}
 use Rattle.t1_core.specs.CardSide.{Card, Meaning, first_ifsd, card_after}
-use Rattle.t1_core.specs.TerminalSide.{Terminal, longest, has_stopped, outcome_with, outcome_of, fresh}
+use Rattle.t1_core.specs.TerminalSide.{Terminal, has_stopped, outcome_with, outcome_of, fresh}
 use Rattle.t1_core.specs.World.{World, responses, IsRight, IsTrue, IsAtMostOnce, next_command, run, start}
-use Rattle.t1_core.proofs.Places.{Kept, Spot, Place, Going, Opens, Behind, Taken, Waits, Grows, Between, Sent, Given_up, Finished, asking, terminal_in, terminal_at, card_at, response_in, uses, proceeds, starts, out_at, with_phase, world, world_at, world_of, runs, heard, misses, comes, comes_next, numbered, is_long, IsHeard, is_heard, grows, garbled_by, step, is_step}
+use Rattle.t1_core.proofs.Places.{Kept, Spot, Place, Going, Opens, Behind, Taken, Waits, Grows, Between, Sent, Given_up, Finished, asking, terminal_in, terminal_at, card_at, response_in, uses, proceeds, starts, out_at, with_phase, world, world_at, world_of, runs, heard, misses, comes, comes_next, numbered, is_long, IsHeard, is_heard, grows, garbled_by, shorter, and_rest, begins, step, is_step}
 
 pub moves : (s : Spot) → has_stopped (terminal_in s).3 ≡ false
 moves (Sent true got rest) = refl
@@ -40,22 +42,18 @@ module _ (m : Meaning) (before commands : List (List ℕ)) where
   responding k (Taken collected b bytes) = []
   responding k s = response_in k s ∷ []
 
-  -- IFSD is the announced one
-  abbrev pub HasIfsd : Kept → Spot → Type 0
-  HasIfsd k (Opens rest asks) = Unit {0}
-  HasIfsd k _ = k.ifsd ≡ longest
-
-  -- the terminal has the IFSC that it has granted
-  abbrev pub HasGranted : Kept → Spot → Type 0
-  HasGranted k (Grows rest size true) = k.size ≡ size
-  HasGranted k _ = Unit {0}
+  -- A field has at most IFSC bytes, and the terminal has the IFSC that it has granted.
+  abbrev pub HasSize : Kept → Spot → Type 0
+  HasSize k (Behind asks collected rest answering) = length k.field ≤ k.size
+  HasSize k (Grows rest size true) = k.size ≡ size
+  HasSize k _ = Unit {0}
 
   abbrev pub Holds : Kept → Spot → Type 0
   Holds k s = AddsUp k.done k.todo k.answers (sending k s) (responding k s) × (1 ≤ k.size)
-      × HasIfsd k s × HasGranted k s
+      × (first_ifsd ≤ k.ifsd) × HasSize k s
 
   abbrev pub HoldsAt : Place → Type 0
-  HoldsAt (Going k s tries extensions) = Holds k s
+  HoldsAt (Going k s why tries extensions) = Holds k s
   HoldsAt (Given_up w cause) = IsAtMostOnce m before commands (with_phase (GivenUp cause) w)
   HoldsAt (Finished w) = IsAtMostOnce m before commands (with_phase Over w)
 
@@ -130,13 +128,14 @@ module _ (m : Meaning) (before commands : List (List ℕ)) where
   uses_hold cause (suc n) out k s tries extensions again e h = h n
 
   starts_hold : (k : Kept) (rest : List ℕ) (n : ℕ) (size : Option ℕ)
-      → AddsUp k.done k.todo k.answers [] ((k.last ++ rest) ∷ []) → 1 ≤ k.size → k.ifsd ≡ longest
-      → Holds k (starts rest n size)
+      → AddsUp k.done k.todo k.answers [] ((k.last ++ rest) ∷ []) → 1 ≤ k.size
+      → first_ifsd ≤ k.ifsd → Holds k (starts rest n size)
   starts_hold k rest zero (Some size) h some ifsd = (h, some, ifsd, tt)
   starts_hold k rest _ _ h some ifsd = (h, some, ifsd, tt)
 
   pub heard_holds : (k : Kept) (s : Spot) → Holds k s
       → Holds (heard m before k s).0 (heard m before k s).1
+  heard_holds k (Opens rest asks) h = (h.0, h.1, omega arith, tt)
   heard_holds k (Behind false collected [] answering) h =
       let done : List (List ℕ) = k.done ++ (collected ++ k.field) ∷ [] in
       starts_hold (runs m before k done) (drop k.ifsd (m.does (before ++ done)))
@@ -179,9 +178,32 @@ module _ (m : Meaning) (before commands : List (List ℕ)) where
   asking_holds k (Grows rest size granted) h = (h.0, h.1, h.2, tt)
   asking_holds k _ h = h
 
-  misses_hold : (out : Out) (k : Kept) (s : Spot) (tries extensions : ℕ) → Holds k s
-      → HoldsAt (misses m before out k s tries extensions)
-  misses_hold out k s tries extensions h =
+  few_taken : (size : ℕ) (bytes : List ℕ) → length (take size bytes) ≤ size
+  few_taken zero bytes = omega arith
+  few_taken (suc n) [] = omega arith
+  few_taken (suc n) (b ∷ bytes) = let le = few_taken n bytes in omega (arith, le)
+
+  -- the terminal begins to send a command
+  begins_hold : (k : Kept) (rest : List ℕ) (asks : Bool) (extensions : ℕ)
+      → Holds k (Opens rest asks) → HoldsAt (begins k rest extensions)
+  begins_hold k rest asks extensions h = (
+    record {
+      whole = ap (λ c. k.done ++ c ∷ k.todo) (take-append-drop k.size (k.field ++ rest))
+          ∙ h.0.whole;
+      answers_are = h.0.answers_are;
+    },
+    h.1,
+    h.2,
+    few_taken k.size (k.field ++ rest),
+  )
+
+  misses_hold : (why : Reason) (out : Out) (k : Kept) (s : Spot) (tries extensions : ℕ)
+      → Holds k s → HoldsAt (misses m before why out k s tries extensions)
+  misses_hold why out k (Opens rest asks) zero extensions h = begins_hold k rest asks extensions h
+  misses_hold why out k (Opens rest asks) (suc n) extensions h = h
+  misses_hold why out k (Sent first got rest) tries extensions h =
+      uses_hold TriesSpent tries out k (Sent first got rest) tries extensions _ h.0 (λ i. h)
+  misses_hold why out k s tries extensions h =
       uses_hold TriesSpent tries out k s tries extensions _ h.0 (λ i. asking_holds k s h)
 
   some_size : (size : ℕ) → is_size size ≡ true → 1 ≤ size
@@ -195,11 +217,11 @@ module _ (m : Meaning) (before commands : List (List ℕ)) where
       uses_hold ExtensionsSpent extensions out (record k { size = size }) (Grows rest size granted)
       tries extensions _ h.0 (λ i. (h.0, some_size size e, h.2, refl))
   grows_hold false out k rest size granted tries extensions e h =
-      misses_hold out k (Grows rest size granted) tries extensions h
+      misses_hold Other out k (Grows rest size granted) tries extensions h
 
   -- the next command, after an answer
   proceeds_hold : (k : Kept) (todo : List (List ℕ)) (w : World)
-      → AddsUp k.done todo k.answers [] [] → 1 ≤ k.size → k.ifsd ≡ longest
+      → AddsUp k.done todo k.answers [] [] → 1 ≤ k.size → first_ifsd ≤ k.ifsd
       → w.card.ran ≡ before ++ k.done → w.answers ≡ k.answers → HoldsAt (proceeds k todo w)
   proceeds_hold k [] w h some ifsd ran same = record {
     ran = k.done;
@@ -218,7 +240,7 @@ module _ (m : Meaning) (before commands : List (List ℕ)) where
     },
     some,
     ifsd,
-    tt,
+    few_taken k.size c,
   )
 
   next_hold : (v : Bool) (out : Out) (k : Kept) (got rest : List ℕ) (tries extensions : ℕ)
@@ -249,10 +271,19 @@ module _ (m : Meaning) (before commands : List (List ℕ)) where
 
   comes_hold : (out : Out) (k : Kept) (s : Spot) (tries extensions : ℕ) → IsHeard k s
       → Holds k s → HoldsAt (comes m before out k s tries extensions)
-  comes_hold out k (Opens rest asks) tries extensions a h = (h.0, h.1, a, tt)
+  comes_hold out k (Opens rest asks) tries extensions a h = begins_hold k rest asks extensions h
   comes_hold out k (Behind asks collected rest answering) tries extensions a h =
-      uses_hold TriesSpent tries out k (Behind asks collected rest answering) tries extensions _ h.0
-      (λ i. h)
+      let now : AddsUp k.done k.todo k.answers
+      (sending (shorter k) (Behind asks collected (and_rest k rest) answering)) [] = record {
+        whole = ap (λ c. k.done ++ (collected ++ c) ∷ k.todo)
+            (sym (append_assoc (take k.size k.field) (drop k.size k.field) rest)
+            ∙ ap (λ c. c ++ rest) (take-append-drop k.size k.field))
+            ∙ h.0.whole;
+        answers_are = h.0.answers_are;
+      } in
+      uses_hold TriesSpent tries out (shorter k)
+      (Behind asks collected (and_rest k rest) answering) tries extensions _ now
+      (λ i. (now, h.1, h.2, few_taken k.size k.field))
   comes_hold out k (Taken collected b bytes) tries extensions a h = (
     record {
       whole = ap (λ c. k.done ++ (collected ++ c) ∷ k.todo) (take-append-drop k.size (b ∷ bytes))
@@ -261,7 +292,7 @@ module _ (m : Meaning) (before commands : List (List ℕ)) where
     },
     h.1,
     h.2,
-    tt,
+    few_taken k.size (b ∷ bytes),
   )
   comes_hold out k (Waits rest n size granted) tries extensions a h =
       uses_hold ExtensionsSpent extensions out k (Waits rest n size granted) tries extensions _ h.0
@@ -275,23 +306,25 @@ module _ (m : Meaning) (before commands : List (List ℕ)) where
   pub step_holds : (down up : Fate) (p : Place) → HoldsAt p → HoldsAt (step m before down up p)
   step_holds down up (Given_up w cause) h = h
   step_holds down up (Finished w) h = h
-  step_holds Delivers Delivers (Going k s tries extensions) h =
-      comes_hold (out_at k s) _ _ tries extensions (is_heard m before k s) (heard_holds k s h)
-  step_holds Delivers _ (Going k s tries extensions) h =
-      misses_hold (out_at k s) _ _ tries extensions (heard_holds k s h)
-  step_holds Damages up (Going k s tries extensions) h =
-      garbled_by m before HoldsAt up k s tries extensions
-      (misses_hold (out_at k s) k s tries extensions h)
-      (λ a. comes_hold (out_at k s) k s tries extensions a h)
-  step_holds Loses up (Going k s tries extensions) h =
-      misses_hold (out_at k s) k s tries extensions h
+  step_holds Delivers Delivers (Going k s why tries extensions) h =
+      comes_hold (out_at k s why) _ _ tries extensions (is_heard m before k s) (heard_holds k s h)
+  step_holds Delivers Damages (Going k s why tries extensions) h =
+      misses_hold Edc (out_at k s why) _ _ tries extensions (heard_holds k s h)
+  step_holds Delivers Loses (Going k s why tries extensions) h =
+      misses_hold Other (out_at k s why) _ _ tries extensions (heard_holds k s h)
+  step_holds Damages up (Going k s why tries extensions) h =
+      garbled_by m before HoldsAt up k s why tries extensions
+      (λ now. misses_hold now (out_at k s why) k s tries extensions h)
+      (λ a. comes_hold (out_at k s why) k s tries extensions a h)
+  step_holds Loses up (Going k s why tries extensions) h =
+      misses_hold Other (out_at k s why) k s tries extensions h
 
   -- all worlds
 
   once_at : (p : Place) → HoldsAt p → IsAtMostOnce m before commands (world_of m before p)
   once_at (Given_up w cause) h = h
   once_at (Finished w) h = h
-  once_at (Going k s tries extensions) h = record {
+  once_at (Going k s why tries extensions) h = record {
     ran = k.done;
     ran_is = refl;
     right = right h.0 (one_response k s);
@@ -329,7 +362,7 @@ first before settings (c ∷ cs) =
       last = [];
       ifsd = first_ifsd;
       multiple = 0;
-    }) (Opens (drop settings.ifsc c) false) settings.tries settings.extensions
+    }) (Opens (drop settings.ifsc c) false) NoError settings.tries settings.extensions
 
 pub first_is : (m : Meaning) (before : List (List ℕ)) (settings : Settings)
     (commands : List (List ℕ))
@@ -358,7 +391,7 @@ first_holds m before settings (c ∷ cs) = (
     answers_are = refl;
   },
   (let some = settings.inside.0 in omega (arith, some)),
-  tt,
+  omega arith,
   tt,
 )
 

@@ -1,19 +1,22 @@
 -- A bound on the number of exchanges that are left.
 use Rattle.std.proofs.Common.{◌≡◌, refl, sym, ap, subst, ℕ, zero, suc, ◌+◌, ◌-◌, ◌*◌, ◌/◌, ◌≤◌, Bool, true, false, List, [], ◌∷◌, ◌++◌, length, take, drop, length-drop, Option, Some, append_assoc, append-nil, arith}
 use Rattle.std.proofs.lemmas.List.{take-append-drop}
-use Rattle.std.proofs.Math.Nat.{suc-mul, mul-le-mul_right, div-eq-sub-div}
+use Rattle.std.proofs.lemmas.Nat.{le-div}
+use Rattle.std.proofs.Math.Nat.{suc-mul, mul-le-mul_left, mul-le-mul_right, div-eq-sub-div, div-mul-le_self}
 use Rattle.t1_core.specs.declared.line.Fate.{Fate}
 use Rattle.t1_core.specs.declared.line.Fate.TheVariants.{Delivers, Damages, Loses}
 use Rattle.t1_core.specs.declared.line.Fates.{Fates}
+use Rattle.t1_core.specs.declared.pcb.Reason.{Reason}
+use Rattle.t1_core.specs.declared.pcb.Reason.TheVariants.{NoError, Edc, Other}
 use Rattle.t1_core.specs.declared.settings.Settings.{Settings}
 use Rattle.t1_core.specs.declared.terminal.Cause.{Cause}
 use Rattle.t1_core.specs.declared.terminal.Cause.TheVariants.{TriesSpent, ExtensionsSpent}
 use Rattle.t1_core.specs.declared.terminal.Out.{Out}
 use Rattle.t1_core.specs.Block.{other, is_size}
-use Rattle.t1_core.specs.CardSide.{Meaning}
-use Rattle.t1_core.specs.TerminalSide.{longest, has_stopped}
+use Rattle.t1_core.specs.CardSide.{Meaning, first_ifsd}
+use Rattle.t1_core.specs.TerminalSide.{has_stopped}
 use Rattle.t1_core.specs.World.{World, run, start, blocks, size_after, all_blocks, most_exchanges}
-use Rattle.t1_core.proofs.Places.{Kept, Spot, Place, Going, Opens, Behind, Taken, Waits, Grows, Between, Sent, Given_up, Finished, uses, proceeds, starts, out_at, world_of, runs, heard, misses, comes, comes_next, numbered, is_long, grows, garbled_by, step, is_step}
+use Rattle.t1_core.proofs.Places.{Kept, Spot, Place, Going, Opens, Behind, Taken, Waits, Grows, Between, Sent, Given_up, Finished, uses, proceeds, starts, out_at, world_of, runs, heard, misses, comes, comes_next, numbered, is_long, grows, garbled_by, shorter, and_rest, begins, step, is_step}
 use Rattle.t1_core.proofs.Holding.{Holds, HoldsAt, heard_holds, step_holds, first, first_is, first_holds}
 
 as_le : (x y : ℕ) → x ≡ y → x ≤ y
@@ -57,17 +60,40 @@ cut_less size (suc n) (suc d) some e =
     (div-eq-sub-div (omega (arith, some)) (omega (arith, e)))
     (ap (λ k. k / size) (omega (arith, e)))
 
+-- longer fields, fewer blocks
+blocks_fewer : (short size n : ℕ) → 1 ≤ short → short ≤ size → blocks size n ≤ blocks short n
+blocks_fewer short size zero some le = omega arith
+blocks_fewer short size (suc n) some le =
+    let many : n / size * short ≤ n / size * size = mul-le-mul_left (n / size) le in
+    let all : n / size * size ≤ n = div-mul-le_self n size in
+    let less : n / size ≤ n / short =
+    le-div (n / size) n short (omega (arith, some)) (omega (arith, many, all)) in
+    omega (arith, less)
+
 -- the first field is one of them
 drop_less : (size : ℕ) (bytes : List ℕ) → 1 ≤ size
     → more_blocks size (length (drop size bytes)) + 1 ≤ blocks size (length bytes)
 drop_less size bytes some =
     cut_less size (length bytes) (length (drop size bytes)) some (sym (length-drop size bytes))
 
+abbrev two : List ℕ → List ℕ → List ℕ × List ℕ
+two field rest = (field, rest)
+
+-- a field that is short enough stays as it is
+stays_cut : (size : ℕ) (field rest : List ℕ) → length field ≤ size
+    → two (take size field ++ (drop size field ++ rest)) (drop size field ++ rest)
+    ≡ two (field ++ rest) rest
+stays_cut zero [] rest le = refl
+stays_cut zero (b ∷ field) rest le = absurd (omega (arith, le))
+stays_cut (suc n) [] rest le = refl
+stays_cut (suc n) (b ∷ field) rest le =
+    ap (λ x. two (b ∷ x.0) x.1) (stays_cut n field rest (omega (arith, le)))
+
 module _ (m : Meaning) (before commands : List (List ℕ)) where
   -- the blocks left of a command in progress, and of everything after it
   abbrev ahead : Kept → List ℕ → ℕ → ℕ
   ahead k command rest =
-      rest + blocks longest (length (m.does (before ++ (k.done ++ command ∷ []))))
+      rest + blocks first_ifsd (length (m.does (before ++ (k.done ++ command ∷ []))))
       + all_blocks m (size_after (m.asks (before ++ (k.done ++ command ∷ []))).size k.size)
       (before ++ (k.done ++ command ∷ [])) k.todo
 
@@ -83,7 +109,8 @@ module _ (m : Meaning) (before commands : List (List ℕ)) where
   response k rest = more_blocks k.ifsd (length rest) + 1
 
   abbrev blocks_left : Kept → Spot → ℕ
-  blocks_left k (Opens rest asks) = ahead k (k.field ++ rest) (more_blocks k.size (length rest))
+  blocks_left k (Opens rest asks) =
+      ahead k (k.field ++ rest) (blocks k.size (length (k.field ++ rest)))
   blocks_left k (Behind asks collected rest answering) =
       ahead k (collected ++ (k.field ++ rest)) (more_blocks k.size (length rest))
   blocks_left k (Taken collected b bytes) =
@@ -98,9 +125,7 @@ module _ (m : Meaning) (before commands : List (List ℕ)) where
   abbrev measure : Place → ℕ
   measure (Given_up w cause) = 0
   measure (Finished w) = 0
-  measure (Going k (Opens rest asks) tries extensions) =
-      weight k (blocks_left k (Opens rest asks)) tries extensions + 1
-  measure (Going k s tries extensions) = weight k (blocks_left k s) tries extensions
+  measure (Going k s why tries extensions) = weight k (blocks_left k s) tries extensions
 
   some_weight : (k : Kept) (x tries extensions : ℕ) → 1 ≤ x → 1 ≤ weight k x tries extensions
   some_weight k x tries extensions some =
@@ -117,20 +142,21 @@ module _ (m : Meaning) (before commands : List (List ℕ)) where
   step_weight k x y tries extensions le =
       let w = weigh x y (k.settings.tries + 1) le in omega (arith, w)
 
-  some_ahead : (rest n later : ℕ) → 1 ≤ rest + blocks longest n + later
-  some_ahead rest n later = let s = some_blocks longest n in omega (arith, s)
+  some_ahead : (rest n later : ℕ) → 1 ≤ rest + blocks first_ifsd n + later
+  some_ahead rest n later = let s = some_blocks first_ifsd n in omega (arith, s)
 
   some_behind : (rest later : ℕ) → 1 ≤ rest + 1 + later
   some_behind rest later = omega arith
 
-  some_left : (k : Kept) (s : Spot) (tries extensions : ℕ)
-      → 1 ≤ measure (Going k s tries extensions)
-  some_left k (Opens rest asks) tries extensions = omega arith
-  some_left k (Behind asks collected rest answering) tries extensions =
+  some_left : (k : Kept) (s : Spot) (why : Reason) (tries extensions : ℕ)
+      → 1 ≤ measure (Going k s why tries extensions)
+  some_left k (Opens rest asks) why tries extensions =
       some_weight k _ tries extensions (some_ahead _ _ _)
-  some_left k (Taken collected b bytes) tries extensions =
+  some_left k (Behind asks collected rest answering) why tries extensions =
       some_weight k _ tries extensions (some_ahead _ _ _)
-  some_left k _ tries extensions = some_weight k _ tries extensions (some_behind _ _)
+  some_left k (Taken collected b bytes) why tries extensions =
+      some_weight k _ tries extensions (some_ahead _ _ _)
+  some_left k _ why tries extensions = some_weight k _ tries extensions (some_behind _ _)
 
   uses_less : (cause : Cause) (n : ℕ) (w : World) (again : ℕ → Place) (most : ℕ) → 1 ≤ most
       → ((i : ℕ) → i + 1 ≡ n → measure (again i) + 1 ≤ most)
@@ -138,33 +164,53 @@ module _ (m : Meaning) (before commands : List (List ℕ)) where
   uses_less cause zero w again most some h = omega (arith, some)
   uses_less cause (suc n) w again most some h = h n (omega arith)
 
-  misses_less : (out : Out) (k : Kept) (s : Spot) (tries extensions : ℕ)
-      → measure (misses m before out k s tries extensions) + 1
-      ≤ measure (Going k s tries extensions)
-  misses_less out k (Opens rest asks) tries extensions =
-      uses_less TriesSpent tries _ _ _ (omega arith) (λ i e. omega (arith, e))
-  misses_less out k s tries extensions =
-      uses_less TriesSpent tries _ _ _ (some_left k s tries extensions) (λ i e. omega (arith, e))
+  -- the terminal begins to send a command
+  begins_less : (k : Kept) (rest : List ℕ) (tries extensions : ℕ) → 1 ≤ k.size
+      → measure (begins k rest extensions) + 1
+      ≤ weight k (ahead k (k.field ++ rest) (blocks k.size (length (k.field ++ rest)))) tries
+      extensions
+  begins_less k rest tries extensions some =
+      let bytes : List ℕ = k.field ++ rest in
+      let next : Kept = record k { field = take k.size bytes } in
+      let left : ℕ = more_blocks k.size (length (drop k.size bytes)) in
+      let e : ahead next (take k.size bytes ++ drop k.size bytes) left ≡ ahead next bytes left =
+      ap (λ x. ahead next x left) (take-append-drop k.size bytes) in
+      step_weight k (ahead next (take k.size bytes ++ drop k.size bytes) left)
+      (ahead k bytes (blocks k.size (length bytes))) tries extensions
+      (sooner _ _ _ _ _ e (drop_less k.size bytes some))
+
+  misses_less : (why : Reason) (out : Out) (k : Kept) (s : Spot) (tries extensions : ℕ)
+      → 1 ≤ k.size → measure (misses m before why out k s tries extensions) + 1
+      ≤ measure (Going k s why tries extensions)
+  misses_less why out k (Opens rest asks) zero extensions some =
+      begins_less k rest zero extensions some
+  misses_less why out k (Opens rest asks) (suc n) extensions some = omega arith
+  misses_less why out k (Sent first got rest) tries extensions some =
+      uses_less TriesSpent tries _ _ _ (some_left k (Sent first got rest) why tries extensions)
+      (λ i e. omega (arith, e))
+  misses_less why out k s tries extensions some =
+      uses_less TriesSpent tries _ _ _ (some_left k s why tries extensions)
+      (λ i e. omega (arith, e))
 
   starts_le : (k : Kept) (rest : List ℕ) (n : ℕ) (size : Option ℕ) (tries extensions most : ℕ)
       → weight k (behind k (size_after size k.size) (response k rest)) tries extensions ≤ most
-      → measure (Going k (starts rest n size) tries extensions) ≤ most
+      → measure (Going k (starts rest n size) NoError tries extensions) ≤ most
   starts_le k rest zero (Some size) tries extensions most le = le
   starts_le k rest _ _ tries extensions most le = le
 
   -- the card has carried out the command, so its response counts
-  runs_le : (ifsd later n : ℕ) (bytes : List ℕ) → ifsd ≡ longest
+  runs_le : (ifsd later n : ℕ) (bytes : List ℕ) → first_ifsd ≤ ifsd
       → more_blocks ifsd (length (drop ifsd bytes)) + 1 + later
-      ≤ 0 + blocks longest (length bytes) + later
+      ≤ 0 + blocks first_ifsd (length bytes) + later
   runs_le ifsd later n bytes e =
-      let le : more_blocks ifsd (length (drop ifsd bytes)) + 1 ≤ blocks longest (length bytes) =
-      subst (λ i. more_blocks i (length (drop i bytes)) + 1 ≤ blocks longest (length bytes)) (sym e)
-      (drop_less longest bytes (omega arith)) in
-      omega (arith, le)
+      let le : more_blocks ifsd (length (drop ifsd bytes)) + 1 ≤ blocks ifsd (length bytes) =
+      drop_less ifsd bytes (omega (arith, e)) in
+      let fewer = blocks_fewer first_ifsd ifsd (length bytes) (omega arith) e in
+      omega (arith, le, fewer)
 
   heard_le : (k : Kept) (s : Spot) (tries extensions : ℕ) → Holds m before commands k s
-      → measure (Going (heard m before k s).0 (heard m before k s).1 tries extensions)
-      ≤ measure (Going k s tries extensions)
+      → measure (Going (heard m before k s).0 (heard m before k s).1 NoError tries extensions)
+      ≤ measure (Going k s NoError tries extensions)
   heard_le k (Behind false collected [] answering) tries extensions h =
       let command : List ℕ = collected ++ k.field in
       let done : List (List ℕ) = k.done ++ command ∷ [] in
@@ -189,7 +235,7 @@ module _ (m : Meaning) (before commands : List (List ℕ)) where
   heard_le k (Grows rest size true) tries extensions h =
       as_le _ _ (ap (λ n. weight k (behind k n (response k rest)) tries extensions) h.3)
   heard_le k (Between got b bytes) tries extensions h =
-      let e : k.ifsd ≡ longest = h.2 in
+      let e : first_ifsd ≤ k.ifsd = h.2 in
       less_weight k (behind k k.size (response k (drop k.ifsd (b ∷ bytes))))
       (behind k k.size (more_blocks k.ifsd (length (b ∷ bytes)))) tries extensions
       (le_plus _ _ _ (drop_less k.ifsd (b ∷ bytes) (omega (arith, e))))
@@ -210,10 +256,11 @@ module _ (m : Meaning) (before commands : List (List ℕ)) where
       let e : ahead next (take k.size c ++ drop k.size c) rest ≡ ahead next c rest =
       ap (λ x. ahead next x rest) (take-append-drop k.size c) in
       let same : all_blocks m k.size (before ++ k.done) (c ∷ cs)
-      ≡ blocks k.size (length c) + blocks longest (length (m.does (before ++ (k.done ++ c ∷ []))))
+      ≡ blocks k.size (length c)
+      + blocks first_ifsd (length (m.does (before ++ (k.done ++ c ∷ []))))
       + all_blocks m (size_after (m.asks (before ++ (k.done ++ c ∷ []))).size k.size)
       (before ++ (k.done ++ c ∷ [])) cs =
-      ap (λ r. blocks k.size (length c) + blocks longest (length (m.does r))
+      ap (λ r. blocks k.size (length c) + blocks first_ifsd (length (m.does r))
       + all_blocks m (size_after (m.asks r).size k.size) r cs)
       (append_assoc before k.done (c ∷ [])) in
       let w = weigh (ahead next (take k.size c ++ drop k.size c) rest)
@@ -223,19 +270,19 @@ module _ (m : Meaning) (before commands : List (List ℕ)) where
 
   grows_less : (v : Bool) (out : Out) (k : Kept) (rest : List ℕ) (size : ℕ) (granted : Bool)
       (tries extensions : ℕ)
-      → measure (grows m before v out k rest size granted tries extensions) + 1
-      ≤ measure (Going k (Grows rest size granted) tries extensions)
-  grows_less true out k rest size granted tries extensions =
+      → 1 ≤ k.size → measure (grows m before v out k rest size granted tries extensions) + 1
+      ≤ measure (Going k (Grows rest size granted) NoError tries extensions)
+  grows_less true out k rest size granted tries extensions some =
       uses_less ExtensionsSpent extensions _ _ _
-      (some_left k (Grows rest size granted) tries extensions) (λ i e. omega (arith, e))
-  grows_less false out k rest size granted tries extensions =
-      misses_less out k (Grows rest size granted) tries extensions
+      (some_left k (Grows rest size granted) NoError tries extensions) (λ i e. omega (arith, e))
+  grows_less false out k rest size granted tries extensions some =
+      misses_less Other out k (Grows rest size granted) tries extensions some
 
   next_less : (v : Bool) (out : Out) (k : Kept) (got rest : List ℕ) (tries extensions : ℕ)
       → 1 ≤ k.size → measure (comes_next m before v out k got rest tries extensions) + 1
-      ≤ measure (Going k (Sent false got rest) tries extensions)
+      ≤ measure (Going k (Sent false got rest) NoError tries extensions)
   next_less true out k got rest tries extensions some =
-      some_left k (Sent false got rest) tries extensions
+      some_left k (Sent false got rest) NoError tries extensions
   next_less false out k got [] tries extensions some =
       proceeds_less (record k { due = other k.due; answers = k.answers ++ (got ++ k.last) ∷ [] })
       k.todo _ tries extensions some
@@ -246,12 +293,19 @@ module _ (m : Meaning) (before commands : List (List ℕ)) where
   comes_less : (out : Out) (k : Kept) (s : Spot) (tries extensions : ℕ)
       → Holds m before commands k s
       → measure (comes m before out k s tries extensions) + 1
-      ≤ measure (Going k s tries extensions)
-  comes_less out k (Opens rest asks) tries extensions h = omega arith
+      ≤ measure (Going k s NoError tries extensions)
+  comes_less out k (Opens rest asks) tries extensions h =
+      begins_less k rest tries extensions h.1
   comes_less out k (Behind asks collected rest answering) tries extensions h =
+      let same = stays_cut k.size k.field rest h.3 in
+      let e : ahead (shorter k) (collected ++ (take k.size k.field ++ and_rest k rest))
+      (more_blocks k.size (length (and_rest k rest)))
+      ≡ ahead k (collected ++ (k.field ++ rest)) (more_blocks k.size (length rest)) =
+      ap (λ x. ahead k (collected ++ x.0) (more_blocks k.size (length x.1))) same in
       uses_less TriesSpent tries _ _ _
-      (some_left k (Behind asks collected rest answering) tries extensions)
-      (λ i e. omega (arith, e))
+      (some_left k (Behind asks collected rest answering) NoError tries extensions)
+      (λ i is.
+      let w = ap (λ x. x * (k.settings.tries + 1)) e in omega (arith, is, w))
   comes_less out k (Taken collected b bytes) tries extensions h =
       let next : Kept = record k { field = take k.size (b ∷ bytes); number = other k.number } in
       let rest : ℕ = more_blocks k.size (length (drop k.size (b ∷ bytes))) in
@@ -264,38 +318,52 @@ module _ (m : Meaning) (before commands : List (List ℕ)) where
       extensions (sooner _ _ _ _ _ e (drop_less k.size (b ∷ bytes) h.1))
   comes_less out k (Waits rest n size granted) tries extensions h =
       uses_less ExtensionsSpent extensions _ _ _
-      (some_left k (Waits rest n size granted) tries extensions) (λ i e. omega (arith, e))
+      (some_left k (Waits rest n size granted) NoError tries extensions)
+      (λ i e. omega (arith, e))
   comes_less out k (Grows rest size granted) tries extensions h =
-      grows_less (is_size size) out k rest size granted tries extensions
+      grows_less (is_size size) out k rest size granted tries extensions h.1
   comes_less out k (Between got b bytes) tries extensions h =
-      misses_less out k (Between got b bytes) tries extensions
+      misses_less Other out k (Between got b bytes) tries extensions h.1
   comes_less out k (Sent first got rest) tries extensions h =
       next_less (is_long k got) out (numbered first k) got rest tries extensions h.1
 
-  step_less : (down up : Fate) (k : Kept) (s : Spot) (tries extensions : ℕ)
+  -- the card's reply does not arrive
+  replied_less : (now : Reason) (out : Out) (k : Kept) (s : Spot) (tries extensions : ℕ)
       → Holds m before commands k s
-      → measure (step m before down up (Going k s tries extensions)) + 1
-      ≤ measure (Going k s tries extensions)
-  step_less Delivers Delivers k s tries extensions h =
+      → measure
+      (misses m before now out (heard m before k s).0 (heard m before k s).1 tries extensions) + 1
+      ≤ measure (Going k s NoError tries extensions)
+  replied_less now out k s tries extensions h =
       let le = heard_le k s tries extensions h in
-      let less = comes_less (out_at k s) (heard m before k s).0 (heard m before k s).1 tries
+      let less = misses_less now out (heard m before k s).0 (heard m before k s).1 tries extensions
+      (heard_holds m before commands k s h).1 in
+      omega (arith, le, less)
+
+  step_less : (down up : Fate) (k : Kept) (s : Spot) (why : Reason) (tries extensions : ℕ)
+      → Holds m before commands k s
+      → measure (step m before down up (Going k s why tries extensions)) + 1
+      ≤ measure (Going k s why tries extensions)
+  step_less Delivers Delivers k s why tries extensions h =
+      let le = heard_le k s tries extensions h in
+      let less = comes_less (out_at k s why) (heard m before k s).0 (heard m before k s).1 tries
       extensions (heard_holds m before commands k s h) in
       omega (arith, le, less)
-  step_less Delivers _ k s tries extensions h =
-      let le = heard_le k s tries extensions h in
-      let less = misses_less (out_at k s) (heard m before k s).0 (heard m before k s).1 tries
-      extensions in
-      omega (arith, le, less)
-  step_less Damages up k s tries extensions h =
-      garbled_by m before (λ p. measure p + 1 ≤ measure (Going k s tries extensions)) up k s tries
-      extensions (misses_less (out_at k s) k s tries extensions)
-      (λ a. comes_less (out_at k s) k s tries extensions h)
-  step_less Loses up k s tries extensions h = misses_less (out_at k s) k s tries extensions
+  step_less Delivers Damages k s why tries extensions h =
+      replied_less Edc (out_at k s why) k s tries extensions h
+  step_less Delivers Loses k s why tries extensions h =
+      replied_less Other (out_at k s why) k s tries extensions h
+  step_less Damages up k s why tries extensions h =
+      garbled_by m before (λ p. measure p + 1 ≤ measure (Going k s why tries extensions)) up k s
+      why tries extensions
+      (λ now. misses_less now (out_at k s why) k s tries extensions h.1)
+      (λ a. comes_less (out_at k s why) k s tries extensions h)
+  step_less Loses up k s why tries extensions h =
+      misses_less Other (out_at k s why) k s tries extensions h.1
 
   step_le : (down up : Fate) (p : Place) (n : ℕ) → HoldsAt m before commands p
       → measure p ≤ n + 1 → measure (step m before down up p) ≤ n
-  step_le down up (Going k s tries extensions) n h le =
-      let less = step_less down up k s tries extensions h in omega (arith, le, less)
+  step_le down up (Going k s why tries extensions) n h le =
+      let less = step_less down up k s why tries extensions h in omega (arith, le, less)
   step_le down up _ n h le = omega arith
 
   -- all worlds
@@ -305,8 +373,8 @@ module _ (m : Meaning) (before commands : List (List ℕ)) where
       → has_stopped (run m fates (world_of m before p)).terminal.phase ≡ true
   stops_at [] (Given_up w cause) h le = refl
   stops_at [] (Finished w) h le = refl
-  stops_at [] (Going k s tries extensions) h le =
-      absurd (let some = some_left k s tries extensions in omega (arith, some, le))
+  stops_at [] (Going k s why tries extensions) h le =
+      absurd (let some = some_left k s why tries extensions in omega (arith, some, le))
   stops_at (x ∷ xs) p h le =
       subst (λ w. has_stopped (run m xs w).terminal.phase ≡ true)
       (sym (is_step m before x.down x.up p))
@@ -326,19 +394,14 @@ stops m settings before commands fates le =
           → measure m before cs (first before settings cs) ≤ length fates
       most_le [] le = omega arith
       most_le (c ∷ cs) le =
-          let some = settings.inside.0 in
           let many = suc-mul (length cs) settings.extensions in
           let size : ℕ = settings.ifsc in
-          let rest : ℕ = more_blocks size (length (drop size c)) in
-          let less = drop_less size c (omega (arith, some)) in
-          let later : List ℕ → ℕ = λ x. blocks longest (length (m.does (before ++ x ∷ [])))
+          let n : ℕ = all_blocks m size before (c ∷ cs) in
+          let later : List ℕ → ℕ = λ x. blocks size (length x)
+          + blocks first_ifsd (length (m.does (before ++ x ∷ [])))
           + all_blocks m (size_after (m.asks (before ++ x ∷ [])).size size) (before ++ x ∷ []) cs in
           let e : later (take size c ++ drop size c) ≡ later c = ap later (take-append-drop size c)
           in
-          let w = weigh
-          (rest + blocks longest (length (m.does (before ++ ((take size c ++ drop size c) ∷ []))))
-          + all_blocks m
-          (size_after (m.asks (before ++ ((take size c ++ drop size c) ∷ []))).size size)
-          (before ++ ((take size c ++ drop size c) ∷ [])) cs)
-          (all_blocks m size before (c ∷ cs)) (settings.tries + 1) (omega (arith, e, less)) in
-          omega (arith, w, many, le)
+          let w = ap (λ x. x * (settings.tries + 1)) e in
+          let one = suc-mul n (settings.tries + 1) in
+          omega (arith, w, one, many, le)

@@ -5,6 +5,8 @@ use Rattle.t1_core.specs.declared.applet.Requests.{Requests}
 use Rattle.t1_core.specs.declared.block.Control.TheVariants.{Ifs, Wtx}
 use Rattle.t1_core.specs.declared.line.Fate.{Fate}
 use Rattle.t1_core.specs.declared.line.Fate.TheVariants.{Delivers, Damages, Loses}
+use Rattle.t1_core.specs.declared.pcb.Reason.{Reason}
+use Rattle.t1_core.specs.declared.pcb.Reason.TheVariants.{NoError, Edc, Other}
 use Rattle.t1_core.specs.declared.settings.Settings.{Settings}
 use Rattle.t1_core.specs.declared.terminal.Cause.{Cause}
 use Rattle.t1_core.specs.declared.terminal.Cause.TheVariants.{TriesSpent, ExtensionsSpent, TooLong}
@@ -12,7 +14,7 @@ use Rattle.t1_core.specs.declared.terminal.Out.{Out}
 use Rattle.t1_core.specs.declared.terminal.Out.TheVariants.{Own, Asks, Grants}
 use Rattle.t1_core.specs.declared.terminal.Phase.{Phase}
 use Rattle.t1_core.specs.declared.terminal.Phase.TheVariants.{Opening, Sending, Receiving, Over, GivenUp}
-use Rattle.t1_core.specs.Block.{Block, I, R, Request, Response, other, more, is_size}
+use Rattle.t1_core.specs.Block.{Block, I, R, Request, Response, Arrival, Came, Bad, other, more, is_size}
 use Rattle.t1_core.specs.CardSide.{Card, Meaning, Turn, answers_with, card_damaged, request_of, carries_out, turn}
 use Rattle.t1_core.specs.TerminalSide.{Terminal, sends, takes, longest}
 use Rattle.t1_core.specs.World.{World, arrives, settled, next_command, exchange, exchanged}
@@ -50,20 +52,21 @@ pub data Spot : Type 0 where
   Sent : (first : Bool) → (got rest : List ℕ) → Spot
 
 pub data Place : Type 0 where
-  Going : (k : Kept) → (s : Spot) → (tries extensions : ℕ) → Place
+  -- `why` is the error of the terminal's R-block
+  Going : (k : Kept) → (s : Spot) → (why : Reason) → (tries extensions : ℕ) → Place
   Given_up : (w : World) → (cause : Cause) → Place
   Finished : (w : World) → Place
 
-abbrev pub out_of : Bool → Out
-out_of true = Asks
-out_of false = Own
+abbrev pub out_of : Reason → Bool → Out
+out_of why true = Asks why
+out_of why false = Own
 
-abbrev pub out_at : Kept → Spot → Out
-out_at k (Opens rest asks) = out_of asks
-out_at k (Behind asks collected rest answering) = out_of asks
-out_at k (Waits rest n size true) = Grants (Wtx k.multiple)
-out_at k (Grows rest size true) = Grants (Ifs size)
-out_at k _ = Asks
+abbrev pub out_at : Kept → Spot → Reason → Out
+out_at k (Opens rest asks) why = out_of why asks
+out_at k (Behind asks collected rest answering) why = out_of why asks
+out_at k (Waits rest n size true) why = Grants (Wtx k.multiple)
+out_at k (Grows rest size true) why = Grants (Ifs size)
+out_at k _ why = Asks why
 
 -- the spot after the terminal has asked for the card's block again
 abbrev pub asking : Spot → Spot
@@ -127,7 +130,7 @@ abbrev pub proceeds : Kept → List (List ℕ) → World → Place
 proceeds k [] w = Finished (record w { todo = [] })
 proceeds k (c ∷ cs) w =
     Going (record k { todo = cs; field = take k.size c }) (Behind false [] (drop k.size c) true)
-    k.settings.tries k.settings.extensions
+    NoError k.settings.tries k.settings.extensions
 
 abbrev pub starts : List ℕ → ℕ → Option ℕ → Spot
 starts rest (suc n) size = Waits rest n size false
@@ -142,9 +145,21 @@ is_long k got = nat_lt k.settings.limit (length got + length k.last)
 abbrev pub numbered : Bool → Kept → Kept
 numbered first k = record k { number = cond first (other k.number) k.number }
 
+-- the terminal repeats a field, which is cut again if it is too long
+abbrev pub shorter : Kept → Kept
+shorter k = record k { field = take k.size k.field }
+
+abbrev pub and_rest : Kept → List ℕ → List ℕ
+and_rest k rest = drop k.size k.field ++ rest
+
+-- the terminal begins to send a command, whose first field it cuts
+abbrev pub begins : Kept → (rest : List ℕ) → (extensions : ℕ) → Place
+begins k rest extensions =
+    Going (record k { field = take k.size (k.field ++ rest) })
+    (Behind false [] (drop k.size (k.field ++ rest)) false) NoError k.settings.tries extensions
+
 -- a spot after the card has taken the terminal's block
 abbrev pub IsHeard : Kept → Spot → Type 0
-IsHeard k (Opens rest asks) = k.ifsd ≡ longest
 IsHeard k (Between got b bytes) = ⊥
 IsHeard k _ = Unit {0}
 
@@ -190,19 +205,19 @@ module _ (m : Meaning) (before : List (List ℕ)) where
   world_at out k s tries extensions = world k (terminal_at out k s tries extensions) (card_at k s)
 
   abbrev pub world_of : Place → World
-  world_of (Going k s tries extensions) = world_at (out_at k s) k s tries extensions
+  world_of (Going k s why tries extensions) = world_at (out_at k s why) k s tries extensions
   world_of (Given_up w cause) = with_phase (GivenUp cause) w
   world_of (Finished w) = with_phase Over w
 
-  -- the card's reply, after it has taken the terminal's block
-  abbrev pub reply_of : Kept → Spot → Block
-  reply_of k (Opens rest asks) = Response (Ifs longest)
-  reply_of k (Behind asks collected rest answering) = R k.number
-  reply_of k (Taken collected b bytes) = R (other k.number)
-  reply_of k (Waits rest n size granted) = Request (Wtx k.multiple)
-  reply_of k (Grows rest size granted) = Request (Ifs size)
-  reply_of k (Between got b bytes) = R k.number
-  reply_of k (Sent first got rest) = I k.due (more rest) k.last
+  -- the card's reply, after it has taken the terminal's block; an R-block has any error
+  abbrev pub reply_of : Reason → Kept → Spot → Block
+  reply_of error k (Opens rest asks) = Response (Ifs longest)
+  reply_of error k (Behind asks collected rest answering) = R k.number error
+  reply_of error k (Taken collected b bytes) = R (other k.number) error
+  reply_of error k (Waits rest n size granted) = Request (Wtx k.multiple)
+  reply_of error k (Grows rest size granted) = Request (Ifs size)
+  reply_of error k (Between got b bytes) = R k.number error
+  reply_of error k (Sent first got rest) = I k.due (more rest) k.last
 
   abbrev pub runs : Kept → List (List ℕ) → Kept
   runs k done =
@@ -228,7 +243,6 @@ module _ (m : Meaning) (before : List (List ℕ)) where
   heard k s = (k, s)
 
   pub is_heard : (k : Kept) (s : Spot) → IsHeard (heard k s).0 (heard k s).1
-  is_heard k (Opens rest asks) = refl
   is_heard k (Behind false collected [] answering) =
       starts_heard (runs k (k.done ++ (collected ++ k.field) ∷ [])) _ _ _
   is_heard k (Behind false collected (b ∷ bytes) answering) = tt
@@ -237,16 +251,17 @@ module _ (m : Meaning) (before : List (List ℕ)) where
   is_heard k _ = tt
 
   -- the card's block does not arrive
-  abbrev pub misses : Out → Kept → Spot → (tries extensions : ℕ) → Place
-  misses out k s tries extensions =
+  abbrev pub misses : Reason → Out → Kept → Spot → (tries extensions : ℕ) → Place
+  misses why out k (Opens rest asks) zero extensions = begins k rest extensions
+  misses why out k s tries extensions =
       uses TriesSpent tries (world_at out k s tries extensions)
-      (λ n. Going k (asking s) n extensions)
+      (λ n. Going k (asking s) why n extensions)
 
   -- the terminal grants the card's request
   abbrev pub grants : Out → Kept → (s granted : Spot) → (tries extensions : ℕ) → Place
   grants out k s granted tries extensions =
       uses ExtensionsSpent extensions (world_at out k s tries extensions)
-      (λ n. Going k granted tries n)
+      (λ n. Going k granted NoError tries n)
 
   -- the terminal ignores an invalid IFSC
   abbrev pub grows : Bool → Out → Kept → List ℕ → ℕ → Bool → (tries extensions : ℕ) → Place
@@ -254,7 +269,7 @@ module _ (m : Meaning) (before : List (List ℕ)) where
       grants out (record k { size = size }) (Grows rest size granted) (Grows rest size true) tries
       extensions
   grows false out k rest size granted tries extensions =
-      misses out k (Grows rest size granted) tries extensions
+      misses Other out k (Grows rest size granted) tries extensions
 
   -- the world after a field of the response, before the next command
   abbrev pub world_after : Out → Kept → (got rest : List ℕ) → (tries extensions : ℕ) → World
@@ -272,77 +287,87 @@ module _ (m : Meaning) (before : List (List ℕ)) where
       proceeds (record now { due = other k.due }) k.todo
       (world_after out now (got ++ k.last) [] tries extensions)
   comes_next false out k got (b ∷ bytes) tries extensions =
-      Going (record k { due = other k.due }) (Between (got ++ k.last) b bytes) k.settings.tries
-      extensions
+      Going (record k { due = other k.due }) (Between (got ++ k.last) b bytes) NoError
+      k.settings.tries extensions
 
   -- the card's block arrives
   abbrev pub comes : Out → Kept → Spot → (tries extensions : ℕ) → Place
-  comes out k (Opens rest asks) tries extensions =
-      Going k (Behind false [] rest false) tries extensions
+  comes out k (Opens rest asks) tries extensions = begins k rest extensions
   comes out k (Behind asks collected rest answering) tries extensions =
       uses TriesSpent tries
-      (world_at out k (Behind asks collected rest answering) tries extensions)
-      (λ n. Going k (Behind false collected rest answering) n extensions)
+      (world_at out (shorter k) (Behind asks collected (and_rest k rest) answering) tries
+      extensions)
+      (λ n. Going (shorter k) (Behind false collected (and_rest k rest) answering) NoError n
+      extensions)
   comes out k (Taken collected b bytes) tries extensions =
       Going (record k { field = take k.size (b ∷ bytes); number = other k.number })
-      (Behind false collected (drop k.size (b ∷ bytes)) false) k.settings.tries extensions
+      (Behind false collected (drop k.size (b ∷ bytes)) false) NoError k.settings.tries extensions
   comes out k (Waits rest n size granted) tries extensions =
       grants out k (Waits rest n size granted) (Waits rest n size true) tries extensions
   comes out k (Grows rest size granted) tries extensions =
       grows (is_size size) out k rest size granted tries extensions
   comes out k (Between got b bytes) tries extensions =
-      misses out k (Between got b bytes) tries extensions
+      misses Other out k (Between got b bytes) tries extensions
   comes out k (Sent first got rest) tries extensions =
       comes_next (is_long k got) out (numbered first k) got rest tries extensions
 
   abbrev pub arrived : Out → Fate → Kept → Spot → (tries extensions : ℕ) → Place
   arrived out Delivers k s tries extensions = comes out k s tries extensions
-  arrived out _ k s tries extensions = misses out k s tries extensions
+  arrived out Damages k s tries extensions = misses Edc out k s tries extensions
+  arrived out Loses k s tries extensions = misses Other out k s tries extensions
+
+  -- the error of a block that brings no progress
+  abbrev error_of : Fate → Reason
+  error_of Damages = Edc
+  error_of _ = Other
 
   -- The card has received a damaged block. Its R-block has no effect in the first three.
-  abbrev pub garbled : Fate → Kept → Spot → (tries extensions : ℕ) → Place
-  garbled up k (Opens rest asks) tries extensions =
-      misses (out_of asks) k (Opens rest asks) tries extensions
-  garbled up k (Between got b bytes) tries extensions =
-      misses Asks k (Between got b bytes) tries extensions
-  garbled up k (Sent first got rest) tries extensions =
-      misses Asks k (Sent first got rest) tries extensions
-  garbled up k s tries extensions = arrived (out_at k s) up k s tries extensions
+  abbrev pub garbled : Fate → Kept → Spot → Reason → (tries extensions : ℕ) → Place
+  garbled up k (Opens rest asks) why tries extensions =
+      misses (error_of up) (out_of why asks) k (Opens rest asks) tries extensions
+  garbled up k (Between got b bytes) why tries extensions =
+      misses (error_of up) (Asks why) k (Between got b bytes) tries extensions
+  garbled up k (Sent first got rest) why tries extensions =
+      misses (error_of up) (Asks why) k (Sent first got rest) tries extensions
+  garbled up k s why tries extensions = arrived (out_at k s why) up k s tries extensions
 
   abbrev pub step : Fate → Fate → Place → Place
   step down up (Given_up w cause) = Given_up w cause
   step down up (Finished w) = Finished w
-  step Delivers up (Going k s tries extensions) =
-      arrived (out_at k s) up (heard k s).0 (heard k s).1 tries extensions
-  step Damages up (Going k s tries extensions) = garbled up k s tries extensions
-  step Loses up (Going k s tries extensions) = misses (out_at k s) k s tries extensions
+  step Delivers up (Going k s why tries extensions) =
+      arrived (out_at k s why) up (heard k s).0 (heard k s).1 tries extensions
+  step Damages up (Going k s why tries extensions) = garbled up k s why tries extensions
+  step Loses up (Going k s why tries extensions) =
+      misses Other (out_at k s why) k s tries extensions
 
   -- A step is one of these, so what holds of each holds of it.
-  pub garbled_by : (P : Place → Type 0) (up : Fate) (k : Kept) (s : Spot) (tries extensions : ℕ)
-      → P (misses (out_at k s) k s tries extensions)
-      → (IsHeard k s → P (comes (out_at k s) k s tries extensions))
-      → P (garbled up k s tries extensions)
-  garbled_by P up k (Opens rest asks) tries extensions missed came = missed
-  garbled_by P up k (Between got b bytes) tries extensions missed came = missed
-  garbled_by P up k (Sent first got rest) tries extensions missed came = missed
-  garbled_by P Delivers k _ tries extensions missed came = came tt
-  garbled_by P _ k _ tries extensions missed came = missed
+  pub garbled_by : (P : Place → Type 0) (up : Fate) (k : Kept) (s : Spot) (why : Reason)
+      (tries extensions : ℕ)
+      → ((now : Reason) → P (misses now (out_at k s why) k s tries extensions))
+      → (IsHeard k s → P (comes (out_at k s why) k s tries extensions))
+      → P (garbled up k s why tries extensions)
+  garbled_by P up k (Opens rest asks) why tries extensions missed came = missed (error_of up)
+  garbled_by P up k (Between got b bytes) why tries extensions missed came = missed (error_of up)
+  garbled_by P up k (Sent first got rest) why tries extensions missed came = missed (error_of up)
+  garbled_by P Delivers k _ why tries extensions missed came = came tt
+  garbled_by P Damages k _ why tries extensions missed came = missed Edc
+  garbled_by P Loses k _ why tries extensions missed came = missed Other
 
   -- the terminal takes a block, or none
 
-  abbrev pub took : Out → Kept → Spot → (tries extensions : ℕ) → Option Block → World
+  abbrev pub took : Out → Kept → Spot → (tries extensions : ℕ) → Arrival → World
   took out k s tries extensions b =
       let w : World = world_at out k s tries extensions in
       settled (record w { terminal = takes w.terminal b })
 
-  missed : (out : Out) (k : Kept) (tries extensions : ℕ) (s : Spot)
-      → took out k s tries extensions None ≡ world_of (misses out k s tries extensions)
-  missed out k zero extensions (Opens rest asks) = refl
-  missed out k zero extensions (Sent true got rest) = refl
-  missed out k zero extensions _ = refl
-  missed out k (suc n) extensions (Opens rest asks) = refl
-  missed out k (suc n) extensions (Sent true got rest) = refl
-  missed out k (suc n) extensions _ = refl
+  missed : (why : Reason) (out : Out) (k : Kept) (tries extensions : ℕ) (s : Spot)
+      → took out k s tries extensions (Bad why) ≡ world_of (misses why out k s tries extensions)
+  missed why out k zero extensions (Opens rest asks) = refl
+  missed why out k zero extensions (Sent true got rest) = refl
+  missed why out k zero extensions _ = refl
+  missed why out k (suc n) extensions (Opens rest asks) = refl
+  missed why out k (suc n) extensions (Sent true got rest) = refl
+  missed why out k (suc n) extensions _ = refl
 
   proceeds_is : (k : Kept) (todo : List (List ℕ)) (out : Out) (got : List ℕ)
       (tries extensions : ℕ)
@@ -354,7 +379,7 @@ module _ (m : Meaning) (before : List (List ℕ)) where
 
   grown : (out : Out) (k : Kept) (rest : List ℕ) (size : ℕ) (granted : Bool)
       (tries extensions : ℕ) (v : Bool) → is_size size ≡ v
-      → took out k (Grows rest size granted) tries extensions (Some (Request (Ifs size)))
+      → took out k (Grows rest size granted) tries extensions (Came (Request (Ifs size)))
       ≡ world_of (grows v out k rest size granted tries extensions)
   grown out k rest size granted tries zero true e = rw e refl
   grown out k rest size granted tries (suc n) true e = rw e refl
@@ -363,7 +388,7 @@ module _ (m : Meaning) (before : List (List ℕ)) where
 
   next_is : (out : Out) (k : Kept) (got : List ℕ) (tries extensions : ℕ) (v first : Bool)
       (rest : List ℕ) → is_long k got ≡ v
-      → took out k (Sent first got rest) tries extensions (Some (I k.due (more rest) k.last))
+      → took out k (Sent first got rest) tries extensions (Came (I k.due (more rest) k.last))
       ≡ world_of (comes_next v out (numbered first k) got rest tries extensions)
   next_is out k got tries extensions true true rest e = rw (same_self k.due) (rw e refl)
   next_is out k got tries extensions false true [] e =
@@ -377,37 +402,40 @@ module _ (m : Meaning) (before : List (List ℕ)) where
       }) k.todo out (got ++ k.last) tries extensions))
   next_is out k got tries extensions _ _ _ e = rw (same_self k.due) (rw e refl)
 
-  comes_is : (out : Out) (k : Kept) (s : Spot) (tries extensions : ℕ)
-      → took out k s tries extensions (Some (reply_of k s))
+  comes_is : (error : Reason) (out : Out) (k : Kept) (s : Spot) (tries extensions : ℕ)
+      → took out k s tries extensions (Came (reply_of error k s))
       ≡ world_of (comes out k s tries extensions)
-  comes_is out k (Opens rest asks) tries extensions = refl
-  comes_is out k (Behind asks collected rest answering) zero extensions =
+  comes_is error out k (Opens rest asks) tries extensions = refl
+  comes_is error out k (Behind asks collected rest answering) zero extensions =
       rw (same_self k.number) refl
-  comes_is out k (Behind asks collected rest answering) (suc n) extensions =
+  comes_is error out k (Behind asks collected rest answering) (suc n) extensions =
       rw (same_self k.number) refl
-  comes_is out k (Taken collected b bytes) tries extensions = rw (same_other k.number) refl
-  comes_is out k (Waits rest n size granted) tries zero = refl
-  comes_is out k (Waits rest n size granted) tries (suc e) = refl
-  comes_is out k (Grows rest size granted) tries extensions =
+  comes_is error out k (Taken collected b bytes) tries extensions = rw (same_other k.number) refl
+  comes_is error out k (Waits rest n size granted) tries zero = refl
+  comes_is error out k (Waits rest n size granted) tries (suc e) = refl
+  comes_is error out k (Grows rest size granted) tries extensions =
       grown out k rest size granted tries extensions (is_size size) refl
-  comes_is out k (Between got b bytes) tries extensions =
-      missed out k tries extensions (Between got b bytes)
-  comes_is out k (Sent first got rest) tries extensions =
+  comes_is error out k (Between got b bytes) tries extensions =
+      missed Other out k tries extensions (Between got b bytes)
+  comes_is error out k (Sent first got rest) tries extensions =
       next_is out k got tries extensions (is_long k got) first rest refl
 
-  ups : (out : Out) (up : Fate) (k : Kept) (s : Spot) (tries extensions : ℕ)
-      → took out k s tries extensions (arrives up (Some (reply_of k s)))
+  ups : (error : Reason) (out : Out) (up : Fate) (k : Kept) (s : Spot) (tries extensions : ℕ)
+      → took out k s tries extensions (arrives up (Some (reply_of error k s)))
       ≡ world_of (arrived out up k s tries extensions)
-  ups out Delivers k s tries extensions = comes_is out k s tries extensions
-  ups out _ k s tries extensions = missed out k tries extensions s
+  ups error out Delivers k s tries extensions = comes_is error out k s tries extensions
+  ups error out Damages k s tries extensions = missed Edc out k tries extensions s
+  ups error out Loses k s tries extensions = missed Other out k tries extensions s
 
   -- the terminal ignores this R-block, which replies to a damaged block
   unread : (out : Out) (up : Fate) (k : Kept) (s : Spot) (tries extensions : ℕ) (number : Bool)
-      → took out k s tries extensions (Some (R number)) ≡ took out k s tries extensions None
-      → took out k s tries extensions (arrives up (Some (R number)))
-      ≡ world_of (misses out k s tries extensions)
-  unread out Delivers k s tries extensions number e = e ∙ missed out k tries extensions s
-  unread out _ k s tries extensions number e = missed out k tries extensions s
+      → took out k s tries extensions (Came (R number Edc))
+      ≡ took out k s tries extensions (Bad Other)
+      → took out k s tries extensions (arrives up (Some (R number Edc)))
+      ≡ world_of (misses (error_of up) out k s tries extensions)
+  unread out Delivers k s tries extensions number e = e ∙ missed Other out k tries extensions s
+  unread out Damages k s tries extensions number e = missed Edc out k tries extensions s
+  unread out Loses k s tries extensions number e = missed Other out k tries extensions s
 
   -- the world after the card's turn
   abbrev pub turned : Kept → Terminal → Fate → Turn → World
@@ -424,17 +452,18 @@ module _ (m : Meaning) (before : List (List ℕ)) where
         left = requests n k.multiple size;
       }))
       ≡ world_of (arrived out up k (starts rest n size) tries extensions)
-  answers_now out up k rest (suc n) size = ups out up k (Waits rest n size false)
-  answers_now out up k rest zero (Some size) = ups out up k (Grows rest size false)
-  answers_now out up k rest zero None = ups out up k (Sent true [] rest)
+  answers_now out up k rest (suc n) size = ups NoError out up k (Waits rest n size false)
+  answers_now out up k rest zero (Some size) = ups NoError out up k (Grows rest size false)
+  answers_now out up k rest zero None = ups NoError out up k (Sent true [] rest)
 
   abbrev After : Fate → Fate → Place → World
   After down up p = exchange m (record { down = down; up = up }) (world_of p)
 
   runs_now : (up : Fate) (k : Kept) (collected : List ℕ) (answering : Bool) (tries extensions : ℕ)
-      → let p : Place = Going k (Behind false collected [] answering) tries extensions in
+      (why : Reason)
+      → let p : Place = Going k (Behind false collected [] answering) why tries extensions in
       After Delivers up p ≡ world_of (step Delivers up p)
-  runs_now up k collected answering tries extensions =
+  runs_now up k collected answering tries extensions why =
       let s : Spot = Behind false collected [] answering in
       let done : List (List ℕ) = k.done ++ (collected ++ k.field) ∷ [] in
       let after : List (List ℕ) → World =
@@ -444,83 +473,79 @@ module _ (m : Meaning) (before : List (List ℕ)) where
       ∙ answers_now Own up (runs k done) (drop k.ifsd (m.does (before ++ done)))
       (m.asks (before ++ done)).extensions (m.asks (before ++ done)).size tries extensions)
 
-  sends_some : (k : Kept) (s : Spot) (tries extensions : ℕ)
-      → (b : Block) × (sends (terminal_at (out_at k s) k s tries extensions) ≡ Some b)
-  sends_some k (Opens rest true) tries extensions = (_, refl)
-  sends_some k (Behind true collected rest answering) tries extensions = (_, refl)
-  sends_some k (Waits rest n size true) tries extensions = (_, refl)
-  sends_some k (Grows rest size true) tries extensions = (_, refl)
-  sends_some k (Sent true got rest) tries extensions = (_, refl)
-  sends_some k _ tries extensions = (_, refl)
+  sends_some : (k : Kept) (s : Spot) (why : Reason) (tries extensions : ℕ)
+      → (b : Block) × (sends (terminal_at (out_at k s why) k s tries extensions) ≡ Some b)
+  sends_some k (Opens rest true) why tries extensions = (_, refl)
+  sends_some k (Behind true collected rest answering) why tries extensions = (_, refl)
+  sends_some k (Waits rest n size true) why tries extensions = (_, refl)
+  sends_some k (Grows rest size true) why tries extensions = (_, refl)
+  sends_some k (Sent true got rest) why tries extensions = (_, refl)
+  sends_some k _ why tries extensions = (_, refl)
 
-  -- nothing arrives if nothing was sent
-  silent : (up : Fate) → arrives up None ≡ None
-  silent Delivers = refl
-  silent _ = refl
-
-  lost : (up : Fate) (k : Kept) (s : Spot) (tries extensions : ℕ)
-      → After Loses up (Going k s tries extensions)
-      ≡ world_of (misses (out_at k s) k s tries extensions)
-  lost up k s tries extensions =
+  lost : (up : Fate) (k : Kept) (s : Spot) (why : Reason) (tries extensions : ℕ)
+      → After Loses up (Going k s why tries extensions)
+      ≡ world_of (misses Other (out_at k s why) k s tries extensions)
+  lost up k s why tries extensions =
       ap (exchanged m (record { down = Loses; up = up })
-      (world_at (out_at k s) k s tries extensions)) (sends_some k s tries extensions).1
-      ∙ ap (took (out_at k s) k s tries extensions) (silent up)
-      ∙ missed (out_at k s) k tries extensions s
+      (world_at (out_at k s why) k s tries extensions)) (sends_some k s why tries extensions).1
+      ∙ missed Other (out_at k s why) k tries extensions s
 
   -- the card replies to a damaged block with this one
-  garbles : (up : Fate) (k : Kept) (s : Spot) (tries extensions : ℕ) (b : Block)
-      → card_damaged (card_at k s) ≡ turn (card_at k s) b
-      → After Damages up (Going k s tries extensions)
-      ≡ took (out_at k s) k s tries extensions (arrives up (Some b))
-  garbles up k s tries extensions b e =
-      let w : World = world_at (out_at k s) k s tries extensions in
-      ap (exchanged m (record { down = Damages; up = up }) w) (sends_some k s tries extensions).1
+  garbles : (up : Fate) (k : Kept) (s : Spot) (why : Reason) (tries extensions : ℕ) (b : Block)
+      → card_damaged Edc (card_at k s) ≡ turn (card_at k s) b
+      → After Damages up (Going k s why tries extensions)
+      ≡ took (out_at k s why) k s tries extensions (arrives up (Some b))
+  garbles up k s why tries extensions b e =
+      let w : World = world_at (out_at k s why) k s tries extensions in
+      ap (exchanged m (record { down = Damages; up = up }) w)
+      (sends_some k s why tries extensions).1
       ∙ ap (turned k w.terminal up) e
 
   pub is_step : (down up : Fate) (p : Place) → After down up p ≡ world_of (step down up p)
   is_step down up (Given_up w cause) = refl
   is_step down up (Finished w) = refl
-  is_step Delivers up (Going k (Opens rest true) tries extensions) =
-      ups Asks up (record k { ifsd = longest }) (Opens rest true) tries extensions
-  is_step Delivers up (Going k (Behind true collected rest answering) tries extensions) =
-      rw (same_self k.due) (ups Asks up k (Behind true collected rest answering) tries extensions)
-  is_step Delivers up (Going k (Behind false collected [] answering) tries extensions) =
-      runs_now up k collected answering tries extensions
-  is_step Delivers up (Going k (Behind false collected (b ∷ bytes) answering) tries extensions) =
-      rw (same_self k.number) (ups Own up (record k { last = [] })
+  is_step Delivers up (Going k (Opens rest true) why tries extensions) =
+      ups NoError (Asks why) up (record k { ifsd = longest }) (Opens rest true) tries extensions
+  is_step Delivers up (Going k (Behind true collected rest answering) why tries extensions) =
+      rw (same_self k.due) (ups Other (Asks why) up k (Behind true collected rest answering) tries
+      extensions)
+  is_step Delivers up (Going k (Behind false collected [] answering) why tries extensions) =
+      runs_now up k collected answering tries extensions why
+  is_step Delivers up (Going k (Behind false collected (b ∷ bytes) answering) why tries extensions)
+      = rw (same_self k.number) (ups NoError Own up (record k { last = [] })
       (Taken (collected ++ k.field) b bytes) tries extensions)
-  is_step Delivers up (Going k (Taken collected b bytes) tries extensions) =
-      rw (same_self k.due) (ups Asks up k (Taken collected b bytes) tries extensions)
-  is_step Delivers up (Going k (Waits rest n size true) tries extensions) =
+  is_step Delivers up (Going k (Taken collected b bytes) why tries extensions) =
+      rw (same_self k.due) (ups Other (Asks why) up k (Taken collected b bytes) tries extensions)
+  is_step Delivers up (Going k (Waits rest n size true) why tries extensions) =
       rw (eq-eqb k.multiple k.multiple refl)
       (answers_now (Grants (Wtx k.multiple)) up k rest n size tries extensions)
-  is_step Delivers up (Going k (Grows rest size true) tries extensions) =
+  is_step Delivers up (Going k (Grows rest size true) why tries extensions) =
       rw (eq-eqb size size refl)
-      (ups (Grants (Ifs size)) up k (Sent true [] rest) tries extensions)
-  is_step Delivers up (Going k (Between got b bytes) tries extensions) =
-      rw (same_self k.due) (ups Asks up (record k { last = take k.ifsd (b ∷ bytes) })
+      (ups NoError (Grants (Ifs size)) up k (Sent true [] rest) tries extensions)
+  is_step Delivers up (Going k (Between got b bytes) why tries extensions) =
+      rw (same_self k.due) (ups NoError (Asks why) up (record k { last = take k.ifsd (b ∷ bytes) })
       (Sent false got (drop k.ifsd (b ∷ bytes))) tries extensions)
-  is_step Delivers up (Going k (Sent true got rest) tries extensions) =
+  is_step Delivers up (Going k (Sent true got rest) why tries extensions) =
       rw (same_other_2 k.due) (rw (other_other k.due)
-      (ups Asks up k (Sent true got rest) tries extensions))
-  is_step Delivers up (Going k (Sent false got rest) tries extensions) =
+      (ups NoError (Asks why) up k (Sent true got rest) tries extensions))
+  is_step Delivers up (Going k (Sent false got rest) why tries extensions) =
       rw (same_other_2 k.due) (rw (other_other k.due)
-      (ups Asks up k (Sent false got rest) tries extensions))
-  is_step Delivers up (Going k s tries extensions) =
-      ups (out_at k s) up (heard k s).0 (heard k s).1 tries extensions
-  is_step Damages up (Going k (Opens rest asks) tries extensions) =
-      garbles up k (Opens rest asks) tries extensions _ refl
-      ∙ unread (out_of asks) up k (Opens rest asks) tries extensions k.number refl
-  is_step Damages up (Going k (Between got b bytes) tries extensions) =
-      garbles up k (Between got b bytes) tries extensions _ refl
-      ∙ unread Asks up k (Between got b bytes) tries extensions k.number refl
-  is_step Damages up (Going k (Sent true got rest) tries extensions) =
-      garbles up k (Sent true got rest) tries extensions _ refl
-      ∙ unread Asks up k (Sent true got rest) tries extensions (other k.number)
+      (ups NoError (Asks why) up k (Sent false got rest) tries extensions))
+  is_step Delivers up (Going k s why tries extensions) =
+      ups NoError (out_at k s why) up (heard k s).0 (heard k s).1 tries extensions
+  is_step Damages up (Going k (Opens rest asks) why tries extensions) =
+      garbles up k (Opens rest asks) why tries extensions _ refl
+      ∙ unread (out_of why asks) up k (Opens rest asks) tries extensions k.number refl
+  is_step Damages up (Going k (Between got b bytes) why tries extensions) =
+      garbles up k (Between got b bytes) why tries extensions _ refl
+      ∙ unread (Asks why) up k (Between got b bytes) tries extensions k.number refl
+  is_step Damages up (Going k (Sent true got rest) why tries extensions) =
+      garbles up k (Sent true got rest) why tries extensions _ refl
+      ∙ unread (Asks why) up k (Sent true got rest) tries extensions (other k.number)
       (rw (same_other k.number) refl)
-  is_step Damages up (Going k (Sent false got rest) tries extensions) =
-      garbles up k (Sent false got rest) tries extensions _ refl
-      ∙ unread Asks up k (Sent false got rest) tries extensions k.number refl
-  is_step Damages up (Going k s tries extensions) =
-      garbles up k s tries extensions _ refl ∙ ups (out_at k s) up k s tries extensions
-  is_step Loses up (Going k s tries extensions) = lost up k s tries extensions
+  is_step Damages up (Going k (Sent false got rest) why tries extensions) =
+      garbles up k (Sent false got rest) why tries extensions _ refl
+      ∙ unread (Asks why) up k (Sent false got rest) tries extensions k.number refl
+  is_step Damages up (Going k s why tries extensions) =
+      garbles up k s why tries extensions _ refl ∙ ups Edc (out_at k s why) up k s tries extensions
+  is_step Loses up (Going k s why tries extensions) = lost up k s why tries extensions

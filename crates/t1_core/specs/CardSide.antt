@@ -8,7 +8,9 @@ use Rattle.t1_core.specs.declared.block.Control.{Control}
 use Rattle.t1_core.specs.declared.block.Control.TheVariants.{Resynch, Ifs, Abort, Wtx}
 use Rattle.t1_core.specs.declared.line.Fate.{Fate}
 use Rattle.t1_core.specs.declared.line.Fate.TheVariants.{Delivers, Damages, Loses}
-use Rattle.t1_core.specs.Block.{Block, I, R, Request, Response, other, same, more, answers, is_size}
+use Rattle.t1_core.specs.declared.pcb.Reason.{Reason}
+use Rattle.t1_core.specs.declared.pcb.Reason.TheVariants.{NoError, Edc, Other}
+use Rattle.t1_core.specs.Block.{Block, I, R, Request, Response, Arrival, Came, Bad, other, same, more, answers, is_size}
 
 -- The behaviour of the card above the end, as a function of all its commands, the newest last.
 -- `does` is its response to the newest. `asks` are the S(WTX request) and S(IFS request) that it
@@ -77,10 +79,14 @@ abbrev pub after_request : ℕ → Requests → Requests
 after_request (suc n) left = record left { extensions = n }
 after_request zero left = record left { size = None }
 
+-- R, which asks for the terminal's block
+abbrev pub asks_for : Reason → Card → Turn
+asks_for reason c = turn c (R c.due reason)
+
 -- the reply to an invalid or unexpected block (rules of error handling)
-abbrev pub again : Option Control → Card → Turn
-again None c = turn c (R c.due)
-again (Some control) c = turn c (Request control)
+abbrev pub again : Option Control → Reason → Card → Turn
+again None reason c = asks_for reason c
+again (Some control) reason c = turn c (Request control)
 
 -- the next request, or the first field of the response
 abbrev pub answers_with : Option Control → Card → Turn
@@ -88,18 +94,21 @@ answers_with None c =
     turn (record c { next = other c.next; answering = true }) (I c.next (more c.rest) c.field)
 answers_with (Some control) c = turn c (Request control)
 
-abbrev pub carries_out : Meaning → Card → List (List ℕ) → Turn
-carries_out m c ran =
-    answers_with (request_of (m.asks ran))
+-- the end of a command: its first request, or the first field of its response
+abbrev pub responds : Requests → List ℕ → Card → Turn
+responds asks response c =
+    answers_with (request_of asks)
     (record c {
-      ran = ran;
       collected = [];
       due = other c.due;
-      field = take c.size (m.does ran);
-      rest = drop c.size (m.does ran);
+      field = take c.size response;
+      rest = drop c.size response;
       answering = false;
-      left = m.asks ran;
+      left = asks;
     })
+
+abbrev pub carries_out : Meaning → Card → List (List ℕ) → Turn
+carries_out m c ran = responds (m.asks ran) (m.does ran) (record c { ran = ran })
 
 -- a field of a command, which ends the previous response
 abbrev pub collects : Meaning → List ℕ → Bool → Card → List ℕ → Turn
@@ -109,13 +118,13 @@ collects m [] true c f =
       due = other c.due;
       field = [];
       answering = false;
-    }) (R (other c.due))
+    }) (R (other c.due) NoError)
 collects m [] false c f = carries_out m c (c.ran ++ (c.collected ++ f) ∷ [])
-collects m (b ∷ bytes) more c f = turn c (R c.due)
+collects m (b ∷ bytes) more c f = asks_for Other c
 
 -- R asks for the next field of the response
 abbrev pub goes_on : List ℕ → Card → Turn
-goes_on [] c = turn c (R c.due)
+goes_on [] c = asks_for Other c
 goes_on (b ∷ bytes) c =
     let rest : List ℕ = drop c.size (b ∷ bytes) in
     let field : List ℕ = take c.size (b ∷ bytes) in
@@ -124,14 +133,14 @@ goes_on (b ∷ bytes) c =
 -- R asks for the newest I-block again, if a response is in progress
 abbrev pub repeats : Bool → Card → Turn
 repeats true c = turn c (I (other c.next) (more c.rest) c.field)
-repeats false c = turn c (R c.due)
+repeats false c = asks_for Other c
 
 -- a request of the terminal (rules of S-blocks)
 abbrev pub serves : Control → Card → Turn
 serves Resynch c = turn (card_after c.ran) (Response Resynch)
 serves (Ifs size) c =
     cond (is_size size) (turn (record c { size = size }) (Response (Ifs size)))
-    (again (request_of c.left) c)
+    (again (request_of c.left) Other c)
 serves Abort c =
     turn (record c {
       collected = [];
@@ -140,13 +149,13 @@ serves Abort c =
       answering = false;
       left = no_requests;
     }) (Response Abort)
-serves (Wtx multiple) c = again (request_of c.left) c
+serves (Wtx multiple) c = again (request_of c.left) Other c
 
 abbrev pub takes_block : Meaning → Block → Card → Turn
-takes_block m (I n more f) c = cond (same n c.due) (collects m c.rest more c f) (turn c (R c.due))
-takes_block m (R n) c = cond (same n c.next) (goes_on c.rest c) (repeats c.answering c)
+takes_block m (I n more f) c = cond (same n c.due) (collects m c.rest more c f) (asks_for Other c)
+takes_block m (R n reason) c = cond (same n c.next) (goes_on c.rest c) (repeats c.answering c)
 takes_block m (Request control) c = serves control c
-takes_block m (Response control) c = turn c (R c.due)
+takes_block m (Response control) c = asks_for Other c
 
 -- the terminal has answered the request in progress
 abbrev pub granted : Card → Turn
@@ -169,17 +178,16 @@ abbrev pub card_takes : Meaning → Block → Card → Turn
 card_takes m b c = takes_at m (request_of c.left) b c
 
 -- an invalid block
-abbrev pub card_damaged : Card → Turn
-card_damaged c = again (request_of c.left) c
+abbrev pub card_damaged : Reason → Card → Turn
+card_damaged reason c = again (request_of c.left) reason c
 
--- a block; `None` is an invalid one
-abbrev pub card_hears : Meaning → Option Block → Card → Turn
-card_hears m None c = card_damaged c
-card_hears m (Some b) c = card_takes m b c
+abbrev pub card_hears : Meaning → Arrival → Card → Turn
+card_hears m (Bad reason) c = card_damaged reason c
+card_hears m (Came b) c = card_takes m b c
 
 abbrev pub card_meets : Meaning → Fate → Block → Card → Turn
 card_meets m Delivers b c = card_takes m b c
-card_meets m Damages b c = card_damaged c
+card_meets m Damages b c = card_damaged Edc c
 card_meets m Loses b c = record { card = c; block = None }
 
 -- Memory ran out during a command. The card does not carry it out, and the previous response is
@@ -190,6 +198,6 @@ forgets c = record c { field = []; rest = []; answering = false }
 -- the block of a reply
 abbrev pub replies : Reply → Card → Block
 replies reply.Information c = I (other c.next) (more c.rest) c.field
-replies reply.Ready c = R c.due
+replies (reply.Ready reason) c = R c.due reason
 replies (reply.Request control) c = Request control
 replies (reply.Response control) c = Response control

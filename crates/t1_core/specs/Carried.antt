@@ -8,7 +8,7 @@ use Rattle.t1_core.specs.declared.settings.Settings.{Settings}
 use Rattle.t1_core.specs.declared.terminal.Phase.{Phase}
 use Rattle.t1_core.specs.declared.terminal.Phase.TheVariants.{Over}
 use Rattle.t1_core.specs.CardSide.{Card, Did, Meaning}
-use Rattle.t1_core.specs.Doing.{Agrees, DoesAll, EndOf, after, commands_of, most_bytes}
+use Rattle.t1_core.specs.Doing.{Agrees, DoesAll, EndOf, IsKeeping, after, commands_of, most_bytes}
 use Rattle.t1_core.specs.TerminalSide.{Terminal}
 use Rattle.t1_core.specs.World.{World, most_exchanges, next_command, run, start}
 
@@ -21,9 +21,11 @@ pub record EndsOf (C : Type 0) : Type 0 where
 abbrev pub at_rest : Terminal → Card → (answers : List (List ℕ)) → World
 at_rest t c answers = record { terminal = t; card = c; todo = []; answers = answers }
 
--- the same after the card has carried out `did`
-abbrev pub world_now : {C : Type 0} → EndsOf C → List Did → (answers : List (List ℕ)) → World
-world_now e did answers = at_rest e.terminal (after e.card (commands_of did)) answers
+-- the same after the card has carried out `did`; `sent` are the bytes of a command so far, if they
+-- exceed the limit
+abbrev pub world_now : {C : Type 0} → EndsOf C → List Did → (sent : List ℕ)
+    → (answers : List (List ℕ)) → World
+world_now e did sent answers = at_rest e.terminal (after e.card (commands_of did) sent) answers
 
 -- adds commands: the first begins now if the terminal is ready, the others wait
 abbrev pub adds : Phase → List (List ℕ) → World → World
@@ -72,11 +74,13 @@ pub record HasCarried {C : Type 0} (a : Ghosts C) (past : Past a.State) (now : L
   pub did : List Did
   pub does : DoesAll a.Does past.first did (a.standing e.card.card)
   pub short : AllByRecursion (λ (d : Did). length d.response < most_bytes) did
+  pub sent : List ℕ
+  pub keeping : IsKeeping a.LIMIT e.card sent
   pub fates : List Fates
   pub passed : now ≡ past.passed ++ fates
   pub sized : 0 < e.terminal.size
   pub leads : (m : Meaning) → Agrees m [] did → (commands : List (List ℕ))
       → run m fates (start past.settings [] (past.commands ++ commands))
-      ≡ more commands (world_now e did past.answers)
+      ≡ more commands (world_now e did sent past.answers)
   pub few : (m : Meaning) → Agrees m [] did
       → length fates ≤ most_exchanges past.settings m [] past.commands

@@ -1,6 +1,6 @@
 -- What a card carries out. The card may choose, for instance `6581` for a put, so a command is a
 -- relation between two states. A meaning agrees if it makes the same choices.
-use Rattle.std.specs.Prelude.{◌≡◌, ◌<◌, ◌^◌, List, ℕ, [], ◌∷◌, ◌++◌, length, map, Option, Some, None}
+use Rattle.std.specs.Prelude.{◌≡◌, ◌<◌, ◌≤◌, ◌^◌, Bool, true, false, List, ℕ, [], ◌∷◌, ◌++◌, length, map, Option, Some, None}
 use Rattle.t1_core.specs.declared.applet.Applet.{Ghosts}
 use Rattle.t1_core.specs.declared.card.Reply.{Reply}
 use Rattle.t1_core.specs.CardSide.{Card, Did, Meaning, Turn, turn, no_requests, replies}
@@ -38,17 +38,32 @@ abbrev pub meaning_of : List Did → Meaning
 meaning_of log =
     record { does = λ ran. (entry log ran).response; asks = λ ran. (entry log ran).asks }
 
--- The card's end: the card, and the end of the definitions with `ran` empty.
+-- The card's end: the card, and the end of the definitions with `ran` empty. `over`: the bytes of a
+-- command so far are more than the limit, and `collected` has none of them.
 pub record EndOf (C : Type 0) : Type 0 where
   pub card : C
   pub at : Card
+  pub over : Bool
 
--- the end of the definitions, if the card has carried out these commands
-abbrev pub after : {C : Type 0} → EndOf C → List (List ℕ) → Card
-after e ran = record e.at { ran = ran }
+abbrev pub so_far : (over : Bool) → (kept sent : List ℕ) → List ℕ
+so_far true kept sent = sent
+so_far false kept sent = kept
+
+-- The end of the definitions, if the card has carried out these commands. If the bytes of a command
+-- so far exceed the limit, they are `sent`.
+abbrev pub after : {C : Type 0} → EndOf C → (ran : List (List ℕ)) → (sent : List ℕ) → Card
+after e ran sent = record e.at { ran = ran; collected = so_far e.over e.at.collected sent }
+
+-- no more bytes of a command are kept than `limit`, and none of a longer one
+abbrev pub Keeping : (limit : ℕ) → (over : Bool) → (kept sent : List ℕ) → Type 0
+Keeping limit true kept sent = (kept ≡ []) × (limit < length sent)
+Keeping limit false kept sent = length kept ≤ limit
+
+abbrev pub IsKeeping : {C : Type 0} → ℕ → EndOf C → (sent : List ℕ) → Type 0
+IsKeeping limit e sent = Keeping limit e.over e.at.collected sent
 
 abbrev pub with_end : {C : Type 0} → (Card → Card) → EndOf C → EndOf C
-with_end f e = record { card = e.card; at = f e.at }
+with_end f e = record e { at = f e.at }
 
 -- no response has more bytes than memory
 abbrev pub most_bytes : ℕ
@@ -68,13 +83,15 @@ ran_with ran None = ran
 ran_with ran (Some d) = ran ++ d.command ∷ []
 
 -- The card carries out one command or none. This holds of each meaning that agrees, before and
--- after it, whatever the card carried out before.
+-- after it, whatever the card carried out before. `sent` and `later` are the bytes of a command
+-- before and after it, if they exceed the limit.
 abbrev pub Carries : {C : Type 0} (a : Ghosts C) → (Meaning → (old new : Card) → Type 0)
     → (old new : EndOf C) → Type 0
-Carries a Holds old new = (did : Option Did)
+Carries a Holds old new = (sent : List ℕ) → IsKeeping a.LIMIT old sent
+    → (did : Option Did) × (later : List ℕ) × IsKeeping a.LIMIT new later
     × DoesSome a.Does (a.standing old.card) did (a.standing new.card)
     × ((m : Meaning) (ran : List (List ℕ)) → IsOfSome m ran did
-    → Holds m (after old ran) (after new (ran_with ran did)))
+    → Holds m (after old ran sent) (after new (ran_with ran did) later))
 
 -- the end makes this step, and replies
 abbrev pub Steps : {C : Type 0} (a : Ghosts C) → (Meaning → Card → Turn) → EndOf C → Reply
@@ -84,9 +101,12 @@ Steps a step old reply new =
 
 -- the end makes this step, and the card carries out no command
 abbrev pub Goes : {C : Type 0} → (Card → Turn) → EndOf C → Reply → EndOf C → Type 0
-Goes step old reply new = (new.card ≡ old.card) × ((ran : List (List ℕ))
-    → step (after old ran) ≡ turn (after new ran) (replies reply new.at))
+Goes step old reply new = (new.card ≡ old.card)
+    × ((limit : ℕ) (sent : List ℕ) → IsKeeping limit old sent → IsKeeping limit new sent)
+    × ((ran : List (List ℕ)) (sent : List ℕ)
+    → step (after old ran sent) ≡ turn (after new ran sent) (replies reply new.at))
 
 -- memory ran out: the card is unchanged, and `f` changes the end
 abbrev pub Keeps : {C : Type 0} (a : Ghosts C) → (Card → Card) → EndOf C → EndOf C → Type 0
 Keeps a f old new = (a.standing new.card ≡ a.standing old.card) × (new.at ≡ f old.at)
+    × (new.over ≡ old.over)

@@ -6,21 +6,22 @@ use Rattle.t1_core.specs.declared.terminal.Cause.{Cause}
 use Rattle.t1_core.specs.declared.terminal.Cause.TheVariants.{TriesSpent, ExtensionsSpent, Aborted, TooLong}
 use Rattle.t1_core.specs.declared.terminal.Phase.{Phase}
 use Rattle.t1_core.specs.declared.terminal.Phase.TheVariants.{Opening, Aborting, GivenUp}
-use Rattle.t1_core.specs.Block.{Block, I, Request, Response, same, is_size}
-use Rattle.t1_core.specs.BlockBytes.{block_of}
-use Rattle.t1_core.specs.TerminalSide.{Terminal, longest, fresh, begins, takes, is_ready, has_stopped}
+use Rattle.t1_core.specs.declared.pcb.Reason.{Reason}
+use Rattle.t1_core.specs.Block.{I, Request, Arrival, Came, Bad, same, is_size}
+use Rattle.t1_core.specs.BlockBytes.{arrival_of}
+use Rattle.t1_core.specs.TerminalSide.{Terminal, fresh, begins, takes, is_ready, has_stopped}
 
 -- a call that changes the end
 pub data Event : Type 0 where
   Begins : (command : List ℕ) → Event
   Takes : (bytes : List ℕ) → Event
-  Misses : Event  -- `timed_out` or `damaged`
+  Misses : (reason : Reason) → Event  -- `timed_out` or `damaged`
   Resets : Event
 
 abbrev pub happens : Event → Terminal → Terminal
 happens (Begins command) t = cond (is_ready t.phase) (begins command t) t
-happens (Takes bytes) t = takes t (block_of bytes)
-happens Misses t = takes t None
+happens (Takes bytes) t = takes t (arrival_of bytes)
+happens (Misses reason) t = takes t (Bad reason)
 happens Resets t = fresh t.settings
 
 -- The counts since the command began or the end was reset.
@@ -33,39 +34,40 @@ pub record Account : Type 0 where
 abbrev pub nothing : Account
 nothing = record { fruitless = 0; grants = 0; arrived = 0; aborts = 0 }
 
--- N(S) and N(R) stay the same: no progress
+-- N(S) and N(R) stay the same, and S(IFS request) is neither answered nor given up: no progress
 abbrev pub stays : (old new : Terminal) → Bool
-stays old new = cond (same old.number new.number) (same old.due new.due) false
+stays old new =
+    cond (same old.number new.number)
+    (cond (same old.due new.due) (same old.opened new.opened) false) false
 
-abbrev pub field_bytes : Option Block → ℕ
-field_bytes (Some (I number more field)) = length field
+abbrev pub field_bytes : Arrival → ℕ
+field_bytes (Came (I number more field)) = length field
 field_bytes _ = 0
 
--- A reception without progress. Requests that the terminal can grant, S(ABORT request) and the
--- expected S(IFS response) are not fruitless.
-abbrev pub without_step : Phase → Option Block → Account → Account
+-- A reception without progress. Requests that the terminal can grant and S(ABORT request) are not
+-- fruitless.
+abbrev pub without_step : Phase → Arrival → Account → Account
 without_step Aborting b a = record a { aborts = a.aborts + 1 }
-without_step phase (Some (Request (Wtx multiple))) a = record a { grants = a.grants + 1 }
-without_step phase (Some (Request (Ifs size))) a =
+without_step phase (Came (Request (Wtx multiple))) a = record a { grants = a.grants + 1 }
+without_step phase (Came (Request (Ifs size))) a =
     cond (is_size size) (record a { grants = a.grants + 1 })
     (record a { fruitless = a.fruitless + 1 })
-without_step phase (Some (Request Abort)) a = record a { aborts = a.aborts + 1 }
-without_step Opening (Some (Response (Ifs size))) a =
-    cond (size == longest) a (record a { fruitless = a.fruitless + 1 })
+without_step phase (Came (Request Abort)) a = record a { aborts = a.aborts + 1 }
 without_step phase b a = record a { fruitless = a.fruitless + 1 }
 
-abbrev pub counted : Bool → Phase → Option Block → Account → Account
+abbrev pub counted : Bool → Phase → Arrival → Account → Account
 counted true phase b a = without_step phase b a
+counted false Opening b a = record a { fruitless = 0 }
 counted false phase b a = record a { fruitless = 0; arrived = a.arrived + field_bytes b }
 
 -- a reception counts only while the terminal waits for a block
-abbrev pub counts : Terminal → Option Block → Account → Account
+abbrev pub counts : Terminal → Arrival → Account → Account
 counts t b a = cond (has_stopped t.phase) a (counted (stays t (takes t b)) t.phase b a)
 
 abbrev pub account : Event → Terminal → Account → Account
 account (Begins command) t a = cond (is_ready t.phase) nothing a
-account (Takes bytes) t a = counts t (block_of bytes) a
-account Misses t a = counts t None a
+account (Takes bytes) t a = counts t (arrival_of bytes) a
+account (Misses reason) t a = counts t (Bad reason) a
 account Resets t a = nothing
 
 abbrev pub after : Terminal → List Event → Terminal

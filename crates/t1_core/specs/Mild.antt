@@ -4,8 +4,9 @@ use Rattle.t1_core.specs.declared.line.Fate.{Fate}
 use Rattle.t1_core.specs.declared.line.Fate.TheVariants.{Delivers}
 use Rattle.t1_core.specs.declared.line.Fates.{Fates}
 use Rattle.t1_core.specs.declared.settings.Settings.{Settings}
-use Rattle.t1_core.specs.Block.{is_size}
-use Rattle.t1_core.specs.BlockBytes.{block_of}
+use Rattle.t1_core.specs.Block.{Bad, is_size}
+use Rattle.t1_core.specs.BlockBytes.{arrival_of}
+use Rattle.t1_core.specs.declared.pcb.Reason.TheVariants.{Other}
 use Rattle.t1_core.specs.CardSide.{Meaning}
 use Rattle.t1_core.specs.TerminalSide.{Terminal, takes}
 use Rattle.t1_core.specs.World.{World, exchange}
@@ -49,19 +50,19 @@ pub record Enough (m : Meaning) (f : ℕ) (settings : Settings) : Type 0 where
   pub sizes : (ran : List (List ℕ)) → IsSize (m.asks ran).size
   pub fits : (ran : List (List ℕ)) → length (m.does ran) ≤ settings.limit
 
--- The bytes of the command after its current field, and of the response up to the limit. Each can
--- be one step of progress.
+-- The bytes of the command after the first of its current field, and of the response up to the
+-- limit. Each can be one step of progress.
 abbrev pub steps_left : Terminal → ℕ
-steps_left t = length t.rest + (t.settings.limit - length t.got)
+steps_left t = (length t.field - 1) + length t.rest + (t.settings.limit - length t.got)
 
 -- After more receptions than this a terminal has stopped. It counts the tries and extensions left,
--- two more, and for each step left all tries and one more.
+-- two more, and for S(IFS request) and each step left all tries and one more.
 abbrev pub most_receptions : Terminal → ℕ
 most_receptions t =
-    t.tries + t.extensions + 2 + steps_left t * (t.settings.tries + 1)
+    t.tries + t.extensions + 2 + (1 + steps_left t) * (t.settings.tries + 1)
 
 -- a terminal after receptions from any peer: the bytes of a block, or `None` for a time-out
 abbrev pub meets_all : Terminal → List (Option (List ℕ)) → Terminal
 meets_all t [] = t
-meets_all t (None ∷ xs) = meets_all (takes t None) xs
-meets_all t (Some bytes ∷ xs) = meets_all (takes t (block_of bytes)) xs
+meets_all t (None ∷ xs) = meets_all (takes t (Bad Other)) xs
+meets_all t (Some bytes ∷ xs) = meets_all (takes t (arrival_of bytes)) xs

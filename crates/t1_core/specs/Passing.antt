@@ -1,12 +1,15 @@
 -- A block of the terminal and the card's reply, over the line.
-use Rattle.std.specs.Prelude.{◌≡◌, Option, Some, None, true}
+use Rattle.std.specs.Prelude.{◌≡◌, ℕ, List, Option, Some, None, true}
 use Rattle.std.specs.Option.{option_map}
 use Rattle.t1_core.specs.declared.applet.Applet.{Ghosts}
 use Rattle.t1_core.specs.declared.card.Reply.{Reply}
 use Rattle.t1_core.specs.declared.line.Fate.{Fate}
+use Rattle.t1_core.specs.declared.line.Fate.TheVariants.{Delivers, Damages, Loses}
 use Rattle.t1_core.specs.declared.line.Fates.{Fates}
-use Rattle.t1_core.specs.Block.{Block, are_filled}
-use Rattle.t1_core.specs.CardSide.{Card, Meaning, card_meets, replies}
+use Rattle.t1_core.specs.Block.{Bad, Block, are_filled}
+use Rattle.t1_core.specs.declared.pcb.Reason.TheVariants.{Other}
+use Rattle.t1_core.specs.BlockBytes.{arrival_of}
+use Rattle.t1_core.specs.CardSide.{Card, Meaning, Turn, card_hears, card_meets, replies}
 use Rattle.t1_core.specs.Doing.{Carries, EndOf}
 use Rattle.t1_core.specs.TerminalSide.{Terminal, sends, takes}
 use Rattle.t1_core.specs.World.{arrives}
@@ -30,3 +33,21 @@ abbrev pub Passes : {C : Type 0} (a : Ghosts C) → Fates → (old new : Termina
     → (before later : EndOf C) → Type 0
 Passes a fates old new before later =
     Carries a (λ m card card'. PassesWith m fates (sends old) old new card card') before later
+
+-- ---- the same by bytes
+
+-- what arrives of a block with these bytes: they, the bytes `noise` instead, or nothing
+abbrev pub bytes_arrive : Fate → (noise bytes : List ℕ) → Option (List ℕ)
+bytes_arrive Delivers noise bytes = Some bytes
+bytes_arrive Damages noise bytes = Some noise
+bytes_arrive Loses noise bytes = None
+
+-- the card's end takes the bytes of a block, valid or not, or receives nothing
+abbrev pub card_reads : Meaning → Option (List ℕ) → Card → Turn
+card_reads m None c = record { card = c; block = None }
+card_reads m (Some bytes) c = card_hears m (arrival_of bytes) c
+
+-- so does the terminal's end; if it receives nothing, its time runs out
+abbrev pub terminal_reads : Terminal → Option (List ℕ) → Terminal
+terminal_reads t None = takes t (Bad Other)
+terminal_reads t (Some bytes) = takes t (arrival_of bytes)

@@ -1,17 +1,18 @@
 -- Both ends and the line between them, for every schedule of losses and damages.
 use Rattle.std.specs.Prelude.{◌≡◌, ℕ, zero, suc, ◌+◌, ◌*◌, ◌/◌, ◌≤◌, List, [], ◌∷◌, ◌++◌, length, Option, Some, None}
 use Rattle.t1_core.specs.declared.line.Fate.{Fate}
-use Rattle.t1_core.specs.declared.line.Fate.TheVariants.{Delivers}
+use Rattle.t1_core.specs.declared.line.Fate.TheVariants.{Delivers, Damages, Loses}
 use Rattle.t1_core.specs.declared.line.Fates.{Fates}
+use Rattle.t1_core.specs.declared.pcb.Reason.TheVariants.{Edc, Other}
 use Rattle.t1_core.specs.declared.settings.Settings.{Settings}
 use Rattle.t1_core.specs.declared.terminal.Cause.{Cause}
 use Rattle.t1_core.specs.declared.terminal.Phase.{Phase}
 use Rattle.t1_core.specs.declared.terminal.Phase.TheVariants.{Over, GivenUp}
 use Rattle.t1_core.specs.declared.terminal.Outcome.{Outcome}
 use Rattle.t1_core.specs.declared.terminal.Outcome.TheVariants.{NotCarriedOut, InPart}
-use Rattle.t1_core.specs.Block.{Block}
-use Rattle.t1_core.specs.CardSide.{Card, card_after, Meaning, card_meets}
-use Rattle.t1_core.specs.TerminalSide.{Terminal, longest, fresh, begins, sends, takes, outcome_of}
+use Rattle.t1_core.specs.Block.{Block, Arrival, Came, Bad}
+use Rattle.t1_core.specs.CardSide.{Card, card_after, first_ifsd, Meaning, card_meets}
+use Rattle.t1_core.specs.TerminalSide.{Terminal, fresh, begins, sends, takes, outcome_of}
 
 pub record World : Type 0 where
   pub terminal : Terminal
@@ -19,10 +20,12 @@ pub record World : Type 0 where
   pub todo : List (List ℕ)  -- the commands after the one in progress
   pub answers : List (List ℕ)
 
--- the block that arrives at the terminal, if any
-abbrev pub arrives : Fate → Option Block → Option Block
-arrives Delivers b = b
-arrives _ b = None
+-- what arrives at the terminal; without a block it is the time-out
+abbrev pub arrives : Fate → Option Block → Arrival
+arrives fate None = Bad Other
+arrives Delivers (Some b) = Came b
+arrives Damages (Some b) = Bad Edc
+arrives Loses (Some b) = Bad Other
 
 abbrev pub next_command : List (List ℕ) → World → World
 next_command [] w = record w { todo = [] }
@@ -103,16 +106,17 @@ abbrev pub size_after : Option ℕ → ℕ → ℕ
 size_after None size = size
 size_after (Some other) size = other
 
--- the number of I-blocks for these commands and their responses; `size` is IFSC before them
+-- The number of I-blocks for these commands and their responses; `size` is IFSC before them. IFSD
+-- is at least `first_ifsd`, which it stays if no S(IFS request) of the terminal arrives.
 abbrev pub all_blocks : Meaning → (size : ℕ) → (before commands : List (List ℕ)) → ℕ
 all_blocks m size before [] = 0
 all_blocks m size before (c ∷ cs) =
-    blocks size (length c) + blocks longest (length (m.does (before ++ c ∷ [])))
+    blocks size (length c) + blocks first_ifsd (length (m.does (before ++ c ∷ [])))
     + all_blocks m (size_after (m.asks (before ++ c ∷ [])).size size) (before ++ c ∷ []) cs
 
--- After this number of exchanges the terminal has all answers, or a fault. Each I-block takes one
--- exchange and at most `tries` more. Each command may take its extensions.
+-- After this number of exchanges the terminal has all answers, or a fault. S(IFS request) and each
+-- I-block take one exchange and at most `tries` more. Each command may take its extensions.
 abbrev pub most_exchanges : Settings → Meaning → (before commands : List (List ℕ)) → ℕ
 most_exchanges settings m before commands =
-    all_blocks m settings.ifsc before commands * (settings.tries + 1)
+    (1 + all_blocks m settings.ifsc before commands) * (settings.tries + 1)
     + length commands * settings.extensions

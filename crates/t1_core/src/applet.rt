@@ -13,10 +13,16 @@ pub struct Requests {
     pub size: Option<u8>,
 }
 
-/// The card behind its end of the line. The end calls `carry_out` once for each command.
+/// The card behind its end of the line. The end calls `carry_out` or `too_long` once for each
+/// command.
 pub trait Applet {
-    ghost use Rattle.std.specs.Prelude.{◌≡◌, MatchResult};
+    ghost use Rattle.std.specs.Prelude.{◌≡◌, ◌<◌, ℕ, List, length, MatchResult};
     ghost use Rattle.t1_core.specs.CardSide.{Did};
+
+    /// The longest command in bytes that the end keeps. Of a longer one it keeps nothing.
+    const LIMIT: usize;
+
+    ghost LIMIT: { ℕ };
 
     /// The type of the card's states.
     ghost State: { Type 0 };
@@ -37,6 +43,20 @@ pub trait Applet {
         ensures { MatchResult result
             (λ asks. Does (standing self.old) (record {
               command = command.now;
+              response = response.new.items;
+              asks = asks;
+            }) (standing self.new))
+            (λ _. standing self.new ≡ standing self.old) };
+
+    /// As `carry_out`, with a command that is longer than `LIMIT`.
+    ///
+    /// # Errors
+    /// - `AllocError`: memory ran out; the card is unchanged.
+    fn too_long(&mut self, response: &mut Vec<u8>) -> Result<Requests, AllocError>
+        ensures { MatchResult result
+            (λ asks. (command : List ℕ) → LIMIT < length command
+            → Does (standing self.old) (record {
+              command = command;
               response = response.new.items;
               asks = asks;
             }) (standing self.new))

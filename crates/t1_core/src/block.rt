@@ -1,4 +1,5 @@
 //! A block, as an end sends and takes it.
+use crate::pcb::Reason;
 
 /// A block whose bytes are valid (ISO/IEC 7816-3, clause 11). N(S) and N(R) are 0 (`false`) or 1.
 #[derive(Clone, Copy, Debug)]
@@ -9,8 +10,11 @@ pub enum Block<'a> {
         more: bool,
         info: &'a [u8],
     },
-    /// An R-block: N(R). The error that it reports has no effect.
-    Ready(bool),
+    /// An R-block: N(R), and the error that it reports, which has no effect.
+    Ready {
+        number: bool,
+        reason: Reason,
+    },
     /// An S-block with a request.
     Request(Control),
     /// An S-block with a response.

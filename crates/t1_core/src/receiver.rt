@@ -1,5 +1,5 @@
 //! Finds the end of a block in the bytes of a line.
-ghost use Rattle.std.specs.Prelude.{◌≡◌, ◌≤◌, ◌<◌, ◌++◌, ◌∷◌, [], List, ℕ, true, false, length, take, ◌⊎◌, if◌then◌else◌};
+ghost use Rattle.std.specs.Prelude.{◌≡◌, ◌≤◌, ◌<◌, ◌++◌, ◌∷◌, [], List, ℕ, true, false, length, take, drop, replicate, ◌⊎◌, if◌then◌else◌};
 ghost use Rattle.t1_core.specs.BlockBytes.{is_whole, received};
 
 use std::marker::Model;
@@ -26,13 +26,15 @@ pub struct Receiver {
 }
 
 impl Model for Receiver {
-    ghost use Rattle.std.specs.Prelude.{List, ℕ, take, ◌≤◌, length, ◌≡◌};
+    ghost use Rattle.std.specs.Prelude.{List, ℕ, take, drop, replicate, ◌-◌, ◌≤◌, length, ◌≡◌};
 
     ghost Value = { List ℕ };
 
     ghost view = { λ r. take r.len r.block };
 
-    ghost invariant = { λ r. (r.len ≤ 259) × (length r.block ≡ 259) };
+    // Nothing is left of a block that was dropped.
+    ghost invariant = { λ r. (r.len ≤ 259) × (length r.block ≡ 259)
+        × (drop r.len r.block ≡ replicate (259 - r.len) 0) };
 }
 
 impl Receiver {
@@ -53,10 +55,11 @@ impl Receiver {
         &self.block[..self.len]
     }
 
-    /// Drops the bytes of the block.
+    /// Drops the bytes of the block, and overwrites them with zeros.
     pub fn clear(&mut self)
         ensures { self.new ≡ [] }
     {
+        wipe(&mut self.block, self.len);
         self.len = 0;
     }
 
@@ -108,4 +111,12 @@ impl Receiver {
         self.block[self.len] = byte;
         self.len += 1;
     }
+}
+
+/// Overwrites the first `len` bytes with zeros.
+fn wipe(bytes: &mut [u8], len: usize)
+    requires { len ≤ length bytes.old }
+    ensures { bytes.new ≡ replicate len 0 ++ drop len bytes.old }
+{
+    bytes[..len].fill(0);
 }

@@ -8,8 +8,8 @@ ghost use Rattle.t1_core.specs.Settings.{fault_of};
 pub const TRIES: u8 = 4;
 
 /// The default number of S(WTX request) and S(IFS request) that a terminal grants per command
-/// (profile).
-pub const EXTENSIONS: u8 = 16;
+/// (profile): the making of a key may take a card minutes.
+pub const EXTENSIONS: u16 = 1_000;
 
 /// The error detection code that an answer to reset announces.
 #[derive(Clone, Copy, Debug, PartialEq, Eq)]
@@ -36,8 +36,8 @@ pub struct Settings {
     /// 255 (see `Cause::TriesSpent`).
     pub tries: u8,
     /// The number of S(WTX request) and S(IFS request) that the terminal grants per command, 0 to
-    /// 255.
-    pub extensions: u8,
+    /// 65,535.
+    pub extensions: u16,
     /// The longest response that the terminal takes, in bytes.
     pub limit: usize,
     ghost inside: { (0 < ifsc) × (ifsc < 255) },
@@ -55,7 +55,7 @@ impl Settings {
         edc: Edc,
         ifsc: u8,
         tries: u8,
-        extensions: u8,
+        extensions: u16,
         limit: usize,
     ) -> Result<Settings, SettingsFault>
         ensures fault { result_err result ≡ fault_of edc ifsc }

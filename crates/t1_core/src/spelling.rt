@@ -2,7 +2,7 @@
 ghost use Rattle.std.specs.Prelude.{◌≡◌, ◌≤◌, ◌<◌, ◌++◌, ◌∷◌, [], List, ℕ, true, length, IfOk, IfSome, Some, None};
 ghost use Rattle.std.specs.Option.{option_map};
 ghost use Rattle.t1_core.specs.Block.{Block as Sent, is_filled, said};
-ghost use Rattle.t1_core.specs.BlockBytes.{lrc, spelled, parts_of, block_of, block_in, bytes_of, info_of, control_of, field_of, subject_of};
+ghost use Rattle.t1_core.specs.BlockBytes.{lrc, spelled, parts_of, block_of, block_in, bytes_of, fault_of, info_of, control_of, field_of, subject_of};
 ghost use Rattle.t1_core.specs.declared.pcb.Pcb.{Pcb};
 ghost use Rattle.t1_core.specs.declared.pcb.Pcb.TheVariants.{Supervisory};
 
@@ -21,8 +21,7 @@ pub fn lrc(bytes: &[u8]) -> u8
     sum
 }
 
-/// Returns the bytes of a block, 4 to 258. Its field must have at most 254 bytes. An R-block is
-/// written as one that reports no error.
+/// Returns the bytes of a block, 4 to 258. Its field must have at most 254 bytes.
 ///
 /// # Errors
 /// - `AllocError`: memory ran out; nothing has changed.
@@ -34,9 +33,9 @@ pub fn write(alloc: Global, block: Block<'_>) -> Result<Vec<u8>, AllocError>
         Block::Information { number, more, info } => {
             spell(alloc, Pcb::Information { number, more }, info)
         }
-        Block::Ready(number) => {
-            let reason = Reason::NoError;
-            spell(alloc, Pcb::Ready { number, reason }, &[])
+        Block::Ready { number, reason } => {
+            let error = reason.code();
+            spell(alloc, Pcb::Ready { number, error }, &[])
         }
         Block::Request(control) => write_control(alloc, false, control),
         Block::Response(control) => write_control(alloc, true, control),
@@ -86,6 +85,18 @@ pub fn read(bytes: &[u8]) -> Option<Block<'_>>
     parts(bytes).and_then(|(pcb, info)| block_in(pcb, info))
 }
 
+/// Returns the error that R reports of bytes that are no valid block: `Edc` if their LRC is wrong,
+/// otherwise `Other`.
+pub(crate) fn fault(bytes: &[u8]) -> Reason
+    ensures { result ≡ fault_of bytes.now }
+{
+    if lrc(bytes) == 0 {
+        Reason::Other
+    } else {
+        Reason::Edc
+    }
+}
+
 /// Returns the PCB and the field, 0 to 254 bytes, of a whole block. Unlike `read`, it accepts any
 /// field with any PCB.
 ///
@@ -119,7 +130,10 @@ fn block_in(pcb: Pcb, info: &[u8]) -> Option<Block<'_>>
     match pcb {
         Pcb::Information { more: true, .. } if info.is_empty() => None,
         Pcb::Information { number, more } => Some(Block::Information { number, more, info }),
-        Pcb::Ready { number, .. } if info.is_empty() => Some(Block::Ready(number)),
+        Pcb::Ready { number, error } if info.is_empty() => {
+            let reason = Reason::of(error);
+            Some(Block::Ready { number, reason })
+        }
         Pcb::Ready { .. } => None,
         Pcb::Supervisory { response, subject } => {
             let control = control_of(subject, info)?;

@@ -1,7 +1,8 @@
 -- The response of the card to a command, from the contract of `respond`.
-use Rattle.std.proofs.Common.{◌≡◌, ℕ, ◌≤◌, List, [], ◌++◌, length, refl, sym, ap, ◌∙◌, subst}
+use Rattle.std.proofs.Common.{◌≡◌, ℕ, ◌≤◌, ◌<◌, List, [], ◌∷◌, ◌++◌, length, Option, Some, None, refl, sym, ap, ◌∙◌, subst, arith, length-append}
 use Rattle.apdu_core.specs.StatusWord.{StatusWord, IsStatusWord}
 use Rattle.apdu_core.specs.CommandBytes.{Command}
+use Rattle.apdu_core.specs.CommandLaws.{has_no_form}
 use Rattle.t0_core.specs.CardSide.{EndOf}
 use Rattle.t0_core.specs.Meaning.{Tpdu}
 use Rattle.object_card.specs.Agreed.{IsAgreed}
@@ -10,7 +11,9 @@ use Rattle.apdu_terminal.specs.declared.stage.Stage.{Stage}
 use Rattle.apdu_terminal.specs.declared.stage.Stage.TheVariants.{Done}
 use Rattle.apdu_terminal.specs.Apdus.{may_bring}
 use Rattle.apdu_terminal.specs.CardApdu.{Responds}
-use Rattle.t1_terminal.specs.CardCommand.{Answers, status_bytes}
+use Rattle.t1_core.specs.declared.applet.Requests.{Requests}
+use Rattle.t1_core.specs.CardSide.{no_requests}
+use Rattle.t1_terminal.specs.CardCommand.{Answers, DoesAt, status_bytes}
 
 -- the contract of `respond` for the returned exchange
 abbrev pub Refused : {C : Type 0} → Command → EndOf C → EndOf C → List ℕ → Stage → Type 0
@@ -63,3 +66,16 @@ answers stand Does c end end' bytes response stage status refused carried done w
             word,
           );
     }
+
+-- ---- a command that is too long
+
+pub too_long_does : {State : Type 0} (Does : State → ℕ → Tpdu → State → Type 0) (old new : State)
+    (response : List ℕ) (asks : Requests) → response ≡ status_bytes (0x67, 0x00) → new ≡ old
+    → asks ≡ no_requests → (command : List ℕ) → 261 < length command
+    → DoesAt Does old (record { command = command; response = response; asks = asks }) new
+too_long_does Does old new response asks is stays none command long = record {
+  no_form = λ no. (is, stays);
+  invalid_ins = λ c has same. absurd (has_no_form c command has.sizes same long);
+  command = λ c has same. absurd (has_no_form c command has.sizes same long);
+  asks = none;
+}

@@ -31,13 +31,13 @@ use Rattle.t1_core.specs.Conversing.{Conversed}
 use Rattle.t1_core.specs.Doing.{commands_of, responses_of}
 use Rattle.t1_core.specs.TerminalSide.{fault_of, has_stopped, is_ready}
 use Rattle.t1_terminal.specs.CardCommand.{DoesAt, status_bytes}
-use Rattle.t1_terminal.specs.Operated.{AreSent, GivesUp, HasTaken, IsSent, Start, Takes, commands_in, past_of, response_bytes, responses_in, told_of}
+use Rattle.t1_terminal.specs.Operated.{AreSent, GivesUp, HasTaken, IsSent, Start, Takes, commands_in, past_of, response_bytes, fault_at, responses_in}
 use Rattle.t1_terminal.proofs.LineLemmas.{all_responded, is_over, last_same, ready_stops, sent_both, stops}
 
 module _ {X State : Type 0} (Own : State → ℕ → Tpdu → State → Type 0) (standing : X → State) where
   -- the card above its end of the line
   abbrev pub applet : Ghosts X
-  applet = record { State = State; standing = standing; Does = DoesAt Own }
+  applet = record { LIMIT = 261; State = State; standing = standing; Does = DoesAt Own }
 
   -- law: the carried commands are a dialogue
   abbrev pub Dialogues : Type 0
@@ -318,7 +318,7 @@ module _ {X State : Type 0} (Own : State → ℕ → Tpdu → State → Type 0) 
 
     pub gives_up : (operation : Operation) → AreCommandsOf operation commands
         → (why fault : Fault) → Some why ≡ fault_of new.terminal
-        → fault ≡ record { cause = why.cause; outcome = told_of due.header why.outcome }
+        → fault ≡ fault_at due.header why
         → GivesUp (applet Own standing) before old operation fault after new
     gives_up operation are why fault told is = record {
       here = had.0;

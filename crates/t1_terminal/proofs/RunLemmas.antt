@@ -108,6 +108,7 @@ module _ {X State : Type 0} (Own : State → ℕ → Tpdu → State → Type 0) 
           talks = talks;
           talk = are;
           finished = λ none. (
+            stopped.1,
             ap length have.given_is ∙ have.many ∙ have.many_done ∙ all
                 ∙ sym (length-map ops operation_of),
             (refl, refl),
@@ -225,7 +226,14 @@ module _ {X State : Type 0} (Own : State → ℕ → Tpdu → State → Type 0) 
                       ∙ ap (map operation_of) next,
                   subst (λ o. IsLeft o mid (operation_of op) (state_of last))
                       (sym (ap (λ (x : Fault). x.outcome) (sym is ∙ g.fault_is))) left,
-                  (g.here, g.due, g.under_way, refl, same),
+                  (
+                    g.here,
+                    g.due,
+                    g.under_way,
+                    refl,
+                    same,
+                    (g.why, g.given_up, sym is ∙ g.fault_is),
+                  ),
                 );
             commands = past.commands;
             responses = past.answers;

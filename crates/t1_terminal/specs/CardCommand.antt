@@ -2,7 +2,7 @@
 -- profile).
 use Rattle.std.specs.Prelude.{◌≡◌, ℕ, ◌≤◌, List, [], ◌∷◌, ◌++◌, length}
 use Rattle.apdu_core.specs.CommandBytes.{Command, IsCommand, HasForm, HasInvalidIns, command_bytes}
-use Rattle.apdu_core.specs.StatusWord.{StatusWord, IsStatusWord}
+use Rattle.apdu_core.specs.StatusWord.{StatusWord, IsStatusWord, ok}
 use Rattle.t0_core.specs.Meaning.{Tpdu}
 use Rattle.t1_core.specs.CardSide.{Did, no_requests}
 use Rattle.object_card.specs.Agreed.{IsAgreed}
@@ -26,8 +26,8 @@ pub record Answers {State : Type 0} (Does : State → ℕ → Tpdu → State →
       × (length p.content ≤ may_bring c.le) × Responds Does old p new
       × (response ≡ p.content ++ status_bytes p.status) × IsStatusWord p.status
 
--- What the card does. It responds 6700 to bytes in none of the four forms, and 6D00 to an invalid
--- INS. It makes no request before a response.
+-- What the card does. It responds 6700 to bytes in none of the four forms, so also to more than 261
+-- bytes, and 6D00 to an invalid INS. It makes no request before a response.
 pub record DoesAt {State : Type 0} (Does : State → ℕ → Tpdu → State → Type 0) (old : State)
     (d : Did) (new : State) : Type 0 where
   pub no_form : (HasForm d.command → ⊥) → Refuses (0x67, 0x00) old d.response new
@@ -36,3 +36,9 @@ pub record DoesAt {State : Type 0} (Does : State → ℕ → Tpdu → State → 
   pub command : (c : Command) → IsCommand c → d.command ≡ command_bytes c
       → Answers Does old c d.response new
   pub asks : d.asks ≡ no_requests
+
+-- a whole PUT DATA with CLA 00, whose response ends with 9000
+abbrev pub IsStored : Did → Type 0
+IsStored d = (c : Command) × IsCommand c × (d.command ≡ command_bytes c)
+    × (c.header.cla ≡ 0x00) × (c.header.ins ≡ 0xDA)
+    × ((content : List ℕ) × (d.response ≡ content ++ status_bytes ok))

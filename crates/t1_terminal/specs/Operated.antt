@@ -77,6 +77,10 @@ abbrev pub told_of : Header → Outcome → Outcome
 told_of h outcome =
     if is_get_response h then InPart else if h.cla == 0x10 then NotCarriedOut else outcome
 
+-- the fault of the operation, by that of the terminal's end
+abbrev pub fault_at : Header → Fault → Fault
+fault_at h why = record { cause = why.cause; outcome = told_of h why.outcome }
+
 -- the tables after a fault with this outcome
 abbrev pub IsLeft : Outcome → CardState → Operation → CardState → Type 0
 IsLeft NotCarriedOut old operation new = SameTables old new
@@ -93,19 +97,22 @@ pub record GivesUp {X : Type 0} (a : Ghosts X) (before : List Fates) (old : Ends
   pub sent : IsSent due
   pub why : Fault
   pub given_up : fault_of new.terminal ≡ Some why
-  pub fault_is : fault ≡ record { cause = why.cause; outcome = told_of due.header why.outcome }
+  pub fault_is : fault ≡ fault_at due.header why
   pub led : (s : Start a.State) (pairs : List Pair) → HasTaken a s pairs before old
       → HasCarried a (with_command (past_of s (pairs ++ here)) (command_bytes due) new.terminal)
       after new × AreSent (pairs ++ here)
 
 -- ---- all operations
 
--- after the pairs `before` some of the operation's own, and its command in progress
-abbrev pub StopsIn : Operation → List Pair → (commands responses : List (List ℕ)) → Type 0
-StopsIn operation before commands responses = (here : List Pair) × (due : Command)
+-- After the pairs `before` some of the operation's own, and its command in progress. The fault is
+-- that of the terminal's end, `why`, with the outcome of the operation.
+abbrev pub StopsIn : Operation → List Pair → (commands responses : List (List ℕ)) → Option Fault
+    → Fault → Type 0
+StopsIn operation before commands responses why fault = (here : List Pair) × (due : Command)
     × IsUnderWay operation here due
     × (commands ≡ commands_in (before ++ here) ++ command_bytes due ∷ [])
     × (responses ≡ responses_in (before ++ here))
+    × ((told : Fault) × (why ≡ Some told) × (fault ≡ fault_at due.header told))
 
 -- the longest response in bytes
 abbrev pub most_response : ℕ
@@ -125,14 +132,16 @@ pub record HasRun {X : Type 0} (a : Ghosts X) (settings : Settings) (first last 
   pub talk : AreApduTalksOf (take (length answers) operations) talks answers
   pub commands : List (List ℕ)
   pub responses : List (List ℕ)
-  pub finished : fault ≡ None → (length answers ≡ length operations) × SameTables mid new
+  -- the fault of the terminal's end
+  pub why : Option Fault
+  pub finished : fault ≡ None → (why ≡ None) × (length answers ≡ length operations)
+      × SameTables mid new
       × (is_idle new.pending ≡ true) × (commands ≡ commands_in (flat_map talk_pairs talks))
       × (responses ≡ responses_in (flat_map talk_pairs talks))
   pub stopped : (f : Fault) → fault ≡ Some f → (next : Operation) × (rest : List Operation)
       × (drop (length answers) operations ≡ next ∷ rest)
       × IsLeft f.outcome mid next new
-      × StopsIn next (flat_map talk_pairs talks) commands responses
-  pub why : Option Fault
+      × StopsIn next (flat_map talk_pairs talks) commands responses why f
   pub dialogue : Conversed a settings first last commands responses why passed_before
       passed_after
   pub survived : (f : ℕ) → 2 * f ≤ settings.tries → f ≤ settings.extensions

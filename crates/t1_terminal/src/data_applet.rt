@@ -5,7 +5,7 @@ ghost use Rattle.t0_core.specs.CardTpdu.{rests};
 ghost use Rattle.t1_terminal.specs.CardCommand.{Answers, DoesAt, status_bytes};
 
 use apdu_core::{ApduFault, Command, Status};
-use apdu_terminal::respond;
+use apdu_terminal::{COMMAND_LIMIT, respond};
 use object_card::DataCard;
 use std::alloc::{AllocError, Global};
 use std::marker::Model;
@@ -19,8 +19,8 @@ pub const RESPONSE_ROOM: usize = 258;
 /// `apdu_terminal::respond` does, and makes no request before a response (profile). A response is
 /// the data, then the status.
 ///
-/// It responds `6700` to bytes that are no short command, and `6D00` to an INS of `6X` or `9X`. The
-/// card is unchanged after both.
+/// It responds `6700` to bytes that are no short command, so also to more than 261. It responds
+/// `6D00` to an INS of `6X` or `9X`. The card is unchanged after both.
 #[derive(Drop)]
 pub struct DataApplet<C: DataCard> {
     alloc: Global,
@@ -98,6 +98,10 @@ fn write(content: &[u8], status: Status, response: &mut Vec<u8>)
 }
 
 impl<C: DataCard> Applet for DataApplet<C> {
+    const LIMIT: usize = COMMAND_LIMIT;
+
+    ghost LIMIT = { 261 };
+
     ghost State = { C.State };
 
     ghost standing = { λ a. C.standing a.card };
@@ -116,6 +120,18 @@ impl<C: DataCard> Applet for DataApplet<C> {
             Err(ApduFault::InvalidIns) => write(&[], status(0x6D), response),
             Err(ApduFault::TooShort | ApduFault::BadLength) => write(&[], status(0x67), response),
         }
+        Ok(Requests {
+            extensions: 0,
+            multiple: 0,
+            size: None,
+        })
+    }
+
+    #[tactic(auto, using(crate::proofs::AnswerLemmas::too_long_does))]
+    fn too_long(&mut self, response: &mut Vec<u8>) -> Result<Requests, AllocError> {
+        response.clear();
+        response.reserve(RESPONSE_ROOM)?;
+        write(&[], status(0x67), response);
         Ok(Requests {
             extensions: 0,
             multiple: 0,

@@ -17,6 +17,7 @@
 #![tactic(auto)]
 
 mod data_applet;
+pub mod laws;
 mod operation;
 mod operations;
 

@@ -12,7 +12,7 @@ ghost use Rattle.apdu_terminal.specs.ApduOperations.{ApduTerminalOf, KeepsLimit,
 ghost use Rattle.apdu_terminal.specs.ApduTalk.{IsApduTalkOf, talk_pairs};
 ghost use Rattle.t1_core.specs.TerminalSide.{is_ready};
 ghost use Rattle.t1_terminal.specs.CardCommand.{status_bytes};
-ghost use Rattle.t1_terminal.specs.Operated.{GivesUp, HasTaken, Start, Takes, told_of};
+ghost use Rattle.t1_terminal.specs.Operated.{GivesUp, HasTaken, Start, Takes, fault_at};
 
 use crate::data_applet::DataApplet;
 use apdu_core::{Command, Header, Status};
@@ -109,10 +109,7 @@ fn go_through<C: DataCard, L: Line>(
 
 /// Returns the fault of the operation, whose outcome also depends on the command in progress.
 fn told(header: Header, fault: Fault) -> Fault
-    ensures { result ≡ record {
-      cause = fault.cause;
-      outcome = told_of header fault.outcome;
-    } }
+    ensures { result ≡ fault_at header fault }
 {
     let outcome = match (header.ins, header.cla) {
         (0xC0, _) => Outcome::InPart,

@@ -19,6 +19,12 @@ const R0: &[u8] = b"\x00\x80\x00\x80";
 
 const R1: &[u8] = b"\x00\x90\x00\x90";
 
+/// R(0) after a time-out, or an unexpected block.
+const R0_OTHER: &[u8] = b"\x00\x82\x00\x82";
+
+/// R(0) after a wrong LRC.
+const R0_EDC: &[u8] = b"\x00\x81\x00\x81";
+
 /// S(WTX request) with 2, and the response.
 const WAIT: &[u8] = b"\x00\xC3\x01\x02\xC0";
 
@@ -28,7 +34,7 @@ const WAITS: &[u8] = b"\x00\xE3\x01\x02\xE0";
 const NONE: &[u8] = b"";
 
 /// IFSC 3, and a limit of 4 bytes.
-fn settings(rt: &impl Abort, tries: u8, extensions: u8) -> Settings {
+fn settings(rt: &impl Abort, tries: u8, extensions: u16) -> Settings {
     Settings::new(Edc::Lrc, 3, tries, extensions, 4).expect(rt, "settings")
 }
 
@@ -61,7 +67,7 @@ fn a_terminal_in_a_chain(rt: HostRuntime) {
         &[
             [OPEN, OPENED],
             [b"\x00\x20\x03\x00\xB0\x00\x93", NONE],
-            [R0, R0],
+            [R0_OTHER, R0],
             [b"\x00\x20\x03\x00\xB0\x00\x93", R1],
             [b"\x00\x40\x02\x00\x02\x40", WAIT],
             [WAITS, b"\x00\x20\x02\x41\x42\x21"],
@@ -69,6 +75,73 @@ fn a_terminal_in_a_chain(rt: HostRuntime) {
         ],
     );
     assert!(&rt; end.is_ready() && end.response() == b"\x41\x42\x90\x00".as_slice());
+}
+
+#[test]
+fn a_card_lowers_ifsc(rt: HostRuntime) {
+    let mut end = TerminalEnd::new(rt.alloc(), settings(&rt, 2, 2));
+    assert!(&rt; end.begin(b"\x00\xB0\x00\x00\x02").is_ok());
+    goes(
+        &rt,
+        &mut end,
+        &[
+            [OPEN, b"\x00\xC1\x01\x02\xC2"],
+            [b"\x00\xE1\x01\x02\xE2", OPENED],
+            [b"\x00\x20\x02\x00\xB0\x92", R1],
+            // The card asks for this field again, in fields of one byte.
+            [b"\x00\x60\x02\x00\x00\x62", b"\x00\xC1\x01\x01\xC1"],
+            [b"\x00\xE1\x01\x01\xE1", R1],
+            [b"\x00\x60\x01\x00\x61", R0],
+            [b"\x00\x20\x01\x00\x21", R1],
+            [b"\x00\x40\x01\x02\x43", b"\x00\x00\x02\x90\x00\x92"],
+        ],
+    );
+    assert!(&rt; end.is_ready() && end.response() == b"\x90\x00".as_slice());
+}
+
+#[test]
+fn r_says_why(rt: HostRuntime) {
+    let mut end = TerminalEnd::new(rt.alloc(), settings(&rt, 9, 0));
+    assert!(&rt; end.begin(b"\xB0").is_ok());
+    let command = b"\x00\x00\x01\xB0\xB1".as_slice();
+    goes(
+        &rt,
+        &mut end,
+        &[
+            [OPEN, OPENED],
+            // A wrong LRC, a wrong PCB, and a block that is not expected.
+            [command, b"\x00\x80\x00\x81"],
+            [R0_EDC, b"\x00\xA0\x00\xA0"],
+            [R0_OTHER, b"\x00\x40\x01\x90\xD1"],
+            // A reserved error is ignored.
+            [R0_OTHER, b"\x00\x8F\x00\x8F"],
+        ],
+    );
+    sends(&rt, rt.alloc(), &end, command);
+    end.damaged();
+    sends(&rt, rt.alloc(), &end, R0_EDC);
+    end.timed_out();
+    sends(&rt, rt.alloc(), &end, R0_OTHER);
+}
+
+#[test]
+fn a_card_takes_its_time(rt: HostRuntime) {
+    let mut end = TerminalEnd::new(rt.alloc(), settings(&rt, 2, 300));
+    assert!(&rt; end.begin(b"\xB0").is_ok());
+    goes(
+        &rt,
+        &mut end,
+        &[[OPEN, OPENED], [b"\x00\x00\x01\xB0\xB1", WAIT]],
+    );
+    for _ in 1..300 {
+        goes(&rt, &mut end, &[[WAITS, WAIT]]);
+    }
+    assert!(&rt; end.fault().is_none());
+    goes(&rt, &mut end, &[[WAITS, WAIT]]);
+    assert!(&rt;
+        end.fault()
+            .is_some_and(|fault| fault.cause == Cause::ExtensionsSpent)
+    );
 }
 
 /// Checks that these blocks lead to this fault, and that a reset ends it.
@@ -85,11 +158,25 @@ fn fails(rt: &(impl Abort + AllocGlobal), rows: &[[&[u8]; 2]], cause: Cause, out
 #[test]
 fn each_fault(rt: HostRuntime) {
     let command = b"\x00\x00\x01\xB0\xB1".as_slice();
-    let spent = [[OPEN, OPENED], [command, NONE], [R0, NONE], [R0, NONE]];
+    let spent = [
+        [OPEN, OPENED],
+        [command, NONE],
+        [R0_OTHER, NONE],
+        [R0_OTHER, NONE],
+    ];
     fails(&rt, &spent, Cause::TriesSpent, Outcome::Unknown);
-    // The second block has a wrong LRC.
-    let closed = [[OPEN, NONE], [OPEN, b"\x00\x80\x00\x81"], [OPEN, NONE]];
-    fails(&rt, &closed, Cause::TriesSpent, Outcome::NotCarriedOut);
+    let closed = [[OPEN, b"\x00\xC2\x00\xC2"], [b"\x00\xE2\x00\xE2", NONE]];
+    fails(&rt, &closed, Cause::Aborted, Outcome::NotCarriedOut);
+    // Without a response to S(IFS request) the command goes, with all its tries.
+    let silent = [
+        [OPEN, NONE],
+        [OPEN, b"\x00\x80\x00\x81"],
+        [OPEN, NONE],
+        [command, NONE],
+        [R0_OTHER, b"\x00\x80\x00\x81"],
+        [R0_EDC, NONE],
+    ];
+    fails(&rt, &silent, Cause::TriesSpent, Outcome::Unknown);
     let waits = [[OPEN, OPENED], [command, WAIT], [WAITS, WAIT]];
     fails(&rt, &waits, Cause::ExtensionsSpent, Outcome::Unknown);
     let aborted = [
@@ -118,9 +205,13 @@ fn a_card_answers(rt: HostRuntime) {
         [b"\x00\xE3\x01\x03\xE1", b"\x00\x00\x02\x41\x42\x01"],
         // It repeats its block, and does not carry out a command with an old N(S).
         [R0, b"\x00\x00\x02\x41\x42\x01"],
-        [b"\x00\x40\x01\x42\x03", R0],
+        [b"\x00\x40\x01\x42\x03", R0_OTHER],
         [b"\x00\xC2\x00\xC2", b"\x00\xE2\x00\xE2"],
-        [R0, R0],
+        [R0, R0_OTHER],
+        // A wrong LRC, a wrong PCB, and a reserved error.
+        [b"\x00\x20\x01\x41\x61", R0_EDC],
+        [b"\x00\x21\x01\x41\x61", R0_OTHER],
+        [b"\x00\x8F\x00\x8F", R0_OTHER],
         [b"\x00\xC0\x00\xC0", b"\x00\xE0\x00\xE0"],
     ] {
         let reply = end.take_bytes(sent).expect(&rt, "memory");
@@ -130,7 +221,9 @@ fn a_card_answers(rt: HostRuntime) {
     assert!(&rt; end.into_applet().ran.len() == 1);
 }
 
-/// Loses one of each four blocks of the terminal, and damages the reply to the next one.
+const FATES: [Fate; 3] = [Fate::Delivers, Fate::Damages, Fate::Loses];
+
+/// Delivers both blocks of each second exchange. Those between have each pair of fates in turn.
 #[derive(Drop)]
 struct Lossy<'r, R: Abort> {
     rt: &'r R,
@@ -141,12 +234,12 @@ impl<'r, R: Abort> Line for Lossy<'r, R> {
     ghost passed = { λ e. e.passed.items };
 
     fn next(&mut self) -> Fates {
-        let (down, up) = match self.passed.len() % 4 {
-            1 => (Fate::Loses, Fate::Delivers),
-            2 => (Fate::Delivers, Fate::Damages),
-            _ => (Fate::Delivers, Fate::Delivers),
+        let count = self.passed.len();
+        let pair = if count % 2 == 0 { 0 } else { count / 2 % 9 };
+        let fates = Fates {
+            down: FATES[pair / 3],
+            up: FATES[pair % 3],
         };
-        let fates = Fates { down, up };
         self.passed.push(fates).expect(self.rt, "memory");
         fates
     }
@@ -156,7 +249,13 @@ impl<'r, R: Abort> Line for Lossy<'r, R> {
 fn a_dialogue_over_a_line(rt: HostRuntime) {
     let alloc = rt.alloc();
     let mut commands: Vec<Vec<u8>> = Vec::new(alloc);
-    for command in [b"\x01\x02\x03\x04".as_slice(), b"\x05"] {
+    for command in [
+        b"\x01\x02\x03\x04".as_slice(),
+        b"\x05",
+        b"\x06\x07\x08\x09",
+        b"\x0A",
+        b"\x0B\x0C\x0D\x0E",
+    ] {
         commands
             .push(command.to_vec(alloc).expect(&rt, "memory"))
             .expect(&rt, "memory");
@@ -171,6 +270,8 @@ fn a_dialogue_over_a_line(rt: HostRuntime) {
     );
     assert!(&rt; ended.fault.is_none() && ended.answers == commands);
     assert!(&rt; ended.applet.ran == commands);
+    // Each of the 9 pairs of fates occurred.
+    assert!(&rt; line.passed.len() >= 18);
 }
 
 #[test]

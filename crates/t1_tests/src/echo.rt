@@ -6,7 +6,11 @@ ghost use Rattle.t1_tests.specs.Echo.{echoes, size_at, requests_at};
 use std::alloc::{AllocError, Global};
 use t1_core::{Applet, Requests};
 
-/// A card that sends back each command. The first, third, fifth and so on wait twice: before the
+/// The longest command in bytes that the card sends back.
+pub const LIMIT: usize = 350;
+
+/// A card that sends back each command of at most `LIMIT` bytes. To a longer one it responds
+/// `6700`, and records it as an empty one. The first, third, fifth and so on wait twice: before the
 /// response it asks for 3 times BWT. At each third command it announces IFSC 20.
 #[derive(Drop)]
 pub struct Echo {
@@ -26,6 +30,10 @@ impl Echo {
 }
 
 impl Applet for Echo {
+    const LIMIT: usize = LIMIT;
+
+    ghost LIMIT = { 350 };
+
     ghost State = { List (List ℕ) };
 
     ghost standing = { λ e. map (λ v. v.items) e.ran.items };
@@ -37,11 +45,21 @@ impl Applet for Echo {
         command: &[u8],
         response: &mut Vec<u8>,
     ) -> Result<Requests, AllocError> {
+        if command.len() > LIMIT {
+            return self.too_long(response);
+        }
         response.clear();
         response.extend_from_slice(command)?;
         let mut kept = Vec::new(self.alloc);
         kept.extend_from_slice(command)?;
         self.ran.push(kept)?;
+        Ok(requests_at(self.ran.len()))
+    }
+
+    fn too_long(&mut self, response: &mut Vec<u8>) -> Result<Requests, AllocError> {
+        response.clear();
+        response.extend_from_slice(&[0x67, 0x00])?;
+        self.ran.push(Vec::new(self.alloc))?;
         Ok(requests_at(self.ran.len()))
     }
 }

@@ -33,6 +33,8 @@ pub struct Line {
     one_in: usize,
     /// The terminal took a time-out or an invalid block.
     has_missed: bool,
+    /// The terminal has sent an I-block.
+    has_begun: bool,
 }
 
 impl Line {
@@ -47,6 +49,7 @@ impl Line {
             random,
             one_in,
             has_missed: false,
+            has_begun: false,
         }
     }
 
@@ -91,8 +94,11 @@ impl Line {
         let Some(bytes) = self.sent(rt) else {
             return false;
         };
-        // After a time-out or an invalid block it asks for the block, and repeats no I-block.
-        assert!(rt; !self.has_missed || bytes.get(1).is_some_and(|pcb| *pcb >= 128));
+        // After a time-out or an invalid block it asks for the block, and repeats no I-block. Only
+        // the first one of all may follow, if S(IFS request) is given up.
+        let is_sent = bytes.get(1).is_some_and(|pcb| *pcb < 128);
+        assert!(rt; !self.has_missed || !self.has_begun || !is_sent);
+        self.has_begun = self.has_begun || is_sent;
         if let Some(late) = self.late.take() {
             self.card_hears(rt, &late);
         }

@@ -115,7 +115,8 @@ fn operations_over_a_line(rt: HostRuntime) {
     );
 }
 
-/// The line goes dead before the first command, after the first piece of a put, and after its last.
+/// The line goes dead from the start, after the first piece of a put, and after its last. The first
+/// command is sent without a response to S(IFS request).
 #[test]
 fn operations_that_stop(rt: HostRuntime) {
     let spent = |outcome| Some((Cause::TriesSpent, outcome));
@@ -125,7 +126,7 @@ fn operations_that_stop(rt: HostRuntime) {
         Fate::Loses,
         PUT,
         "",
-        spent(Outcome::NotCarriedOut),
+        spent(Outcome::Unknown),
         NAME,
     );
     runs(

@@ -60,7 +60,7 @@ impl TpduCard for TestCard {
 
     ghost after_reset = { λ _. tt };
 
-    ghost MayReceive = { λ ins. ins ≡ 0xDA };
+    ghost MayReceive = { λ h. h.ins ≡ 0xDA };
 
     ghost MaySend = { λ ins. (ins ≡ 0xCA) ⊎ (ins ≡ 0xC0) };
 

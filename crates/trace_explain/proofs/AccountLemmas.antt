@@ -128,16 +128,22 @@ none_written layout mask e hears manner number text = record {
 }
 
 -- one box, after it was counted
-pub boxes_one : (t : Report) (number line n : ℕ) (answer : List ℕ) {a c : Account}
-    → n ≡ one_more a.number → number ≡ n → AddsBox number line t answer (record a { number = n }) c
-    → Shows (t ∷ []) a c
-boxes_one t number line n answer {a} {c} counted number_is h = record {
+pub boxes_one : (t : Report) (is_loose : Bool) (number line n : ℕ) (answer : List ℕ)
+    {a c : Account} → n ≡ one_more a.number → number ≡ n
+    → AddsBox is_loose number line t answer (record a { number = n }) c → Shows (t ∷ []) a c
+boxes_one t is_loose number line n answer {a} {c} counted number_is h = record {
   manner = h.manner;
   adds = λ writes w.
-      let P : ℕ → Type 0 = λ k. PutsBox a.mask k line t answer a.sheet c.sheet in
+      let P : ℕ → Type 0 = λ k. PutsBox a.mask is_loose k line t answer a.sheet c.sheet in
       let (more, (before, rest, is, words, (text, none, rest_is, is_box, none_is)), adds) =
       subst P (number_is ∙ counted) (h.box writes) in
-      let one : Boxed = record { report = t; line = line; answer = answer; text = text } in
+      let one : Boxed = record {
+        report = t;
+        is_loose = is_loose;
+        line = line;
+        answer = answer;
+        text = text;
+      } in
       record {
         whole = adds.whole w;
         more = more;

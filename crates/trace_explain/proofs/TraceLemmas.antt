@@ -369,6 +369,7 @@ ended_stops {at = at} fault.NoCharacters ended explained =
 ended_stops (fault.Resumed m c) ended explained = tt
 ended_stops (fault.BadPairs n m why) ended explained = tt
 ended_stops (fault.Skipped line place) ended explained = tt
+ended_stops (fault.NothingWhole line note) ended explained = tt
 ended_stops other ended explained = absurd ended
 
 -- What is shown of the reports.

@@ -27,9 +27,10 @@ writing layout mask = record { keeps = false; mask = mask; layout = layout }
 abbrev pub Writes : Manner → Type 0
 Writes w = (w.keeps ≡ false) × (w.layout.is_summary ≡ false)
 
--- the box of a TPDU, whole or cut off
+-- the box of a TPDU, whole or cut off; and whether its header is loose
 pub record Boxed : Type 0 where
   pub report : Report
+  pub is_loose : Bool
   pub line : ℕ
   pub answer : List ℕ
   pub text : List ℕ
@@ -38,7 +39,7 @@ pub record Boxed : Type 0 where
 abbrev pub AreBoxes : Manner → ℕ → List Boxed → Type 0
 AreBoxes w n [] = Unit {0}
 AreBoxes w n (b ∷ boxes) =
-    IsBox w.mask (one_more n) b.line b.report b.answer w.layout.medium b.text
+    IsBox w.mask b.is_loose (one_more n) b.line b.report b.answer w.layout.medium b.text
     × AreBoxes w (one_more n) boxes
 
 abbrev pub number_after : ℕ → List Boxed → ℕ
@@ -100,17 +101,19 @@ abbrev pub AddsBoxes : List Report → Teller → Teller → Type 0
 AddsBoxes reports old new = Shows reports (account_of old) (account_of new)
 
 -- the same for one box with this number, which is counted already
-pub record AddsBox (number line : ℕ) (t : Report) (answer : List ℕ) (old new : Account)
-    : Type 0 where
+pub record AddsBox (is_loose : Bool) (number line : ℕ) (t : Report) (answer : List ℕ)
+    (old new : Account) : Type 0 where
   pub manner : manner_of new ≡ manner_of old
   pub counted : new.number ≡ old.number
-  pub box : Writes (manner_of old) → PutsBox old.mask number line t answer old.sheet new.sheet
+  pub box : Writes (manner_of old)
+      → PutsBox old.mask is_loose number line t answer old.sheet new.sheet
 
 -- a text is that box after an empty sheet, unless that is of a summary
-abbrev pub HasBox : Mask → ℕ → ℕ → Report → List ℕ → Sheet → List ℕ → Type 0
-HasBox mask number line t answer empty text = empty.layout.is_summary ≡ false → (last : Sheet)
-    × (last.is_cut ≡ false) × (string_bytes last.text ≡ text)
-    × PutsBox mask number line t answer empty last
+abbrev pub HasBox : Mask → Bool → ℕ → ℕ → Report → List ℕ → Sheet → List ℕ → Type 0
+HasBox mask is_loose number line t answer empty text =
+    empty.layout.is_summary ≡ false → (last : Sheet) × (last.is_cut ≡ false)
+    × (string_bytes last.text ≡ text)
+    × PutsBox mask is_loose number line t answer empty last
 
 -- the output is the same
 abbrev pub StaysWritten : Teller → Teller → Type 0

@@ -47,10 +47,13 @@ ShowsData Objects tags may bytes lines = (tree : List (List ℕ)) × IsTree tags
 ShowsData Nothing tags may bytes lines = lines ≡ hidden ∷ []
 
 -- The mask shows data by a command: that of their TPDU, or under GET RESPONSE that of the response.
-pub record IsShown (mask : Mask) (way : Direction) (header : List ℕ) (shown : Shown) : Type 0 where
+pub record IsShown (mask : Mask) (is_loose : Bool) (way : Direction) (header moved : List ℕ)
+    (shown : Shown) : Type 0 where
   pub origin : Origin
   pub way_is : origin.way ≡ way
+  pub loose : origin.is_loose ≡ is_loose
   pub to_card : way ≡ ToCard → IsOfCommand header origin.header
+  pub inner : way ≡ ToCard → origin.inner ≡ get_or moved 1 0
   pub from_card : get_or header 1 0 ≢ 0xC0 → IsOfCommand header origin.header
   pub shows : Shows mask.hides mask.tags.items origin shown
 
@@ -59,10 +62,11 @@ abbrev pub HasAsker : List ℕ → Links → Type 0
 HasAsker header links = get_or header 1 0 ≢ 0xC0 → IfSome links.asker (IsOfCommand header)
 
 -- the row of data of a TPDU, if it moved any, after a whole header
-abbrev pub IsData : Mask → Option Direction → List ℕ → List ℕ → Medium → List ℕ → Type 0
-IsData mask None header moved m text = text ≡ []
-IsData mask (Some way) header moved m text = length header ≡ 5 → (shown : Shown)
-    × IsShown mask way header shown × (may : Bool) × (way ≡ FromCard → may ≡ true)
+abbrev pub IsData
+    : Mask → Bool → Option Direction → List ℕ → List ℕ → Medium → List ℕ → Type 0
+IsData mask is_loose None header moved m text = text ≡ []
+IsData mask is_loose (Some way) header moved m text = length header ≡ 5 → (shown : Shown)
+    × IsShown mask is_loose way header moved shown × (may : Bool) × (way ≡ FromCard → may ≡ true)
     × (lines : List (List ℕ)) × ShowsData shown mask.tags.items may moved lines
     × (text ≡ some_row m (side_of way) (codes "data") (lines_text lines))
 
@@ -74,9 +78,9 @@ PutsDataRow shown tags s may bytes old new = (lines : List (List ℕ))
     × Adds old (some_row old.layout.medium s (codes "data") (lines_text lines)) new
 
 -- the row of the data that the card returned beside those of the terminal, if any
-abbrev pub IsAnswer : Mask → List ℕ → List ℕ → Medium → List ℕ → Type 0
-IsAnswer mask header bytes m text = (length bytes ≡ 0 → text ≡ [])
-    × (0 < length bytes → IsData mask (Some FromCard) header bytes m text)
+abbrev pub IsAnswer : Mask → Bool → List ℕ → List ℕ → Medium → List ℕ → Type 0
+IsAnswer mask is_loose header bytes m text = (length bytes ≡ 0 → text ≡ [])
+    × (0 < length bytes → IsData mask is_loose (Some FromCard) header bytes m text)
 
 -- the title: the number, words, and the line where the TPDU begins
 abbrev pub IsTitle : ℕ → ℕ → List ℕ → Medium → List ℕ → Type 0
@@ -112,10 +116,11 @@ whole_way (whole.Response n) = Some FromCard
 whole_way (whole.Value n) = Some ToCard
 
 -- such a row, as the mask shows the data of that command, or nothing
-abbrev pub IsTogether : Mask → List ℕ → Medium → List ℕ → Type 0
-IsTogether mask header m text = text ≢ [] → (whole : Whole) × (way : Direction)
-    × (whole_way whole ≡ Some way) × (shown : Shown) × IsShown mask way header shown
-    × (bytes : List ℕ) × (lines : List (List ℕ)) × ShowsData shown mask.tags.items true bytes lines
+abbrev pub IsTogether : Mask → Bool → List ℕ → Medium → List ℕ → Type 0
+IsTogether mask is_loose header m text = text ≢ [] → (whole : Whole) × (way : Direction)
+    × (whole_way whole ≡ Some way) × (bytes : List ℕ) × (shown : Shown)
+    × IsShown mask is_loose way header bytes shown × (lines : List (List ℕ))
+    × ShowsData shown mask.tags.items true bytes lines
     × (text ≡ together_row m whole bytes lines)
 
 -- a text is one for which each of these holds in turn
@@ -124,23 +129,24 @@ InOrder [] m text = text ≡ []
 InOrder (Is ∷ others) m text =
     (part rest : List ℕ) × (text ≡ part ++ rest) × Is m part × InOrder others m rest
 
--- The box of a TPDU: its number, line, header, data and status, with rows of words between.
-abbrev pub IsBox : Mask → ℕ → ℕ → Report → List ℕ → Medium → List ℕ → Type 0
-IsBox mask number line t answer = InOrder
+-- The box of a TPDU: its number, line, header, data and status, with rows of words between. A mask
+-- hides a loose header.
+abbrev pub IsBox : Mask → Bool → ℕ → ℕ → Report → List ℕ → Medium → List ℕ → Type 0
+IsBox mask is_loose number line t answer = InOrder
     (IsTitle number line t.status
     ∷ IsRow side.Nobody (codes "time")
     ∷ IsRow side.Nobody (codes "before")
-    ∷ (λ m text. text ≡ header_row m t.header)
+    ∷ (λ m text. text ≡ header_row (mask.hides && is_loose) m t.header)
     ∷ IsRow side.Card (codes "procedure")
-    ∷ IsData mask t.way t.header t.moved
+    ∷ IsData mask is_loose t.way t.header t.moved
     ∷ IsRow side.Terminal (codes "Le")
-    ∷ IsAnswer mask t.header answer
+    ∷ IsAnswer mask is_loose t.header answer
     ∷ IsStatus (status_side t.header t.status) t.status
     ∷ IsRow side.Nobody (codes "after")
-    ∷ IsTogether mask t.header
+    ∷ IsTogether mask is_loose t.header
     ∷ (λ m text. text ≡ box_end m) ∷ [])
 
 -- the box of a TPDU was added, after words
-abbrev pub PutsBox : Mask → ℕ → ℕ → Report → List ℕ → Sheet → Sheet → Type 0
-PutsBox mask number line t answer =
-    Puts (InOrder (IsWords ∷ IsBox mask number line t answer ∷ []))
+abbrev pub PutsBox : Mask → Bool → ℕ → ℕ → Report → List ℕ → Sheet → Sheet → Type 0
+PutsBox mask is_loose number line t answer =
+    Puts (InOrder (IsWords ∷ IsBox mask is_loose number line t answer ∷ []))

@@ -184,8 +184,8 @@ IsBadSigned (bad.OtherForm expected) known line = (known ≡ Some expected)
     × (form ≢ expected)
 IsBadSigned bad.NoSign known line = (known ≡ None) × (are_digits line ≡ true)
     × (is_signed (behind_time line) ≡ false)
-IsBadSigned bad.Signed known line = ⊥
 IsBadSigned bad.OutOfMemory known line = Unit {0}
+IsBadSigned other known line = ⊥
 
 -- Without signs, a refused line has digits that are not two for each byte, or begins with a sign.
 abbrev pub IsBadUnsigned : LineFault → List ℕ → Type 0

@@ -11,7 +11,7 @@ use Rattle.trace_explain.specs.declared.read.log_line.Open.TheVariants as going
 use Rattle.trace_explain.specs.declared.read.trace_line.LineFault.{LineFault}
 use Rattle.trace_explain.specs.declared.read.trace_line.LineFault.TheVariants as bad
 use Rattle.trace_explain.specs.Lines.{begins_with, bytes_in, is_in}
-use Rattle.trace_explain.specs.Times.{behind_time, place_of}
+use Rattle.trace_explain.specs.Times.{behind_mark, behind_time, place_of}
 
 -- An answer after its sign; words may follow it after a colon.
 abbrev pub cut_answer : List ℕ → LineKind × List ℕ
@@ -56,7 +56,7 @@ cut_line line = if begins_with (behind_time line) (codes ">")
     || begins_with (behind_time line) (codes "<") then cut_signed (behind_time line)
     else if begins_with (behind_time line) (codes "reset") && (length (behind_time line) == 5)
     then (kind.Reset, behind_time line)
-    else cut_text line (text_in line)
+    else cut_text (behind_mark line) (text_in (behind_mark line))
 
 -- A number of at most seven decimal digits.
 abbrev pub number_from : ℕ → List ℕ → Option ℕ

@@ -1,5 +1,5 @@
 -- A log of whole TPDUs or APDUs, line by line: which command has which answer.
-use Rattle.std.specs.Prelude.{◌≡◌, ℕ, ◌-◌, List, [], ◌∷◌, ◌++◌, length, map, Option, Some, None, Bool, true, false, ◌==◌}
+use Rattle.std.specs.Prelude.{◌≡◌, ◌<◌, ℕ, ◌+◌, ◌-◌, List, [], ◌∷◌, ◌++◌, length, map, Option, Some, None, Bool, true, false, ◌==◌}
 use Rattle.t0_core.specs.declared.end.End.{End}
 use Rattle.t0_core.specs.declared.end.End.TheVariants as end
 use Rattle.trace_explain.specs.declared.read.entry.Entry.{Entry}
@@ -11,7 +11,11 @@ use Rattle.trace_explain.specs.declared.read.log_line.Open.TheVariants as going
 use Rattle.trace_explain.specs.declared.read.log_line.LogLine.{LogLine}
 use Rattle.trace_explain.specs.declared.read.log_line.LogLine.TheVariants as log_line
 use Rattle.trace_explain.specs.declared.read.trace_line.LineFault.{LineFault}
-use Rattle.trace_explain.specs.LogLines.{IsBadDump, IsBadLogLine, SaysLog, dumped_in, left_of, rest_in, rest_open}
+use Rattle.trace_explain.specs.declared.read.trace_line.LineFault.TheVariants as bad
+use Rattle.trace_explain.specs.LogLines.{IsBadDump, IsBadLogLine, SaysLog, dumped_in, left_of, rest_in, rest_open, some_bytes}
+use Rattle.trace_explain.specs.Noted.{are_status}
+use Rattle.trace_explain.specs.Pairs.{status_in}
+use Rattle.trace_explain.specs.Times.{place_of}
 
 -- What an entry says.
 pub data EntryOf : Type 0 where
@@ -139,10 +143,25 @@ TakesIn (going.Dump from count) at line step = (bytes : List ℕ)
 abbrev pub TakesLogLine : LogAt → List ℕ → Step → Type 0
 TakesLogLine at line step = TakesIn at.pending at line step
 
--- A line can't be read if this is pending.
-abbrev pub IsBadIn : Open → LineFault → List ℕ → Type 0
-IsBadIn (going.Dump from count) why line = IsBadDump why count line
-IsBadIn other why line = IsBadLogLine why line
+-- With more bytes what is pending exceeds the limit.
+abbrev pub IsTooMuch : List ℕ → List ℕ → Type 0
+IsTooMuch bytes more = 4194304 < length bytes + length more
+
+-- A line without a colon is the last that may continue an answer, which ends with a status with its
+-- bytes and without them.
+pub record IsTwofold (bytes line more : List ℕ) : Type 0 where
+  pub no_colon : place_of 58 line ≡ length line
+  pub before : are_status (status_in bytes) ≡ true
+  pub after : are_status (status_in (bytes ++ more)) ≡ true
+
+-- A line can't be read after these bytes if this is pending.
+abbrev pub IsBadIn : Open → List ℕ → LineFault → List ℕ → Type 0
+IsBadIn going.Answer bytes bad.Twofold line = IsTwofold bytes line (rest_in line)
+IsBadIn going.Answer bytes bad.TooLong line = IsTooMuch bytes (rest_in line)
+IsBadIn (going.Dump from count) bytes bad.TooLong line =
+    IsTooMuch bytes (some_bytes (dumped_in count line))
+IsBadIn (going.Dump from count) bytes why line = IsBadDump why count line
+IsBadIn other bytes why line = IsBadLogLine why line
 
 -- What the end of a log adds.
 abbrev pub ended_in : Open → LogAt → List EntryOf

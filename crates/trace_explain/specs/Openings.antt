@@ -131,6 +131,15 @@ opens o role.Response b = record o {
 opens o role.Stray b = record o { stage = stage.Astray }
 opens o role.Dialogue b = begun
 
+-- The header that follows is loose: bytes precede it that are neither a whole answer nor PPS. In a
+-- dialogue it stays what it is.
+abbrev pub loose_at : Bool → Stage → Bool
+loose_at is_loose stage.Begun = is_loose
+loose_at is_loose stage.Answer = true
+loose_at is_loose stage.Astray = true
+loose_at is_loose stage.Response = true
+loose_at is_loose other = false
+
 abbrev pub is_dialogue : Role → Bool
 is_dialogue role.Dialogue = true
 is_dialogue other = false

@@ -17,6 +17,18 @@ abbrev pub is_secret : ℕ → Bool
 is_secret ins = is_among ins
     (0x20 ∷ 0x21 ∷ 0x24 ∷ 0x25 ∷ 0x26 ∷ 0x28 ∷ 0x2C ∷ 0x2D ∷ [])
 
+-- Data of ENVELOPE (C2) are a command, those of C3 an object that contains one. They may be secret
+-- if its INS is, the second byte of C2. In C3, and behind other parts, that is unknown.
+abbrev pub carries_secret : Direction → ℕ → Bool → ℕ → Bool
+carries_secret ToCard ins continues inner =
+    (ins == 0xC3) || ((ins == 0xC2) && (continues || is_secret inner))
+carries_secret FromCard ins continues inner = false
+
+-- Data may be secret, also those behind a loose header.
+abbrev pub has_secret : Origin → Bool
+has_secret o = o.is_loose || is_secret o.header.ins
+    || carries_secret o.way o.header.ins o.continues o.inner
+
 -- Data may begin or end within an object: parts of a file or record after its start, the data of a
 -- GET RESPONSE that stands alone, and of ENVELOPE.
 abbrev pub may_be_cut : Header → Bool
@@ -38,10 +50,11 @@ abbrev pub whole_or_nothing : Bool → Shown
 whole_or_nothing is_part = if is_part then Nothing else Objects
 
 -- the value of an object with this tag
-pub record ShowsValue (tags : List (List ℕ)) (tag : List ℕ) (continues : Bool) (shown : Shown)
-    : Type 0 where
+pub record ShowsValue (tags : List (List ℕ)) (tag : List ℕ) (continues goes_on : Bool)
+    (shown : Shown) : Type 0 where
   pub masked : Contains tags tag → shown ≡ Nothing
-  pub primitive : (Contains tags tag → ⊥) → is_constructed tag ≡ false → shown ≡ All
+  pub primitive : (Contains tags tag → ⊥) → is_constructed tag ≡ false
+      → shown ≡ (if continues || goes_on then Nothing else All)
   pub template : (Contains tags tag → ⊥) → is_constructed tag ≡ true
       → shown ≡ whole_or_nothing continues
 
@@ -49,14 +62,14 @@ pub record ShowsValue (tags : List (List ℕ)) (tag : List ℕ) (continues : Boo
 pub record ShowsTagged (tags : List (List ℕ)) (o : Origin) (shown : Shown) : Type 0 where
   pub name : is_name o.header.ins o.way ≡ true → shown ≡ All
   pub named : is_name o.header.ins o.way ≡ false → (t : List ℕ) → Names o.header t
-      → (tag : List ℕ) × Names o.header tag × ShowsValue tags tag o.continues shown
+      → (tag : List ℕ) × Names o.header tag × ShowsValue tags tag o.continues o.goes_on shown
   pub others : is_name o.header.ins o.way ≡ false → ((tag : List ℕ) → Names o.header tag → ⊥)
       → shown ≡ whole_or_nothing (o.continues || may_be_cut o.header)
 
 -- Without a mask all data are shown. A mask hides secret data. Without tags it shows all others.
 pub record Shows (hides : Bool) (tags : List (List ℕ)) (o : Origin) (shown : Shown) : Type 0 where
   pub all : hides ≡ false → shown ≡ All
-  pub secret : hides ≡ true → is_secret o.header.ins ≡ true → shown ≡ Nothing
-  pub no_tags : hides ≡ true → is_secret o.header.ins ≡ false → tags ≡ [] → shown ≡ All
-  pub tagged : hides ≡ true → is_secret o.header.ins ≡ false → 0 < length tags
+  pub secret : hides ≡ true → has_secret o ≡ true → shown ≡ Nothing
+  pub no_tags : hides ≡ true → has_secret o ≡ false → tags ≡ [] → shown ≡ All
+  pub tagged : hides ≡ true → has_secret o ≡ false → 0 < length tags
       → ShowsTagged tags o shown

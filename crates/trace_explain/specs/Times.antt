@@ -54,13 +54,27 @@ time_len [] = 0
 time_len (b ∷ rest) = if b == 91 then bracket_len rest
     else if b == 43 then shift_len rest else stamp_len (b ∷ rest)
 
+-- A line without the byte order mark of UTF-8 before it.
+abbrev pub behind_mark : List ℕ → List ℕ
+behind_mark [] = []
+behind_mark (a ∷ []) = a ∷ []
+behind_mark (a ∷ b ∷ []) = a ∷ b ∷ []
+behind_mark (a ∷ b ∷ c ∷ line) =
+    if (a == 0xEF) && (b == 0xBB) && (c == 0xBF) then line else a ∷ b ∷ c ∷ line
+
 -- The time before a line's sign, and what follows it and its spaces.
+abbrev pub time_of : List ℕ → List ℕ
+time_of line = take (time_len line) line
+
+abbrev pub behind_time_of : List ℕ → List ℕ
+behind_time_of line =
+    if time_len line == 0 then line else behind_spaces (drop (time_len line) line)
+
 abbrev pub time_in : List ℕ → List ℕ
-time_in line = take (time_len line) line
+time_in line = time_of (behind_mark line)
 
 abbrev pub behind_time : List ℕ → List ℕ
-behind_time line =
-    if time_len line == 0 then line else behind_spaces (drop (time_len line) line)
+behind_time line = behind_time_of (behind_mark line)
 
 -- Without signs, decimal digits alone are bytes and not a time.
 abbrev pub are_decimal : List ℕ → Bool
@@ -68,4 +82,4 @@ are_decimal [] = true
 are_decimal (b ∷ bytes) = nat_le 48 b && nat_le b 57 && are_decimal bytes
 
 abbrev pub behind_clock : List ℕ → List ℕ
-behind_clock line = if are_decimal (time_in line) then line else behind_time line
+behind_clock line = if are_decimal (time_in line) then behind_mark line else behind_time line

@@ -99,6 +99,7 @@ abbrev pub IsOfEnd : ExplainFault → Bool → Type 0
 IsOfEnd (fault.Resumed complaints first) has_characters = Unit {0}
 IsOfEnd (fault.BadPairs complaints line why) has_characters = Unit {0}
 IsOfEnd (fault.Skipped line place) has_characters = Unit {0}
+IsOfEnd (fault.NothingWhole line note) has_characters = Unit {0}
 IsOfEnd fault.NoCharacters has_characters = has_characters ≡ false
 IsOfEnd other has_characters = ⊥
 
@@ -142,5 +143,6 @@ IsOfLines fault.Read = ⊥
 IsOfLines fault.Write = ⊥
 IsOfLines fault.Closed = ⊥
 IsOfLines fault.InputTooLong = ⊥
+IsOfLines (fault.NothingWhole line note) = ⊥
 IsOfLines fault.NoCharacters = ⊥
 IsOfLines other = Unit {0}

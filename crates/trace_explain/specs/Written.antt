@@ -140,8 +140,13 @@ abbrev pub header_text : Medium → List ℕ → List ℕ
 header_text Text bytes = encode_upper bytes
 header_text Html bytes = named bytes
 
-abbrev pub header_row : Medium → List ℕ → List ℕ
-header_row m bytes = before m Terminal (codes "header") ++ header_text m bytes ++ behind m Terminal
+-- what is shown in place of hidden data, or of a hidden header
+abbrev pub hidden : List ℕ
+hidden = codes "**"
+
+abbrev pub header_row : Bool → Medium → List ℕ → List ℕ
+header_row is_hidden m bytes = before m Terminal (codes "header")
+    ++ (if is_hidden then hidden else header_text m bytes) ++ behind m Terminal
 
 -- a status as digits, and a space; words after it give its meaning
 abbrev pub status_digits : List ℕ → List ℕ
@@ -155,10 +160,6 @@ status_row m side status words =
 
 abbrev pub lines_text : List (List ℕ) → List ℕ
 lines_text lines = flat_map (λ line. 10 ∷ line) lines
-
--- what is shown in place of hidden data
-abbrev pub hidden : List ℕ
-hidden = codes "**"
 
 -- digits, with text in quotes beside them if they are text
 abbrev pub beside : Bool → List ℕ → List ℕ

@@ -6,4 +6,3 @@ pub mod meaning;
 pub mod outline;
 pub mod parts;
 pub mod phrases;
-pub mod statuses;

@@ -6,6 +6,7 @@ use crate::describe::complaint::Complaint;
 use crate::follow::pair::PairFault;
 use crate::follow::turn::TurnFault;
 use crate::read::trace_line::LineFault;
+use crate::write::notes::Excerpt;
 use std::alloc::AllocError;
 use std::io;
 use thiserror::Error;
@@ -57,6 +58,13 @@ pub enum ExplainFault {
         complaints: u64,
         line: u64,
         why: PairFault,
+    },
+    /// The trace has ended, and has notes, but no whole TPDU, answer to reset or PPS. This note is
+    /// its first.
+    #[error("line {line}: a note, and the trace has no whole TPDU, answer to reset or PPS: {note}")]
+    NothingWhole {
+        line: u64,
+        note: Excerpt,
     },
     /// The trace has ended, and no line has a character of either end.
     #[error("no characters heard")]

@@ -17,6 +17,7 @@ use crate::describe::mask::Mask;
 use crate::explain_fault::ExplainFault;
 use crate::follow::listener::Listener;
 use crate::follow::opening::begins_answer;
+use crate::follow::pair::are_characters;
 use crate::follow::preface::Preface;
 use crate::follow::turn::{TurnFault, turn_before, turn_within};
 use crate::read::entry::{Entry, Source};
@@ -334,6 +335,11 @@ impl Explainer {
         let taken = self.log.take(line, &mut entries);
         self.has_characters = self.has_characters || self.log.has_begun();
         for entry in entries {
+            if let Entry::Pair(command, answer) = &entry
+                && are_characters(command.as_slice(), answer.as_slice())
+            {
+                return Err(refused(self.line, LineFault::Characters));
+            }
             self.take(entry, line)?;
         }
         taken.map_err(|why| refused(self.line, why))
@@ -348,6 +354,7 @@ impl Explainer {
     /// - `Resumed`: it continued after unexpected characters.
     /// - `Skipped`: it passed over what follows an invalid answer to reset.
     /// - `NoCharacters`: no line has a character of either end.
+    /// - `NothingWhole`: they have a note, and no whole TPDU, answer to reset or PPS.
     pub fn outcome(&self) -> Result<(), ExplainFault>
         ensures has_characters { OnOk result (self.now.has_characters ≡ true) }
         ensures ended { IfErr result (λ fault. IsOfEnd fault self.now.has_characters) }
@@ -363,8 +370,13 @@ impl Explainer {
         match (self.resuming.first, self.resuming.first_unsent) {
             (Some(first), _) => Err(ExplainFault::Resumed { complaints, first }),
             (None, Some((line, place))) => Err(ExplainFault::Skipped { line, place }),
-            (None, None) if self.has_characters => Ok(()),
-            (None, None) => Err(ExplainFault::NoCharacters),
+            (None, None) if !self.has_characters => Err(ExplainFault::NoCharacters),
+            (None, None) => match self.teller.first_note {
+                Some((line, note)) if !self.teller.has_whole() => {
+                    Err(ExplainFault::NothingWhole { line, note })
+                }
+                _ => Ok(()),
+            },
         }
     }
 

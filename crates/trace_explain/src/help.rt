@@ -80,14 +80,16 @@ are `> HEX` and `< HEX`, as `gt_pcsc -v` and `scriptor` write them, with `reset`
 `opensc-tool -vvv`. A command without an answer is shown as cut off, and an answer without a command
 as before one. A command that is not short, and an answer without SW1-SW2 at its end, are protocol
 errors: the program shows what is wrong, and continues. Every other line is a note, but one that
-begins as one of these and can't be read is a fault.
+begins as one of these and can't be read is a fault. So are characters of T=0, with INS before data.
 
 With `--mask` reference data are shown as `**`: the data of VERIFY, CHANGE REFERENCE DATA, DISABLE
 and ENABLE VERIFICATION REQUIREMENT and RESET RETRY COUNTER. So are objects with the given tags,
 which commas separate, and all data that may be part of one: data that are not a list of objects,
 and parts of a response, a chain or a file. Notes, unexpected bytes, characters before a header, and
-invalid answers may contain any of it, so they are always shown as `**`. With `--resume` the program
-then continues only at a line `reset`.
+invalid answers may contain any of it, so they are always shown as `**`. So are a header and its
+data, if such characters or an unexpected byte precede it, or an unexpected byte ends it; and data
+of ENVELOPE that may contain reference data. With `--resume` the program then continues only at a
+line `reset`.
 
 With `--diff` the traces of two files are compared, TPDU by TPDU, and standard input is not read.
 Headers, data with their direction, and statuses are compared, but not procedure bytes, or what is
@@ -97,7 +99,8 @@ The last block counts TPDUs, commands by name, statuses other than `9000`, and p
 lines have times, it shows how long all took.
 
 A TPDU that a reset or the end of the trace cuts off is shown as far as it came, and is no fault. A
-trace without a character of either end, such as an empty one, is a fault.
+trace without a character of either end, such as an empty one, is a fault. So is one with notes, but
+without a whole TPDU, answer to reset or PPS: its lines may have a form that the program can't read.
 
 The exit status is 0 if the program explained the whole trace and found no protocol error, or if
 nobody reads the output any more. It is 1 after a fault or a protocol error, and 2 if the command

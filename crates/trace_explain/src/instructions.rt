@@ -182,12 +182,6 @@ pub fn is_secret(ins: u8) -> bool
     matches!(ins, 0x20 | 0x21 | 0x24 | 0x25 | 0x26 | 0x28 | 0x2C | 0x2D)
 }
 
-/// Whether `63CX` counts the remaining tries after such a command: one of reference data, or
-/// EXTERNAL AUTHENTICATE. Its class must be one of ISO/IEC 7816-4: bit 8 of CLA is 0.
-pub fn counts_tries(header: Header) -> bool {
-    header.cla & 0x80 == 0 && (is_secret(header.ins) || header.ins == 0x82)
-}
-
 /// Whether the terminal's data may be objects: not a name or a path, nor reference data, unless bit
 /// 1 of INS is set (ISO/IEC 7816-4, 5.4.2, 7.1.1 and 7.5.6 to 7.5.10).
 pub fn may_have_objects(ins: u8) -> bool {

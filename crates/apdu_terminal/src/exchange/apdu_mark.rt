@@ -13,7 +13,7 @@ use apdu_core::{Command, Status};
 use card_terminal::{Attempt, Wanted};
 use std::alloc::Allocator;
 use std::mem;
-use t0_core::{AnswerFault, Gather};
+use t0_core::{AnswerFault, DataSent, Gather};
 
 /// The state of an exchange without the data of its command and the room for its response. Its
 /// owner stores both, and passes them to each call.
@@ -47,6 +47,7 @@ impl ApduMark {
                 repeats: false,
                 before: 0,
                 number: 1,
+                sent: DataSent::NotKnown,
             },
             wanted,
             stage: Stage::Going,

@@ -6,12 +6,13 @@ ghost use Rattle.t0_core.specs.Front.{fresh};
 ghost use Rattle.t0_core.specs.HostSide.{data_due};
 ghost use Rattle.t0_core.specs.HostMark.{HasOnly};
 ghost use Rattle.t0_core.specs.TpduBytes.{asked_of, due_by};
-ghost use Rattle.card_terminal.specs.ExchangeSide.{UnderWay, exchange_turn, response_limit};
+ghost use Rattle.card_terminal.specs.ExchangeSide.{UnderWay, GoesByCharacters, exchange_turn, response_limit};
 ghost use Rattle.card_terminal.specs.ExchangeHistory.{ComesTo};
 ghost use Rattle.card_terminal.specs.Buffers.{IsHandingOut, IsTakingAll};
 ghost use Rattle.card_terminal.specs.ExchangeSteps.{IsTurn, IsTaking, IsAnswering, IsAnswer};
 ghost use Rattle.card_terminal.specs.OwnedExchange.{over_data, IsSound};
 ghost use Rattle.card_terminal.specs.Unsent.{IsFirst};
+ghost use Rattle.card_terminal.specs.SentData.{TellsSent};
 
 use crate::attempt::Attempt;
 use crate::exchange::Exchange;
@@ -24,7 +25,7 @@ use apdu_core::{Command, Status};
 use std::alloc::{AllocError, Allocator, Global};
 use std::marker::Model;
 use std::mem;
-use t0_core::{AnswerFault, Gather, HostEnd, HostMark, HostTurn, LineFault, WholeTpdu};
+use t0_core::{AnswerFault, DataSent, Gather, HostEnd, HostMark, HostTurn, LineFault, WholeTpdu};
 
 /// The mark of an exchange: its state without the data of its command. Its owner stores them, and
 /// passes the same data, `content`, to each call. The fields are those of `Exchange`.
@@ -71,6 +72,8 @@ impl<A: Allocator + Copy> ExchangeMark<A> {
             (λ ex. UnderWay command.entry (over_data ex command.entry.content) [] None fresh) }
         ensures sound { IfOk result (λ ex. IsSound (over_data ex command.entry.content)) }
         ensures limit { IfOk result (λ ex. ex.gather.limit ≡ limit) }
+        ensures by_characters { IfOk result
+            (λ ex. GoesByCharacters (over_data ex command.entry.content)) }
     {
         let exchange = Exchange::in_room(alloc, command, limit)?;
         Ok(ExchangeMark::of(alloc, exchange))
@@ -85,6 +88,7 @@ impl<A: Allocator + Copy> ExchangeMark<A> {
             [] None fresh }
         ensures sound { IsSound (over_data self.new command.entry.content) }
         ensures limit { self.new.gather.limit ≡ self.old.gather.limit }
+        ensures by_characters { GoesByCharacters (over_data self.new command.entry.content) }
     {
         let mut gather = mem::replace(&mut self.gather, Gather::without_room(self.alloc));
         gather.clear();
@@ -249,6 +253,16 @@ impl<A: Allocator + Copy> ExchangeMark<A> {
             None => None,
             Some(due) => Command::new(due.header, due.content, self.wanted.le()),
         }
+    }
+
+    /// Whether all data of the command have left the terminal, as `Exchange::data_sent`.
+    pub fn data_sent(&self, content: &[u8]) -> DataSent
+        requires { IsSound (over_data self.now content.now) }
+        ensures { TellsSent (over_data self.now content.now) result }
+    {
+        self.attempt
+            .sent
+            .and(HostEnd::at(self.end, content).data_sent())
     }
 
     /// Takes the answer to the TPDU that `tpdu` returns, as `Exchange::answered`.

@@ -3,10 +3,11 @@ ghost use Rattle.std.specs.Prelude.{◌≡◌, ◌≤◌, ℕ, List, [], None, S
 ghost use Rattle.std.specs.Option.{option_map};
 ghost use Rattle.t0_core.specs.Front.{fresh};
 ghost use Rattle.t0_core.specs.TpduBytes.{asked_of, due_by};
-ghost use Rattle.card_terminal.specs.ExchangeSide.{UnderWay, response_limit};
+ghost use Rattle.card_terminal.specs.ExchangeSide.{UnderWay, GoesByCharacters, response_limit};
 ghost use Rattle.card_terminal.specs.ExchangeHistory.{ComesTo};
 ghost use Rattle.card_terminal.specs.Buffers.{IsHandingOut, IsTakingAll};
 ghost use Rattle.card_terminal.specs.Unsent.{IsFirst};
+ghost use Rattle.card_terminal.specs.SentData.{TellsSent};
 ghost use Rattle.card_terminal.specs.ExchangeSteps.{IsTurn, IsTaking, IsAnswering, IsAnswer, IsLimited};
 
 use crate::exchange::RESPONSE_LIMIT;
@@ -17,7 +18,7 @@ use crate::taken::Taken;
 use apdu_core::{Command, Status};
 use std::alloc::{AllocError, Allocator, Global};
 use std::marker::Model;
-use t0_core::{AnswerFault, HostTurn, LineFault, WholeTpdu};
+use t0_core::{AnswerFault, DataSent, HostTurn, LineFault, WholeTpdu};
 
 /// An `Exchange` that owns a copy of its command's data. Contracts see it as an exchange.
 #[derive(Drop)]
@@ -53,6 +54,7 @@ impl OwnedExchange {
         ensures begins { IfOk result (λ ex. UnderWay command.entry ex [] None fresh) }
         ensures led { IfOk result (λ ex. ComesTo command.entry [] ex) }
         ensures limit { IfOk result (λ ex. ex.gather.limit ≡ response_limit) }
+        ensures by_characters { IfOk result (λ ex. GoesByCharacters ex) }
     {
         OwnedExchange::in_room(alloc, command, RESPONSE_LIMIT)
     }
@@ -75,6 +77,7 @@ impl OwnedExchange {
         ensures begins { IfOk result (λ ex. UnderWay command.entry ex [] None fresh) }
         ensures led { IfOk result (λ ex. ComesTo command.entry [] ex) }
         ensures limited { IsLimited limit result }
+        ensures by_characters { IfOk result (λ ex. GoesByCharacters ex) }
     {
         if limit > RESPONSE_LIMIT {
             return Err(StartFault::OverLimit);
@@ -92,6 +95,7 @@ impl OwnedExchange {
         ensures begins { IfOk result (λ ex. UnderWay command.entry ex [] None fresh) }
         ensures led { IfOk result (λ ex. ComesTo command.entry [] ex) }
         ensures limit { IfOk result (λ ex. ex.gather.limit ≡ limit) }
+        ensures by_characters { IfOk result (λ ex. GoesByCharacters ex) }
     {
         let content = Vec::from_slice(alloc, command.data())?;
         let exchange = ExchangeMark::start(alloc, command, limit)?;
@@ -142,6 +146,13 @@ impl OwnedExchange {
         ensures { IsFirst self.now result }
     {
         self.exchange.unsent(self.content.as_slice())
+    }
+
+    /// Whether all data of the command have left the terminal, as `Exchange::data_sent`.
+    pub fn data_sent(&self) -> DataSent
+        ensures { TellsSent self.now result }
+    {
+        self.exchange.data_sent(self.content.as_slice())
     }
 
     /// Takes the answer to the TPDU that `tpdu` returns, with the errors of `Exchange::answered`.

@@ -35,7 +35,9 @@ pub(crate) fn taken_by<A: Allocator>(
         return Ok(());
     };
     let gathered = gather.bytes().len();
-    match attempt.followed(gathered, wanted.less(gathered), status) {
+    let sent = attempt.sent.and(end.data_sent());
+    let ended = Attempt { sent, ..*attempt };
+    match ended.followed(gathered, wanted.less(gathered), status) {
         Next::Asks {
             attempt: next,
             count,

@@ -10,7 +10,7 @@ ghost use Rattle.card_terminal.specs.Buffers.{IsHandingOut, IsTakingAll};
 ghost use Rattle.card_terminal.specs.TerminalSteps.{IsTerminalTaking};
 ghost use Rattle.card_terminal.specs.ExchangeSteps.{IsTurn, IsTaking, IsAnswering, IsAnswer};
 ghost use Rattle.card_terminal.specs.Unsent.{IsUnsent};
-ghost use Rattle.card_terminal.specs.TerminalSide.{GoesOver, GoesToNext, IsSettled, with_exchange};
+ghost use Rattle.card_terminal.specs.TerminalSide.{GoesOver, GoesToNext, IsSettled, operation_sent, with_exchange};
 
 use crate::commands::put_header;
 use crate::exchange::ExchangeMark;
@@ -20,7 +20,7 @@ use crate::unsent::Unsent;
 use apdu_core::{Command, Header, Status, pieces};
 use std::alloc::{AllocError, Allocator, Global};
 use std::marker::Model;
-use t0_core::{AnswerFault, HostTurn, LineFault, WholeTpdu};
+use t0_core::{AnswerFault, DataSent, HostTurn, LineFault, WholeTpdu};
 
 /// An operation of a `Terminal` that has begun: the exchange of its current command, and the rest
 /// of a put.
@@ -37,6 +37,8 @@ pub struct Operation<A: Allocator + Copy = Global> {
     p2: u8,
     /// The current command is the first.
     first: bool,
+    /// Whether the commands before it have sent all their data.
+    sent: DataSent,
 }
 
 impl<A: Allocator + Copy> Model for Operation<A> {
@@ -54,6 +56,7 @@ impl<A: Allocator + Copy> Model for Operation<A> {
       p2 = o.p2;
       rest = drop o.until o.content.items;
       first = o.first;
+      sent = o.sent;
     } };
 
     ghost invariant = { λ o. IsPart o.content.items o.from o.until
@@ -92,6 +95,7 @@ impl<A: Allocator + Copy> Operation<A> {
             p1,
             p2,
             first: true,
+            sent: DataSent::All,
         })
     }
 
@@ -114,6 +118,7 @@ impl<A: Allocator + Copy> Operation<A> {
         self.p1 = p1;
         self.p2 = p2;
         self.first = true;
+        self.sent = DataSent::All;
         self.exchange.again(first);
         Ok(())
     }
@@ -234,6 +239,14 @@ impl<A: Allocator + Copy> Operation<A> {
         }
     }
 
+    /// Whether all data of the commands so far have left the terminal.
+    pub fn data_sent(&self) -> DataSent
+        ensures { result ≡ operation_sent self.now }
+    {
+        let content = &self.content[self.from..self.until];
+        self.sent.and(self.exchange.data_sent(content))
+    }
+
     /// Takes the answer to the TPDU that `tpdu` returns, as `Exchange::answered`. After the status
     /// `9000`, the next piece of a put begins, if one follows.
     pub fn answered(&mut self, bytes: &[u8], status: Status) -> Result<(), AnswerFault>
@@ -276,6 +289,7 @@ impl<A: Allocator + Copy> Operation<A> {
         requires done { exchange_turn self.old.exchange ≡ HostTurn.Done ok }
         ensures { GoesToNext self.old self.new }
     {
+        let sent = self.data_sent();
         let mut commands = pieces(put_header(self.p1, self.p2), &self.content[self.until..]);
         let Some(next) = commands.next() else {
             unreachable!()
@@ -283,6 +297,7 @@ impl<A: Allocator + Copy> Operation<A> {
         self.from = self.until;
         self.until += next.data().len();
         self.first = false;
+        self.sent = sent;
         self.exchange.again(next);
     }
 

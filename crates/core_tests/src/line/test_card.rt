@@ -53,9 +53,9 @@ impl TpduCard for TestCard {
 
     ghost after_reset = { λ _. tt };
 
-    ghost MayReceive = { λ ins. ins ≡ 0xDA };
+    ghost MayReceive = { λ h. h.ins ≡ 0xDA };
 
-    ghost MaySend = { λ ins. ins ≡ 0xCA };
+    ghost MaySend = { λ h. h.ins ≡ 0xCA };
 
     ghost prepared = { λ c. elim c.ready [
       | ready.Idle ↦ Nothing

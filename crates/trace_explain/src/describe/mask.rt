@@ -1,13 +1,15 @@
 //! What a mask hides of a trace, so that the explanation can be passed on.
-ghost use Rattle.std.specs.Prelude.{◌≡◌, ◌↔◌, ℕ, List, [], None, Some, false, length, true, IfOk, IfSome, IsSome, IsTrue};
+ghost use Rattle.std.specs.Prelude.{◌≡◌, ◌↔◌, ◌&&◌, ℕ, List, [], None, Some, false, get_or, length, true, IfOk, IfSome, IsSome, IsTrue};
 ghost use Rattle.std.specs.List.{Contains};
 ghost use Rattle.t0_core.specs.declared.direction.Direction.TheVariants.{FromCard, ToCard};
 ghost use Rattle.trace_explain.specs.Boxes.{whole_way};
-ghost use Rattle.trace_explain.specs.Secrets.{Names, Shows, ShowsValue, is_name, may_be_cut, whole_or_nothing};
+ghost use Rattle.trace_explain.specs.Secrets.{Names, Shows, ShowsValue, carries_secret, has_secret, is_name, may_be_cut, whole_or_nothing};
 ghost use Rattle.trace_explain.specs.Reports.{IsOfCommand};
 
+use crate::follow::chain::has_more;
 use crate::follow::links::{Links, Whole};
-use crate::follow::story::header_of;
+use crate::follow::response::waiting;
+use crate::follow::story::{header_of, status_of};
 use crate::follow::tpdu::Tpdu;
 use crate::instructions::is_secret;
 use crate::write::ascii::push_hex_lines;
@@ -55,6 +57,12 @@ pub struct Origin {
     pub way: Direction,
     /// Whether an earlier TPDU moved other parts of the data.
     pub continues: bool,
+    /// Whether more of the data must follow: of a chain, of a response, or of a TPDU cut off.
+    pub goes_on: bool,
+    /// Whether the header of the TPDU is loose, so that the data may be anything.
+    pub is_loose: bool,
+    /// The second byte of the terminal's data, the INS of a command in them; 0 without one.
+    pub inner: u8,
 }
 
 impl Origin {
@@ -65,6 +73,8 @@ impl Origin {
             IsOfCommand tpdu.now.header.items origin.header) }
         ensures asked { IfSome links.asker (IsOfCommand tpdu.now.header.items) →
             IfSome result (λ origin. IsOfCommand tpdu.now.header.items origin.header) }
+        ensures loose { IfSome result (λ origin. origin.is_loose ≡ links.is_loose) }
+        ensures inner { IfSome result (λ origin. origin.inner ≡ get_or tpdu.now.moved.items 1 0) }
         ensures whole { length tpdu.now.header.items ≡ 5 → IsSome result }
     {
         let (header, _) = header_of(tpdu)?;
@@ -76,6 +86,9 @@ impl Origin {
             header,
             way,
             continues: links.continues,
+            goes_on: goes_on(tpdu, way),
+            is_loose: links.is_loose,
+            inner: tpdu.moved.get(1).copied().unwrap_or(0),
         })
     }
 
@@ -85,6 +98,7 @@ impl Origin {
         ensures way { IfSome result (λ origin. origin.way ≡ FromCard) }
         ensures asked { IfSome links.asker (IsOfCommand tpdu.now.header.items) →
             IfSome result (λ origin. IsOfCommand tpdu.now.header.items origin.header) }
+        ensures loose { IfSome result (λ origin. origin.is_loose ≡ links.is_loose) }
         ensures whole { length tpdu.now.header.items ≡ 5 → IsSome result }
     {
         let mut origin = Origin::of(tpdu, links, Direction::FromCard)?;
@@ -92,14 +106,16 @@ impl Origin {
         Some(origin)
     }
 
-    /// The origin of the data that are shown together with a TPDU: those of `Links::whole`. `None`
+    /// The origin of `bytes`, which are shown together with a TPDU: those of `Links::whole`. `None`
     /// without such data, or if the header of the TPDU is cut off.
-    pub fn of_whole(tpdu: &Tpdu, links: Links) -> Option<Origin>
+    pub fn of_whole(tpdu: &Tpdu, links: Links, bytes: &[u8]) -> Option<Origin>
         ensures way { IfSome result (λ origin. whole_way links.whole ≡ Some origin.way) }
         ensures own { IfSome result (λ origin. origin.way ≡ ToCard →
             IsOfCommand tpdu.now.header.items origin.header) }
         ensures asked { IfSome links.asker (IsOfCommand tpdu.now.header.items) →
             IfSome result (λ origin. IsOfCommand tpdu.now.header.items origin.header) }
+        ensures loose { IfSome result (λ origin. origin.is_loose ≡ links.is_loose) }
+        ensures inner { IfSome result (λ origin. origin.inner ≡ get_or bytes.now 1 0) }
     {
         let way = match links.whole {
             Whole::None => return None,
@@ -108,6 +124,8 @@ impl Origin {
         };
         let mut origin = Origin::of(tpdu, links, way)?;
         origin.continues = false;
+        origin.goes_on = false;
+        origin.inner = bytes.get(1).copied().unwrap_or(0);
         Some(origin)
     }
 }
@@ -176,6 +194,13 @@ impl Mask {
         self.hides
     }
 
+    /// Whether it hides a header that is loose, or is not.
+    pub fn hides_header(&self, is_loose: bool) -> bool
+        ensures { result ≡ (self.now.hides && is_loose) }
+    {
+        self.hides && is_loose
+    }
+
     /// Whether it hides objects with this tag.
     pub fn has(&self, tag: Tag) -> bool
         ensures { IsTrue result ↔ Contains self.now.tags.items tag }
@@ -195,26 +220,28 @@ impl Mask {
         if !self.hides {
             return Shown::All;
         }
-        if is_secret(origin.header.ins) {
+        if has_secret(origin) {
             return Shown::Nothing;
         }
         if self.tags.is_empty() || is_name(origin.header.ins, origin.way) {
             return Shown::All;
         }
         match named(origin.header) {
-            Some(tag) => self.shown_of(tag, origin.continues),
+            Some(tag) => self.shown_of(tag, origin.continues, origin.goes_on),
             None => whole_or_nothing(origin.continues || may_be_cut(origin.header)),
         }
     }
 
     /// How much is shown of an object whose tag P1-P2 name.
-    fn shown_of(&self, named: Tag, continues: bool) -> Shown
-        ensures { ShowsValue self.now.tags.items named continues result }
+    fn shown_of(&self, named: Tag, continues: bool, goes_on: bool) -> Shown
+        ensures { ShowsValue self.now.tags.items named continues goes_on result }
     {
         if self.has(named) {
             Shown::Nothing
         } else if named.is_constructed() {
             whole_or_nothing(continues)
+        } else if continues || goes_on {
+            Shown::Nothing
         } else {
             Shown::All
         }
@@ -228,6 +255,39 @@ impl Mask {
             push_hex_lines(text, bytes);
         }
     }
+}
+
+/// Whether more of the data of a TPDU must follow: another piece, another part, or the rest of it.
+fn goes_on(tpdu: &Tpdu, way: Direction) -> bool {
+    let (Some((header, _)), Some(status)) = (header_of(tpdu), status_of(tpdu)) else {
+        return true;
+    };
+    match way {
+        Direction::ToCard => has_more(header),
+        Direction::FromCard => waiting(header, status).is_some(),
+    }
+}
+
+/// Whether data may be reference data, or a part of a command with some.
+fn has_secret(origin: Origin) -> bool
+    ensures { result ≡ has_secret origin }
+{
+    origin.is_loose
+        || is_secret(origin.header.ins)
+        || carries_secret(
+            origin.way,
+            origin.header.ins,
+            origin.continues,
+            origin.inner,
+        )
+}
+
+/// Whether data of the terminal are those of ENVELOPE, and may be a part of such a command.
+fn carries_secret(way: Direction, ins: u8, continues: bool, inner: u8) -> bool
+    ensures { result ≡ carries_secret way ins continues inner }
+{
+    matches!(way, Direction::ToCard)
+        && (ins == 0xC3 || (ins == 0xC2 && (continues || is_secret(inner))))
 }
 
 /// Whether two tags are the same.

@@ -7,9 +7,19 @@ use crate::follow::tpdu::Tpdu;
 use apdu_core::{Header, Status};
 use t0_core::Direction;
 
+/// A header that shows nothing of a hidden one: no instruction has it.
+const NO_COMMAND: Header = Header {
+    cla: 0,
+    ins: 0,
+    p1: 0,
+    p2: 0,
+};
+
 /// A TPDU without its data.
 #[derive(Clone, Copy)]
 pub struct Outline {
+    /// Whether its header is hidden. `header` is then that of no instruction.
+    pub is_hidden: bool,
     /// The header and P3, if complete.
     pub header: Option<(Header, u8)>,
     /// How many characters the header has.
@@ -27,10 +37,16 @@ pub struct Outline {
 }
 
 impl Outline {
-    /// The outline of a TPDU.
-    pub fn of(tpdu: &Tpdu) -> Outline {
+    /// The outline of a TPDU, whose header may be hidden.
+    pub fn of(tpdu: &Tpdu, is_hidden: bool) -> Outline {
+        let header = header_of(tpdu);
         Outline {
-            header: header_of(tpdu),
+            is_hidden,
+            header: if is_hidden {
+                header.and(Some((NO_COMMAND, 0)))
+            } else {
+                header
+            },
             received: tpdu.header.len(),
             tally: tpdu.tally,
             way: tpdu.way,

@@ -2,6 +2,7 @@
 ghost use Rattle.trace_explain.specs.Boxes.{size_words, whole_words};
 ghost use Rattle.trace_explain.specs.Sheets.{Adds};
 
+use crate::describe::mask::HIDDEN;
 use crate::describe::outline::Outline;
 use crate::describe::parts::push_command;
 use crate::follow::links::{Link, Links, Whole};
@@ -10,9 +11,11 @@ use crate::write::sheet::Sheet;
 use apdu_core::count;
 use t0_core::Direction;
 
-/// Adds the title of a TPDU: its command and what it selects, or that the header is cut off.
+/// Adds the title of a TPDU: its command and what it selects, or that the header is cut off; or
+/// `**` if it is hidden.
 pub fn push_title(text: &mut Sheet, outline: &Outline, selected: &[u8]) {
     match outline.header {
+        _ if outline.is_hidden => text.push_str(HIDDEN),
         Some((header, _)) => push_command(text, header, selected),
         None => text.push_str("part of a header"),
     }
@@ -59,6 +62,7 @@ pub fn push_cut_off(text: &mut Sheet, outline: &Outline) {
     text.push_str("cut off");
     match (outline.header, outline.way) {
         _ if outline.has_sw1 => {}
+        (Some(_), _) if outline.is_hidden => {}
         (None, _) => write!(text, " after {} of 5 characters", outline.received),
         (Some(_), None) => {}
         (Some((_, p3)), Some(way)) => {

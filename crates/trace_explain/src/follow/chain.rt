@@ -17,6 +17,8 @@ const PROPRIETARY: u8 = 0x80;
 #[derive(Drop)]
 pub struct PendingChain {
     pending: Option<Header>,
+    /// The last chain that was dropped, unless a command like its last piece followed.
+    dropped: Option<Header>,
     pieces: u64,
     /// Whether, as far as known, all pieces and all bytes of each were received.
     pub is_whole: bool,
@@ -29,6 +31,7 @@ impl PendingChain {
     pub fn new(alloc: Global) -> PendingChain {
         PendingChain {
             pending: None,
+            dropped: None,
             pieces: 0,
             is_whole: true,
             value: Vec::new(alloc),
@@ -42,6 +45,7 @@ impl PendingChain {
 
     /// Drops the chain.
     pub fn drop_all(&mut self) {
+        self.dropped = self.pending.or(self.dropped);
         self.pending = None;
         self.pieces = 0;
         self.is_whole = true;
@@ -56,6 +60,12 @@ impl PendingChain {
     /// Whether a command with this header continues the pending chain.
     pub fn continues_with(&self, header: Header) -> bool {
         self.pending == Some(as_last(header))
+    }
+
+    /// Whether the data of a command with this header may be a part of a value: of the pending
+    /// chain, or of one that was dropped.
+    pub fn is_part(&self, header: Header) -> bool {
+        self.continues_with(header) || self.dropped == Some(as_last(header))
     }
 
     /// Returns which piece a command with this header is, if it continues the chain or begins one.
@@ -87,6 +97,9 @@ impl PendingChain {
         if !continues {
             self.drop_all();
         }
+        if self.dropped == Some(header) {
+            self.dropped = None;
+        }
         if !continues && !has_more(header) {
             return Ok(());
         }
@@ -109,6 +122,6 @@ fn as_last(header: Header) -> Header {
 }
 
 /// Whether more commands of the chain follow this header.
-fn has_more(header: Header) -> bool {
+pub fn has_more(header: Header) -> bool {
     header.cla & PROPRIETARY == 0 && header.cla & MORE != 0
 }

@@ -1,5 +1,7 @@
 //! How a TPDU is linked to those before it: as a piece, a part, or a command that is sent again.
 
+ghost use Rattle.std.specs.Prelude.{◌≡◌};
+
 use apdu_core::Header;
 
 /// How a command continues those before it.
@@ -49,8 +51,30 @@ pub struct Links {
     pub whole: Whole,
     /// The command whose response the card's data are; `None` if the header is cut off.
     pub asker: Option<Header>,
+    /// Its header is loose: bytes that no dialogue explains precede it, or follow in its TPDU.
+    pub is_loose: bool,
     /// Its data continue those of earlier TPDUs: of a chain, or of a response in parts.
     pub continues: bool,
     /// The same for the card's data beside the terminal's.
     pub answer_continues: bool,
+}
+
+impl Links {
+    /// Returns the same without anything that is shown and depends on a header that is hidden.
+    pub fn shown(self, is_hidden: bool) -> Links
+        ensures number { result.number ≡ self.number }
+        ensures asker { result.asker ≡ self.asker }
+        ensures loose { result.is_loose ≡ self.is_loose }
+    {
+        if !is_hidden {
+            return self;
+        }
+        Links {
+            link: Link::None,
+            drops_before: false,
+            drops_after: false,
+            whole: Whole::None,
+            ..self
+        }
+    }
 }

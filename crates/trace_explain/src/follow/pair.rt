@@ -5,6 +5,7 @@ ghost use Rattle.trace_explain.specs.Pairs.{Command, IsBadCommand, IsBadPair, Is
 use crate::follow::tally::Tally;
 use crate::follow::tpdu::{Tpdu, are_status};
 use crate::read::digits::push;
+use apdu_core::count;
 use std::alloc::{AllocError, Global};
 use t0_core::Direction;
 use thiserror::Error;
@@ -56,6 +57,20 @@ pub fn tpdu_of_pair(alloc: Global, command: &[u8], answer: &[u8]) -> Result<Tpdu
         Ok(tpdu)
     } else {
         Err(PairFault::NoStatus)
+    }
+}
+
+/// Whether an answer looks like characters of T=0: after NULLs comes INS, alone or before as many
+/// data as Le asks for; or INS with each bit inverted, alone.
+pub fn are_characters(command: &[u8], answer: &[u8]) -> bool {
+    let [_, ins, _, _, p3] = command else {
+        return false;
+    };
+    let nulls = answer.iter().take_while(|byte| **byte == 0x60).count();
+    match &answer[nulls..] {
+        [first] => *first == *ins || *first == !*ins,
+        [first, rest @ ..] => *first == *ins && rest.len() >= usize::from(count(*p3)) + 2,
+        [] => false,
     }
 }
 

@@ -17,6 +17,8 @@ pub struct Story {
     number: u64,
     chain: PendingChain,
     response: PendingResponse,
+    /// Whether the last whole TPDU was an ENVELOPE with data, which the next one may continue.
+    is_enveloped: bool,
 }
 
 impl Story {
@@ -28,6 +30,7 @@ impl Story {
             number: 0,
             chain: PendingChain::new(alloc),
             response: PendingResponse::new(alloc),
+            is_enveloped: false,
         }
     }
 
@@ -70,6 +73,7 @@ impl Story {
         self.chain
             .take(header, sent(tpdu), sent(tpdu).len() == usize::from(p3))?;
         self.response.take(brought(tpdu))?;
+        self.is_enveloped = header.ins == 0xC2 && !sent(tpdu).is_empty();
         let drops_after = self.chain.is_pending() && !status.is_ok();
         let parts = self.response.end(header, status);
         if drops_after {
@@ -99,7 +103,7 @@ impl Story {
         let answer_continues = is_asked && self.response.has_data();
         let continues = match tpdu.way {
             Some(Direction::FromCard) => answer_continues,
-            _ => self.chain.continues_with(header),
+            _ => self.chain.is_part(header) || (self.is_enveloped && header.ins == 0xC2),
         };
         Links {
             asker,
@@ -163,6 +167,7 @@ impl Story {
             drops_after: false,
             whole: Whole::None,
             asker: None,
+            is_loose: false,
             continues: false,
             answer_continues: false,
         }

@@ -1,15 +1,22 @@
 //! A log of whole TPDUs or APDUs, read line by line: pairs each command with its answer.
-ghost use Rattle.std.specs.Prelude.{◌≡◌, ◌++◌, ◌∷◌, [], IfErr, OnOk, map};
+ghost use Rattle.std.specs.Prelude.{◌≡◌, ◌++◌, ◌∷◌, [], IfErr, IfOk, OnOk, map, true};
+ghost use Rattle.trace_explain.specs.Noted.{are_status};
+ghost use Rattle.trace_explain.specs.Pairs.{status_in};
 ghost use Rattle.trace_explain.specs.LogLines.{IsBadLogLine, SaysLog};
 ghost use Rattle.trace_explain.specs.declared.read.log_line.Open.TheVariants.{Nothing};
-ghost use Rattle.trace_explain.specs.Logs.{IsBadIn, Step, TakesLogLine, Took, answered, at_first, begun, behind_answer, closed, continued, ended, entry_of, given_up, log_at, taken};
+ghost use Rattle.trace_explain.specs.Logs.{IsBadIn, IsTooMuch, IsTwofold, Step, TakesLogLine, Took, answered, at_first, begun, behind_answer, closed, continued, ended, entry_of, given_up, log_at, taken};
 
+use crate::follow::tpdu::are_status;
 use crate::read::entry::Entry;
 use crate::read::log_line::{LogLine, Open, left_of, read_dump, read_log_line, read_rest};
+use crate::read::time::place_of;
 use crate::read::trace_line::LineFault;
 use std::alloc::{AllocError, Global};
 use std::mem;
 use t0_core::End;
+
+/// The most bytes of an answer or a dump in several lines (this project's profile).
+const READ_LIMIT: usize = 4_194_304;
 
 /// A log: what may continue, and the last command if it has no answer yet.
 #[derive(Drop)]
@@ -46,11 +53,14 @@ impl Log {
     /// # Errors
     ///
     /// - `Hex`: the line can't be read. If an answer was open, it has ended before this line.
+    /// - `Twofold`, `TooLong`: the line may continue what is open, or exceeds the limit with it.
+    ///   Nothing changes.
     /// - `OutOfMemory`: don't use the log any more.
     pub fn take(&mut self, line: &[u8], entries: &mut Vec<Entry>) -> Result<(), LineFault>
         ensures takes { OnOk result ((step : Step) × TakesLogLine (log_at self.old) line.now step
             × Took step entries.old.items entries.new.items self.new) }
-        ensures refused { IfErr result (λ why. IsBadIn self.old.pending why line.now) }
+        ensures refused { IfErr result (λ why. IsBadIn self.old.pending
+            self.old.bytes.items why line.now) }
     {
         match self.pending {
             Open::Nothing => self.take_line(line, entries),
@@ -59,14 +69,44 @@ impl Log {
                 if bytes.is_empty() {
                     return self.take_behind_answer(line, entries);
                 }
+                if self.is_full(bytes.as_slice()) {
+                    return Err(LineFault::TooLong);
+                }
+                if matches!(next, Open::Nothing) && self.is_twofold(line, bytes.as_slice())? {
+                    return Err(LineFault::Twofold);
+                }
                 Ok(self.take_bytes(End::Card, bytes, next, entries)?)
             }
             Open::Dump(from, left) => {
                 let bytes = read_dump(self.alloc, left, line)?;
                 let next = left_of(from, left.saturating_sub(bytes.len()));
+                if self.is_full(bytes.as_slice()) {
+                    return Err(LineFault::TooLong);
+                }
                 Ok(self.take_bytes(from, bytes, next, entries)?)
             }
         }
+    }
+
+    /// Whether what is open exceeds the limit with these bytes.
+    fn is_full(&self, more: &[u8]) -> bool
+        ensures { result ≡ true → IsTooMuch self.now.bytes.items more.now }
+    {
+        more.len() > READ_LIMIT.saturating_sub(self.bytes.len())
+    }
+
+    /// Whether bytes of a line may continue the open answer or not: the line has no colon, and the
+    /// answer ends with a status with and without them.
+    fn is_twofold(&self, line: &[u8], more: &[u8]) -> Result<bool, AllocError>
+        ensures { IfOk result (λ is. is ≡ true →
+            IsTwofold self.now.bytes.items line.now more.now) }
+    {
+        if place_of(b':', line) < line.len() || !ends_well(self.bytes.as_slice()) {
+            return Ok(false);
+        }
+        let mut all = self.bytes.clone()?;
+        all.extend_from_slice(more)?;
+        Ok(ends_well(all.as_slice()))
     }
 
     /// Takes a line that ends an open answer and does not continue it.
@@ -209,6 +249,14 @@ impl Log {
         }
         self.cut_off(entries)
     }
+}
+
+/// Whether an answer of these bytes ends with a status.
+fn ends_well(bytes: &[u8]) -> bool
+    ensures { result ≡ are_status (status_in bytes.now) }
+{
+    let (_, status) = bytes.split_at(bytes.len().saturating_sub(2));
+    are_status(status)
 }
 
 #[tactic(auto, using(crate::proofs::LogLemmas::entries_more))]

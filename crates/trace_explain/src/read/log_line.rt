@@ -3,7 +3,7 @@ ghost use Rattle.std.specs.Prelude.{◌≡◌, Some, IfOk, IfErr};
 ghost use Rattle.trace_explain.specs.LogLines.{IsBadDump, IsBadLogLine, IsBadSize, SaysLog, behind_prefix, cut_answer, cut_line, cut_signed, cut_text, dumped_in, is_of_prefix, left_of, number_in, open_if, rest_in, rest_open, size_in};
 
 use crate::read::digits::bytes_of;
-use crate::read::time::{cut_time, place_of};
+use crate::read::time::{behind_mark, cut_time, place_of};
 use crate::read::trace_line::LineFault;
 use std::alloc::Global;
 use t0_core::End;
@@ -152,6 +152,7 @@ fn cut_line(line: &[u8]) -> (LineKind, &[u8])
     if rest.starts_with(b"reset") && rest.len() == 5 {
         return (LineKind::Reset, rest);
     }
+    let line = behind_mark(line);
     let text = behind_prefix(line);
     cut_text(line, &text[..place_of(ESC, text)])
 }

@@ -1,19 +1,30 @@
 //! The time before the sign of a line, or before digits without one.
 ghost use Rattle.std.specs.Prelude.{◌≡◌, ◌≤◌, ◌+◌, length};
-ghost use Rattle.trace_explain.specs.Times.{are_decimal, are_of_time, behind_clock, behind_spaces, behind_time, bracket_len, is_stamp, is_unit, place_of, shift_len, stamp_len, time_in, time_len};
+ghost use Rattle.trace_explain.specs.Times.{are_decimal, are_of_time, behind_clock, behind_mark, behind_spaces, behind_time, bracket_len, is_stamp, is_unit, place_of, shift_len, stamp_len, time_in, time_len};
 
 /// Returns the time that a line begins with, and what follows it and its spaces. Without a time the
-/// first is empty, and the second is the whole line.
+/// first is empty, and the second is the whole line. A byte order mark before it is skipped.
 pub fn cut_time(line: &[u8]) -> (&[u8], &[u8])
     ensures time { result.0.now ≡ time_in line.now }
     ensures rest { result.1.now ≡ behind_time line.now }
 {
+    let line = behind_mark(line);
     let size = time_len(line);
     if size == 0 {
         return (&line[..0], line);
     }
     let (time, rest) = line.split_at(size);
     (time, behind_spaces(rest))
+}
+
+/// Returns a line without the byte order mark of UTF-8 before it.
+pub fn behind_mark(line: &[u8]) -> &[u8]
+    ensures { result.now ≡ behind_mark line.now }
+{
+    match line {
+        [0xEF, 0xBB, 0xBF, rest @ ..] => rest,
+        _ => line,
+    }
 }
 
 /// Returns what follows the time of a line without a sign. Decimal digits alone are not a time
@@ -23,7 +34,11 @@ pub fn behind_clock<'a>(line: &'a [u8], time: &[u8], rest: &'a [u8]) -> &'a [u8]
     requires rest { rest.now ≡ behind_time line.now }
     ensures { result.now ≡ behind_clock line.now }
 {
-    if are_decimal(time) { line } else { rest }
+    if are_decimal(time) {
+        behind_mark(line)
+    } else {
+        rest
+    }
 }
 
 /// Whether the bytes are decimal digits alone, or none.

@@ -30,6 +30,16 @@ pub enum LineFault {
     /// It begins with a sign, and `--unsigned` expects none.
     #[error("a sign, and with `--unsigned` lines have none")]
     Signed,
+    /// In a log it follows an answer of 16 bytes. With it, and without it, that ends with a status.
+    #[error("bytes that may continue the answer before, which is whole without them")]
+    Twofold,
+    /// In a log it continues an answer or a dump that exceeds `READ_LIMIT` bytes.
+    #[error("line too long")]
+    TooLong,
+    /// In a log it is an answer that looks like characters of T=0.
+    #[error("an answer that begins with INS: these look like characters of T=0, \
+        which are read without `--tpdu`")]
+    Characters,
     /// Memory ran out.
     #[error("out of memory")]
     OutOfMemory,

@@ -1,6 +1,7 @@
 //! The counts over a whole trace, which the last block shows.
 
 use crate::describe::clock::Clock;
+use crate::describe::mask::HIDDEN;
 use crate::follow::story::{header_of, status_of};
 use crate::follow::tpdu::Tpdu;
 use crate::instructions::instruction;
@@ -20,6 +21,8 @@ pub struct Counts {
     cut_off: u64,
     /// TPDUs without a whole header.
     parts: u64,
+    /// TPDUs whose header is hidden.
+    hidden: u64,
     named: BTreeMap<&'static str, u64>,
     /// Commands without a name, by INS.
     unnamed: BTreeMap<u8, u64>,
@@ -41,6 +44,7 @@ impl Counts {
             tpdus: 0,
             cut_off: 0,
             parts: 0,
+            hidden: 0,
             named: BTreeMap::new(alloc),
             unnamed: BTreeMap::new(alloc),
             statuses: BTreeMap::new(alloc),
@@ -56,6 +60,11 @@ impl Counts {
         self.complaints
     }
 
+    /// Whether a whole TPDU was counted.
+    pub fn has_whole(&self) -> bool {
+        self.tpdus > self.cut_off
+    }
+
     /// Counts a protocol error in this line. Returns `AllocError` if memory ran out: the error is
     /// counted, and its line may be missing.
     pub fn complain(&mut self, line: u64) -> Result<(), AllocError> {
@@ -63,11 +72,15 @@ impl Counts {
         push_first(&mut self.error_lines, line)
     }
 
-    /// Counts a TPDU. Returns `AllocError` if memory ran out: the TPDU is counted; its command or
-    /// status may be missing.
-    pub fn take(&mut self, tpdu: &Tpdu) -> Result<(), AllocError> {
+    /// Counts a TPDU, whose header may be hidden. Returns `AllocError` if memory ran out: the TPDU
+    /// is counted; its command or status may be missing.
+    pub fn take(&mut self, tpdu: &Tpdu, is_hidden: bool) -> Result<(), AllocError> {
         self.tpdus = self.tpdus.saturating_add(1);
-        self.take_command(tpdu)?;
+        if is_hidden {
+            self.hidden = self.hidden.saturating_add(1);
+        } else {
+            self.take_command(tpdu)?;
+        }
         let Some(status) = status_of(tpdu) else {
             self.cut_off = self.cut_off.saturating_add(1);
             return Ok(());
@@ -117,7 +130,8 @@ impl Counts {
         page.close_block();
     }
 
-    /// Adds a line for each name of a command, for each INS without a name, and for cut headers.
+    /// Adds a line for each name of a command, for each INS without a name, and for headers that
+    /// are cut off or hidden.
     fn push_commands(&self, text: &mut Sheet) {
         for (name, count) in &self.named {
             writeln!(text, "{name}: {count}");
@@ -127,6 +141,9 @@ impl Counts {
         }
         if self.parts > 0 {
             writeln!(text, "part of a header: {}", self.parts);
+        }
+        if self.hidden > 0 {
+            writeln!(text, "{HIDDEN}: {}", self.hidden);
         }
         if text.is_empty() {
             text.push_str("none\n");

@@ -1,16 +1,57 @@
 //! Notes between boxes: lines without characters, bytes outside of TPDUs, and skipped lines.
 
-use crate::describe::mask::{Mask, push_hidden_line};
+use crate::describe::mask::{HIDDEN, Mask, push_hidden_line};
 use crate::resuming::Passed;
 use crate::write::ascii::are_printable;
 use crate::write::page::Page;
 use crate::write::sheet::Sheet;
+use std::fmt;
 
 /// The number of bytes of a note in a line.
 const NOTE_BYTES: usize = 96;
 
 /// The same if some are not printable. Those take four columns each.
 const ODD_BYTES: usize = 24;
+
+/// The number of bytes of a note in a fault.
+const EXCERPT: usize = 64;
+
+/// The first bytes of a note, or `**`.
+#[derive(Clone, Copy, Debug)]
+pub struct Excerpt {
+    bytes: [u8; EXCERPT],
+    /// How many bytes all of it has.
+    size: usize,
+}
+
+impl Excerpt {
+    /// The first bytes of this note, or `**` if the mask hides anything.
+    pub fn of(note: &[u8], mask: &Mask) -> Excerpt {
+        let shown = if mask.hides() {
+            HIDDEN.as_bytes()
+        } else {
+            note
+        };
+        let mut bytes = [0; EXCERPT];
+        for (to, from) in bytes.iter_mut().zip(shown) {
+            *to = *from;
+        }
+        let size = shown.len();
+        Excerpt { bytes, size }
+    }
+}
+
+impl fmt::Display for Excerpt {
+    fn fmt<W: fmt::Write>(&self, f: &mut fmt::Formatter<W>) -> fmt::Result {
+        for &byte in self.bytes.iter().take(self.size) {
+            match byte {
+                b' '..=b'~' => f.write_char(char::from(byte))?,
+                _ => write!(f, "\\x{byte:02X}")?,
+            }
+        }
+        f.write_str(if self.size > EXCERPT { ".." } else { "" })
+    }
+}
 
 /// Adds which lines were skipped, if any.
 pub fn tell_passed(passed: Option<Passed>, page: &mut Page) {

@@ -68,13 +68,17 @@ fn line_marks(medium: Medium) -> (&'static str, &'static str)
     }
 }
 
-/// Adds the row of a header. On a page each character follows its name.
-pub fn push_header(sheet: &mut Sheet, header: &[u8])
-    ensures { Adds sheet.old (header_row sheet.old.layout.medium header.now) sheet.new }
+/// Adds the row of a header, or `**` if it is hidden. On a page each character follows its name.
+pub fn push_header(sheet: &mut Sheet, is_hidden: bool, header: &[u8])
+    ensures { Adds sheet.old (header_row is_hidden sheet.old.layout.medium header.now) sheet.new }
 {
     let medium = sheet.layout().medium;
     push_before(sheet, Side::Terminal, "header");
-    push_characters(sheet, medium, header);
+    if is_hidden {
+        sheet.push_str("**");
+    } else {
+        push_characters(sheet, medium, header);
+    }
     sheet.push_str(marks(medium, Side::Terminal).1);
 }
 

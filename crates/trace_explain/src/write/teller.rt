@@ -6,7 +6,7 @@ ghost use Rattle.trace_explain.specs.Account.{AddsBox, AddsBoxes, HasBox, StaysW
 ghost use Rattle.trace_explain.specs.Boxes.{HasAsker};
 ghost use Rattle.trace_explain.specs.Explained.{Hears};
 ghost use Rattle.trace_explain.specs.Noted.{HasNoted, ended_by};
-ghost use Rattle.trace_explain.specs.Openings.{is_dialogue, opening_of, opens, role_of, unopened};
+ghost use Rattle.trace_explain.specs.Openings.{is_dialogue, loose_at, opening_of, opens, role_of, unopened};
 ghost use Rattle.trace_explain.specs.Reports.{Report, report_of};
 
 use crate::describe::clock::Clock;
@@ -14,7 +14,7 @@ use crate::describe::complaint::Complaint;
 use crate::describe::mask::Mask;
 use crate::follow::links::Links;
 use crate::follow::listener::{Listener, ListenerFault};
-use crate::follow::opening::Role;
+use crate::follow::opening::{Role, Stage};
 use crate::follow::pair::{PairFault, tpdu_of_command, tpdu_of_pair};
 use crate::follow::preface::Preface;
 use crate::follow::story::Story;
@@ -24,11 +24,12 @@ use crate::write::complaint_box::{tell_bad_pair, tell_complaint};
 use crate::write::counts::Counts;
 use crate::write::kept::{Keeping, Kept};
 use crate::write::layout::Layout;
-use crate::write::notes::{tell_bytes, tell_note};
+use crate::write::notes::{Excerpt, tell_bytes, tell_note};
 use crate::write::output::Output;
 use crate::write::preface_box::{tell_after, tell_before, tell_part};
 use crate::write::tpdu_box::tell_box;
 use std::alloc::{AllocError, Global};
+use std::mem;
 use t0_core::End;
 
 /// Writes or keeps the box of each TPDU, links each to earlier ones, and counts them.
@@ -46,11 +47,18 @@ pub struct Teller {
     /// Whether a trace had a character before a dialogue, such as one of an answer to reset, a line
     /// `reset` or a whole TPDU. A log leaves it false.
     pub is_led: bool,
+    /// Whether the current header is loose: bytes that no dialogue explains precede it, or follow
+    /// in its TPDU. A mask hides it.
+    is_loose: bool,
     story: Story,
     /// The times of the lines.
     clock: Clock,
     /// Why the first unexpected command or answer of a log is one. The line is that of its command.
     pub first_bad: Option<(u64, PairFault)>,
+    /// The first note, and its line.
+    pub first_note: Option<(u64, Excerpt)>,
+    /// Whether an answer to reset or a PPS request or response was whole.
+    has_opening: bool,
     /// The counts.
     pub counts: Counts,
     /// The TPDUs that a comparison keeps.
@@ -77,9 +85,12 @@ impl Teller {
             began: 0,
             strays: 0,
             is_led: false,
+            is_loose: false,
             story: Story::new(alloc),
             clock: Clock::new(alloc),
             first_bad: None,
+            first_note: None,
+            has_opening: false,
             counts: Counts::new(alloc),
             keeping: Keeping {
                 is_on: false,
@@ -114,14 +125,19 @@ impl Teller {
         ensures dialogue { IfOk result (λ is_of.
             is_dialogue (role_of (opening_of preface.old) from byte) ≡ not is_of) }
         ensures boxes { OnOk result (AddsBoxes [] self.old self.new) }
+        ensures loose { self.new.is_loose
+            ≡ loose_at self.old.is_loose (opening_of preface.old).stage }
     {
+        let is_loose = preface.stage.is_loose(self.is_loose);
         let role = preface.role_of(from, byte);
         self.tell_before(role, preface, rest);
+        self.is_loose = is_loose;
         preface.take(role, byte, self.line)?;
         if role.is_dialogue() {
             return Ok(false);
         }
         self.is_led = true;
+        self.has_opening |= matches!(preface.stage, Stage::Ready | Stage::Asked);
         tell_after(role, preface, &self.mask, &mut self.output.page);
         self.output.outcome()?;
         Ok(true)
@@ -213,16 +229,20 @@ impl Teller {
     fn tell_one(&mut self, tpdu: &Tpdu) -> Result<(), AllocError>
         ensures { OnOk result (AddsBoxes (report_of tpdu.now ∷ []) self.old self.new) }
     {
-        self.counts.take(tpdu)?;
+        let is_loose = mem::replace(&mut self.is_loose, false);
+        let is_hidden = self.mask.hides_header(is_loose);
+        self.counts.take(tpdu, is_hidden)?;
         let links = self.story.tell(tpdu)?;
+        let links = Links { is_loose, ..links }.shown(is_hidden);
         self.tell(tpdu, links)
     }
 
     /// Writes the box of a TPDU, or keeps the TPDU with its box.
     fn tell(&mut self, tpdu: &Tpdu, links: Links) -> Result<(), AllocError>
         requires asker { HasAsker tpdu.now.header.items links }
-        ensures { OnOk result (AddsBox links.number self.old.began (report_of tpdu.now)
-            tpdu.now.answer.items (account_of self.old) (account_of self.new)) }
+        ensures { OnOk result (AddsBox links.is_loose links.number self.old.began
+            (report_of tpdu.now) tpdu.now.answer.items (account_of self.old)
+            (account_of self.new)) }
     {
         if self.keeping.is_on {
             let empty = Output::new(self.alloc, self.output.sheet.layout());
@@ -238,8 +258,9 @@ impl Teller {
     /// A TPDU with its box alone.
     fn kept_of(&self, tpdu: &Tpdu, links: Links, empty: Output) -> Result<Kept, AllocError>
         requires asker { HasAsker tpdu.now.header.items links }
-        ensures { IfOk result (λ kept. HasBox self.now.mask links.number self.now.began
-            (report_of tpdu.now) tpdu.now.answer.items empty.sheet (string_bytes kept.text)) }
+        ensures { IfOk result (λ kept. HasBox self.now.mask links.is_loose links.number
+            self.now.began (report_of tpdu.now) tpdu.now.answer.items empty.sheet
+            (string_bytes kept.text)) }
     {
         let mut output = empty;
         let (clock, story, mask) = (&self.clock, &self.story, &self.mask);
@@ -282,6 +303,7 @@ impl Teller {
         self.tell_part(preface);
         preface.reset();
         self.cut_off(listener)?;
+        self.is_loose = false;
         self.tell_reset("reset");
         self.output.outcome()
     }
@@ -302,12 +324,24 @@ impl Teller {
         complaint: Complaint,
         listener: &mut Listener,
     ) -> Result<(), AllocError> {
+        self.is_loose = true;
         self.cut_off(listener)?;
-        self.story.lose_some();
+        self.lose_some();
         self.counts.complain(complaint.line)?;
         let number = self.counts.complaints();
         tell_complaint(number, complaint, &mut self.output.page);
         self.output.outcome()
+    }
+
+    /// Whether it has met a whole TPDU, answer to reset or PPS.
+    pub fn has_whole(&self) -> bool {
+        self.has_opening || self.counts.has_whole()
+    }
+
+    /// Notes that bytes precede which no dialogue explains.
+    fn lose_some(&mut self) {
+        self.is_loose = true;
+        self.story.lose_some();
     }
 
     /// Writes a line without characters, as `tell_note`: nothing if it is empty, or for a summary.
@@ -315,8 +349,18 @@ impl Teller {
     pub fn note(&mut self, note: &[u8]) -> Result<(), AllocError>
         ensures { OnOk result (AddsBoxes [] self.old self.new) }
     {
+        self.keep_first(note);
         tell_note(note, &self.mask, &mut self.output.page);
         self.output.outcome()
+    }
+
+    /// Keeps a note, unless it is empty or not the first.
+    fn keep_first(&mut self, note: &[u8])
+        ensures { StaysWritten self.old self.new }
+    {
+        if !note.is_empty() && self.first_note.is_none() {
+            self.first_note = Some((self.line, Excerpt::of(note, &self.mask)));
+        }
     }
 
     /// Writes entries that only a log has. Returns `AllocError` if memory ran out: drop the teller.
@@ -333,7 +377,7 @@ impl Teller {
                 }
                 Entry::Unanswered(command) => self.pair(command.as_slice(), None)?,
                 Entry::Stray(bytes) => {
-                    self.story.lose_some();
+                    self.lose_some();
                     self.tell_bytes("before a command, from the card:\n", bytes);
                 }
                 Entry::Part(End::Terminal, part) => self.tell_bytes("a part of a command:\n", part),
@@ -378,7 +422,7 @@ impl Teller {
         command: &[u8],
         answer: Option<&[u8]>,
     ) -> Result<(), AllocError> {
-        self.story.lose_some();
+        self.lose_some();
         self.counts.complain(self.began)?;
         self.first_bad = Some(self.first_bad.unwrap_or((self.began, why)));
         let number = self.counts.complaints();

@@ -39,21 +39,22 @@ pub fn tell_box(
     requires asker { HasAsker tpdu.now.header.items links }
     ensures layout { output.new.sheet.layout ≡ output.old.sheet.layout }
     ensures puts { output.old.sheet.layout.is_summary ≡ false →
-        PutsBox mask.now links.number began (report_of tpdu.now) tpdu.now.answer.items
-        output.old.sheet output.new.sheet }
+        PutsBox mask.now links.is_loose links.number began (report_of tpdu.now)
+        tpdu.now.answer.items output.old.sheet output.new.sheet }
 {
     if output.sheet.layout().is_summary {
         return;
     }
     output.join();
-    let outline = Outline::of(tpdu);
+    let is_hidden = mask.hides_header(links.is_loose);
+    let outline = Outline::of(tpdu, is_hidden);
     let status = tpdu.status.as_slice();
     tell_title(&outline, name_of(tpdu), status, links, began, output);
     clock.push_begin(&mut output.page.lines);
     output.row(Side::Nobody, "time");
     output.page.lines.push_str(dropped(links.drops_before));
     output.row(Side::Nobody, "before");
-    push_header(&mut output.sheet, tpdu.header.as_slice());
+    push_header(&mut output.sheet, is_hidden, tpdu.header.as_slice());
     phrases::push_procedure(&mut output.page.lines, outline.tally);
     output.row(Side::Card, "procedure");
     tell_data(tpdu, links, mask, output);
@@ -106,8 +107,8 @@ fn dropped(drops: bool) -> &'static str {
 /// Adds the row of the data: as a tree if they may be objects and are some.
 fn tell_data(tpdu: &Tpdu, links: Links, mask: &Mask, output: &mut Output)
     requires asker { HasAsker tpdu.now.header.items links }
-    ensures { Puts (IsData mask.now tpdu.now.way tpdu.now.header.items tpdu.now.moved.items)
-        output.old.sheet output.new.sheet }
+    ensures { Puts (IsData mask.now links.is_loose tpdu.now.way tpdu.now.header.items
+        tpdu.now.moved.items) output.old.sheet output.new.sheet }
 {
     let Some(way) = tpdu.way else {
         return;
@@ -173,7 +174,7 @@ fn push_hidden(lines: &mut Sheet)
 /// Adds the row of the data that the card returned beside those of the terminal, if any.
 fn tell_answer(tpdu: &Tpdu, links: Links, mask: &Mask, output: &mut Output)
     requires asker { HasAsker tpdu.now.header.items links }
-    ensures { Puts (IsAnswer mask.now tpdu.now.header.items tpdu.now.answer.items)
+    ensures { Puts (IsAnswer mask.now links.is_loose tpdu.now.header.items tpdu.now.answer.items)
         output.old.sheet output.new.sheet }
 {
     let bytes = tpdu.answer.as_slice();
@@ -225,12 +226,13 @@ fn push_status_words(outline: &Outline, page: &mut Page) {
 /// Adds the row of data that are shown together, if there are any.
 fn tell_together(tpdu: &Tpdu, links: Links, bytes: &[u8], mask: &Mask, output: &mut Output)
     requires asker { HasAsker tpdu.now.header.items links }
-    ensures { Puts (IsTogether mask.now tpdu.now.header.items) output.old.sheet output.new.sheet }
+    ensures { Puts (IsTogether mask.now links.is_loose tpdu.now.header.items) output.old.sheet
+        output.new.sheet }
 {
     if bytes.is_empty() {
         return;
     }
-    let Some(origin) = Origin::of_whole(tpdu, links) else {
+    let Some(origin) = Origin::of_whole(tpdu, links, bytes) else {
         return;
     };
     tell_whole(links.whole, mask.shown(origin), bytes, mask, output);

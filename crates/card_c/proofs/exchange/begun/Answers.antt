@@ -14,6 +14,7 @@ returns-in-Ok-new-clause-begun c =
         c.in-Ok-start_within.ensures.limited.1,
         c.in-Ok-start_within.ensures.begins,
         c.in-Ok-start_within.ensures.led,
+        c.in-Ok-start_within.ensures.by_characters,
       );
       apdus = c.in-Ok-new_within.ensures.1;
       leads = refl;

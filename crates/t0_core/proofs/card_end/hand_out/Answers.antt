@@ -17,7 +17,7 @@ returns-clause-permitted g c = λ h p3 is. elim c.match-phase.branch [
       let Held : Phase → Type 0 = λ p. Fits (card.prepared c.args.card.now) p in
       let held = subst Held w.in-Opening.is c.requires.fits in
       let Keeps : Phase → Type 0 = λ p. KeepsDirection (stage_of p came) stage in
-      stays_permitted card.MayReceive card.MaySend h.ins (stage_of w.judge.new.phase came) stage
+      stays_permitted card.MayReceive card.MaySend h (stage_of w.judge.new.phase came) stage
       (subst Keeps w.phase-is c.go_on.ensures.keeps)
       (w.judge.ensures.permitted h p3 came (header_taken c.args.phase.now w.in-Opening.bytes came
       w.in-Opening.taken h p3 w.in-Opening.is held c.requires.due is))

@@ -1,6 +1,6 @@
 use Rattle.std.proofs.Common.{[], ◌++◌, sym, ap, subst, ◌∙◌}
 use Rattle.apdu_core.specs.CommandBytes.{command_bytes}
-use Rattle.t1_terminal.specs.Operated.{told_of}
+use Rattle.t1_terminal.specs.Operated.{fault_at}
 use Rattle.t0_core.specs.CardSide.{EndOf}
 use Rattle.apdu_terminal.specs.ApduOperations.{HasRoomFor}
 use Rattle.t1_core.specs.TerminalSide.{is_ready}
@@ -50,10 +50,7 @@ returns-in-Some-fault g c = λ operation commands are leads.
     c.a_due_command_is_agreed.ensures are is_due
     c.header-header.ensures.command had) had operation are c.in-Some-fault.fault c.told.result
     c.in-Some-fault.ensures
-    (c.told.ensures ∙ ap (λ h. record {
-      cause = c.in-Some-fault.fault.cause;
-      outcome = told_of h c.in-Some-fault.fault.outcome;
-    }) c.header-header.ensures.value)
+    (c.told.ensures ∙ ap (λ h. fault_at h c.in-Some-fault.fault) c.header-header.ensures.value)
 
 pub parts-status-requires : goal.parts-status-requires
 parts-status-requires g c =

@@ -2,7 +2,7 @@ use Rattle.std.proofs.Common.{rules, ap, inl, inr, refl}
 use Rattle.std.proofs.lemmas.Result.{err_from_is_err_and}
 use Rattle.t0_core.specs.Front.{After_first}
 use Rattle.card_terminal.specs.ExchangeSide.{is_final}
-use Rattle.card_terminal.proofs.WholeTpduLemmas.{took, under_took, front_took, leads_took, ends_took, leads_all, gives_inside, refused_ends, refused_leads}
+use Rattle.card_terminal.proofs.WholeTpduLemmas.{whole_sent, took, under_took, front_took, leads_took, ends_took, leads_all, gives_inside, refused_ends, refused_leads}
 use Rattle.card_terminal.proofs.exchange.Exchange.answered.Goals as goal
 
 pub returns-in-Ok-clause-answering : goal.returns-in-Ok-clause-answering
@@ -25,6 +25,8 @@ returns-in-Ok-clause-answering g c =
           c.sw2.ensures.value gives
           (c.in-Ok.ensures.taking.led command _
           (leads_took command came _ _ _ _ c.args.bytes.now sw d c.self.view_is went gives leads));
+      whole = whole_sent _ _ _ c.take_up_to_sw2.new.gather c.take.new.self sw c.self.view_is
+          went.host_is c.in-Ok.ensures.taking.sent;
       given = search rules;
     }
 
@@ -57,6 +59,7 @@ returns-in-Err-clause-answering g c =
             leads_all command came c.take.new.self _ d c.args.bytes.now sw c.sw2.result
                 c.sw2.ensures.value gives led,
           );
+      whole = tt;
       given = search rules;
     }
 
@@ -79,5 +82,6 @@ returns-in_err-take_up_to_sw2-clause-answering g c =
           c.args.status d _ c.self.view_is c.self.invariant leads gives arm.refused.0
           (arm.stands d (gives_inside _ _ _ _ d c.self.view_is gives)) arm.fault
           c.take_up_to_sw2.new.gather arm.refused.1);
+      whole = tt;
       given = search rules;
     })

@@ -1,6 +1,6 @@
 use Rattle.std.proofs.Common.{sym, ◌∙◌}
 use Rattle.card_terminal.specs.PieceLaws.{at_front}
-use Rattle.card_terminal.proofs.PartLemmas.{put_begins}
+use Rattle.card_terminal.proofs.PartLemmas.{put_begins, begins_by_characters}
 use Rattle.card_terminal.specs.TalkLaws.{some_command}
 use Rattle.card_terminal.proofs.terminal.Terminal.put.Goals as goal
 
@@ -24,5 +24,6 @@ returns-clause-begins g c =
     record {
       begun = put_begins _ c.args.value.now _ _ c.put_header.result pieces _ _ c.in-Some.first o _
           c.put_header.ensures c.p1p2-p1.ensures are same c.in-Some.ensures.steps is begins;
+      by_characters = begins_by_characters o _ is begins;
       under_way = sym c.is_going.ensures.going ∙ c.if-is_going.false;
     }

@@ -1,5 +1,5 @@
 use Rattle.std.proofs.Common.{[], ◌∷◌, refl, sym, ◌∙◌}
-use Rattle.card_terminal.proofs.PartLemmas.{command_begins}
+use Rattle.card_terminal.proofs.PartLemmas.{command_begins, begins_by_characters}
 use Rattle.card_terminal.proofs.terminal.Terminal.send.Goals as goal
 
 pub returns-clause-begins : goal.returns-clause-begins
@@ -12,5 +12,6 @@ returns-clause-begins g c =
         command_begins c.args.command c.data-data.result.now o _ c.data-data.ensures.value is
             begins,
       );
+      by_characters = begins_by_characters o _ is begins;
       under_way = sym c.is_going.ensures.going ∙ c.if-is_going.false;
     }

@@ -20,7 +20,8 @@ exchanges-smaller g c =
     let h = c.exchanges.invariant c.requires.led.0 c.requires.led.1 in
     fewer_left e.terminal c.pass.new.terminal moving
     (received g.C.Applet c.next-fates.result (record { terminal = e.terminal; card = e.card })
-    (record { terminal = c.pass.new.terminal; card = c.pass.new.card }) moving h.sized
+    (record { terminal = c.pass.new.terminal; card = c.pass.new.card }) h.sent h.keeping moving
+    h.sized
     c.in_ok-pass.ensures).1
 
 pub exchanges-preserved : goal.exchanges-preserved

@@ -9,4 +9,4 @@ returns-clause-begins g c =
     c.in_ok-copy_again.ensures.items c.requires.front (ap length c.data.ensures.value)
     (ap (λ (h : Header). h.p1) c.header-p1.ensures.value)
     (ap (λ (h : Header). h.p2) c.header-p1.ensures.value) c.again.ensures.begins
-    c.again.ensures.led
+    c.again.ensures.led c.again.ensures.by_characters

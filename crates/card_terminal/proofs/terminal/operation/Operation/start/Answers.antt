@@ -9,4 +9,4 @@ returns-clause-begins g c =
     c.in_ok-exchange.exchange _ _ _ c.in_ok-content.ensures.items c.requires.front
     (ap length c.data-until.ensures.value) (ap (λ (h : Header). h.p1) c.header-p1.ensures.value)
     (ap (λ (h : Header). h.p2) c.header-p1.ensures.value) c.in_ok-exchange.ensures.begins
-    c.in_ok-exchange.ensures.led
+    c.in_ok-exchange.ensures.led c.in_ok-exchange.ensures.by_characters

@@ -1,3 +1,4 @@
+use Rattle.std.proofs.Common.{◌∙◌}
 use Rattle.trace_explain.specs.Reports.{report_of}
 use Rattle.trace_explain.proofs.AccountLemmas.{boxes_one}
 use Rattle.trace_explain.proofs.ExplainedLemmas.{on_ok_too}
@@ -5,6 +6,7 @@ use Rattle.trace_explain.proofs.write.teller.Teller.tell_one.Goals as goal
 
 pub returns : goal.returns
 returns c = on_ok_too c.tell-2.result _ _ c.tell-2.ensures
-    (λ h. boxes_one (report_of c.args.tpdu.now) c.in_ok-links.links.number c.args.self.now.began
-    c.tell.new.self.number c.args.tpdu.now.answer.items c.tell.ensures.next
-    c.in_ok-links.ensures.number h)
+    (λ h. boxes_one (report_of c.args.tpdu.now) c.shown-links.result.is_loose
+    c.shown-links.result.number c.args.self.now.began c.tell.new.self.number
+    c.args.tpdu.now.answer.items c.tell.ensures.next
+    (c.shown-links.ensures.number ∙ c.in_ok-links.ensures.number) h)

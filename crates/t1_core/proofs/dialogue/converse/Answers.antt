@@ -3,8 +3,8 @@ use Rattle.std.proofs.lemmas.List.{map-append}
 use Rattle.t1_core.specs.Carried.{HasCarried, answers_in}
 use Rattle.t1_core.specs.TerminalSide.{has_stopped}
 use Rattle.t1_core.proofs.Carrying.{first_of, is_over, list_conversed, none_yet, one_more_carried}
-use Rattle.t1_core.proofs.session.converse.Goals as goal
-use Rattle.t1_core.proofs.session.converse.Goals.{else-loop-command-test, then-loop-command-test+in_ok-carry+then-not-is_ready}
+use Rattle.t1_core.proofs.dialogue.converse.Goals as goal
+use Rattle.t1_core.proofs.dialogue.converse.Goals.{else-loop-command-test, then-loop-command-test+in_ok-carry+then-not-is_ready}
 
 pub loop-command-init : goal.loop-command-init
 loop-command-init g c = record {

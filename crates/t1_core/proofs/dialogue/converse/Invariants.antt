@@ -2,7 +2,7 @@ use Rattle.std.proofs.Common.{◌≡◌, true}
 use Rattle.t1_core.specs.Carried.{HasCarried}
 use Rattle.t1_core.specs.TerminalSide.{is_ready}
 use Rattle.t1_core.proofs.Carrying.{first_of}
-use Rattle.t1_core.proofs.session.converse.Given as goal
+use Rattle.t1_core.proofs.dialogue.converse.Given as goal
 
 -- both ends have carried the commands before this one, with these answers
 abbrev pub invariant-loop-command : goal.invariant-loop-command

@@ -1,0 +1,319 @@
+-- The deeds of an application, by what happened on the line.
+use Rattle.std.proofs.Common.{◌≡◌, ◌∙◌, ℕ, ◌<◌, ◌≤◌, List, [], ◌∷◌, length, drop, Option, Some, None, Bool, true, false, ◌⊎◌, inl, inr, refl, sym, ap, subst, arith, eq-eqb}
+use Rattle.std.specs.Prelude.{if◌then◌else◌, ◌==◌, ◌&&◌, nat_lt}
+use Rattle.std.proofs.lemmas.Bool.{and_from, eqb-true, ltb-true, ltb-false, true≢false}
+use Rattle.command_card.proofs.AnswerLemmas.{both_true, headers_same, same_as_itself}
+use Rattle.apdu_core.specs.declared.header.Header.{Header}
+use Rattle.apdu_core.specs.HeaderBytes.{ins_is_valid}
+use Rattle.apdu_core.specs.CommandBytes.{Command}
+use Rattle.apdu_core.specs.StatusWord.{StatusWord, corrects, count}
+use Rattle.t0_core.specs.CardHistory.{Leads}
+use Rattle.t0_core.specs.CardSide.{Stage}
+use Rattle.t0_core.specs.Front.{front_characters}
+use Rattle.t0_core.specs.History.{Event, Item, Whole, Cut_off, RunsOver}
+use Rattle.t0_core.specs.Meaning.{Prepared, Tpdu, tpdu_of}
+use Rattle.command_card.specs.Carrying.{Did, GivesUp, Makes, asking, taking}
+use Rattle.command_card.specs.State.{CardState, For_fetch, For_repeat, Hand, Left, Nothing_left, Outcome, announcing, fetch_left, handed, is_fetch, pending_for, refusing, same_header}
+use Rattle.command_card.specs.Meaning.{Answers, Does, DoesBy, kind_of}
+use Rattle.command_card.proofs.HandLemmas.{handed_enough, handed_fewer}
+use Rattle.command_card.specs.View.{after_reset}
+use Rattle.command_card.specs.Deeds.{AreDeeds, Deed, GoesBy, IsCarriedBy, IsThrough, IsWithout, Made, Repeats, Resets}
+
+-- the TPDU before got no 6CXX, unless it was a GET RESPONSE
+abbrev NotSaid : Option Tpdu → Type 0
+NotSaid None = Unit {0}
+NotSaid (Some u) = is_fetch u.header ≡ false → corrects u.status ≡ None
+
+-- a response waits for its header again exactly if the TPDU before said so by 6CXX
+abbrev IsSaid : Left → Option Tpdu → Type 0
+IsSaid Nothing_left before = NotSaid before
+IsSaid (For_fetch bytes status) before = NotSaid before × (corrects status ≡ None)
+IsSaid (For_repeat header bytes status) before = ((u : Tpdu) × (before ≡ Some u)
+    × (u.header ≡ header) × (corrects u.status ≡ Some (length bytes)))
+    × (corrects status ≡ None)
+
+fetched_said : (bytes : List ℕ) (status : StatusWord) (cut : ℕ) (t : Tpdu)
+    → corrects status ≡ None → t.status ≡ announcing bytes status cut
+    → IsSaid (fetch_left bytes status) (Some t)
+fetched_said [] status cut t own is =
+    λ other. subst (λ (s : StatusWord). corrects s ≡ None) (sym is) own
+fetched_said (b ∷ bytes) status cut t own is =
+    (λ other. subst (λ (s : StatusWord). corrects s ≡ None) (sym is) refl, own)
+
+gives_no_count : (status : StatusWord) → GivesUp status → corrects status ≡ None
+gives_no_count status (inl is) = subst (λ (s : StatusWord). corrects s ≡ None) (sym is) refl
+gives_no_count status (inr is) = subst (λ (s : StatusWord). corrects s ≡ None) (sym is) refl
+
+made_own : {S : Type 0} (Act : S → Did → S → Type 0) (old : S) (c : Command)
+    (response : List ℕ) (status : StatusWord) (new : S) → Makes Act old c response status new
+    → corrects status ≡ None
+made_own Act old c response status new (inl made) = made.1.1
+made_own Act old c response status new (inr gave) = gives_no_count status gave.2
+
+-- after 6CXX the same header with that P3 finds the response
+never_repeats : (left : Left) (before : Option Tpdu) (t : Tpdu) → IsSaid left before
+    → pending_for left t.header t.p3 ≡ None → is_fetch t.header ≡ false → Repeats before t → ⊥
+never_repeats left None t said none fetch repeats = repeats
+never_repeats Nothing_left (Some u) t said none fetch (header_is, corrected) =
+    let no : None ≡ Some t.p3 = sym (said (ap is_fetch header_is ∙ fetch)) ∙ corrected in
+    absurd (cc)
+never_repeats (For_fetch bytes status) (Some u) t said none fetch (header_is, corrected) =
+    let no : None ≡ Some t.p3 = sym (said.0 (ap is_fetch header_is ∙ fetch)) ∙ corrected in
+    absurd (cc)
+never_repeats (For_repeat g bytes status) (Some u) t ((v, v_is, g_is, counts), own) none fetch
+    (header_is, corrected) =
+    let same : u ≡ v = cc in
+    let header_same : t.header ≡ g =
+    sym header_is ∙ ap (λ (x : Tpdu). x.header) same ∙ g_is in
+    let long : Some (length bytes) ≡ Some t.p3 =
+    sym counts ∙ sym (ap (λ (x : Tpdu). corrects x.status) same) ∙ corrected in
+    let p3_is : length bytes ≡ t.p3 = cc in
+    let it : Option Hand = Some (record { bytes = bytes; status = status }) in
+    let finds : (same_header g t.header && (length bytes == t.p3)) ≡ true =
+    and_from _ _ (subst (λ h. same_header g h ≡ true) (sym header_same) (same_as_itself g))
+    (eq-eqb (length bytes) t.p3 p3_is) in
+    let no : None ≡ it =
+    sym none ∙ ap (λ (w : Bool). if w then it else None) finds in
+    absurd (cc)
+
+count_of_some : (n : ℕ) → 1 ≤ n → count n ≡ n
+count_of_some n some = split (n == 0) refl
+  where
+    split : (v : Bool) → (n == 0) ≡ v → (if v then 256 else n) ≡ n
+    split true e = absurd (omega (arith, some, eqb-true n 0 e))
+    split false e = refl
+
+-- what is handed over keeps `kept` only if there is less than was asked for
+handed_said : (kept : Left) (bytes : List ℕ) (status : StatusWord) (n cut : ℕ) (t : Tpdu)
+    → corrects status ≡ None → t.status ≡ (handed kept bytes status n cut).status
+    → (1 ≤ length bytes → length bytes < n → t.status ≡ (0x6C, length bytes)
+    → IsSaid kept (Some t))
+    → IsSaid (handed kept bytes status n cut).left (Some t)
+handed_said kept [] status n cut t own is said =
+    λ other. subst (λ (s : StatusWord). corrects s ≡ None) (sym is) own
+handed_said kept (b ∷ bytes) status n cut t own is said =
+    split (nat_lt (length (b ∷ bytes)) n) refl
+  where
+    split : (v : Bool) → nat_lt (length (b ∷ bytes)) n ≡ v
+        → IsSaid (handed kept (b ∷ bytes) status n cut).left (Some t)
+    split true e =
+        let few = ltb-true (length (b ∷ bytes)) n e in
+        let it = handed_fewer kept (b ∷ bytes) status n cut (omega arith) few in
+        subst (λ (o : Outcome). IsSaid o.left (Some t)) (sym it)
+        (said (omega arith) few (is ∙ ap (λ (o : Outcome). o.status) it))
+    split false e =
+        let many = ltb-false (length (b ∷ bytes)) n e in
+        let it = handed_enough kept (b ∷ bytes) status n cut (omega arith) many in
+        subst (λ (o : Outcome). IsSaid o.left (Some t)) (sym it)
+        (fetched_said (drop n (b ∷ bytes)) status cut t own
+        (is ∙ ap (λ (o : Outcome). o.status) it))
+
+some_bytes : (a b : Hand) → Some a ≡ Some b → a.bytes ≡ b.bytes
+some_bytes a b e = let same : a ≡ b = cc in ap (λ (h : Hand). h.bytes) same
+
+some_status : (a b : Hand) → Some a ≡ Some b → a.status ≡ b.status
+some_status a b e = let same : a ≡ b = cc in ap (λ (h : Hand). h.status) same
+
+module _ {S : Type 0} (takes : S → Header → Bool) (Act : S → Did → S → Type 0) (reset : S → S) where
+  -- what one TPDU does, by what the line tells
+  record Tells (old : CardState S) (before : Option Tpdu) (t : Tpdu) (new : CardState S) : Type 0
+    where
+      deed : ((new.app ≡ old.app) × IsWithout before t)
+          ⊎ ((did : Did) × IsCarriedBy before t did × Act old.app did new.app)
+      said : IsSaid new.left (Some t)
+
+  refused_tells : (old new : CardState S) (before : Option Tpdu) (t : Tpdu) (status : StatusWord)
+      → corrects status ≡ None → Answers old t new (refusing status) → IsWithout before t
+      → Tells old before t new
+  refused_tells old new before t status own is without = record {
+    deed = inl (is.same, without);
+    said = subst (λ l. IsSaid l (Some t)) (sym is.brings.left_is)
+        (λ other. subst (λ (s : StatusWord). corrects s ≡ None) (sym is.brings.status_is) own);
+  }
+
+  made_tells : (old new : CardState S) (before : Option Tpdu) (t : Tpdu) (c : Command)
+      (response : List ℕ) (status : StatusWord) → ins_is_valid t.header.ins ≡ true
+      → is_fetch t.header ≡ false → (Repeats before t → ⊥) → c.header ≡ t.header
+      → c.content ≡ t.sent → Makes Act old.app c response status new.app
+      → (response ≡ [] → t.status ≡ status)
+      → ((new.app ≡ old.app) × IsWithout before t)
+      ⊎ ((did : Did) × IsCarriedBy before t did × Act old.app did new.app)
+  made_tells old new before t c response status valid fetch once header_is content_is (inl made)
+      bare =
+      inr (
+        record { command = c; response = response; status = status },
+        record {
+          valid = valid;
+          no_fetch = fetch;
+          no_repeat = once;
+          header_is = header_is;
+          content_is = content_is;
+        },
+        made.0,
+      )
+  made_tells old new before t c response status valid fetch once header_is content_is
+      (inr (same, none, gives)) bare =
+      inl (same, inr (inr (inr (subst GivesUp (sym (bare none)) gives))))
+
+  -- a pending response that is handed over
+  hand_tells : (left : Left) (old new : CardState S) (before : Option Tpdu) (cut : ℕ) (t : Tpdu)
+      (hand : Hand) → IsSaid left before → pending_for left t.header t.p3 ≡ Some hand
+      → Answers old t new (handed left hand.bytes hand.status (count t.p3) cut)
+      → Tells old before t new
+  hand_tells Nothing_left old new before cut t hand said pending is = absurd (cc)
+  hand_tells (For_fetch bytes status) old new before cut t hand said pending is =
+      split (is_fetch t.header) refl
+    where
+      split : (v : Bool) → is_fetch t.header ≡ v → Tells old before t new
+      split true e =
+          let it : Option Hand = Some (record { bytes = bytes; status = status }) in
+          let this : Some (record { bytes = bytes; status = status }) ≡ Some hand =
+          subst (λ (v : Bool). (if v then it else None) ≡ Some hand) e pending in
+          let own : corrects hand.status ≡ None =
+          subst (λ (s : StatusWord). corrects s ≡ None)
+          (some_status (record { bytes = bytes; status = status }) hand this) said.1 in
+          record {
+            deed = inl (is.same, inr (inl e));
+            said = subst (λ l. IsSaid l (Some t)) (sym is.brings.left_is)
+                (handed_said (For_fetch bytes status) hand.bytes hand.status (count t.p3) cut t own
+                is.brings.status_is (λ some few six. (
+                  λ other. absurd (true≢false (sym e ∙ other)),
+                  said.1,
+                )));
+          }
+      split false e =
+          let it : Option Hand = Some (record { bytes = bytes; status = status }) in
+          let no : None ≡ Some hand =
+          subst (λ (v : Bool). (if v then it else None) ≡ Some hand) e pending in absurd (cc)
+  hand_tells (For_repeat g bytes status) old new before cut t hand said pending is =
+      split (same_header g t.header && (length bytes == t.p3)) refl
+    where
+      split : (v : Bool) → (same_header g t.header && (length bytes == t.p3)) ≡ v
+          → Tells old before t new
+      split true e =
+          let (header_is, p3_is) = both_true _ _ e in
+          let same = headers_same g t.header header_is in
+          let long = eqb-true (length bytes) t.p3 p3_is in
+          let it : Option Hand = Some (record { bytes = bytes; status = status }) in
+          let this : Some (record { bytes = bytes; status = status }) ≡ Some hand =
+          subst (λ (v : Bool). (if v then it else None) ≡ Some hand) e pending in
+          let hand_is : bytes ≡ hand.bytes =
+          some_bytes (record { bytes = bytes; status = status }) hand this in
+          let own : corrects hand.status ≡ None =
+          subst (λ (s : StatusWord). corrects s ≡ None)
+          (some_status (record { bytes = bytes; status = status }) hand this) said.1 in
+          let (u, before_is, u_header, u_told) = said.0 in
+          let repeats : Repeats before t =
+          subst (λ b. Repeats b t) (sym before_is)
+          (u_header ∙ same, u_told ∙ ap (λ n. Some n) long) in
+          record {
+            deed = inl (is.same, inr (inr (inl repeats)));
+            said = subst (λ l. IsSaid l (Some t)) (sym is.brings.left_is)
+                (handed_said (For_repeat g bytes status) hand.bytes hand.status (count t.p3) cut t
+                own is.brings.status_is
+                (λ some few six. absurd (omega (
+                  arith,
+                  some,
+                  few,
+                  ap length hand_is,
+                  long,
+                  count_of_some t.p3 (omega (arith, some, ap length hand_is, long)),
+                ))));
+          }
+      split false e =
+          let it : Option Hand = Some (record { bytes = bytes; status = status }) in
+          let no : None ≡ Some hand =
+          subst (λ (v : Bool). (if v then it else None) ≡ Some hand) e pending in absurd (cc)
+
+  tells : (old new : CardState S) (before : Option Tpdu) (cut : ℕ) (t : Tpdu)
+      → IsSaid old.left before → Does takes Act old cut t new → Tells old before t new
+  tells old new before cut t said does =
+      by (ins_is_valid t.header.ins) (pending_for old.left t.header t.p3) (is_fetch t.header)
+      (takes old.app t.header) refl refl refl refl does
+    where
+      by : (v : Bool) (p : Option Hand) (f k : Bool) → ins_is_valid t.header.ins ≡ v
+          → pending_for old.left t.header t.p3 ≡ p → is_fetch t.header ≡ f
+          → takes old.app t.header ≡ k → DoesBy Act old cut t new (kind_of v p f k)
+          → Tells old before t new
+      by false p f k valid pending fetch takes_is is =
+          refused_tells old new before t (0x6D, 0x00) refl is (inl valid)
+      by true (Some hand) f k valid pending fetch takes_is is =
+          hand_tells old.left old new before cut t hand said pending is
+      by true None true k valid pending fetch takes_is is =
+          refused_tells old new before t (0x69, 0x85) refl is (inr (inl fetch))
+      by true None false true valid pending fetch takes_is is = record {
+        deed = made_tells old new before t (taking t.header t.sent) is.response is.status valid
+            fetch (never_repeats old.left before t said pending fetch) refl refl is.makes
+            (λ none. is.brings.status_is
+            ∙ ap (λ xs. announcing xs is.status cut) none);
+        said = subst (λ l. IsSaid l (Some t)) (sym is.brings.left_is)
+            (fetched_said is.response is.status cut t
+            (made_own Act old.app _ is.response is.status new.app is.makes) is.brings.status_is);
+      }
+      by true None false false valid pending fetch takes_is is =
+          let kept : Left = For_repeat t.header is.response is.status in
+          let own = made_own Act old.app _ is.response is.status new.app is.makes in record {
+            deed = made_tells old new before t (asking t.header (count t.p3)) is.response is.status
+                valid fetch (never_repeats old.left before t said pending fetch) refl
+                (sym is.none_sent) is.makes (λ none. is.brings.status_is
+                ∙ ap (λ xs. (handed kept xs is.status (count t.p3) cut).status) none);
+            said = subst (λ l. IsSaid l (Some t)) (sym is.brings.left_is)
+                (handed_said kept is.response is.status (count t.p3) cut t own is.brings.status_is
+                (λ some few six. (
+                  (
+                    t,
+                    refl,
+                    refl,
+                    ap (λ s. corrects s) six
+                        ∙ ap (λ n. Some n) (count_of_some (length is.response) some),
+                  ),
+                  own,
+                )));
+          }
+
+  pub all_deeds : (items : List Item) (first last : CardState S) (before : Option Tpdu)
+      → IsSaid first.left before
+      → RunsOver (Does takes Act) (after_reset reset) first items last
+      → (deeds : List Deed) × AreDeeds before items deeds
+      × GoesBy Act reset first.app deeds last.app
+  all_deeds [] first last before said runs = ([], refl, ap (λ (s : CardState S). s.app) runs)
+  all_deeds (Whole d ∷ items) first last before said (plan, mid, under, does, runs) =
+      let t = tells first mid before plan.cut (tpdu_of d) said does in
+      let (deeds, are, go) = all_deeds items mid last (Some (tpdu_of d)) t.said runs in
+      elim t.deed [
+        | inl (same, without) ↦ (
+          deeds,
+          inl (without, are),
+          subst (λ s. GoesBy Act reset s deeds last.app) same go,
+        )
+        | inr (did, carried, acts) ↦
+            (Made did ∷ deeds, inr (did, deeds, refl, carried, are), (mid.app, acts, go))
+      ]
+  all_deeds (Cut_off part ∷ items) first last before said (is_part, runs) =
+      let (deeds, are, go) = all_deeds items (after_reset reset first) last None tt runs in
+      (Resets ∷ deeds, (deeds, refl, are), go)
+
+pub deeds_of_the_line : {S : Type 0} (takes : S → Header → Bool) (Act : S → Did → S → Type 0)
+    (reset : S → S) (first last : CardState S) (items : List Item) → first.left ≡ Nothing_left
+    → RunsOver (Does takes Act) (after_reset reset) first items last
+    → (deeds : List Deed) × AreDeeds None items deeds × GoesBy Act reset first.app deeds last.app
+deeds_of_the_line takes Act reset first last items none runs =
+    all_deeds takes Act reset items first last None
+    (subst (λ l. IsSaid l None) (sym none) tt) runs
+
+pub through : {S : Type 0} (takes : S → Header → Bool) (Act : S → Did → S → Type 0)
+    (reset : S → S) (first last : CardState S) (events : List Event)
+    (prepared : Prepared (CardState S)) (stage : Stage) → first.left ≡ Nothing_left
+    → Leads (Does takes Act) (after_reset reset) first events last prepared stage
+    → IsThrough Act reset first.app events last.app
+through takes Act reset first last events prepared stage none leads =
+    let (deeds, are, go) =
+    deeds_of_the_line takes Act reset first last leads.items none leads.runs in
+    record {
+      items = leads.items;
+      part = front_characters leads.front;
+      deeds = deeds;
+      events_are = leads.events_are;
+      are_deeds = are;
+      goes = go;
+    }

@@ -1,0 +1,135 @@
+-- The same application over T=0 and T=1.
+use Rattle.std.proofs.Common.{◌≡◌, ◌∙◌, ℕ, ◌≤◌, List, [], ◌∷◌, ◌++◌, length, take, Option, Some, None, Bool, true, false, refl, sym, ap, subst}
+use Rattle.std.proofs.lemmas.List.{take_all, drop_all}
+use Rattle.apdu_core.specs.declared.header.Header.{Header}
+use Rattle.apdu_core.specs.CommandBytes.{Command}
+use Rattle.apdu_core.specs.StatusWord.{StatusWord}
+use Rattle.std.specs.List.{flat_map}
+use Rattle.t0_core.specs.Meaning.{Runs}
+use Rattle.t0_core.specs.Plan.{Course}
+use Rattle.card_terminal.specs.Gathered.{UnitOf, Gathers, dialogues_of}
+use Rattle.card_terminal.specs.Talk.{HaveCuts}
+use Rattle.command_card.specs.Meaning.{Does}
+use Rattle.command_card.proofs.WholeLemmas.{gathers_the_response}
+use Rattle.command_card.specs.Carrying.{Did, Makes, taking}
+use Rattle.command_card.specs.State.{CardState, Nothing_left, announcing, fetch_left}
+use Rattle.command_card.specs.AtT1.{CarriesTold, HandsOut, Responds, RespondsBy, may_bring, status_bytes}
+use Rattle.command_card.specs.Told.{AreAgreed, IsOneStep, told}
+
+none_is_not : (n : ℕ) → None ≡ Some n → ⊥
+none_is_not n e = absurd (cc)
+
+module _ {S : Type 0} (takes : S → Header → Bool) (Act : S → Did → S → Type 0) where
+  hands_all : (bytes : List ℕ) (status : StatusWord) → length bytes ≤ 256
+      → HandsOut bytes status 256 (bytes ++ status_bytes status) Nothing_left
+  hands_all bytes status few =
+      let none = drop_all 256 bytes few in
+      record {
+        response_is = ap (λ xs. xs ++ status_bytes status) (sym (take_all 256 bytes few))
+            ∙ ap (λ xs. take 256 bytes ++ status_bytes (announcing xs status 256)) (sym none);
+        left_is = ap (λ xs. fetch_left xs status) (sym none);
+      }
+
+  all_handed : (bytes response : List ℕ) (status : StatusWord) (left : _) → length bytes ≤ 256
+      → HandsOut bytes status 256 response left
+      → (response ≡ bytes ++ status_bytes status) × (left ≡ Nothing_left)
+  all_handed bytes response status left few hands =
+      let none = drop_all 256 bytes few in (
+        hands.response_is
+            ∙ ap (λ xs. take 256 bytes ++ status_bytes (announcing xs status 256)) none
+            ∙ ap (λ xs. xs ++ status_bytes status) (take_all 256 bytes few),
+        hands.left_is ∙ ap (λ xs. fetch_left xs status) none,
+      )
+
+  by_takes : (first new : CardState S) (c : Command) (response bytes : List ℕ)
+      (status : StatusWord) (v : Bool) (content : List ℕ) → c.le ≡ Some 256
+      → c.content ≡ content → (v ≡ false → content ≡ [])
+      → (v ≡ true → content ≡ [] → c.le ≡ None)
+      → Makes Act first.app (told v c) bytes status new.app
+      → HandsOut bytes status (may_bring c.le) response new.left
+      → CarriesTold Act first c response new v content c.le
+  by_takes first new c response bytes status true [] asks is none no_le makes hands =
+      absurd (none_is_not 256 (sym (no_le refl refl) ∙ asks))
+  by_takes first new c response bytes status true (b ∷ content) asks is none no_le makes hands =
+      record {
+        bytes = bytes;
+        status = status;
+        makes = subst (λ xs. Makes Act first.app (taking c.header xs) bytes status new.app) is
+            makes;
+        hands = hands;
+      }
+  by_takes first new c response bytes status false [] asks is none no_le makes hands = record {
+    bytes = bytes;
+    status = status;
+    makes = makes;
+    hands = hands;
+  }
+  by_takes first new c response bytes status false (b ∷ content) asks is none no_le makes hands =
+      let no : b ∷ content ≡ [] = none refl in absurd (cc)
+
+  pub responds_so : (first : CardState S) (app : S) (c : Command) (bytes : List ℕ)
+      (status : StatusWord) → c.le ≡ Some 256 → AreAgreed takes first c → length bytes ≤ 256
+      → Makes Act first.app (told (takes first.app c.header) c) bytes status app
+      → Responds takes Act first c (bytes ++ status_bytes status)
+      (record { app = app; left = Nothing_left })
+  responds_so first app c bytes status asks agreed few makes =
+      let new : CardState S = record { app = app; left = Nothing_left } in
+      let response : List ℕ = bytes ++ status_bytes status in
+      let hands : HandsOut bytes status (may_bring c.le) response Nothing_left =
+      subst (λ (m : Option ℕ). HandsOut bytes status (may_bring m) response Nothing_left)
+      (sym asks) (hands_all bytes status few) in
+      subst (λ v. RespondsBy takes Act first c response new v) (sym agreed.no_fetch)
+      (by_takes first new c response bytes status (takes first.app c.header) c.content asks refl
+      agreed.no_data agreed.no_le makes hands)
+
+  told_by : (old new : CardState S) (c : Command) (response : List ℕ) (v : Bool)
+      (content : List ℕ) → takes old.app c.header ≡ v → c.content ≡ content → c.le ≡ Some 256
+      → (v ≡ false → content ≡ []) → (v ≡ true → content ≡ [] → c.le ≡ None)
+      → CarriesTold Act old c response new v content c.le
+      → IsOneStep takes Act old c response new
+  told_by old new c response true [] takes_is is asks none no_le carries =
+      absurd (none_is_not 256 (sym (no_le refl refl) ∙ asks))
+  told_by old new c response true (b ∷ content) takes_is is asks none no_le carries = record {
+    bytes = carries.bytes;
+    status = carries.status;
+    makes = subst (λ v. Makes Act old.app (told v c) carries.bytes carries.status new.app)
+        (sym takes_is)
+        (subst (λ xs. Makes Act old.app (taking c.header xs) carries.bytes carries.status new.app)
+        (sym is) carries.makes);
+    comes = λ few. all_handed carries.bytes response carries.status new.left few
+        (subst (λ (m : Option ℕ). HandsOut carries.bytes carries.status (may_bring m) response
+        new.left) asks carries.hands);
+  }
+  told_by old new c response false [] takes_is is asks none no_le carries = record {
+    bytes = carries.bytes;
+    status = carries.status;
+    makes = subst (λ v. Makes Act old.app (told v c) carries.bytes carries.status new.app)
+        (sym takes_is) carries.makes;
+    comes = λ few. all_handed carries.bytes response carries.status new.left few
+        (subst (λ (m : Option ℕ). HandsOut carries.bytes carries.status (may_bring m) response
+        new.left) asks carries.hands);
+  }
+  told_by old new c response false (b ∷ content) takes_is is asks none no_le carries =
+      let no : b ∷ content ≡ [] = none refl in absurd (cc)
+
+  pub one_step : (old new : CardState S) (c : Command) (response : List ℕ) → c.le ≡ Some 256
+      → AreAgreed takes old c → Responds takes Act old c response new
+      → IsOneStep takes Act old c response new
+  one_step old new c response asks agreed responds =
+      told_by old new c response (takes old.app c.header) c.content refl refl asks agreed.no_data
+      agreed.no_le
+      (subst (λ v. RespondsBy takes Act old c response new v) agreed.no_fetch responds)
+
+pub from_exchange : {S : Type 0} (takes : S → Header → Bool) (Act : S → Did → S → Type 0)
+    (first last : CardState S) (c : Command) (units : List UnitOf) (plans : List Course)
+    (gathered : List ℕ) (status : StatusWord) → c.le ≡ Some 256 → AreAgreed takes first c
+    → HaveCuts plans → Runs (Does takes Act) first (flat_map dialogues_of units) plans last
+    → Gathers c units gathered status → length gathered ≤ 256
+    → Responds takes Act first c (gathered ++ status_bytes status) last
+from_exchange takes Act first last c units plans gathered status asks agreed have runs gathers few =
+    let (makes, none) =
+    gathers_the_response takes Act first last c units plans gathered status asks agreed have runs
+    gathers in
+    subst (λ l. Responds takes Act first c (gathered ++ status_bytes status)
+    (record { app = last.app; left = l })) (sym none)
+    (responds_so takes Act first last.app c gathered status asks agreed few makes)

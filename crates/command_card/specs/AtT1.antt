@@ -1,0 +1,81 @@
+-- What a whole command does to the application (T=1; ISO/IEC 7816-4, 5.1; the refusals are
+-- profile).
+use Rattle.std.specs.Prelude.{◌≡◌, ℕ, List, [], ◌∷◌, ◌++◌, take, drop, Option, Some, None, Bool, true, false, unwrap_or}
+use Rattle.apdu_core.specs.declared.header.Header.{Header}
+use Rattle.apdu_core.specs.CommandBytes.{Command, IsCommand, HasForm, HasInvalidIns, command_bytes}
+use Rattle.apdu_core.specs.StatusWord.{StatusWord}
+use Rattle.t1_core.specs.CardSide.{Did as Done, no_requests}
+use Rattle.command_card.specs.Carrying.{Did, Makes, asking, taking}
+use Rattle.command_card.specs.State.{CardState, Left, Nothing_left, For_fetch, For_repeat, announcing, fetch_left, is_fetch}
+
+abbrev pub status_bytes : StatusWord → List ℕ
+status_bytes sw = sw.0 ∷ sw.1 ∷ []
+
+-- how many bytes a response may bring: Le, none without Le
+abbrev pub may_bring : Option ℕ → ℕ
+may_bring le = unwrap_or le 0
+
+-- At most `n` bytes of these come, and the rest is pending.
+pub record HandsOut (bytes : List ℕ) (status : StatusWord) (n : ℕ) (response : List ℕ)
+    (left : Left) : Type 0 where
+  pub response_is : response
+      ≡ take n bytes ++ status_bytes (announcing (drop n bytes) status 256)
+  pub left_is : left ≡ fetch_left (drop n bytes) status
+
+-- the response is this status alone, and nothing is pending
+pub record Refuses {S : Type 0} (sw : StatusWord) (old : CardState S) (response : List ℕ)
+    (new : CardState S) : Type 0 where
+  pub response_is : response ≡ status_bytes sw
+  pub same : new.app ≡ old.app
+  pub none_left : new.left ≡ Nothing_left
+
+-- a GET RESPONSE: 6985 if nothing waits for it
+abbrev pub Fetches : {S : Type 0} → CardState S → ℕ → List ℕ → CardState S → Left → Type 0
+Fetches old n response new Nothing_left = Refuses (0x69, 0x85) old response new
+Fetches old n response new (For_fetch bytes status) =
+    (new.app ≡ old.app) × HandsOut bytes status n response new.left
+Fetches old n response new (For_repeat header bytes status) = Refuses (0x69, 0x85) old response new
+
+-- one step of the application
+pub record Carries {S : Type 0} (Act : S → Did → S → Type 0) (old : CardState S) (c : Command)
+    (n : ℕ) (response : List ℕ) (new : CardState S) : Type 0 where
+  pub bytes : List ℕ
+  pub status : StatusWord
+  pub makes : Makes Act old.app c bytes status new.app
+  pub hands : HandsOut bytes status n response new.left
+
+-- The command as T=0 shows it. These get 6700: data for an application that takes none, and Le
+-- without data for one that takes some.
+abbrev pub CarriesTold : {S : Type 0} → (S → Did → S → Type 0) → CardState S → Command → List ℕ
+    → CardState S → Bool → List ℕ → Option ℕ → Type 0
+CarriesTold Act old c response new true [] (Some n) = Refuses (0x67, 0x00) old response new
+CarriesTold Act old c response new true [] None =
+    Carries Act old (taking c.header []) (may_bring c.le) response new
+CarriesTold Act old c response new true (b ∷ bytes) le =
+    Carries Act old (taking c.header (b ∷ bytes)) (may_bring c.le) response new
+CarriesTold Act old c response new false [] le =
+    Carries Act old (asking c.header (unwrap_or c.le 256)) (may_bring c.le) response new
+CarriesTold Act old c response new false (b ∷ bytes) le = Refuses (0x67, 0x00) old response new
+
+abbrev pub RespondsBy : {S : Type 0} → (S → Header → Bool) → (S → Did → S → Type 0) → CardState S
+    → Command → List ℕ → CardState S → Bool → Type 0
+RespondsBy takes Act old c response new true = Fetches old (may_bring c.le) response new old.left
+RespondsBy takes Act old c response new false =
+    CarriesTold Act old c response new (takes old.app c.header) c.content c.le
+
+-- what a command does
+abbrev pub Responds : {S : Type 0} → (S → Header → Bool) → (S → Did → S → Type 0) → CardState S
+    → Command → List ℕ → CardState S → Type 0
+Responds takes Act old c response new =
+    RespondsBy takes Act old c response new (is_fetch c.header)
+
+-- The same at T=1: 6700 to bytes in none of the four forms, 6D00 to an invalid INS, both without a
+-- change. There is no request before a response.
+pub record DoesAt {S : Type 0} (takes : S → Header → Bool) (Act : S → Did → S → Type 0)
+    (old : CardState S) (d : Done) (new : CardState S) : Type 0 where
+  pub no_form : (HasForm d.command → ⊥) → (d.response ≡ status_bytes (0x67, 0x00)) × (new ≡ old)
+  pub invalid_ins : (c : Command) → HasInvalidIns c → d.command ≡ command_bytes c
+      → (d.response ≡ status_bytes (0x6D, 0x00)) × (new ≡ old)
+  pub command : (c : Command) → IsCommand c → d.command ≡ command_bytes c
+      → Responds takes Act old c d.response new
+  pub asks : d.asks ≡ no_requests

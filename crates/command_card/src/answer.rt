@@ -1,0 +1,321 @@
+//! How the card answers commands: verdicts, statuses, and what waits afterwards.
+ghost use Rattle.std.specs.Prelude.{◌≡◌, ◌≤◌, ◌<◌, ℕ, List, [], length, drop, true, false, Some, None, if◌then◌else◌, slice_get};
+ghost use Rattle.std.specs.Option.{option_map};
+ghost use Rattle.apdu_core.specs.declared.header.Header.{Header};
+ghost use Rattle.apdu_core.specs.HeaderBytes.{ins_is_valid};
+ghost use Rattle.apdu_core.specs.StatusWord.{IsStatusWord, count};
+ghost use Rattle.t0_core.specs.Meaning.{IsReceiving, Decides, taken_with};
+ghost use Rattle.t0_core.specs.CardContract.{IsRefusal, Judges};
+ghost use Rattle.command_card.specs.Carrying.{Makes, asking};
+ghost use Rattle.command_card.specs.State.{Hand, For_repeat, same_header, pending_for, announcing, fetch_left, handed, refusing};
+ghost use Rattle.command_card.specs.Meaning.{Does};
+ghost use Rattle.command_card.specs.View.{left_of, state_of, state_after, ask_of, prepared_of, bytes_of, sends, IsReady, IsEnded, Prepares, MaySend, WaitsFor, LeavesFor};
+
+use crate::application::{Application, GET_RESPONSE, RESPONSE_LIMIT};
+use crate::ready::{Ending, Ready, Waiting};
+use apdu_core::{Command, Header, Status, count};
+use std::mem::swap;
+use t0_core::Verdict;
+
+/// The status word of these two bytes.
+pub(crate) fn word(sw1: u8, sw2: u8) -> Status
+    requires { IsStatusWord (sw1, sw2) }
+    ensures { result ≡ (sw1, sw2) }
+{
+    Status::new(sw1, sw2).unwrap()
+}
+
+fn same_header(first: Header, header: Header) -> bool
+    ensures { result ≡ same_header first header }
+{
+    first.cla == header.cla
+        && first.ins == header.ins
+        && first.p1 == header.p1
+        && first.p2 == header.p2
+}
+
+/// The pending response, if this header asks for it: where its bytes begin, and its status.
+fn pending_for(waiting: &Waiting, kept: &Vec<u8>, header: Header, p3: u8) -> Option<(usize, Status)>
+    ensures { option_map {U = Hand}
+        (λ p. record { bytes = drop p.0 kept.now.items; status = p.1 }) result
+        ≡ pending_for (left_of kept.now.items waiting.now) header p3 }
+{
+    match waiting {
+        Waiting::Nothing => None,
+        Waiting::Fetch { from, status } => {
+            if header.ins == GET_RESPONSE {
+                Some((*from, *status))
+            } else {
+                None
+            }
+        }
+        Waiting::Repeat {
+            header: first,
+            status,
+        } => {
+            if same_header(*first, header) && kept.len() == p3 as usize {
+                Some((0, *status))
+            } else {
+                None
+            }
+        }
+    }
+}
+
+/// The status if `left` bytes of a response with this status are left.
+pub(crate) fn announcing(left: usize, status: Status, cut: u16) -> Status
+    requires { (1 ≤ cut) × (cut ≤ 256) }
+    ensures { (rest : List ℕ) → length rest ≡ left → result ≡ announcing rest status cut }
+{
+    if left == 0 {
+        status
+    } else {
+        word(0x61, (left.min(cut as usize) % 256) as u8)
+    }
+}
+
+/// What is pending if `left` bytes are left, from this place on.
+pub(crate) fn fetch_left(left: usize, from: usize, status: Status) -> Waiting
+    ensures left { (bytes : List ℕ) → length (drop from bytes) ≡ left →
+        left_of bytes result ≡ fetch_left (drop from bytes) status }
+    ensures under { (h : Header) → WaitsFor result h → ⊥ }
+{
+    if left == 0 {
+        Waiting::Nothing
+    } else {
+        Waiting::Fetch { from, status }
+    }
+}
+
+/// The application carries out a command. Returns its status, and whether it takes effect.
+pub(crate) fn carried_out<A: Application>(
+    application: &mut A,
+    command: Command<'_>,
+    response: &mut Vec<u8>,
+) -> (Status, bool)
+    ensures stands { A.standing application.new ≡ A.standing application.old }
+    ensures makes { Makes A.Does (A.standing application.old) command.entry response.new.items
+        result.0 (if result.1 then A.next application.new else A.standing application.old) }
+{
+    wipe(response);
+    let Ok(status) = application.carry_out(command, response) else {
+        wipe(response);
+        return (word(0x65, 0x81), false);
+    };
+    if response.len() > RESPONSE_LIMIT {
+        wipe(response);
+        return (word(0x6F, 0x00), false);
+    }
+    (status, true)
+}
+
+/// Overwrites the bytes with zeros, and drops them.
+pub(crate) fn wipe(bytes: &mut Vec<u8>)
+    ensures { bytes.new.items ≡ [] }
+{
+    bytes.fill(0);
+    bytes.clear();
+}
+
+/// Nothing is sent but a status, and nothing is pending.
+fn refused(status: Status, settles: bool, fresh: bool) -> (Verdict, Ready)
+    ensures refuses { result.0 ≡ Verdict.Refuse status }
+    ensures prepares { (bytes : List ℕ) (header : Header) (p3 cut : ℕ) →
+        Prepares bytes (ask_of header p3 cut) (refusing status) settles fresh result.0 result.1 }
+    ensures under { (h : Header) → LeavesFor result.1 h → ⊥ }
+{
+    let ending = Ending {
+        settles,
+        fresh,
+        left: Waiting::Nothing,
+    };
+    (Verdict::Refuse(status), Ready::Leaves { ending })
+}
+
+/// Hands over a response, from this place on. `ending` is for `6CXX`.
+fn handed(
+    header: Header,
+    p3: u8,
+    cut: u16,
+    bytes: &Vec<u8>,
+    from: usize,
+    status: Status,
+    ending: Ending,
+) -> (Verdict, Ready)
+    requires { (1 ≤ cut) × (cut ≤ 256) }
+    ensures prepares { Prepares bytes.now.items (ask_of header p3 cut)
+        (handed (left_of bytes.now.items ending.left) (drop from bytes.now.items) status
+        (count p3) cut)
+        ending.settles ending.fresh result.0 result.1 }
+    ensures under { (h : Header) → LeavesFor result.1 h → WaitsFor ending.left h }
+{
+    let left = bytes.len().saturating_sub(from);
+    let asked = count(p3) as usize;
+    if left == 0 {
+        return refused(status, ending.settles, ending.fresh);
+    }
+    if left < asked {
+        return (
+            Verdict::Refuse(word(0x6C, left as u8)),
+            Ready::Leaves { ending },
+        );
+    }
+    let rest = left - asked;
+    let ending = Ending {
+        settles: ending.settles,
+        fresh: ending.fresh,
+        left: fetch_left(rest, from + asked, status),
+    };
+    let ready = Ready::Sends {
+        header,
+        p3,
+        cut,
+        from,
+        status: announcing(rest, status, cut),
+        ending,
+    };
+    (Verdict::Send, ready)
+}
+
+/// The verdict on a header, and what is prepared.
+pub(crate) fn judged<A: Application>(
+    application: &mut A,
+    kept: &Vec<u8>,
+    waiting: Waiting,
+    fresh: &mut Vec<u8>,
+    header: Header,
+    p3: u8,
+    cut: u16,
+) -> (Verdict, Ready)
+    requires cut { (1 ≤ cut) × (cut ≤ 256) }
+    requires under { (h : Header) → WaitsFor waiting h → MaySend A.takes h }
+    ensures stands { A.standing application.new ≡ A.standing application.old }
+    ensures judged { Judges (Does A.takes A.Does)
+        (state_of (A.standing application.old) kept.now.items waiting) (ask_of header p3 cut)
+        result.0 (prepared_of (A.standing application.new) (A.next application.new)
+        kept.now.items fresh.new.items result.1) }
+    ensures fits { IsReady A.takes A.Does (A.standing application.new) (A.next application.new)
+        kept.now.items fresh.new.items waiting result.1 }
+    ensures invalid { ins_is_valid header.ins ≡ false → IsRefusal result.0 }
+    ensures under { (h : Header) → LeavesFor result.1 h → MaySend A.takes h }
+{
+    if !header.ins_is_valid() {
+        return refused(word(0x6D, 0x00), false, false);
+    }
+    if let Some(place) = pending_for(&waiting, kept, header, p3) {
+        let ending = Ending {
+            settles: false,
+            fresh: false,
+            left: waiting,
+        };
+        return handed(header, p3, cut, kept, place.0, place.1, ending);
+    }
+    if header.ins == GET_RESPONSE {
+        return refused(word(0x69, 0x85), false, false);
+    }
+    if application.takes_data(header) {
+        return (Verdict::Receive, Ready::Receives { header, p3, cut });
+    }
+    let command = Command::new(header, &[], Some(count(p3))).unwrap();
+    let (status, settles) = carried_out(application, command, fresh);
+    let ending = Ending {
+        settles,
+        fresh: true,
+        left: Waiting::Repeat { header, status },
+    };
+    handed(header, p3, cut, fresh, 0, status, ending)
+}
+
+/// The status after the data of a command, and what is prepared.
+pub(crate) fn took<A: Application>(
+    application: &mut A,
+    kept: &Vec<u8>,
+    waiting: Waiting,
+    fresh: &mut Vec<u8>,
+    ready: Ready,
+    content: &[u8],
+) -> (Status, Ready)
+    requires receives { IsReceiving (prepared_of (A.standing application.old)
+        (A.next application.old) kept.now.items fresh.old.items ready)
+        (λ ask. length content.now ≡ ask.p3) }
+    requires fits { IsReady A.takes A.Does (A.standing application.old) (A.next application.old)
+        kept.now.items fresh.old.items waiting ready }
+    ensures stands { A.standing application.new ≡ A.standing application.old }
+    ensures decided { IsReceiving (prepared_of (A.standing application.old)
+        (A.next application.old) kept.now.items fresh.old.items ready) (λ ask.
+        Decides (Does A.takes A.Does)
+        (state_of (A.standing application.old) kept.now.items waiting) ask.cut
+        (taken_with ask content.now result.0)
+        (prepared_of (A.standing application.new) (A.next application.new) kept.now.items
+        fresh.new.items result.1)) }
+    ensures fits { IsReady A.takes A.Does (A.standing application.new) (A.next application.new)
+        kept.now.items fresh.new.items waiting result.1 }
+    ensures under { (h : Header) → LeavesFor result.1 h → MaySend A.takes h }
+{
+    let Ready::Receives { header, cut, .. } = ready else {
+        unreachable!()
+    };
+    let command = Command::new(header, content, None).unwrap();
+    let (status, settles) = carried_out(application, command, fresh);
+    let left = fresh.len();
+    let ending = Ending {
+        settles,
+        fresh: true,
+        left: fetch_left(left, 0, status),
+    };
+    (announcing(left, status, cut), Ready::Leaves { ending })
+}
+
+/// The byte to send at this index.
+#[inline(always)]
+pub(crate) fn sent_byte(kept: &Vec<u8>, fresh: &Vec<u8>, ready: &Ready, at: u16) -> u8
+    requires { at < length (bytes_of kept.now.items fresh.now.items ready.now) }
+    ensures { slice_get (bytes_of kept.now.items fresh.now.items ready.now) at ≡ Some result }
+{
+    match ready {
+        Ready::Sends { from, ending, .. } => {
+            let place = *from + at as usize;
+            if ending.fresh {
+                fresh[place]
+            } else {
+                kept[place]
+            }
+        }
+        _ => unreachable!(),
+    }
+}
+
+/// The status after the bytes are sent, and what is prepared.
+pub(crate) fn all_sent(ready: Ready) -> (Status, Ready)
+    requires { sends ready ≡ true }
+    ensures ended { IsEnded ready result.0 result.1 }
+    ensures under { (h : Header) → LeavesFor result.1 h → LeavesFor ready h }
+{
+    match ready {
+        Ready::Sends { status, ending, .. } => (status, Ready::Leaves { ending }),
+        _ => unreachable!(),
+    }
+}
+
+/// The answer takes effect.
+pub(crate) fn take_effect<A: Application>(
+    application: &mut A,
+    kept: &mut Vec<u8>,
+    fresh: &mut Vec<u8>,
+    ending: &Ending,
+)
+    ensures { state_of (A.standing application.new) kept.new.items ending.now.left
+        ≡ state_after (A.standing application.old) (A.next application.old) kept.old.items
+        fresh.old.items ending.now }
+{
+    if ending.settles {
+        application.settle();
+    }
+    if ending.fresh {
+        swap(kept, fresh);
+    }
+    wipe(fresh);
+    if matches!(ending.left, Waiting::Nothing) {
+        wipe(kept);
+    }
+}

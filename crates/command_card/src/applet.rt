@@ -1,0 +1,204 @@
+//! The same application at T=1, and for whole commands.
+ghost use Rattle.std.specs.Prelude.{◌≡◌, ◌+◌, ◌≤◌, [], ◌++◌, length, drop, vec_capacity, Some, unwrap_or};
+ghost use Rattle.apdu_core.specs.StatusWord.{IsStatusWord};
+ghost use Rattle.command_card.specs.AtT1.{HandsOut, Responds, DoesAt, status_bytes, may_bring};
+ghost use Rattle.command_card.specs.State.{Nothing_left};
+ghost use Rattle.command_card.specs.View.{after_reset, left_of, state_of};
+
+use crate::answer::{announcing, carried_out, fetch_left, wipe, word};
+use crate::application::{Application, GET_RESPONSE};
+use crate::ready::Waiting;
+use apdu_core::{ApduFault, Command, Status};
+use std::alloc::{AllocError, Global};
+use t1_core::{Applet, Requests};
+
+/// The longest response in bytes: 256 of data, and the status.
+pub const RESPONSE_ROOM: usize = 258;
+
+/// The longest command in bytes: CLA INS P1 P2, Lc, 255 bytes of data, and Le.
+pub const COMMAND_LIMIT: usize = 261;
+
+/// An application above its end of a line at T=1, or for whole commands. It gets each command as
+/// T=0 shows it, so it answers alike on both lines. At most Le bytes of a response come. `61XX`
+/// announces the rest, which GET RESPONSE fetches. Responses are wiped once they are sent.
+#[derive(Drop)]
+pub struct AppletOf<A: Application> {
+    pub(crate) application: A,
+    pub(crate) kept: Vec<u8>,
+    pub(crate) waiting: Waiting,
+}
+
+impl<A: Application> AppletOf<A> {
+    /// Makes the card of an application. Nothing is pending.
+    pub fn new(alloc: Global, application: A) -> AppletOf<A>
+        ensures { state_of (A.standing result.application) result.kept.items result.waiting
+            ≡ record { app = A.standing application; left = Nothing_left } }
+    {
+        AppletOf {
+            application,
+            kept: Vec::new(alloc),
+            waiting: Waiting::Nothing,
+        }
+    }
+
+    /// Returns the application.
+    pub fn application(&self) -> &A
+        ensures { result.now ≡ self.now.application }
+    {
+        &self.application
+    }
+
+    /// Resets the card and its application, at any time between two commands. Nothing is pending
+    /// afterwards.
+    pub fn reset(&mut self)
+        ensures { state_of (A.standing self.new.application) self.new.kept.items self.new.waiting
+            ≡ after_reset A.after_reset (state_of (A.standing self.old.application)
+            self.old.kept.items self.old.waiting) }
+    {
+        self.application.reset();
+        wipe(&mut self.kept);
+        self.waiting = Waiting::Nothing;
+    }
+}
+
+/// Writes a response, for which there is room.
+fn write(content: &[u8], status: Status, response: &mut Vec<u8>)
+    requires empty { response.old.items ≡ [] }
+    requires room { length content.now + 2 ≤ vec_capacity response.old }
+    ensures { response.new.items ≡ content.now ++ status_bytes status }
+{
+    if response.extend_from_slice(content).is_err() {
+        unreachable!()
+    }
+    response.push_reserved(status.sw1());
+    response.push_reserved(status.sw2());
+}
+
+/// Writes at most Le bytes of those from this place on, and their status. Returns what is pending.
+fn hand_out(
+    bytes: &Vec<u8>,
+    from: usize,
+    status: Status,
+    le: Option<u16>,
+    response: &mut Vec<u8>,
+) -> Waiting
+    requires le { may_bring le ≤ 256 }
+    requires room { (response.old.items ≡ []) × (RESPONSE_ROOM ≤ vec_capacity response.old) }
+    ensures { HandsOut (drop from bytes.now.items) status (may_bring le) response.new.items
+        (left_of bytes.now.items result) }
+{
+    let first = from.min(bytes.len());
+    let left = bytes.len() - first;
+    let count = (le.unwrap_or(0) as usize).min(left);
+    write(
+        &bytes[first..first + count],
+        announcing(left - count, status, 256),
+        response,
+    );
+    fetch_left(left - count, first + count, status)
+}
+
+/// Carries out a command, and writes its response.
+pub(crate) fn respond<A: Application>(
+    application: &mut A,
+    kept: &mut Vec<u8>,
+    waiting: Waiting,
+    command: Command<'_>,
+    response: &mut Vec<u8>,
+) -> Waiting
+    requires { (response.old.items ≡ []) × (RESPONSE_ROOM ≤ vec_capacity response.old) }
+    ensures { Responds A.takes A.Does (state_of (A.standing application.old) kept.old.items waiting)
+        command.entry response.new.items
+        (state_of (A.standing application.new) kept.new.items result) }
+{
+    let header = command.header();
+    let le = command.le();
+    if header.ins == GET_RESPONSE {
+        return match waiting {
+            Waiting::Fetch { from, status } => hand_out(kept, from, status, le, response),
+            Waiting::Nothing | Waiting::Repeat { .. } => {
+                write(&[], word(0x69, 0x85), response);
+                Waiting::Nothing
+            }
+        };
+    }
+    let takes = application.takes_data(header);
+    let has_none = command.data().is_empty();
+    let is_wrong = if takes {
+        has_none && le.is_some()
+    } else {
+        !has_none
+    };
+    if is_wrong {
+        write(&[], word(0x67, 0x00), response);
+        return Waiting::Nothing;
+    }
+    let told = if takes {
+        Command::new(header, command.data(), None)
+    } else {
+        Command::new(header, &[], Some(le.unwrap_or(256)))
+    };
+    let (status, settles) = carried_out(application, told.unwrap(), kept);
+    if settles {
+        application.settle();
+    }
+    hand_out(kept, 0, status, le, response)
+}
+
+impl<A: Application> Applet for AppletOf<A> {
+    ghost use Rattle.command_card.specs.State.{CardState};
+
+    const LIMIT: usize = COMMAND_LIMIT;
+
+    ghost LIMIT = { 261 };
+
+    ghost State = { CardState A.State };
+
+    ghost standing = { λ c. state_of (A.standing c.application) c.kept.items c.waiting };
+
+    ghost Does = { DoesAt A.takes A.Does };
+
+    fn carry_out(
+        &mut self,
+        command: &[u8],
+        response: &mut Vec<u8>,
+    ) -> Result<Requests, AllocError> {
+        response.clear();
+        response.reserve(RESPONSE_ROOM)?;
+        match Command::read(command) {
+            Ok(command) => {
+                self.waiting = respond(
+                    &mut self.application,
+                    &mut self.kept,
+                    self.waiting,
+                    command,
+                    response,
+                );
+                if matches!(self.waiting, Waiting::Nothing) {
+                    wipe(&mut self.kept);
+                }
+            }
+            Err(ApduFault::InvalidIns) => write(&[], word(0x6D, 0x00), response),
+            Err(ApduFault::TooShort | ApduFault::BadLength) => {
+                write(&[], word(0x67, 0x00), response);
+            }
+        }
+        Ok(Requests {
+            extensions: 0,
+            multiple: 0,
+            size: None,
+        })
+    }
+
+    #[tactic(auto, using(crate::proofs::AppletLemmas::too_long_does))]
+    fn too_long(&mut self, response: &mut Vec<u8>) -> Result<Requests, AllocError> {
+        response.clear();
+        response.reserve(RESPONSE_ROOM)?;
+        write(&[], word(0x67, 0x00), response);
+        Ok(Requests {
+            extensions: 0,
+            multiple: 0,
+            size: None,
+        })
+    }
+}

@@ -1,0 +1,157 @@
+//! The card that speaks T=0 for an application.
+use crate::answer::{all_sent, judged, sent_byte, take_effect, took, wipe};
+use crate::application::Application;
+use crate::ready::{Ready, Waiting};
+use apdu_core::{Header, Status};
+use std::alloc::Global;
+use std::marker::Model;
+use t0_core::{TpduCard, Verdict};
+
+/// A card over an application (ISO/IEC 7816-3, 10.3 and 12.2). It carries out each command once, at
+/// the header or after the data, and keeps the rest of a response.
+///
+/// - After `61XX` GET RESPONSE (INS `C0`, any class) fetches the rest. If nothing waits, `6985`.
+/// - After `6CXX` the same header with that P3 gets the response, without another step.
+/// - Any other command drops what waits. INS `6X` and `9X` get `6D00`.
+/// - If memory runs out, the status is `6581`; for a response above `RESPONSE_LIMIT` it is `6F00`.
+///   The application is unchanged after both.
+#[derive(Drop)]
+pub struct CommandCard<A: Application> {
+    application: A,
+    kept: Vec<u8>,
+    fresh: Vec<u8>,
+    waiting: Waiting,
+    ready: Ready,
+}
+
+impl<A: Application> Model for CommandCard<A> {
+    ghost use Rattle.apdu_core.specs.declared.header.Header.{Header};
+    ghost use Rattle.command_card.specs.View.{CardOf, IsReady, MaySend, WaitsFor, LeavesFor};
+
+    ghost Value = { CardOf A };
+
+    ghost view = { λ c. record {
+      app = c.application;
+      kept = c.kept.items;
+      fresh = c.fresh.items;
+      waiting = c.waiting;
+      ready = c.ready;
+    } };
+
+    ghost invariant = { λ c. IsReady A.takes A.Does (A.standing c.application)
+        (A.next c.application) c.kept.items c.fresh.items c.waiting c.ready
+        × ((h : Header) → WaitsFor c.waiting h → MaySend A.takes h)
+        × ((h : Header) → LeavesFor c.ready h → MaySend A.takes h) };
+}
+
+impl<A: Application> CommandCard<A> {
+    ghost use Rattle.std.specs.Prelude.{◌≡◌, []};
+    ghost use Rattle.command_card.specs.declared.ready.Waiting.TheVariants as waiting;
+    ghost use Rattle.command_card.specs.declared.ready.Ready.TheVariants as ready;
+
+    /// Makes the card of an application. Nothing is pending.
+    pub fn new(alloc: Global, application: A) -> CommandCard<A>
+        ensures { result ≡ record {
+          app = application;
+          kept = [];
+          fresh = [];
+          waiting = waiting.Nothing;
+          ready = ready.Nothing;
+        } }
+    {
+        CommandCard {
+            application,
+            kept: Vec::new(alloc),
+            fresh: Vec::new(alloc),
+            waiting: Waiting::Nothing,
+            ready: Ready::Nothing,
+        }
+    }
+
+    /// Returns the application.
+    pub fn application(&self) -> &A
+        ensures { result.now ≡ self.now.app }
+    {
+        &self.application
+    }
+}
+
+impl<A: Application> TpduCard for CommandCard<A> {
+    ghost use Rattle.command_card.specs.State.{CardState};
+    ghost use Rattle.command_card.specs.Meaning.{Does};
+    ghost use Rattle.command_card.specs.View.{standing_in, prepared_in, after_reset, MayReceive, MaySend};
+
+    ghost State = { CardState A.State };
+
+    ghost standing = { λ c. standing_in A.standing c };
+
+    ghost Does = { Does A.takes A.Does };
+
+    ghost after_reset = { after_reset A.after_reset };
+
+    ghost MayReceive = { MayReceive A.takes };
+
+    ghost MaySend = { MaySend A.takes };
+
+    ghost prepared = { λ c. prepared_in A.standing A.next c };
+
+    fn header(&mut self, header: Header, p3: u8, cut: u16) -> Verdict {
+        let (verdict, ready) = judged(
+            &mut self.application,
+            &self.kept,
+            self.waiting,
+            &mut self.fresh,
+            header,
+            p3,
+            cut,
+        );
+        self.ready = ready;
+        verdict
+    }
+
+    fn data(&mut self, content: &[u8]) -> Status {
+        let (status, ready) = took(
+            &mut self.application,
+            &self.kept,
+            self.waiting,
+            &mut self.fresh,
+            self.ready,
+            content,
+        );
+        self.ready = ready;
+        status
+    }
+
+    #[inline(always)]
+    fn byte(&self, at: u16) -> u8 {
+        sent_byte(&self.kept, &self.fresh, &self.ready, at)
+    }
+
+    fn end_of_sending(&mut self) -> Status {
+        let (status, ready) = all_sent(self.ready);
+        self.ready = ready;
+        status
+    }
+
+    fn answered(&mut self) {
+        let Ready::Leaves { ending } = self.ready else {
+            unreachable!()
+        };
+        take_effect(
+            &mut self.application,
+            &mut self.kept,
+            &mut self.fresh,
+            &ending,
+        );
+        self.waiting = ending.left;
+        self.ready = Ready::Nothing;
+    }
+
+    fn reset(&mut self) {
+        self.application.reset();
+        wipe(&mut self.kept);
+        wipe(&mut self.fresh);
+        self.waiting = Waiting::Nothing;
+        self.ready = Ready::Nothing;
+    }
+}

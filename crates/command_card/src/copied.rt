@@ -1,0 +1,130 @@
+//! An application that changes at once. The card works on a copy of it.
+ghost use Rattle.std.specs.Prelude.{◌≡◌, [], IfOk};
+ghost use Rattle.command_card.specs.Carrying.{Did, IsOwn};
+
+use crate::application::Application;
+use apdu_core::{Command, Header, Status};
+use std::alloc::AllocError;
+
+/// An application that changes at once when it carries out a command. [`Copied`] makes an
+/// [`Application`] of it.
+pub trait Eager {
+    ghost use Rattle.std.specs.Prelude.{Bool};
+    ghost use Rattle.apdu_core.specs.declared.header.Header.{Header};
+
+    /// The type of the application's states.
+    ghost State: { Type 0 };
+
+    /// The state.
+    ghost standing: { Self → State };
+
+    /// Whether data follow this header to the card.
+    ghost takes: { State → Header → Bool };
+
+    /// What carrying out a command does.
+    ghost Does: { State → Did → State → Type 0 };
+
+    /// The state after a reset.
+    ghost after_reset: { State → State };
+
+    /// Whether data of the terminal follow this header.
+    fn takes_data(&self, header: Header) -> bool
+        ensures { result ≡ takes (standing self.now) header };
+
+    /// Carries out a command, and writes its response of at most `RESPONSE_LIMIT` bytes into
+    /// `response`, which is empty. The status must not be `61XX` or `6CXX`.
+    ///
+    /// # Errors
+    /// - `AllocError`: memory ran out; the card drops this copy, and keeps the application as it
+    ///   was.
+    fn carry_out(
+        &mut self,
+        command: Command<'_>,
+        response: &mut Vec<u8>,
+    ) -> Result<Status, AllocError>
+        requires { response.old.items ≡ [] }
+        ensures { IfOk result (λ status. Does (standing self.old) (record {
+          command = command.entry;
+          response = response.new.items;
+          status = status;
+        }) (standing self.new) × IsOwn status) };
+
+    /// Copies the application.
+    ///
+    /// # Errors
+    /// - `AllocError`: memory ran out.
+    fn copy(&self) -> Result<Self, AllocError>
+        ensures { IfOk result (λ copy. standing copy ≡ standing self.now) };
+
+    /// Resets the application, at any time.
+    fn reset(&mut self)
+        ensures { standing self.new ≡ after_reset (standing self.old) };
+}
+
+/// The application, and its copy after the command that has not settled.
+#[derive(Drop)]
+pub struct Copied<E: Eager + Drop> {
+    current: E,
+    changed: Option<E>,
+}
+
+impl<E: Eager + Drop> Copied<E> {
+    /// Makes an application whose commands take effect when they settle.
+    pub fn new(current: E) -> Copied<E>
+        ensures { result.current ≡ current }
+    {
+        Copied {
+            current,
+            changed: None,
+        }
+    }
+
+    /// Returns the application, as it stands.
+    pub fn current(&self) -> &E
+        ensures { result.now ≡ self.now.current }
+    {
+        &self.current
+    }
+}
+
+impl<E: Eager + Drop> Application for Copied<E> {
+    ghost use Rattle.command_card.specs.Carrying.{next_of};
+
+    ghost State = { E.State };
+
+    ghost standing = { λ c. E.standing c.current };
+
+    ghost next = { λ c. next_of E.standing c.current c.changed };
+
+    ghost takes = { E.takes };
+
+    ghost Does = { E.Does };
+
+    ghost after_reset = { E.after_reset };
+
+    fn takes_data(&self, header: Header) -> bool {
+        self.current.takes_data(header)
+    }
+
+    fn carry_out(
+        &mut self,
+        command: Command<'_>,
+        response: &mut Vec<u8>,
+    ) -> Result<Status, AllocError> {
+        let mut copy = self.current.copy()?;
+        let status = copy.carry_out(command, response)?;
+        self.changed = Some(copy);
+        Ok(status)
+    }
+
+    fn settle(&mut self) {
+        if let Some(changed) = self.changed.take() {
+            self.current = changed;
+        }
+    }
+
+    fn reset(&mut self) {
+        self.changed = None;
+        self.current.reset();
+    }
+}

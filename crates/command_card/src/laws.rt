@@ -1,0 +1,76 @@
+//! Laws of a card of commands and a terminal's exchanges with it. Each function is empty: its
+//! contract is the law.
+ghost use Rattle.std.specs.Prelude.{◌≡◌, ◌≤◌, ◌++◌, List, ℕ, Some, length};
+ghost use Rattle.std.specs.List.{flat_map};
+ghost use Rattle.apdu_core.specs.StatusWord.{StatusWord};
+ghost use Rattle.apdu_core.specs.CommandBytes.{Command};
+ghost use Rattle.t0_core.specs.Meaning.{Prepared, Runs};
+ghost use Rattle.t0_core.specs.Plan.{Course};
+ghost use Rattle.card_terminal.specs.Gathered.{UnitOf, Gathers, dialogues_of};
+ghost use Rattle.card_terminal.specs.Talk.{HaveCuts};
+ghost use Rattle.t0_core.specs.CardHistory.{Leads};
+ghost use Rattle.t0_core.specs.CardSide.{Stage};
+ghost use Rattle.t0_core.specs.History.{Event};
+ghost use Rattle.command_card.specs.Carrying.{Makes};
+ghost use Rattle.command_card.specs.View.{after_reset};
+ghost use Rattle.command_card.specs.AtT1.{Responds, status_bytes};
+ghost use Rattle.command_card.specs.State.{CardState, Nothing_left};
+ghost use Rattle.command_card.specs.Meaning.{Does};
+ghost use Rattle.command_card.specs.Told.{AreAgreed, GathersPart, IsOneStep, told};
+ghost use Rattle.command_card.specs.Deeds.{IsThrough};
+
+use crate::application::Application;
+
+/// A terminal's exchange of one command with Le 00 gathers exactly the application's response and
+/// its status, and the application has made exactly one step. The exchange asks again after `6CXX`,
+/// and fetches by GET RESPONSE after `61XX`. The plans may have any cuts. The premise `AreAgreed`:
+/// the command is the application's own, its data go the right way, and nothing waits for it.
+pub fn an_exchange_gathers_the_response<A: Application>()
+    ensures { (first last : CardState A.State) (c : Command) (units : List UnitOf)
+        (plans : List Course) (gathered : List ℕ) (status : StatusWord) → c.le ≡ Some 256 →
+        AreAgreed A.takes first c → HaveCuts plans →
+        Runs (Does A.takes A.Does) first (flat_map dialogues_of units) plans last →
+        Gathers c units gathered status →
+        Makes A.Does first.app (told (A.takes first.app c.header) c) gathered status last.app
+        × (last.left ≡ Nothing_left) }
+{}
+
+/// The same for any Le, and none: the first Le bytes of the response come, all if there are fewer.
+/// If none are left, the application's status comes; otherwise `61XX`, and the rest is pending.
+pub fn an_exchange_gathers_what_is_asked_for<A: Application>()
+    ensures { (first last : CardState A.State) (c : Command) (units : List UnitOf)
+        (plans : List Course) (gathered : List ℕ) (status : StatusWord) →
+        AreAgreed A.takes first c → HaveCuts plans →
+        Runs (Does A.takes A.Does) first (flat_map dialogues_of units) plans last →
+        Gathers c units gathered status →
+        GathersPart A.takes A.Does first c gathered status last }
+{}
+
+/// At most once, whatever characters the terminal sends and whenever the card is reset. The
+/// application has been through exactly the resets and the commands that whole TPDUs carried, in
+/// order, each once. The TPDUs without a command are known from the line: an INS of `6X` or `9X`,
+/// GET RESPONSE, the repetition after `6CXX`, and those that the card answers `6581` or `6F00`. A
+/// TPDU that a reset cuts off has no effect. The events are those of a `t0_core::CardEnd` over the
+/// card (its clauses `led`), and nothing may be pending at first.
+pub fn each_command_at_most_once<A: Application>()
+    ensures { (first last : CardState A.State) (events : List Event)
+        (prepared : Prepared (CardState A.State)) (stage : Stage) → first.left ≡ Nothing_left →
+        Leads (Does A.takes A.Does) (after_reset A.after_reset) first events last prepared stage →
+        IsThrough A.Does A.after_reset first.app events last.app }
+{}
+
+/// The same answers at T=0 and T=1. What an exchange at T=0 gathers, the application may respond at
+/// T=1, and is then in the same state. What it responds at T=1 is one step of it, by the same
+/// relation `Makes` as at T=0. Le is 00, and the response has at most 256 bytes; a longer one is
+/// fetched at T=1 too.
+pub fn both_lines_answer_alike<A: Application>()
+    ensures from_t0 { (first last : CardState A.State) (c : Command) (units : List UnitOf)
+        (plans : List Course) (gathered : List ℕ) (status : StatusWord) → c.le ≡ Some 256 →
+        AreAgreed A.takes first c → HaveCuts plans →
+        Runs (Does A.takes A.Does) first (flat_map dialogues_of units) plans last →
+        Gathers c units gathered status → length gathered ≤ 256 →
+        Responds A.takes A.Does first c (gathered ++ status_bytes status) last }
+    ensures at_t1 { (old new : CardState A.State) (c : Command) (response : List ℕ) →
+        c.le ≡ Some 256 → AreAgreed A.takes old c → Responds A.takes A.Does old c response new →
+        IsOneStep A.takes A.Does old c response new }
+{}

@@ -1,0 +1,29 @@
+//! An application of your own behind the card's end: it gets whole commands, and returns whole
+//! responses.
+//!
+//! Implement [`Application`], or [`Eager`] for [`Copied`], and put it into a [`CommandCard`]. A
+//! `t0_core::CardEnd` over that speaks T=0: procedure bytes, `61XX` with GET RESPONSE, `6CXX` with
+//! the same header again. [`AppletOf`] is the same application at T=1. A card with a counter:
+//!
+//! ```rust
+//! // crates/command_tests/src/tpdu_tests.rt
+//! CardEnd::new(CommandCard::new(alloc, Copied::new(Counter::new())))
+//! ```
+//!
+//! Proved: each TPDU does what `specs/Meaning` says, whatever the terminal sends. [`laws`] says
+//! what follows: each command is carried out at most once, a terminal gathers the response, and
+//! both lines answer alike.
+#![tactic(auto)]
+
+mod answer;
+mod applet;
+mod application;
+mod card;
+mod copied;
+pub mod laws;
+mod ready;
+
+pub use applet::{AppletOf, RESPONSE_ROOM};
+pub use application::{Application, GET_RESPONSE, RESPONSE_LIMIT};
+pub use card::CommandCard;
+pub use copied::{Copied, Eager};

@@ -27,7 +27,7 @@ def declarations():
     text = re.sub(r"\) \{\n.*?\n\}", ");", text, flags=re.DOTALL)  # a function's body
     text = re.sub(r"\b(GT_MUST_CHECK|GT_FUNCTION|static inline)\b", "", text)
     items = re.findall(r"[^;{}]*(?:\{[^{}]*\}[^;{}]*)?;", text)
-    public = [it.strip() for it in items if not re.search(r"\b(galliumtoad_|gt_bytes_)", it)]
+    public = [it.strip() for it in items if not re.search(r"\bgalliumtoad_|_\(", it)]
     return "\n".join([f"#define {name} ..." for name in numbers] + public)
 
 

@@ -31,42 +31,10 @@ enum { PLAN_CUT = 256 };
 /* The clock cycles of an etu at a reset, and the code of that rate. */
 enum { RESET_CYCLES = 372, RATE_OF_RESET = 0x11 };
 
-static const char USAGE[] =
-    "Usage: serial_card [OPTIONS] TTY TABLE\n"
-    "       serial_card [OPTIONS] --pty TABLE";
-
+/* the lines of serial_card.help */
 static const char HELP[] =
-    "TABLE is a file of lines `app`, `object`, `locked` and `atr`, as for the virtual\n"
-    "reader. The card talks what its answer to reset offers first, T=0 or T=1, or\n"
-    "what PPS asks for.\n"
-    "\n"
-    "Options:\n"
-    "  -v               Shows each character: `> ` to the card, `< ` from it\n"
-    "  --pty            Makes a pseudo terminal, and prints its name for a terminal\n"
-    "  --baud N         The rate at a reset, a 372nd of the card's clock; without\n"
-    "                   this option 9600, for 3.5712 MHz\n"
-    "  --reset LINE     The line that resets the card: cts, dsr, dcd, or none if the\n"
-    "                   only reset is the start; without this option none\n"
-    "  --held-by STATE  The state of that line that holds the card in reset: on or\n"
-    "                   off; without this option on\n"
-    "  --no-echo        The line has no echo; with --pty the terminal gets no echo\n"
-    "  --plan STEPS     How the card answers a TPDU: n is a NULL, o one data byte and\n"
-    "                   a all that are left, in order. The first --plan is for the\n"
-    "                   first TPDU\n"
-    "  --slack MS       The milliseconds that an echo may be late; without this\n"
-    "                   option 200\n"
-    "  -h, --help       Prints help\n"
-    "  -V, --version    Prints the version\n"
-    "\n"
-    "With --pty each opening of the pseudo terminal resets the card. When that is\n"
-    "closed the card waits for the next terminal, until a signal ends the program.\n"
-    "Without --pty the program also ends when the line is gone. Faults are printed\n"
-    "on standard error. The exit status is 1 after a fault, and 2 if the words of\n"
-    "the command line are refused.\n"
-    "\n"
-    "Example:\n"
-    "\n"
-    "  serial_card --pty demo.table\n";
+#include "serial_card_help.h"
+    ;
 
 static const char *const OPTIONS[] = {
     "-v", "--pty", "--baud", "--reset", "--held-by", "--no-echo", "--plan", "--slack", "-h",
@@ -99,7 +67,9 @@ static int tell(const char *fault)
 
 static int refuse_words(const char *fault)
 {
-    fprintf(stderr, "error: %s\n\n%s\n\nFor more information, try '--help'.\n", fault, USAGE);
+    const char *usage = strstr(HELP, "Usage:");
+    fprintf(stderr, "error: %s\n\n%.*s\n\nFor more information, try '--help'.\n", fault,
+            (int)(strstr(usage, "\n\n") - usage), usage);
     return BAD_WORDS;
 }
 
@@ -492,7 +462,7 @@ static int run_options(const struct serial_options *options)
 {
     const size_t wanted = options->makes_line ? 1 : 2;
     if (options->helps) {
-        printf("A card at the other end of a terminal's line\n\n%s\n\n%s", USAGE, HELP);
+        fputs(HELP, stdout);
         return end_output();
     }
     if (options->tells_version) {

@@ -3,13 +3,16 @@
  * It is an IFD handler: pcscd loads it, as bindings/c/README.md says, and then shows a reader with
  * a card in it to every PC/SC client. A card's tables and its answer to reset come from the file
  * that the reader's DEVICENAME names, of `app`, `object`, `locked` and `atr` lines. What clients
- * store lasts until pcscd releases the reader, or the file is moved: that takes the card out, and a
- * file of the same name puts a new card in.
+ * store lasts until pcscd releases the reader, or the file is moved, replaced or changed: that
+ * takes the card out, also inside an exchange. A file of that name puts a new card in, a second
+ * later.
  *
  * The card uses what its answer to reset offers. At T=0 it carries out a TPDU as a reader's
  * firmware does: `61XX` and `6CXX` reach the client, which sends GET RESPONSE or asks again by
  * itself. An Le after data is dropped. At T=1, and for a card without contacts, the card answers
  * whole commands. */
+#define _POSIX_C_SOURCE 200809L
+
 #include "contactless.h"
 #include "table.h"
 
@@ -17,9 +20,16 @@
 
 #include <errno.h>
 #include <string.h>
+#include <sys/stat.h>
+#include <time.h>
 
 /* the most bytes of a file's name, with the NUL after it */
 #define NAME_ROOM 1024
+
+/* The seconds without a card after one was taken out. The look of a client's reset is not enough:
+ * pcscd itself, which looks each 0.4 s, must see that. Otherwise it does not power up the next
+ * card. */
+#define IS_EMPTY_FOR 1
 
 /* as many readers as a pcscd has */
 #define READERS_LIMIT PCSCLITE_MAX_READERS_CONTEXTS
@@ -29,9 +39,11 @@
 struct virtual_reader {
     int is_used, is_powered;
     int has_card;
-    int is_refused;         /* the file is invalid, and must be moved before another is read */
+    int is_refused;         /* the file is invalid, and must change before it is read again */
+    struct timespec taken;  /* when the last card was taken out, or 0 */
     DWORD lun;
     char name[NAME_ROOM];   /* of the table's file */
+    struct stat seen;       /* what told the file from others when it was read */
     struct table table;
 };
 
@@ -59,37 +71,73 @@ static struct virtual_reader *free_reader(void)
     return NULL;
 }
 
-/* Reads the table again if there is a file, and drops it if the file was moved. */
+static int is_same(const struct stat *one, const struct stat *other)
+{
+    return one->st_dev == other->st_dev && one->st_ino == other->st_ino
+        && one->st_size == other->st_size && one->st_mtim.tv_sec == other->st_mtim.tv_sec
+        && one->st_mtim.tv_nsec == other->st_mtim.tv_nsec;
+}
+
+/* Whether the slot was empty for so long that pcscd has seen it. */
+static int was_empty(const struct virtual_reader *reader)
+{
+    struct timespec now;
+    time_t passed;
+    clock_gettime(CLOCK_MONOTONIC, &now);
+    passed = now.tv_sec - reader->taken.tv_sec;
+    return passed > IS_EMPTY_FOR
+        || (passed == IS_EMPTY_FOR && now.tv_nsec >= reader->taken.tv_nsec);
+}
+
+static void take_out(struct virtual_reader *reader)
+{
+    gt_card_free(&reader->table.card);
+    reader->has_card = reader->is_powered = reader->is_refused = 0;
+    clock_gettime(CLOCK_MONOTONIC, &reader->taken);
+}
+
+/* Takes the card out if its file is another one now, or none, and reads the table of a new file. */
 static void look_at_file(struct virtual_reader *reader)
 {
     FILE *file = fopen(reader->name, "r");
-    if (file == NULL) {
-        gt_card_free(&reader->table.card);
-        reader->has_card = reader->is_powered = reader->is_refused = 0;
+    struct stat found;
+    memset(&found, 0, sizeof found);
+    if (file != NULL)
+        fstat(fileno(file), &found);
+    if ((reader->has_card || reader->is_refused) && !is_same(&found, &reader->seen))
+        take_out(reader);
+    if (file == NULL)
         return;
-    }
-    if (!reader->has_card && !reader->is_refused) {
+    if (!reader->has_card && !reader->is_refused && was_empty(reader)) {
+        reader->seen = found;
         reader->has_card = table_read(file, reader->name, &reader->table) == GT_OK;
         reader->is_refused = !reader->has_card;
     }
     fclose(file);
 }
 
-/* The file must be there now, so that a misspelt name shows. */
+/* If there is no file, the slot is empty, and the name is printed, since it may be misspelt. pcscd
+ * refuses a missing file, unless its name has a colon: `table:` may be before it. */
 RESPONSECODE IFDHCreateChannelByName(DWORD Lun, LPSTR DeviceName)
 {
+    static const char before[] = "table:";
     struct virtual_reader *reader = reader_of(Lun) == NULL ? free_reader() : NULL;
-    const size_t n = strlen(DeviceName);
-    if (reader == NULL || n >= NAME_ROOM)
+    const char *name = DeviceName;
+    if (strncmp(name, before, sizeof before - 1) == 0)
+        name += sizeof before - 1;
+    if (reader == NULL || strlen(name) >= NAME_ROOM)
         return IFD_COMMUNICATION_ERROR;
     memset(reader, 0, sizeof *reader);
-    memcpy(reader->name, DeviceName, n);
+    strcpy(reader->name, name);
     errno = 0;
     look_at_file(reader);
-    if (!reader->has_card) {
-        if (!reader->is_refused)
-            fprintf(stderr, "%s: %s\n", DeviceName, strerror(errno));
+    if (reader->is_refused)
         return IFD_COMMUNICATION_ERROR;
+    if (!reader->has_card) {
+        const int why = errno;
+        fprintf(stderr, "%s: %s\n", name, strerror(why));
+        if (why != ENOENT)
+            return IFD_COMMUNICATION_ERROR;
     }
     reader->is_used = 1;
     reader->lun = Lun;
@@ -248,8 +296,12 @@ RESPONSECODE IFDHTransmitToICC(DWORD Lun, SCARD_IO_HEADER SendPci, PUCHAR TxBuff
 {
     struct virtual_reader *reader = reader_of(Lun);
     RESPONSECODE code;
+    if (reader != NULL)
+        look_at_file(reader);
     if (reader == NULL)
         code = IFD_NO_SUCH_DEVICE;
+    else if (!reader->has_card)
+        code = IFD_ICC_NOT_PRESENT;
     else if (!is_offered(reader, SendPci.Protocol))
         code = IFD_PROTOCOL_NOT_SUPPORTED;
     else if (!reader->is_powered)

@@ -96,6 +96,12 @@ enum {
     GT_DONE = 2,            /* of a turn of an exchange or a terminal: it has ended, and has an
                              * answer; at T=1: there is no block to send */
 
+    GT_ALL_SENT = 10,       /* all data to the card have left the terminal, or it has none to
+                             * send */
+    GT_NOT_ALL_SENT = 11,   /* not all have */
+    GT_SENT_UNKNOWN = 12,   /* it is not known: a TPDU or a command went as a whole, or an error has
+                             * ended it */
+
     GT_NULL = -1,           /* a pointer is NULL */
     GT_EMPTY = -2,          /* the handle holds nothing */
     GT_STATE = -3,          /* not now: the handle's state does not allow the call */
@@ -138,7 +144,7 @@ enum {
     /* of a command */
     GT_TOO_SHORT = -50,     /* there are fewer than four bytes */
     GT_BAD_LENGTH = -51,    /* the bytes after the header fit none of the four cases */
-    GT_INVALID_INS = -52,   /* INS is 6X or 9X */
+    GT_INVALID_INS = -52,   /* INS is 6X or 9X, and the bytes after the header fit a case */
 
     /* of whole TPDUs and commands */
     GT_NOT_DUE = -60,       /* no TPDU or command is about to begin */
@@ -174,7 +180,8 @@ enum {
                              * see `gt_t1_new` */
     GT_EXTENSIONS_SPENT = -91, /* in one command the card sent more S(WTX request), and S(IFS
                              * request) of 1 to 254, than `extensions` */
-    GT_ABORTED = -92        /* the card sent S(ABORT request), and the end has answered it */
+    GT_ABORTED = -92        /* the card sent S(ABORT request), and the end has answered it: see
+                             * `gt_t1_fault` */
 };
 
 /* Returns what a code means, in a few words: a string that stays valid. For a number that is no
@@ -184,6 +191,9 @@ GT_FUNCTION const char *gt_text(int32_t code) {
     case GT_OK: return "ok";
     case GT_SENDS: return "sends";
     case GT_DONE: return "done";
+    case GT_ALL_SENT: return "all data sent";
+    case GT_NOT_ALL_SENT: return "not all data sent";
+    case GT_SENT_UNKNOWN: return "data sent unknown";
     case GT_NULL: return "null pointer";
     case GT_EMPTY: return "empty handle";
     case GT_STATE: return "not in this state";
@@ -241,31 +251,146 @@ GT_FUNCTION const char *gt_text(int32_t code) {
     }
 }
 
-/* Returns what a status word of a card here means, in a few words: a string that stays valid. For
- * any other it is "unknown status". The list above "A session" says more of each. Not proved. */
+/* Only for the functions below. The words of a status after a command with this CLA and INS: those
+ * of the first row that fits. `number` gets how far the status is from the row's first. Rows of 'S'
+ * are for class A0, a SIM card. Rows of 'T' are for commands after which 63CX counts tries.
+ *
+ * The rows repeat `crates/apdu_core/src/meaning.rt`, so that no archive holds them. The command
+ * `checks/bindings/statuses --write` writes them. */
+static inline const char *gt_meaning_(uint8_t cla, uint8_t ins, uint16_t status,
+                                      unsigned *number) {
+    static const struct { char of; uint16_t first, last; const char *words; } rows[] = {
+    { 'S', 0x9100, 0x91FF, "normal processing: a command of the card waits, of XX bytes" },
+    { 'S', 0x9200, 0x920F, "normal processing, with X retries of an update" },
+    { 'S', 0x9240, 0x9240, "memory problem" },
+    { 'S', 0x9300, 0x9300, "the SIM application toolkit is busy" },
+    { 'S', 0x9400, 0x9400, "no elementary file is selected" },
+    { 'S', 0x9402, 0x9402, "out of range: invalid address" },
+    { 'S', 0x9404, 0x9404, "file or pattern not found" },
+    { 'S', 0x9408, 0x9408, "the command does not fit the file" },
+    { 'S', 0x9802, 0x9802, "no CHV is initialized" },
+    { 'S', 0x9804, 0x9804, "access condition not fulfilled, CHV wrong, or authentication failed" },
+    { 'S', 0x9808, 0x9808, "in contradiction with the CHV status" },
+    { 'S', 0x9810, 0x9810, "in contradiction with the invalidation status" },
+    { 'S', 0x9840, 0x9840, "CHV wrong, and no try is left, or CHV is blocked" },
+    { 'S', 0x9850, 0x9850, "increase not possible: the maximum is reached" },
+    { 'S', 0x9E00, 0x9EFF, "an error of data download: XX bytes of the response wait" },
+    { 'S', 0x9F00, 0x9F00, "256 bytes of the response wait" },
+    { 'S', 0x9F01, 0x9F01, "1 byte of the response waits" },
+    { 'S', 0x9F00, 0x9FFF, "XX bytes of the response wait" },
+    { 'T', 0x63C0, 0x63C0, "a warning: no try is left" },
+    { 'T', 0x63C1, 0x63C1, "a warning: 1 try is left" },
+    { 'T', 0x63C0, 0x63CF, "a warning: X tries are left" },
+    { 'A', 0x9000, 0x9000, "normal processing" },
+    { 'A', 0x6100, 0x6100, "at least 256 bytes of the response wait" },
+    { 'A', 0x6101, 0x6101, "1 byte of the response waits" },
+    { 'A', 0x6100, 0x61FF, "XX bytes of the response wait" },
+    { 'A', 0x6200, 0x6201, "a warning: what the card holds is unchanged" },
+    { 'A', 0x6200, 0x6280, "a warning: the card has a query of XX bytes" },
+    { 'A', 0x6281, 0x6281, "a warning: part of the data may be corrupted" },
+    { 'A', 0x6282, 0x6282, "a warning: the file or record ended before Le bytes" },
+    { 'A', 0x6283, 0x6283, "a warning: the selected file is deactivated" },
+    { 'A', 0x6284, 0x6284, "a warning: the control information is not formatted by the standard" },
+    { 'A', 0x6285, 0x6285, "a warning: the selected file is in termination state" },
+    { 'A', 0x6286, 0x6286, "a warning: a sensor on the card has no input data" },
+    { 'A', 0x6287, 0x6287, "a warning: a record that is referenced is deactivated" },
+    { 'A', 0x6200, 0x62FF, "a warning: what the card holds is unchanged" },
+    { 'A', 0x6340, 0x6340, "a warning: the comparison was unsuccessful" },
+    { 'A', 0x6381, 0x6381, "a warning: the last write filled up the file" },
+    { 'A', 0x63C0, 0x63CF, "a warning: a counter is at X" },
+    { 'A', 0x6300, 0x63FF, "a warning: what the card holds may have changed" },
+    { 'A', 0x6401, 0x6401, "an error of execution: the card requires a response at once" },
+    { 'A', 0x6400, 0x6400, "an error of execution: what the card holds is unchanged" },
+    { 'A', 0x6400, 0x6480, "an error of execution: the card has a query of XX bytes" },
+    { 'A', 0x6481, 0x6481, "an error of execution: shared access by a channel is denied" },
+    { 'A', 0x6482, 0x6482, "an error of execution: the opening of a channel is denied" },
+    { 'A', 0x6400, 0x64FF, "an error of execution: what the card holds is unchanged" },
+    { 'A', 0x6581, 0x6581, "memory failure" },
+    { 'A', 0x6500, 0x65FF, "an error of execution: what the card holds may have changed" },
+    { 'A', 0x6600, 0x66FF, "an error of execution, for security" },
+    { 'A', 0x6700, 0x6700, "wrong length" },
+    { 'A', 0x6701, 0x6701, "the form of the command is not that of the standard" },
+    { 'A', 0x6702, 0x6702, "wrong length: another Lc was expected" },
+    { 'A', 0x6700, 0x67FF, "an error of checking, of the length" },
+    { 'A', 0x6881, 0x6881, "logical channels are not supported" },
+    { 'A', 0x6882, 0x6882, "secure messaging is not supported" },
+    { 'A', 0x6883, 0x6883, "the last command of the chain was expected" },
+    { 'A', 0x6884, 0x6884, "chaining is not supported" },
+    { 'A', 0x6800, 0x68FF, "an error of checking: a function in CLA is not supported" },
+    { 'A', 0x6981, 0x6981, "the command does not fit the structure of the file" },
+    { 'A', 0x6982, 0x6982, "security status not satisfied" },
+    { 'A', 0x6983, 0x6983, "the method of authentication is blocked" },
+    { 'A', 0x6984, 0x6984, "the reference data are not usable" },
+    { 'A', 0x6985, 0x6985, "conditions of use not satisfied" },
+    { 'A', 0x6986, 0x6986, "the command is not allowed: there is no current elementary file" },
+    { 'A', 0x6987, 0x6987, "expected data objects for secure messaging are missing" },
+    { 'A', 0x6988, 0x6988, "data objects for secure messaging are incorrect" },
+    { 'A', 0x6900, 0x69FF, "an error of checking: the command is not allowed" },
+    { 'A', 0x6A80, 0x6A80, "wrong data field" },
+    { 'A', 0x6A81, 0x6A81, "the function is not supported" },
+    { 'A', 0x6A82, 0x6A82, "file or application not found" },
+    { 'A', 0x6A83, 0x6A83, "record not found" },
+    { 'A', 0x6A84, 0x6A84, "not enough memory space" },
+    { 'A', 0x6A85, 0x6A85, "Lc is inconsistent with the structure of the objects" },
+    { 'A', 0x6A86, 0x6A86, "wrong P1-P2" },
+    { 'A', 0x6A87, 0x6A87, "Lc is inconsistent with P1-P2" },
+    { 'A', 0x6A88, 0x6A88, "referenced data not found" },
+    { 'A', 0x6A89, 0x6A89, "the file exists already" },
+    { 'A', 0x6A8A, 0x6A8A, "the name of the application exists already" },
+    { 'A', 0x6A00, 0x6AFF, "an error of checking: wrong parameters" },
+    { 'A', 0x6B00, 0x6B00, "wrong P1-P2" },
+    { 'A', 0x6C00, 0x6C00, "wrong Le: ask for 256 bytes" },
+    { 'A', 0x6C01, 0x6C01, "wrong Le: ask for 1 byte" },
+    { 'A', 0x6C00, 0x6CFF, "wrong Le: ask for XX bytes" },
+    { 'A', 0x6D00, 0x6D00, "INS not supported" },
+    { 'A', 0x6E00, 0x6E00, "CLA not supported" },
+    { 'A', 0x6F00, 0x6F00, "no precise diagnosis" },
+    { 'A', 0x6B00, 0x6FFF, "an error of checking" },
+    { 'A', 0x0000, 0xFFFF, "no known meaning" },
+    };
+    const bool tries = cla < 0x80 && (ins == 0x20 || ins == 0x21 || (ins >= 0x24 && ins <= 0x26) ||
+                                      ins == 0x28 || ins == 0x2C || ins == 0x2D || ins == 0x82);
+    size_t i = 0;
+    while (status < rows[i].first || status > rows[i].last || (rows[i].of == 'S' && cla != 0xA0) ||
+           (rows[i].of == 'T' && !tries))
+        i++;
+    *number = (unsigned)(status - rows[i].first);
+    return rows[i].words;
+}
+
+/* Returns what a status word means, in a few words (ISO/IEC 7816-4, 5.1.3): a string that stays
+ * valid. An X or XX in it is a number, which `gt_status_words` writes out. For a number that is no
+ * known status it is "no known meaning". The list above "A session" says more of the statuses of a
+ * card here. Not proved. */
 GT_FUNCTION const char *gt_status_text(uint16_t status) {
-    switch (status >> 8) {
-    case 0x61: return "more data available";
-    case 0x6C: return "fewer data than asked for";
-    default: break;
+    unsigned number;
+    return gt_meaning_(0, 0, status, &number);
+}
+
+/* Writes the same after a command with this CLA and INS, with its number: 63C2 after VERIFY is "a
+ * warning: 2 tries are left". If the command is not known, CLA and INS are 0.
+ *
+ * `words` gets the text and a 0, cut to `room`; GT_WORDS_ROOM is always enough. Nothing is written
+ * if it is NULL. Returns the length of the whole text, without the 0. Not proved. */
+GT_FUNCTION size_t gt_status_words(uint8_t cla, uint8_t ins, uint16_t status, char *words,
+                                   size_t room) {
+    char part[8];
+    unsigned number;
+    size_t at, len = 0;
+    const char *text = gt_meaning_(cla, ins, status, &number);
+    if (!words) room = 0;
+    for (; *text; text++) {
+        at = sizeof part;
+        if (*text != 'X')
+            part[--at] = *text;
+        else if (text[1] != 'X') /* the number's last digit */
+            do part[--at] = (char)('0' + number % 10);
+            while ((number /= 10) > 0);
+        for (; at < sizeof part; at++, len++)
+            if (len + 1 < room) words[len] = part[at];
     }
-    switch (status) {
-    case 0x9000: return "ok";
-    case 0x6581: return "memory failure";
-    case 0x6700: return "wrong length";
-    case 0x6883: return "last command of the chain expected";
-    case 0x6884: return "chaining not supported";
-    case 0x6982: return "locked";
-    case 0x6985: return "conditions of use not satisfied";
-    case 0x6A80: return "wrong data";
-    case 0x6A82: return "application not found";
-    case 0x6A84: return "not enough memory space";
-    case 0x6A86: return "wrong P1-P2";
-    case 0x6A88: return "data object not found";
-    case 0x6D00: return "INS not supported";
-    case 0x6E00: return "CLA not supported";
-    default: return "unknown status";
-    }
+    if (room) words[len < room ? len : room - 1] = 0;
+    return len;
 }
 
 /* ---- Types ----------------------------------------------------------------------------------- */
@@ -288,7 +413,8 @@ enum {
     GT_PLANS_LIMIT = 1048576,   /* the most plans that wait at a card, or in a session */
     GT_BLOCK_LIMIT = 258,       /* the most bytes of a block of T=1: NAD, PCB, LEN, 254 and LRC */
     GT_T1_TRIES = 4,            /* the usual `tries` of `gt_t1_new`; EMV has 2 */
-    GT_T1_EXTENSIONS = 16       /* its usual `extensions` */
+    GT_T1_EXTENSIONS = 1000,    /* its usual `extensions`: a key may take a card minutes */
+    GT_WORDS_ROOM = 80          /* room for any text of `gt_status_words` */
 };
 
 /* One object of a list. A tag is the number that its one to three bytes make: 0x50, 0x5F20,
@@ -405,18 +531,21 @@ typedef struct {
  * The most bytes that a handle asks of the heap at once, without the heap's own needs for each
  * block:
  *
- * - an exchange   256 and its limit on the response, which is 16,384 if none is given, and the
- *                 bytes of the command's data: at most 16,895
- * - a terminal    296. The first operation adds its limit on a response, 16,384 if none is given,
+ * - an exchange   272 and its limit on the response, which is 16,384 if none is given, and the
+ *                 bytes of the command's data: at most 16,911
+ * - a terminal    312. The first operation adds its limit on a response, 16,384 if none is given,
  *                 and the data that it sends: an identifier, a value or a command. That part grows
  *                 with the longest data so far; the old copy stays until the new one is made
  * - by commands   an exchange and a terminal take room for the response and the data once more. A
  *                 terminal frees the other room with the first response
- * - a card        10,291 with one application and one object of 3 bytes, and 26,938 together with a
- *                 gt_exchange of SELECT or GET DATA; 4,240,920 with all that a card can hold
- * - gt_t1         368, and the bytes of its command, and up to three times those of the response
- * - a session     26,681 with that small card, for a select, a put of 3 bytes and a get; 43,059 for
- *                 a put and a get of 8,192 bytes. If somebody listens, 26,937 and 116,784
+ * - a card        10,299 with one application and one object of 3 bytes, and 26,962 together with a
+ *                 gt_exchange of SELECT or GET DATA; 4,240,928 with all that a card can hold. At
+ *                 T=1 a command adds at most 770, the bytes of the value that it stores, and twice
+ *                 those of the longest command since gt_card_t1_begin, which counts as 261 at most
+ * - gt_t1         368, and the bytes of its command, and up to three times those of the response;
+ *                 while a block is sent, its bytes too, at most 258
+ * - a session     26,689 with that small card, for a select, a put of 3 bytes and a get; 43,067 for
+ *                 a put and a get of 8,192 bytes. If somebody listens, 26,945 and 116,792
  * - plans         at most 192 for each of the most plans that waited at once since none did; and
  *                 one for each letter, until the next plan is taken
  *
@@ -426,13 +555,14 @@ typedef struct {
  * - an exchange   its command and the response
  * - a terminal    what it sent and received, until a later operation overwrites it, or
  *                 gt_terminal_reset
- * - gt_t1         its command, the response and the card's last block, until the next ones
- *                 overwrite them, or gt_t1_reset
+ * - gt_t1         its command and the response, until the next command begins, or gt_t1_reset; the
+ *                 bytes of a block, until it is taken or dropped
  * - a card        each value, until another is stored under its tag; the bytes of a TPDU, until its
  *                 second status byte; those of a chain, until it is stored, refused or dropped. It
- *                 is proved that the last two are then cleared. At T=1 also the terminal's last
- *                 block, the bytes of a command so far and the response, until the next ones
- *                 overwrite them
+ *                 is proved that the last two are then cleared. At T=1 also those of a block, until
+ *                 it is taken or dropped; of a command, until it is carried out or dropped; and of
+ *                 a response, until it is dropped. The next command drops a response. S(ABORT),
+ *                 S(RESYNCH) and gt_card_reset drop all three
  * - a session     those of its card; the last answer and, if somebody listens, its characters,
  *                 until the next operation is carried out, or gt_session_end */
 typedef struct { bool live; void *held; } gt_exchange;
@@ -472,6 +602,7 @@ int32_t galliumtoad_exchange_answered(gt_exchange *e, const uint8_t *answer, siz
 int32_t galliumtoad_exchange_apdu(gt_exchange *e, uint8_t *apdu, size_t room, size_t *n,
                                   size_t *most);
 int32_t galliumtoad_exchange_responded(gt_exchange *e, const uint8_t *response, size_t n);
+int32_t galliumtoad_exchange_data_sent(gt_exchange *e);
 void galliumtoad_exchange_free(gt_exchange *e);
 int32_t galliumtoad_terminal_new(gt_terminal *t);
 int32_t galliumtoad_terminal_new_within(gt_terminal *t, size_t limit);
@@ -493,9 +624,10 @@ int32_t galliumtoad_terminal_apdu(gt_terminal *t, uint8_t *apdu, size_t room, si
 int32_t galliumtoad_terminal_responded(gt_terminal *t, const uint8_t *response, size_t n);
 int32_t galliumtoad_terminal_answer(gt_terminal *t, uint16_t *status,
                                     uint8_t *data, size_t room, size_t *len);
+int32_t galliumtoad_terminal_data_sent(gt_terminal *t);
 void galliumtoad_terminal_free(gt_terminal *t);
 int32_t galliumtoad_t1_new(gt_t1 *t, uint8_t edc, uint8_t ifsc, uint8_t tries,
-                           uint8_t extensions, size_t limit);
+                           uint16_t extensions, size_t limit);
 int32_t galliumtoad_t1_begin(gt_t1 *t, const uint8_t *apdu, size_t n);
 int32_t galliumtoad_t1_send_bytes(gt_t1 *t, uint8_t *bytes, size_t room, size_t *n,
                                   uint8_t *waits);
@@ -888,6 +1020,17 @@ GT_MUST_CHECK int32_t gt_exchange_responded(gt_exchange *e, const uint8_t *respo
     return galliumtoad_exchange_responded(e, gt_bytes_(response), n);
 }
 
+/* Returns whether all data of the command have left the terminal. A card may end a TPDU with any
+ * status before it takes the data: then a status 61XX, 62XX, 63XX or 9XXX is no success.
+ *
+ * - GT_ALL_SENT: they have, or the command has no data.
+ * - GT_NOT_ALL_SENT: they have not, and won't once the exchange has ended.
+ * - GT_SENT_UNKNOWN: a TPDU or a command went as a whole, or an error has ended the last. */
+GT_MUST_CHECK int32_t gt_exchange_data_sent(gt_exchange *e) {
+    if (!e) return GT_NULL;
+    return galliumtoad_exchange_data_sent(e);
+}
+
 /* Frees the exchange, at any time. The handle then holds nothing, and may be used again. Does
  * nothing for a handle that holds nothing, or for NULL. */
 GT_FUNCTION void gt_exchange_free(gt_exchange *e) {
@@ -1054,6 +1197,14 @@ GT_MUST_CHECK int32_t gt_terminal_answer(gt_terminal *t, uint16_t *status,
     return galliumtoad_terminal_answer(t, status, data ? data : &none, room, len);
 }
 
+/* Returns whether all data of the operation's commands so far have left the terminal, as
+ * `gt_exchange_data_sent`. If the card ends a piece of a put before it takes the piece,
+ * GT_NOT_ALL_SENT stays for the rest of the operation. GT_STATE: no operation has started. */
+GT_MUST_CHECK int32_t gt_terminal_data_sent(gt_terminal *t) {
+    if (!t) return GT_NULL;
+    return galliumtoad_terminal_data_sent(t);
+}
+
 /* Frees the terminal, at any time. The handle then holds nothing, and may be used again. Does
  * nothing for a handle that holds nothing, or for NULL. */
 GT_FUNCTION void gt_terminal_free(gt_terminal *t) {
@@ -1081,17 +1232,27 @@ GT_FUNCTION void gt_terminal_free(gt_terminal *t) {
  * times `waits` after the last one sent, each further one within CWT. The next block goes BGT after
  * the last of them at the earliest.
  *
- * Before the first command the end sends S(IFS request) with 254. It keeps NAD 00, and never sends
- * S(RESYNCH request): if it gives up, reset card and end (profile). */
+ * Before the first command the end sends S(IFS request) with 254. If `tries` + 1 receptions bring
+ * no response to that, it sends the command without one, with all its tries. In either case it
+ * takes blocks of 254 bytes (profile). It keeps NAD 00, and never sends S(RESYNCH request): if it
+ * gives up, reset card and end (profile).
+ *
+ * R-blocks of both ends say why: 0 acknowledges, 1 is a wrong LRC, and 2 any other error, a missed
+ * block too. Both ends take any value. */
 
 /* Makes an end, as after a reset of the card, in a handle that holds nothing. `edc` and `ifsc` are
  * those of `gt_atr.t1`; only LRC is supported (profile).
  *
  * The end survives `tries` fruitless receptions since the last progress, and gives up at one more.
- * Fruitless are a time-out, an invalid block, and a block that brings no progress. A request of the
- * card that the end grants is not counted. It grants `extensions` S(WTX request) and S(IFS request)
- * in one command. It takes responses of at most `limit` bytes, status included. GT_T1_TRIES,
- * GT_T1_EXTENSIONS and GT_ANSWER_LIMIT suit short commands.
+ * Progress is the next field of the response, R that acknowledges a field of the command, or the
+ * end of S(IFS request). Fruitless are a time-out, an invalid block, and a block that brings no
+ * progress, R that asks for a block too. So a lost block of the end costs two tries: the time-out,
+ * and the card's R. A lost block of the card costs one. A request of the card that the end grants
+ * is not counted.
+ *
+ * It grants `extensions` S(WTX request) and S(IFS request) in one command, 0 to 65,535. It takes
+ * responses of at most `limit` bytes, status included. GT_T1_TRIES, GT_T1_EXTENSIONS and
+ * GT_ANSWER_LIMIT suit short commands.
  *
  * - GT_OK.
  * - GT_STATE: the handle holds an end, which stays as it was.
@@ -1100,7 +1261,7 @@ GT_FUNCTION void gt_terminal_free(gt_terminal *t) {
  *
  * It never returns GT_EMPTY. */
 GT_MUST_CHECK int32_t gt_t1_new(gt_t1 *t, uint8_t edc, uint8_t ifsc, uint8_t tries,
-                                uint8_t extensions, size_t limit) {
+                                uint16_t extensions, size_t limit) {
     if (!t) return GT_NULL;
     return galliumtoad_t1_new(t, edc, ifsc, tries, extensions, limit);
 }
@@ -1175,6 +1336,10 @@ GT_MUST_CHECK int32_t gt_t1_response(gt_t1 *t, uint8_t *response, size_t room, s
 /* Returns why the end gave up: `cause` gets GT_TRIES_SPENT, GT_EXTENSIONS_SPENT, GT_ABORTED or
  * GT_TOO_LONG. `outcome` gets what is known of the command: GT_NOT_CARRIED_OUT, GT_UNKNOWN or
  * GT_IN_PART. From then on a command can start only after `gt_t1_reset`, after a reset of the card.
+ *
+ * After S(ABORT request) `gt_t1_send_bytes` gives S(ABORT response). The end gives up with
+ * GT_ABORTED at the next reception, whatever that is, or `gt_t1_missed`. If the first block of a
+ * response is already too long, the outcome of GT_TOO_LONG is GT_UNKNOWN, since no part is kept.
  *
  * - GT_OK.
  * - GT_NOT_FOUND: it has not given up. */

@@ -12,7 +12,8 @@
  * - None of them is called from within another. None may call the library, throw or longjmp: the
  *   library has no unwind tables, and the call in progress would be lost.
  * - They are hidden: a shared library that is linked with the archive keeps its three to itself,
- *   and calls no others.
+ *   and calls no others. Link it with `-Wl,--exclude-libs,libgalliumtoad.a`, as pkg-config and
+ *   CMake do, so that it exports nothing of the archive.
  * - Whatever threads call the library call them, and another thread may give a block back than the
  *   one that took it. If several threads use handles at once, the three must be safe in several
  *   threads at once, as malloc and free are.

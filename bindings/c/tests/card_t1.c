@@ -188,13 +188,13 @@ static void errors(void) {
     bytes[n - 1] ^= 1;
     CHECK(gt_card_t1_receive_bytes(&c, bytes, n, &taken), GT_SENDS);
     CHECK(taken, n);
-    sends(&c, 0x80, NULL, 0);
+    sends(&c, 0x81, NULL, 0);
     CHECK(gt_card_t1_receive_bytes(&c, bytes, 7, &taken), GT_OK);
     CHECK(taken, 7);
     CHECK(gt_card_t1_missed(&c), GT_SENDS);
-    sends(&c, 0x80, NULL, 0);
+    sends(&c, 0x82, NULL, 0);
     comes(&c, 0x40, SELECT, sizeof SELECT);
-    sends(&c, 0x80, NULL, 0);
+    sends(&c, 0x82, NULL, 0);
     comes(&c, 0x00, SELECT, sizeof SELECT);
     sends(&c, 0x00, NAME, sizeof NAME);
     comes(&c, 0x80, NULL, 0);
@@ -202,7 +202,7 @@ static void errors(void) {
     comes(&c, 0x40, piece, sizeof piece);
     sends(&c, 0x40, ok, 2);
     comes(&c, 0x40, piece, sizeof piece);
-    sends(&c, 0x80, NULL, 0);
+    sends(&c, 0x82, NULL, 0);
     comes(&c, 0x90, NULL, 0);
     sends(&c, 0x40, ok, 2);
     comes(&c, 0x00, last, sizeof last);

@@ -73,10 +73,13 @@ static void select_with_fetch(void) {
     memset(copy, 0, sizeof copy); /* the exchange has its own copy */
     sends(&e, command, 5);
     takes(&e, &one, 1);
+    CHECK(gt_exchange_data_sent(&e), GT_NOT_ALL_SENT);
     sends(&e, command + 5, 1);
+    CHECK(gt_exchange_data_sent(&e), GT_NOT_ALL_SENT);
     takes(&e, &null, 1);
     takes(&e, &all, 1);
     sends(&e, command + 6, 4);
+    CHECK(gt_exchange_data_sent(&e), GT_ALL_SENT);
     takes(&e, more, sizeof more);
     sends(&e, fetch, sizeof fetch);
     takes(&e, answer, sizeof answer);
@@ -85,6 +88,26 @@ static void select_with_fetch(void) {
     CHECK(len, 2);
     CHECK_BYTES(data, "\x70\x00", 2);
     gt_exchange_free(&e);
+}
+
+/* A card may end a command before it takes the data. */
+static void data_that_have_not_left(void) {
+    static const uint8_t put[] = { 0x00, 0xDA, 0x5F, 0x20, 0x02, 0x50, 0x00 };
+    static const uint8_t all = 0xDA, one = 0x25, ok[] = { 0x90, 0x00 };
+    for (int moved = 0; moved <= 2; moved++) {
+        gt_exchange e = GT_INIT;
+        uint8_t byte;
+        CHECK(gt_exchange_data_sent(&e), GT_EMPTY);
+        CHECK(gt_exchange_start(&e, put, sizeof put), GT_OK);
+        sends(&e, put, 5);
+        if (moved > 0) takes(&e, moved == 1 ? &one : &all, 1);
+        sends(&e, put + 5, (size_t)moved);
+        takes(&e, ok, sizeof ok);
+        CHECK(gt_exchange_next(&e, &byte), GT_DONE);
+        CHECK(gt_exchange_data_sent(&e), moved == 2 ? GT_ALL_SENT : GT_NOT_ALL_SENT);
+        gt_exchange_free(&e);
+    }
+    CHECK(gt_exchange_data_sent(NULL), GT_NULL);
 }
 
 static void faults_of_the_line(void) {
@@ -98,6 +121,7 @@ static void faults_of_the_line(void) {
     CHECK(gt_exchange_take(&e, 0x90), GT_NOT_LISTENING);
     sends(&e, GET, sizeof GET);
     CHECK(gt_exchange_take(&e, 0x00), GT_BAD_PROCEDURE);
+    CHECK(gt_exchange_data_sent(&e), GT_SENT_UNKNOWN);
     CHECK(gt_exchange_next(&e, &byte), GT_FAILED);
     CHECK(gt_exchange_take(&e, 0x90), GT_AFTER_END);
     CHECK(gt_exchange_answer(&e, &status, NULL, 0, &len), GT_STATE);
@@ -133,6 +157,7 @@ static void what_is_no_command(void) {
 int main(void) {
     get_data_again_with_6c();
     select_with_fetch();
+    data_that_have_not_left();
     faults_of_the_line();
     what_is_no_command();
     return check_result("exchange");

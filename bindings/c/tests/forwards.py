@@ -11,7 +11,7 @@ import sys
 ARCHIVE = r"\n(\w+) galliumtoad_(\w+)\(([^)]*)\);"
 HEADER = r"\nGT_(?:FUNCTION|MUST_CHECK) (\w+|const char \*)\s?gt_(\w+)\(([^)]*)\) \{"
 # The archive has no function with these names, except the one for the version in forwards.c.
-ALONE = {"text", "status_text", "is_object", "version_fits", "version"}
+ALONE = {"text", "status_text", "status_words", "is_object", "version_fits", "version"}
 # One buffer may be input and output of these, so they pass on a copy of at most these sizes.
 COPIES = {"card_tpdu": "GT_TPDU_LIMIT", "card_apdu": "GT_APDU_LIMIT"}
 HANDLE = r"typedef struct \{ bool live; void \*held; \} (gt_\w+);"

@@ -12,7 +12,7 @@ void *__wrap_malloc(size_t n);
 void *__wrap_realloc(void *block, size_t n);
 void __wrap_free(void *block);
 
-enum { MOST = 4096, PIECE = 255, LONG = 600, FRONT = 4 };
+enum { MOST = 4096, PIECE = 255, LONG = 600, FRONT = 4, FIELD = 254 };
 enum { TAG = 0x5F20, TEMPLATE = 0x70, LOCKED = 0x50 };
 
 static const uint8_t AID[] = { 0xA0, 0x00, 0x00, 0x00, 0x03, 0x10, 0x10 };
@@ -266,40 +266,200 @@ static void in_a_session(gt_card *c) {
     CHECK(select_app(c), 0x610B);
 }
 
-/* Gives the terminal's end at T=1 this block from the card. */
-static void comes(gt_t1 *t, uint8_t pcb, const uint8_t *info, size_t n) {
-    uint8_t block[GT_BLOCK_LIMIT] = { 0 };
-    size_t i, taken = 0;
+/* Writes a block of T=1 with this PCB and field, and returns its length. */
+static size_t block_of(uint8_t block[GT_BLOCK_LIMIT], uint8_t pcb, const uint8_t *info, size_t n) {
+    size_t i;
+    block[0] = 0;
     block[1] = pcb;
     block[2] = (uint8_t)n;
     memcpy(block + 3, info, n);
+    block[n + 3] = 0;
     for (i = 0; i < n + 3; i++) block[n + 3] ^= block[i];
-    CHECK(gt_t1_receive_bytes(t, block, n + 4, &taken), GT_SENDS);
+    return n + 4;
 }
 
-/* An end at T=1 keeps its command and the response until it is reset or freed. */
-static void at_t1(bool is_reset) {
+/* Gives the terminal's end at T=1 this block from the card. */
+static void comes(gt_t1 *t, uint8_t pcb, const uint8_t *info, size_t n) {
+    uint8_t block[GT_BLOCK_LIMIT];
+    size_t taken = 0;
+    n = block_of(block, pcb, info, n);
+    CHECK(gt_t1_receive_bytes(t, block, n, &taken), GT_SENDS);
+}
+
+/* An end at T=1 whose command was the value, and whose response is 250 bytes of it. */
+static void answered(gt_t1 *t) {
     static const uint8_t ifs[] = { 0xFE };
     uint8_t block[GT_BLOCK_LIMIT], waits = 0;
-    gt_t1 t = GT_INIT;
     size_t n = 0;
-    CHECK(gt_t1_new(&t, GT_LRC, 254, 4, 16, GT_ANSWER_LIMIT), GT_OK);
-    CHECK(gt_t1_begin(&t, secret, PIECE), GT_OK);
+    CHECK(gt_t1_new(t, GT_LRC, 254, 4, 16, GT_ANSWER_LIMIT), GT_OK);
+    CHECK(gt_t1_begin(t, secret, PIECE), GT_OK);
     CHECK(held(), 1);
-    comes(&t, 0xE1, ifs, 1);
-    CHECK(gt_t1_send_bytes(&t, block, sizeof block, &n, &waits), GT_OK);
+    comes(t, 0xE1, ifs, 1);
+    CHECK(gt_t1_send_bytes(t, block, sizeof block, &n, &waits), GT_OK);
     CHECK(held(), 1);
-    comes(&t, 0x90, ifs, 0);
-    comes(&t, 0x20, secret, 200);
-    CHECK(held() > 1, 1);
-    comes(&t, 0x40, secret, 50);
+    comes(t, 0x90, ifs, 0);
+    comes(t, 0x20, secret, 200);
+    CHECK(held(), 2);
+    comes(t, 0x40, secret, 50);
+    CHECK(held(), 2);
     CHECK(given_back, 0);
+}
+
+/* An end at T=1 keeps its command and the response until it is reset or freed .. */
+static void at_t1(bool is_reset) {
+    gt_t1 t = GT_INIT;
+    answered(&t);
     if (is_reset) {
         CHECK(gt_t1_reset(&t), GT_OK);
         GONE();
     }
     gt_t1_free(&t);
     GONE();
+}
+
+/* .. or begins another command, however short. Of a block that it drops it keeps nothing. */
+static void next_at_t1(void) {
+    uint8_t block[GT_BLOCK_LIMIT];
+    gt_t1 t = GT_INIT;
+    size_t taken = 0, n;
+    answered(&t);
+    CHECK(gt_t1_begin(&t, ANN, sizeof ANN), GT_OK);
+    GONE();
+    n = block_of(block, 0x00, secret, 200);
+    CHECK(gt_t1_receive_bytes(&t, block, 100, &taken), GT_OK);
+    CHECK(held(), 1);
+    CHECK(gt_t1_missed(&t), GT_OK);
+    GONE();
+    block[n - 1] ^= 1;
+    CHECK(gt_t1_receive_bytes(&t, block, n, &taken), GT_SENDS);
+    GONE();
+    comes(&t, 0x00, ANN, sizeof ANN);
+    CHECK(gt_t1_response(&t, block, sizeof block, &n), GT_OK);
+    CHECK(n, sizeof ANN);
+    GONE();
+    gt_t1_free(&t);
+    GONE();
+}
+
+static uint8_t number; /* in the PCB of the next I-block to the card: N(S) */
+
+/* Gives the card at T=1 this block. Returns the last two bytes of the field that it answers with,
+ * or the PCB if the field is shorter. */
+static unsigned hears(gt_card *c, uint8_t pcb, const uint8_t *info, size_t n) {
+    uint8_t block[GT_BLOCK_LIMIT];
+    size_t taken = 0;
+    n = block_of(block, pcb, info, n);
+    CHECK(gt_card_t1_receive_bytes(c, block, n, &taken), GT_SENDS);
+    CHECK(gt_card_t1_send_bytes(c, block, sizeof block, &n), GT_OK);
+    return n < 6 ? block[1] : block[n - 3] * 256u + block[n - 2];
+}
+
+static unsigned last(gt_card *c, const uint8_t *info, size_t n) {
+    const uint8_t pcb = number;
+    number ^= 0x40;
+    return hears(c, pcb, info, n);
+}
+
+static void chained(gt_card *c, const uint8_t *info, size_t n) {
+    const uint8_t pcb = number | 0x20;
+    number ^= 0x40;
+    CHECK(hears(c, pcb, info, n), number ? 0x90 : 0x80);
+}
+
+/* Sends a put at T=1, in one block or two, and returns the status. */
+static unsigned t1_put(gt_card *c, unsigned tag, const uint8_t *value, size_t n) {
+    uint8_t bytes[5 + PIECE] = { 0x00, 0xDA };
+    bytes[2] = (uint8_t)(tag / 256);
+    bytes[3] = (uint8_t)(tag % 256);
+    bytes[4] = (uint8_t)n;
+    memcpy(bytes + 5, value, n);
+    n += 5;
+    if (n <= FIELD) return last(c, bytes, n);
+    chained(c, bytes, FIELD);
+    return last(c, bytes + FIELD, n - FIELD);
+}
+
+/* A value at T=1 is in one block alone, and in the response to a get until that is dropped. */
+static void t1_stored(gt_card *c) {
+    static const uint8_t get[] = { 0x00, 0xCA, 0x5F, 0x20, 0x00 };
+    CHECK(t1_put(c, TAG, secret, PIECE), 0x9000);
+    CHECK(held(), 1);
+    CHECK(t1_put(c, TAG, ANN, sizeof ANN), 0x9000);
+    GONE();
+    CHECK(t1_put(c, LOCKED, secret, PIECE), 0x6982);
+    GONE();
+    CHECK(t1_put(c, TEMPLATE, secret, 100), 0x6A80);
+    GONE();
+    CHECK(t1_put(c, TAG, secret, 200), 0x9000);
+    CHECK(last(c, get, sizeof get), 0x9000);
+    CHECK(held(), 2);
+    CHECK(hears(c, 0xC2, get, 0), 0xE2);
+    CHECK(held(), 1);
+    CHECK(last(c, get, sizeof get), 0x9000);
+    CHECK(held(), 2);
+    CHECK(t1_put(c, TAG, ANN, sizeof ANN), 0x9000);
+    GONE();
+}
+
+/* A command at T=1 that S(ABORT) or S(RESYNCH) drops, or that is too long. */
+static void t1_dropped(gt_card *c) {
+    static const uint8_t requests[] = { 0xC2, 0xC0 };
+    size_t i;
+    for (i = 0; i < sizeof requests; i++) {
+        chained(c, secret, FIELD);
+        CHECK(held(), 1);
+        CHECK(hears(c, requests[i], secret, 0), requests[i] + 0x20u);
+        GONE();
+    }
+    number = 0;
+    chained(c, secret, FIELD);
+    chained(c, secret, FIELD);
+    GONE();
+    CHECK(last(c, secret, FIELD), 0x6700);
+    GONE();
+}
+
+/* A block at T=1 that is damaged or stops, and one that the card has no memory for. */
+static void t1_blocks(gt_card *c) {
+    uint8_t block[GT_BLOCK_LIMIT], put[FIELD] = { 0x00, 0xDA, 0x5F, 0x20, PIECE };
+    size_t taken = 0, n = block_of(block, number, secret, 200);
+    CHECK(gt_card_t1_receive_bytes(c, block, 100, &taken), GT_OK);
+    CHECK(held(), 1);
+    CHECK(gt_card_t1_missed(c), GT_SENDS);
+    GONE();
+    block[n - 1] ^= 1;
+    CHECK(gt_card_t1_receive_bytes(c, block, n, &taken), GT_SENDS);
+    GONE();
+    chained(c, put, sizeof put);
+    n = block_of(block, number, secret, 5 + PIECE - FIELD);
+    is_refused = true;
+    CHECK(gt_card_t1_receive_bytes(c, block, n, &taken), GT_MEMORY);
+    is_refused = false;
+    GONE();
+    CHECK(last(c, secret, 5 + PIECE - FIELD), 0x9000);
+    CHECK(held(), 1);
+    CHECK(t1_put(c, TAG, ANN, sizeof ANN), 0x9000);
+    GONE();
+}
+
+/* A card at T=1, up to a reset within a command and a block. */
+static void card_at_t1(gt_card *c) {
+    static const uint8_t ifsd[] = { 0xFE };
+    uint8_t block[GT_BLOCK_LIMIT];
+    size_t taken = 0, n;
+    number = 0;
+    CHECK(gt_card_t1_begin(c), GT_OK);
+    CHECK(hears(c, 0xC1, ifsd, 1), 0xE1);
+    t1_stored(c);
+    t1_dropped(c);
+    t1_blocks(c);
+    chained(c, secret, FIELD);
+    n = block_of(block, number, secret, FIELD);
+    CHECK(gt_card_t1_receive_bytes(c, block, n - 1, &taken), GT_OK);
+    CHECK(held(), 2);
+    CHECK(gt_card_reset(c), GT_OK);
+    GONE();
+    CHECK(select_app(c), 0x610B);
 }
 
 int main(void) {
@@ -319,9 +479,11 @@ int main(void) {
     resets(&card);
     a_reader_stops(&card);
     in_a_session(&card);
+    card_at_t1(&card);
     full(&card);
     at_t1(false);
     at_t1(true);
+    next_at_t1();
     gt_card_free(&card);
     for (i = 0; i < MOST; i++) if (blocks[i].at) break;
     CHECK(i, MOST);

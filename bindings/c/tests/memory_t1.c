@@ -4,7 +4,7 @@
 #include "check.h"
 #include "counting_heap.h"
 
-enum { ALONE = 368, LIMIT = 258 };
+enum { ALONE = 368, LIMIT = 258, BLOCK = 258, FIELD = 254, CARD = 770 };
 
 static uint8_t apdu[GT_APDU_LIMIT], room[GT_BLOCK_LIMIT];
 
@@ -51,7 +51,7 @@ static void wants_memory(gt_t1 *t) {
     CHECK(count, 258);
     CHECK(gt_t1_missed(t), GT_OK);
     sends(t);
-    CHECK(room[1], 0x80);
+    CHECK(room[1], 0x82);
     refused = 1;
     CHECK(comes(t, 0x20, 254, &count), GT_MEMORY);
     refused = 0;
@@ -131,10 +131,122 @@ static void of_a_card(void) {
     CHECK(taken, 0);
 }
 
+/* The end carries a command and a response of these sizes, and takes no more than the header
+ * says. */
+static void figure(size_t command, size_t response) {
+    gt_t1 t = GT_INIT;
+    size_t n = 0, left = response;
+    uint8_t number = 0x00;
+    peak = 0;
+    CHECK(gt_t1_new(&t, GT_LRC, 254, 4, 16, LIMIT), GT_OK);
+    CHECK(gt_t1_begin(&t, apdu, command), GT_OK);
+    opens(&t);
+    sends(&t);
+    if (command > FIELD) {
+        CHECK(comes(&t, 0x90, 0, &n), GT_SENDS);
+        sends(&t);
+    }
+    for (; left > FIELD; left -= FIELD, number ^= 0x40) {
+        CHECK(comes(&t, 0x20 | number, FIELD, &n), GT_SENDS);
+        sends(&t);
+    }
+    CHECK(comes(&t, number, left, &n), GT_SENDS);
+    CHECK(gt_t1_response(&t, room, sizeof room, &n), GT_OK);
+    CHECK(n, response);
+    CHECK(peak <= ALONE + command + 3 * response + BLOCK, 1);
+    CHECK(peak >= ALONE + command + (command < FIELD ? command + 4 : BLOCK), 1);
+    gt_t1_free(&t);
+    CHECK(taken, 0);
+}
+
+static void figures(void) {
+    static const size_t sizes[] = { 4, 5, 100, 254, 260, 261 };
+    static const size_t responses[] = { 2, 3, 100, 254, 255, 258 };
+    size_t i, j;
+    for (i = 0; i < sizeof sizes / sizeof *sizes; i++)
+        for (j = 0; j < sizeof responses / sizeof *responses; j++) figure(sizes[i], responses[j]);
+}
+
+/* Gives the card an I-block with this field, and reads its answer. */
+static void card_hears(gt_card *c, uint8_t pcb, const uint8_t *info, size_t size) {
+    uint8_t block[GT_BLOCK_LIMIT] = { 0 };
+    size_t i, n = 0;
+    block[1] = pcb;
+    block[2] = (uint8_t)size;
+    memcpy(block + 3, info, size);
+    for (i = 0; i < size + 3; i++) block[size + 3] ^= block[i];
+    CHECK(gt_card_t1_receive_bytes(c, block, size + 4, &n), GT_SENDS);
+    CHECK(gt_card_t1_send_bytes(c, room, sizeof room, &n), GT_OK);
+}
+
+/* A card at T=1 carries out a command of this size, in fields of at most `most` bytes: GET DATA, or
+ * PUT DATA of what follows the header. It takes no more than the header says. */
+static void card_figure(gt_card *c, size_t size, size_t most) {
+    uint8_t command[5 + 255] = { 0x00, 0xCA, 0x5F, 0x20 };
+    const size_t before = taken, value = size - 5;
+    size_t at, field;
+    uint8_t number = 0;
+    if (value > 0) command[1] = 0xDA;
+    command[4] = (uint8_t)value;
+    requests = 0;
+    CHECK(gt_card_t1_begin(c), GT_OK);
+    CHECK(taken, before);
+    peak = taken;
+    for (at = 0; at < size; at += field, number ^= 0x40) {
+        field = size - at < most ? size - at : most;
+        card_hears(c, number | (at + field < size ? 0x20 : 0), command + at, field);
+    }
+    CHECK(room[room[2] + 1] * 256 + room[room[2] + 2], 0x9000);
+    CHECK(peak <= before + CARD + 2 * size + value, 1);
+    CHECK(peak >= before + CARD + size + value, 1);
+    CHECK(gt_card_reset(c), GT_OK);
+}
+
+/* A command that is too long counts as one of 261 bytes, and so does a short one after it. */
+static void long_figure(gt_card *c) {
+    static const uint8_t get[] = { 0x00, 0xCA, 0x5F, 0x20, 0x00 };
+    const size_t before = taken;
+    size_t i;
+    CHECK(gt_card_t1_begin(c), GT_OK);
+    peak = taken;
+    for (i = 0; i < 300; i++) card_hears(c, i % 2 ? 0x60 : 0x20, apdu, 1);
+    card_hears(c, 0x00, apdu, 1);
+    CHECK(room[3] * 256 + room[4], 0x6700);
+    CHECK(peak <= before + CARD + 2 * 261, 1);
+    card_hears(c, 0x40, get, sizeof get);
+    CHECK(peak <= before + CARD + 2 * 261, 1);
+    CHECK(peak > before + CARD + 261, 1);
+    CHECK(gt_card_reset(c), GT_OK);
+}
+
+static void card_figures(void) {
+    static const uint8_t aid[] = { 0xA0, 0x00, 0x00, 0x00, 0x03 };
+    static const uint8_t select[] = { 0x00, 0xA4, 0x04, 0x00, 0x05, 0xA0, 0x00, 0x00, 0x00, 0x03 };
+    static const size_t sizes[] = { 5, 6, 9, 40, 129, 254, 255, 260 };
+    static const size_t fields[] = { 1, 8, 32, 129, 254 };
+    size_t i, j, n = 0;
+    gt_card c = GT_INIT;
+    CHECK(gt_card_new(&c), GT_OK);
+    CHECK(gt_card_app(&c, aid, sizeof aid), GT_OK);
+    CHECK(gt_card_object(&c, 0x5F20, aid, sizeof aid, false), GT_OK);
+    CHECK(gt_card_finish(&c), GT_OK);
+    for (i = 0; i < sizeof sizes / sizeof *sizes; i++)
+        for (j = 0; j < sizeof fields / sizeof *fields; j++) {
+            CHECK(gt_card_apdu(&c, select, sizeof select, room, sizeof room, &n), GT_OK);
+            card_figure(&c, sizes[i], fields[j]);
+        }
+    CHECK(gt_card_apdu(&c, select, sizeof select, room, sizeof room, &n), GT_OK);
+    long_figure(&c);
+    gt_card_free(&c);
+    CHECK(taken, 0);
+}
+
 int main(void) {
     gt_t1 t = GT_INIT;
     size_t n = 0;
     of_a_card();
+    card_figures();
+    figures();
     peak = 0;
     requests = 0;
     refused = 1;
@@ -157,7 +269,7 @@ int main(void) {
     wants_memory(&t);
     CHECK(gt_t1_response(&t, room, sizeof room, &n), GT_OK);
     CHECK(n, LIMIT);
-    CHECK(peak <= ALONE + sizeof apdu + 4 * LIMIT, 1);
+    CHECK(peak <= ALONE + sizeof apdu + 3 * LIMIT + BLOCK, 1);
     CHECK(gt_t1_reset(&t), GT_OK);
     CHECK(taken, ALONE);
     gt_t1_free(&t);

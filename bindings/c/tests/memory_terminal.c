@@ -150,7 +150,7 @@ int main(void) {
     CHECK(gt_terminal_new(&t), GT_OK);
     CHECK(requests, 1);
     const size_t alone = taken;
-    CHECK(alone, 296); /* as the header says */
+    CHECK(alone, 312); /* as the header says */
     for (int kind = 0; kind < 4; kind++) {
         const size_t times = copies[kind] ? 2 : 1;
         for (refused = 1; refused <= times; refused++) {

@@ -161,8 +161,15 @@ static void tries(void) {
     CHECK(gt_t1_missed(&t), GT_OK);
     sends(&t, 0xC1, IFSD, 1, 1);
     CHECK(gt_t1_missed(&t), GT_OK);
+    sends(&t, 0xC1, IFSD, 1, 1);
     CHECK(gt_t1_missed(&t), GT_OK);
-    is_faulty(&t, GT_TRIES_SPENT, GT_NOT_CARRIED_OUT);
+    /* The command goes without S(IFS response), with all its tries. */
+    sends(&t, 0x00, GET, 5, 1);
+    CHECK(gt_t1_missed(&t), GT_OK);
+    sends(&t, 0x82, NULL, 0, 1);
+    CHECK(gt_t1_missed(&t), GT_OK);
+    CHECK(gt_t1_missed(&t), GT_OK);
+    is_faulty(&t, GT_TRIES_SPENT, GT_UNKNOWN);
     CHECK(gt_t1_reset(&t), GT_OK);
     responds(&t, bytes, 0);
     gt_t1_free(&t);
@@ -170,10 +177,10 @@ static void tries(void) {
     n = block_of(bytes, 0x00, GET, 5);
     bytes[n - 1] ^= 1;
     CHECK(gt_t1_receive_bytes(&t, bytes, n, &taken), GT_SENDS);
-    sends(&t, 0x80, NULL, 0, 1);
+    sends(&t, 0x81, NULL, 0, 1);
     CHECK(gt_t1_receive_bytes(&t, bytes, 3, &taken), GT_OK);
     CHECK(gt_t1_missed(&t), GT_OK);
-    sends(&t, 0x80, NULL, 0, 1);
+    sends(&t, 0x82, NULL, 0, 1);
     CHECK(gt_t1_missed(&t), GT_OK);
     is_faulty(&t, GT_TRIES_SPENT, GT_UNKNOWN);
     gt_t1_free(&t);
@@ -225,6 +232,36 @@ static void requests(void) {
     gt_t1_free(&t);
 }
 
+/* 300 extensions in one command; and an IFSC that the card lowers before and within a command. */
+static void many_requests(void) {
+    static const uint8_t one[] = { 1 }, two[] = { 2 };
+    gt_t1 t = GT_INIT;
+    int i;
+    CHECK(gt_t1_new(&t, GT_LRC, 5, 2, 300, 20), GT_OK);
+    CHECK(gt_t1_begin(&t, GET, sizeof GET), GT_OK);
+    comes(&t, 0xE1, IFSD, 1);
+    for (i = 0; i < 300; i++) {
+        comes(&t, 0xC3, two, 1);
+        sends(&t, 0xE3, two, 1, 2);
+    }
+    comes(&t, 0xC3, two, 1);
+    is_faulty(&t, GT_EXTENSIONS_SPENT, GT_UNKNOWN);
+    gt_t1_free(&t);
+    CHECK(gt_t1_new(&t, GT_LRC, 254, 2, 3, 20), GT_OK);
+    CHECK(gt_t1_begin(&t, GET, sizeof GET), GT_OK);
+    comes(&t, 0xC1, two, 1);
+    sends(&t, 0xE1, two, 1, 1);
+    comes(&t, 0xE1, IFSD, 1);
+    sends(&t, 0x20, GET, 2, 1);
+    comes(&t, 0xC1, one, 1);
+    sends(&t, 0xE1, one, 1, 1);
+    comes(&t, 0x80, NULL, 0);
+    sends(&t, 0x20, GET, 1, 1);
+    comes(&t, 0x9F, NULL, 0);
+    sends(&t, 0x60, GET + 1, 1, 1);
+    gt_t1_free(&t);
+}
+
 /* An I-block without a field inside a chain is invalid: a chain of such blocks would never end. */
 static void empty_fields(void) {
     gt_t1 t = GT_INIT;
@@ -233,19 +270,19 @@ static void empty_fields(void) {
     sends(&t, 0x00, GET, 5, 1);
     for (i = 0; i < 2; i++) {
         comes(&t, 0x20, NULL, 0);
-        sends(&t, 0x80, NULL, 0, 1);
+        sends(&t, 0x82, NULL, 0, 1);
     }
     comes(&t, 0x20, NULL, 0);
     is_faulty(&t, GT_TRIES_SPENT, GT_UNKNOWN);
     gt_t1_free(&t);
     open_end(&t, 5, GET, sizeof GET);
     comes(&t, 0x20, GET, 3);
-    for (i = 0; i < 2; i++) {
-        sends(&t, 0x90, NULL, 0, 1);
-        comes(&t, 0x60, NULL, 0);
-    }
     sends(&t, 0x90, NULL, 0, 1);
     comes(&t, 0x60, NULL, 0);
+    for (i = 0; i < 2; i++) {
+        sends(&t, 0x92, NULL, 0, 1);
+        comes(&t, 0x60, NULL, 0);
+    }
     is_faulty(&t, GT_TRIES_SPENT, GT_IN_PART);
     gt_t1_free(&t);
     open_end(&t, 5, GET, sizeof GET);
@@ -259,6 +296,7 @@ int main(void) {
     arguments();
     chains();
     tries();
+    many_requests();
     empty_fields();
     requests();
     return check_result("t1");

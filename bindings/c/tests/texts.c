@@ -1,32 +1,83 @@
-/* Tests the texts for unknown values, and the numbers and layouts that the header fixes.
+/* Tests the texts for unknown values, the words of statuses, and the numbers and layouts that the
+ * header fixes.
  * `checks/bindings/same` compares codes, texts and limits with the crate for Rust and the
  * definitions. */
 #include "galliumtoad.h"
 #include "check.h"
 
-/* Unknown codes and statuses have a text too. There are 14 statuses besides 61XX and 6CXX. */
+/* Unknown codes have a text too. */
 static void unknown(void) {
-    uint32_t status, known = 0;
     CHECK(strcmp(gt_text(INT32_MIN), "unknown code"), 0);
     CHECK(strcmp(gt_text(-300), "unknown code"), 0);
     CHECK(strcmp(gt_text(300), "unknown code"), 0);
     CHECK(strcmp(gt_text(INT32_MAX), "unknown code"), 0);
-    for (status = 0; status <= 0xFFFF; status++)
-        known += strcmp(gt_status_text((uint16_t)status), "unknown status") != 0;
-    CHECK(known, 14 + 2 * 256);
 }
 
-/* The texts of codes that are not faults, and of statuses by their first byte. The crate for Rust
- * has other names for the former, and ranges for the latter. */
+/* The texts of codes that are not faults. The crate for Rust has other names for them. */
 static void known(void) {
-    uint16_t low;
     CHECK(strcmp(gt_text(GT_OK), "ok"), 0);
     CHECK(strcmp(gt_text(GT_SENDS), "sends"), 0);
     CHECK(strcmp(gt_text(GT_DONE), "done"), 0);
-    for (low = 0; low <= 0xFF; low++) {
-        CHECK(strcmp(gt_status_text((uint16_t)(0x6100 | low)), "more data available"), 0);
-        CHECK(strcmp(gt_status_text((uint16_t)(0x6C00 | low)), "fewer data than asked for"), 0);
+}
+
+/* What statuses mean after commands. `checks/bindings/statuses` compares all of them. */
+static void words(void) {
+    static const struct { uint8_t cla, ins; uint16_t status; const char *words; } rows[] = {
+        { 0x00, 0x00, 0x9000, "normal processing" },
+        { 0x00, 0x00, 0x60FF, "no known meaning" },
+        { 0x00, 0x00, 0x6100, "at least 256 bytes of the response wait" },
+        { 0x00, 0x00, 0x61FF, "255 bytes of the response wait" },
+        { 0x00, 0x00, 0x6282, "a warning: the file or record ended before Le bytes" },
+        { 0x00, 0x00, 0x6983, "the method of authentication is blocked" },
+        { 0x00, 0x00, 0x63C0, "a warning: a counter is at 0" },
+        { 0x00, 0x00, 0x63CF, "a warning: a counter is at 15" },
+        { 0x00, 0x20, 0x63C1, "a warning: 1 try is left" },
+        { 0x7F, 0x20, 0x63C2, "a warning: 2 tries are left" },
+        { 0x80, 0x20, 0x63C2, "a warning: a counter is at 2" },
+        { 0x00, 0x82, 0x63CF, "a warning: 15 tries are left" },
+        { 0x00, 0x20, 0x6983, "the method of authentication is blocked" },
+        { 0xA0, 0x20, 0x63C2, "a warning: a counter is at 2" },
+        { 0xA0, 0xA4, 0x9F16, "22 bytes of the response wait" },
+        { 0xA1, 0xA4, 0x9F16, "no known meaning" },
+        { 0xA0, 0xA4, 0x9000, "normal processing" },
+        { 0x00, 0x00, 0x6FFF, "an error of checking" },
+        { 0x00, 0x00, 0xFFFF, "no known meaning" },
+    };
+    static const uint8_t counting[] = { 0x20, 0x21, 0x24, 0x25, 0x26, 0x28, 0x2C, 0x2D, 0x82 };
+    char text[GT_WORDS_ROOM];
+    unsigned i, ins;
+    for (i = 0; i < sizeof rows / sizeof *rows; i++) {
+        CHECK(gt_status_words(rows[i].cla, rows[i].ins, rows[i].status, text, sizeof text),
+              strlen(rows[i].words));
+        check_number("row of words", (int)i, "text", strcmp(text, rows[i].words), 0);
     }
+    for (ins = 0; ins <= 0xFF; ins++) {
+        (void)gt_status_words(0x00, (uint8_t)ins, 0x63C2, text, sizeof text);
+        check_number("INS that counts", (int)ins, "tries", strstr(text, "tries") != NULL,
+                     memchr(counting, (int)ins, sizeof counting) != NULL);
+    }
+    CHECK(strcmp(gt_status_text(0x6982), "security status not satisfied"), 0);
+    CHECK(strcmp(gt_status_text(0x61FF), "XX bytes of the response wait"), 0);
+    CHECK(strcmp(gt_status_text(0x63C2), "a warning: a counter is at X"), 0);
+}
+
+/* A text that is cut to its room, and one whose length alone is asked for. */
+static void cut_words(void) {
+    char text[28];
+    memset(text, '#', sizeof text);
+    CHECK(gt_status_words(0, 0, 0x9000, text, 5), 17);
+    CHECK(memcmp(text, "norm\0###", 8), 0);
+    CHECK(gt_status_words(0, 0, 0x9000, text, 17), 17);
+    CHECK(memcmp(text, "normal processin\0##", 19), 0);
+    CHECK(gt_status_words(0, 0, 0x9000, text, 18), 17);
+    CHECK(memcmp(text, "normal processing\0#", 19), 0);
+    CHECK(gt_status_words(0, 0x20, 0x63CF, text, 14), 28);
+    CHECK(memcmp(text, "a warning: 15\0", 14), 0);
+    CHECK(gt_status_words(0, 0, 0x6700, text, 1), 12);
+    CHECK(memcmp(text, "\0 warning", 9), 0);
+    CHECK(gt_status_words(0, 0, 0x6700, text, 0), 12);
+    CHECK(memcmp(text, "\0 warning", 9), 0);
+    CHECK(gt_status_words(0, 0, 0x6700, NULL, 9), 12);
 }
 
 /* The numbers in fields of an answer to reset, and the version. */
@@ -133,6 +184,8 @@ static void layout_of_an_answer(void) {
 int main(void) {
     unknown();
     known();
+    words();
+    cut_words();
     numbers();
     layouts();
     layout_of_an_answer();

@@ -15,9 +15,6 @@ enum { ALL_WELL = 0, FAULT = 1, BAD_WORDS = 2 };
 #define NUMBER(number) #number
 #define DOTTED(major, minor, patch) NUMBER(major) "." NUMBER(minor) "." NUMBER(patch)
 
-/* a card's character for "wait longer" (ISO/IEC 7816-3, 10.3.3) */
-#define NULL_BYTE 0x60
-
 /* the lines of gt_serial.help */
 static const char HELP[] =
 #include "gt_serial_help.h"
@@ -25,7 +22,7 @@ static const char HELP[] =
 
 static const char *const OPTIONS[] = {
     "-v", "-k", "-f", "--baud", "--reset", "--held-by", "--no-echo", "--protocol", "--pps",
-    "--slack", "--patience", "--verify", "-h", "--help", "-V", "--version", NULL
+    "--slack", "--quiet", "--patience", "--verify", "-h", "--help", "-V", "--version", NULL
 };
 
 static const enum port_signal SIGNALS[] = { PORT_RTS, PORT_DTR, PORT_NONE };
@@ -36,8 +33,7 @@ static const struct serial_names NAMES = { OPTIONS, SIGNALS, PORT_RTS };
 struct session {
     struct line *line;
     int64_t waiting_time;
-    int64_t patience;
-    int64_t nulls_since;        /* the time of the first NULL of the last run of them, or 0 */
+    int64_t patience;           /* the longest that a command may take */
     struct t1_end t1;           /* its end at T=1, if the protocol is T=1 */
 };
 
@@ -61,14 +57,10 @@ static int end_output(void)
     return fflush(stdout) == 0 && !ferror(stdout) ? ALL_WELL : tell("write fault");
 }
 
-/* Whether the card has sent nothing but NULLs for too long. */
-static bool is_put_off(struct session *session, uint8_t byte)
+/* A command begins, and must end in time. */
+static void begin_command(const struct session *session)
 {
-    if (byte != NULL_BYTE)
-        session->nulls_since = 0;
-    else if (session->nulls_since == 0)
-        session->nulls_since = port_now();
-    return byte == NULL_BYTE && port_now() - session->nulls_since > session->patience;
+    session->line->port->until = port_now() + session->patience;
 }
 
 /* Hands the terminal the received characters of the card, after a header of `size` bytes or data.
@@ -77,7 +69,7 @@ static const char *take(struct session *session, gt_terminal *terminal, const ui
                         size_t size)
 {
     uint8_t bytes[LINE_RUN];
-    size_t n, taken = 0, i;
+    size_t n, taken = 0;
     int32_t code;
     const char *fault =
         line_refuse_echo(session->line, header, size, session->waiting_time);
@@ -89,9 +81,6 @@ static const char *take(struct session *session, gt_terminal *terminal, const ui
     if (code != GT_OK)
         taken++;
     line_take(session->line, bytes, taken);
-    for (i = 0; i < taken; i++)
-        if (is_put_off(session, bytes[i]))
-            return "the card sends nothing but NULLs";
     if (code == GT_NOT_LISTENING || code == GT_AFTER_END)
         return "unexpected byte";
     return code == GT_OK ? NULL : gt_text(code);
@@ -102,12 +91,16 @@ static const char *pass_all(struct session *session, gt_terminal *terminal)
 {
     const char *fault = NULL;
     uint8_t bytes[LINE_RUN];
-    session->nulls_since = 0;
     while (fault == NULL) {
         size_t n = 0, most;
         const bool is_header = gt_terminal_tpdu(terminal, bytes, &n, &most) == GT_OK;
         const int32_t code = gt_terminal_send_bytes(terminal, bytes, sizeof bytes, &n);
-        fault = code < 0 ? gt_text(code) : line_send_all(session->line, bytes, n);
+        if (is_header) {
+            begin_command(session);
+            fault = line_await_quiet(session->line);
+        }
+        if (fault == NULL)
+            fault = code < 0 ? gt_text(code) : line_send_all(session->line, bytes, n);
         if (code == GT_DONE)
             return fault;
         if (code == GT_OK && fault == NULL)
@@ -117,14 +110,15 @@ static const char *pass_all(struct session *session, gt_terminal *terminal)
 }
 
 /* Passes the commands of the operation in progress at T=1, until it ends. */
-static const char *pass_commands(struct t1_end *t1, gt_terminal *terminal)
+static const char *pass_commands(struct session *session, gt_terminal *terminal)
 {
     uint8_t apdu[GT_APDU_LIMIT], response[GT_ANSWER_LIMIT];
     size_t n, most, len = 0;
     const char *fault = NULL;
     int32_t code;
     while ((code = gt_terminal_apdu(terminal, apdu, &n, &most)) == GT_OK && fault == NULL) {
-        fault = t1_carry(t1, apdu, n, response, &len);
+        begin_command(session);
+        fault = t1_carry(&session->t1, apdu, n, response, &len);
         if (fault == NULL && (code = gt_terminal_responded(terminal, response, len)) != GT_OK)
             fault = gt_text(code);
     }
@@ -135,7 +129,7 @@ static const char *pass_commands(struct t1_end *t1, gt_terminal *terminal)
 static const char *pass(void *line, gt_terminal *terminal, const struct operation *operation)
 {
     struct session *session = line;
-    const char *fault = session->line->is_of_blocks ? pass_commands(&session->t1, terminal)
+    const char *fault = session->line->is_of_blocks ? pass_commands(session, terminal)
                                                     : pass_all(session, terminal);
     (void)operation;
     line_note_text(session->line, NULL);
@@ -154,16 +148,30 @@ static void print_rate(const struct answer *answer)
                (unsigned)says->di);
 }
 
-/* The waiting time of T=0, if the card offers T=0. */
-static void print_waiting_time(const struct answer *answer)
+static void print_number(const char *name, bool is_reserved, int64_t number, const char *unit)
+{
+    if (is_reserved)
+        printf("%sreserved\n", name);
+    else
+        printf("%s%ld%s\n", name, (long)number, unit);
+}
+
+/* The waiting time of T=0, and IFSC, EDC and BWT of T=1, if the card offers these. */
+static void print_protocols(const struct answer *answer)
 {
     const gt_atr *says = &answer->says;
-    if (memchr(says->protocols, 0, says->protocol_count) == NULL)
+    const gt_atr_t1 *t1 = &says->t1;
+    if (memchr(says->protocols, 0, says->protocol_count) != NULL)
+        print_number("waiting time  ", says->waiting_integer == 0,
+                     answer_waiting_time(answer) / 1000, " ms");
+    if (memchr(says->protocols, 1, says->protocol_count) == NULL)
         return;
-    if (says->waiting_integer == 0)
-        puts("waiting time  reserved");
-    else
-        printf("waiting time  %ld ms\n", (long)(answer_waiting_time(answer) / 1000));
+    print_number("IFSC          ", t1->ifsc == 0, t1->ifsc, "");
+    printf("EDC           %s\n",
+           t1->edc == GT_LRC ? "LRC" : t1->edc == GT_CRC ? "CRC" : "reserved");
+    print_number("BWT           ", t1->bwt_etu == 0,
+                 (t1_times_of(answer->line, t1, answer->clock).bwt - answer->line->slack) / 1000,
+                 " ms");
 }
 
 /* Prints an answer to reset and what it says. */
@@ -185,7 +193,7 @@ static const char *print_meaning(const struct answer *answer)
     if (says->guard_indicated > 0)
         printf(" and %u times Fi/Di cycles", (unsigned)says->guard_indicated);
     putchar('\n');
-    print_waiting_time(answer);
+    print_protocols(answer);
     if (says->historical_count == 0)
         puts("historical    none");
     else
@@ -220,7 +228,7 @@ static int run_over(struct port *port, const struct script *script,
                     const struct serial_options *options)
 {
     struct line line = serial_options_line(options, port, LINE_TERMINAL);
-    struct session session = { NULL, 0, 0, 0, { NULL, { 0, 0, 0 }, GT_INIT } };
+    struct session session = { NULL, 0, 0, { NULL, { 0, 0, 0 }, GT_INIT } };
     struct steps steps = { GT_INIT, pass, NULL, false, false };
     struct answer answer;
     struct answer_wishes wishes;

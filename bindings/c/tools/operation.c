@@ -46,6 +46,20 @@ size_t operation_word_count(const char *first)
     return kind < KIND_COUNT ? KINDS[kind].count : 0;
 }
 
+bool operation_take_word(struct operation_words *its, char *word)
+{
+    const bool is_value = its->count == its->first + OPERATION_WORDS - 1;
+    if (!is_value && !its->is_ended && word[0] == '-' && word[1] != '\0') {
+        its->is_ended = strcmp(word, "--") == 0;
+        return its->is_ended;
+    }
+    its->words[its->count++] = word;
+    if (its->count > its->first
+        && its->count >= its->first + operation_word_count(its->words[its->first]))
+        its->first = its->count;
+    return true;
+}
+
 /* Each of these returns NULL, or why the operation is refused. */
 
 /* Room for the bytes of an operation, at least one. */
@@ -182,12 +196,12 @@ static const char *read_words(struct operation *operation, char *const *words)
 const char *operation_read(struct operation *operation, char *const *words, size_t count,
                            bool *is_of_words)
 {
-    const size_t kind = count > 0 ? kind_of(words[0]) : KIND_COUNT;
+    const size_t kind = kind_of(words[0]);
     const char *fault = NULL;
     memset(operation, 0, sizeof *operation);
     is_of_machine = false;
     if (kind == KIND_COUNT)
-        fault = OPERATION_UNKNOWN_WORD;
+        fault = text_quoted(OPERATION_UNKNOWN_WORD ": ", words[0], "");
     else if (count != KINDS[kind].count)
         fault = "wrong number of words";
     operation->kind = (enum operation_kind)kind;

@@ -25,15 +25,27 @@ struct operation {
  * operation begins so. */
 size_t operation_word_count(const char *first);
 
-/* the text for a word that begins no operation */
+/* The words of a command line that are no options: they are moved to its front. */
+struct operation_words {
+    char **words;
+    size_t count;
+    size_t first;       /* the place of the first word of the operation in progress */
+    bool is_ended;      /* after `--` there are no options */
+};
+
+/* Takes the next word, or returns false if it is an option. That has a dash and more, and no `--`
+ * before it. But the word after `put TAG` is a value, whatever it begins with. */
+bool operation_take_word(struct operation_words *its, char *word);
+
+/* the text for a word that begins no operation, which may follow it */
 #define OPERATION_UNKNOWN_WORD "unknown word"
 
 /* Reads an operation from its words: `select AID`, `get TAG`, `put TAG VALUE`, `send HEX`. The
  * words are those of a script of card_trace. VALUE may be `@` with the name of a file, whose bytes
  * are the value. Returns NULL, or a few words that say why it is refused, as card_trace has them.
- * After `bad hex`, `bad tag` and `read fault` come the word or the file, and why. The text stays
- * until the next call. Nothing is held then, and `is_of_words` says that no file or machine is to
- * blame. */
+ * After `unknown word` comes that word, and after `bad hex`, `bad tag` and `read fault` the word or
+ * the file, and why. The text stays until the next call. Nothing is held then, and `is_of_words`
+ * says that no file or machine is to blame. */
 const char *operation_read(struct operation *operation, char *const *words, size_t count,
                            bool *is_of_words);
 

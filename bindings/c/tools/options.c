@@ -91,24 +91,15 @@ static const char *compare(struct options *options)
 
 const char *options_read(struct options *options, int argc, char **argv)
 {
+    struct operation_words words = { NULL, 0, 0, false };
     const char *fault = NULL;
-    bool is_ended = false;
-    size_t first = 0;   /* the place of the first word of the operation in progress */
     int at;
     memset(options, 0, sizeof *options);
-    options->words = argv + 1;
+    options->words = words.words = argv + 1;
     for (at = 1; at < argc && fault == NULL; at++) {
-        const bool is_value = options->count == first + OPERATION_WORDS - 1;
-        char *word = argv[at];
-        if (is_value || is_ended || word[0] != '-' || word[1] == '\0') {
-            argv[1 + options->count++] = word;
-            if (options->count >= first + operation_word_count(argv[1 + first]))
-                first = options->count;
-        } else if (strcmp(word, "--") == 0) {
-            is_ended = true;
-        } else {
+        if (!operation_take_word(&words, argv[at]))
             fault = read_option(options, argc, argv, &at);
-        }
     }
+    options->count = words.count;
     return fault != NULL ? fault : compare(options);
 }

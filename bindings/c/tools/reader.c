@@ -7,6 +7,9 @@
 /* how many times it begins a transaction, if other programs reset the card before each */
 #define BEGIN_LIMIT 100
 
+/* room for the names of as many readers as a pcscd has, and a few words */
+#define NAMES_ROOM 2400
+
 #define EITHER (SCARD_PROTOCOL_T0 | SCARD_PROTOCOL_T1)
 
 /* What some of the codes of PC/SC say of a card and its reader. */
@@ -27,12 +30,14 @@ static const struct {
     { SCARD_E_NOT_TRANSACTED, "the reader could not carry out the command" },
     { SCARD_F_COMM_ERROR, "the reader could not carry out the command" },
     { SCARD_E_INSUFFICIENT_BUFFER, "the reader returns more bytes than any answer has" },
+    { SCARD_W_SECURITY_VIOLATION, "pcscd refuses this user (SCARD_W_SECURITY_VIOLATION): log in at "
+                                  "the machine itself, or let polkit allow it" },
 };
 
 /* NULL for success, and a text for each other code of a call without a context. */
 static const char *text_of(LONG code)
 {
-    static char other[64];
+    static char other[128];
     size_t i;
     if (code == SCARD_S_SUCCESS)
         return NULL;
@@ -40,7 +45,8 @@ static const char *text_of(LONG code)
         if (TEXTS[i].code == code)
             return TEXTS[i].text;
     }
-    snprintf(other, sizeof other, "PC/SC fault %08lX", (unsigned long)code & 0xFFFFFFFFUL);
+    snprintf(other, sizeof other, "PC/SC fault %08lX: %s", (unsigned long)code & 0xFFFFFFFFUL,
+             pcsc_stringify_error(code));
     return other;
 }
 
@@ -75,6 +81,27 @@ static const char *next_name(const struct names *names, const char *before)
     return name;
 }
 
+static bool is_meant(const char *name, const char *wanted)
+{
+    return wanted == NULL || strstr(name, wanted) != NULL;
+}
+
+/* The fault of more than one reader, with their names. */
+static const char *tell_many(const struct names *names, const char *wanted)
+{
+    static char told[NAMES_ROOM];
+    const char *name = NULL, *sign = ":";
+    size_t n = (size_t)snprintf(told, sizeof told, "more than one %sreader, choose one with -r",
+                                wanted == NULL ? "" : "such ");
+    while ((name = next_name(names, name)) != NULL && n < sizeof told) {
+        if (is_meant(name, wanted)) {
+            n += (size_t)snprintf(told + n, sizeof told - n, "%s '%s'", sign, name);
+            sign = ",";
+        }
+    }
+    return told;
+}
+
 /* Returns the reader that the name means, or NULL and why there is no such reader. */
 static const char *find_name(const struct names *names, const char *wanted, const char **why)
 {
@@ -83,7 +110,7 @@ static const char *find_name(const struct names *names, const char *wanted, cons
     while ((name = next_name(names, name)) != NULL) {
         if (wanted != NULL && strcmp(name, wanted) == 0)
             return name;
-        if (wanted == NULL || strstr(name, wanted) != NULL) {
+        if (is_meant(name, wanted)) {
             found = name;
             count++;
         }
@@ -93,8 +120,7 @@ static const char *find_name(const struct names *names, const char *wanted, cons
     if (count == 0)
         *why = wanted == NULL ? "no reader" : "no such reader";
     else
-        *why = wanted == NULL ? "more than one reader: choose one with -r"
-                              : "more than one such reader";
+        *why = tell_many(names, wanted);
     return NULL;
 }
 

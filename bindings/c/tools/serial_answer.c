@@ -115,7 +115,8 @@ static const char *take_others(struct answer *answer)
     }
     if (code == GT_ATR_TOO_LONG)
         return TOO_LONG;
-    return code == GT_OK ? line_refuse_early(answer->line, LINE_LATE) : tell_none(code, place);
+    return code == GT_OK ? line_refuse_early(answer->line, answer->line->late)
+                         : tell_none(code, place);
 }
 
 /* Takes the answer to a reset, which begins within this time. */
@@ -159,7 +160,7 @@ static const char *set_rate(struct answer *answer, bool is_of_card)
 {
     struct line *line = answer->line;
     const gt_atr *says = &answer->says;
-    const unsigned guard = line->is_of_blocks ? says->guard_etu_t1 : says->guard_etu;
+    const unsigned guard = says->guard_etu;
     const unsigned fi = has_rate(says) ? says->fi : ANSWER_CYCLES;
     const unsigned di = has_rate(says) ? says->di : 1;
     const char *fault =
@@ -198,6 +199,9 @@ static const char *ask(struct line *line, int protocol, uint16_t pps1, bool *is_
     int32_t code = gt_pps_request((uint8_t)protocol, pps1, GT_ABSENT, GT_ABSENT, request, &n);
     if (code != GT_OK)
         return gt_text(code);
+    fault = line_await_quiet(line);
+    if (fault != NULL)
+        return fault;
     line_note_text(line, NULL);
     line->trace = NULL;
     fault = line_send_all(line, request, n);
@@ -269,9 +273,9 @@ const char *answer_go_on(struct answer *answer, int protocol, bool asks_pps,
         && says->rate_code != RATE_OF_RESET;
     const bool asks = wants_rate || protocol != answer_protocol(says, ANSWER_FIRST);
     const char *fault = answer_refusal(says, protocol);
-    answer->line->is_of_blocks = protocol == 1;
     if (fault == NULL)
         fault = asks ? ask_for(answer, protocol, wants_rate) : set_rate(answer, says->specific);
+    answer->line->is_of_blocks = protocol == 1;
     *waiting_time = answer_waiting_time(answer) + answer->line->slack;
     return fault;
 }

@@ -3,6 +3,7 @@
 #include <string.h>
 
 const char LINE_IS_SILENT[] = "the other end is silent";
+const char LINE_IS_LATE[] = "the command takes longer than --patience";
 const char LINE_IS_GONE[] = "the line is gone";
 const char LINE_HAS_WRONG_PARITY[] = "received a character with wrong parity";
 const char LINE_IS_BROKEN[] = "received no valid block";
@@ -74,6 +75,7 @@ static const char *text_of(enum port_result result)
     switch (result) {
     case PORT_IS_WELL: return NULL;
     case PORT_IS_SILENT: return LINE_IS_SILENT;
+    case PORT_IS_LATE: return LINE_IS_LATE;
     case PORT_IS_CUT: return LINE_HAS_WRONG_PARITY;
     default: return LINE_IS_GONE;
     }
@@ -107,6 +109,13 @@ static enum line_end other_of(const struct line *line)
     return line->own == LINE_CARD ? LINE_TERMINAL : LINE_CARD;
 }
 
+/* Removes this many of the characters looked at. */
+static void remove_first(struct line *line, size_t n)
+{
+    line->come_count -= n;
+    memmove(line->come, line->come + n, line->come_count * sizeof *line->come);
+}
+
 /* Notes the first faulty one of the characters looked at. */
 static void note_first(struct line *line)
 {
@@ -120,6 +129,11 @@ const char *line_refuse_early(struct line *line, int64_t wait)
         return result == PORT_IS_SILENT ? NULL : text_of(result);
     note_first(line);
     return line->sent_until == 0 ? "a byte after the answer to reset" : UNEXPECTED;
+}
+
+const char *line_await_quiet(struct line *line)
+{
+    return line->echo == LINE_HAS_NO_ECHO ? line_refuse_early(line, line->late) : NULL;
 }
 
 const char *line_drop(struct line *line, int64_t first, int64_t quiet)
@@ -214,17 +228,26 @@ static int64_t waits_until(const struct line *line, int64_t wait)
     return later(port_now(), line->sent_until) + wait;
 }
 
-/* The other end has sent a character: the next one of this end is sent no earlier than this. */
+/* The other end has sent a character: the next one of this end is sent no earlier than this. A
+ * terminal sends after it has received all, so a card need not wait until that could be: on a
+ * pseudo terminal it takes no time. */
 static void note_turn(struct line *line)
 {
-    line->free_from = later(line->free_from, port_now() + line_etu(line, LINE_TURN_ETU));
+    const int64_t turn = port_now() + line_etu(line, LINE_TURN_ETU);
+    line->free_from = line->own == LINE_CARD ? turn : later(line->free_from, turn);
 }
 
 const char *line_receive_first(struct line *line, uint8_t *byte, bool *has_other_parity,
                                int64_t wait)
 {
-    const enum port_result result = read_port(line, byte, has_other_parity,
-                                              waits_until(line, wait));
+    enum port_result result = PORT_IS_WELL;
+    if (line->come_count == 0)
+        result = read_port(line, byte, has_other_parity, waits_until(line, wait));
+    else {
+        *byte = line->come[0].raw;
+        *has_other_parity = line->come[0].has_other_parity;
+        remove_first(line, 1);
+    }
     note_turn(line);
     return line->is_early ? UNEXPECTED : text_of(result);
 }
@@ -264,7 +287,7 @@ const char *line_refuse_echo(struct line *line, const uint8_t *header, size_t n,
     for (same = 0; same < n; same++) {
         const enum port_result result = come_in(line, same + 1, then);
         if (result != PORT_IS_WELL)
-            return same == 0 ? text_of(result) : NULL;
+            return same == 0 && result != PORT_IS_CUT ? text_of(result) : NULL;
         if (by_convention(line, line->come[same].raw) != header[same])
             return NULL;
         then = port_now() + LINE_ECHO_LATE;
@@ -294,8 +317,7 @@ void line_take(struct line *line, const uint8_t *bytes, size_t n)
     size_t i;
     for (i = 0; i < n; i++)
         line_note(line, other_of(line), bytes[i]);
-    line->come_count -= n;
-    memmove(line->come, line->come + n, line->come_count * sizeof *line->come);
+    remove_first(line, n);
     note_turn(line);
 }
 

@@ -24,9 +24,9 @@
 /* how many times it drops characters that nobody awaits, before that is a fault */
 #define LINE_DROPS 1000
 
-/* the latest that a byte comes from the driver of a tty, and the next one of an echo, in
- * microseconds: a USB adapter keeps bytes for 16 ms */
-enum { LINE_LATE = 20000, LINE_ECHO_LATE = 100000 };
+/* the latest that a byte comes from the driver of a tty, in milliseconds: a USB adapter keeps bytes
+ * for 16. And the latest that the next byte of an echo comes, in microseconds */
+enum { LINE_LATE = 20, LINE_ECHO_LATE = 100000 };
 
 /* the most etu between two characters of an answer to reset and of PPS (ISO/IEC 7816-3, 8.1 and
  * 9.2) */
@@ -55,6 +55,7 @@ struct line {
     unsigned long baud;
     int64_t guard;              /* more guard time than each character has */
     int64_t slack;              /* how much longer a wait may last than the line's rules say */
+    int64_t late;               /* the latest that a byte comes from the tty's driver */
     int64_t sent_until;         /* when the last character handed out was sent */
     int64_t free_from;          /* the earliest time to send the next one */
     int64_t quiet_until;        /* the card must be silent until then .. */
@@ -65,10 +66,11 @@ struct line {
     char last_sign;             /* of the line of the trace that has not ended, or NUL */
 };
 
-/* Results of the functions below, as these very pointers: the time ran out, the other end is
- * closed, a character has a wrong parity, and the received bytes are not a block. NULL is success,
- * and any other text a failure. */
+/* Results of the functions below, as these very pointers: the time ran out, or the port's `until`;
+ * the other end is closed. Or a character has a wrong parity, or the received bytes are not a
+ * block. NULL is success, and any other text a failure. */
 extern const char LINE_IS_SILENT[];
+extern const char LINE_IS_LATE[];
 extern const char LINE_IS_GONE[];
 extern const char LINE_HAS_WRONG_PARITY[];
 extern const char LINE_IS_BROKEN[];
@@ -96,8 +98,12 @@ const char *line_look(struct line *line, uint8_t bytes[LINE_RUN], size_t *n, int
 /* Refuses a byte of a card that comes within this time, when the card may not send. */
 const char *line_refuse_early(struct line *line, int64_t wait);
 
-/* Refuses the echo of a header that was sent over a line without echo. The card's answer may begin
- * as the header does. So this waits until a byte differs, or no byte has followed for
+/* Waits before a header or a PPS request. Without an echo nothing shows that a byte is older than
+ * these. So the card must be silent for `late`. `line_send_all` reads once more. */
+const char *line_await_quiet(struct line *line);
+
+/* Refuses the echo of a header or a block that was sent over a line without echo. The card's answer
+ * may begin as that does. So this waits until a byte differs, or no byte has followed for
  * LINE_ECHO_LATE. */
 const char *line_refuse_echo(struct line *line, const uint8_t *header, size_t n, int64_t wait);
 
@@ -109,8 +115,8 @@ const char *line_drop(struct line *line, int64_t first, int64_t quiet);
 /* Takes this many of those looked at, as if each was received. */
 void line_take(struct line *line, const uint8_t *bytes, size_t n);
 
-/* The same for the first character of an answer, as the direct convention reads it: not yet in the
- * trace, and with another parity in the inverse convention. */
+/* Receives a character as the direct convention reads it, such as the first of an answer: not yet
+ * in the trace, and with another parity in the inverse convention. */
 const char *line_receive_first(struct line *line, uint8_t *byte, bool *has_other_parity,
                                int64_t wait);
 

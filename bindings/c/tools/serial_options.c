@@ -1,26 +1,15 @@
 #include "serial_options.h"
+#include "operation.h"
 #include "text.h"
 
 #include <limits.h>
 #include <stdlib.h>
 #include <string.h>
 
-/* The words to read. */
-struct words {
-    int argc, at;
-    char *const *argv;
-};
-
 /* The text on a refused word; `why` begins with a space. */
 static const char *refuse(const char *word, const char *why)
 {
     return text_quoted("", word, why);
-}
-
-/* Takes the word after an option; NULL if there is no word. */
-static const char *next_word(struct words *words)
-{
-    return words->at + 1 < words->argc ? words->argv[++words->at] : NULL;
 }
 
 /* A number in digits, within these bounds. */
@@ -87,6 +76,8 @@ static const char *read_with_word(struct serial_options *options, const enum por
         return read_number(option, word, 1200, 1000000, &options->baud);
     if (strcmp(option, "--slack") == 0)
         return read_number(option, word, 0, 60000, &options->slack);
+    if (strcmp(option, "--quiet") == 0)
+        return read_number(option, word, LINE_LATE, 1000, &options->quiet);
     if (strcmp(option, "--patience") == 0)
         return read_number(option, word, 1, 86400, &options->patience);
     if (strcmp(option, "--reset") == 0)
@@ -140,28 +131,30 @@ static bool is_among(const char *word, const char *const *names)
 }
 
 const char *serial_options_read(struct serial_options *options, const struct serial_names *names,
-                                int argc, char *const *argv)
+                                int argc, char **argv)
 {
-    struct words words = { 0, 1, NULL };
+    struct operation_words words = { NULL, 0, 1, false };   /* operations follow the tty */
     const char *fault = NULL;
-    words.argc = argc;
-    words.argv = argv;
+    int at;
     memset(options, 0, sizeof *options);
     options->has_echo = options->is_held_by_on = true;
     options->reset = names->reset;
     options->baud = 9600;
     options->protocol = ANSWER_FIRST;
     options->slack = 200;
-    options->patience = 300;
-    for (; words.at < argc && argv[words.at][0] == '-' && fault == NULL; words.at++) {
-        const char *option = argv[words.at];
+    options->quiet = LINE_LATE;
+    options->patience = 600;
+    options->words = words.words = argv + 1;
+    for (at = 1; at < argc && fault == NULL; at++) {
+        const char *option = argv[at];
+        if (operation_take_word(&words, argv[at]))
+            continue;
         if (!is_among(option, names->options))
             fault = refuse(option, " is not an option");
         else if (!read_alone(options, option))
-            fault = read_with_word(options, names->signals, option, next_word(&words));
+            fault = read_with_word(options, names->signals, option, argv[++at]);
     }
-    options->words = argv + words.at;
-    options->count = (size_t)(argc - words.at);
+    options->count = words.count;
     return fault;
 }
 
@@ -175,6 +168,7 @@ struct line serial_options_line(const struct serial_options *options, struct por
     line.echo = options->has_echo ? LINE_TAKES_ECHO : LINE_HAS_NO_ECHO;
     line.baud = options->baud;
     line.slack = (int64_t)options->slack * 1000;
+    line.late = (int64_t)options->quiet * 1000;
     line.trace = options->is_traced ? stdout : NULL;
     return line;
 }

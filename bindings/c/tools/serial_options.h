@@ -24,11 +24,12 @@ struct serial_options {
     enum port_signal reset;     /* --reset */
     unsigned long baud;         /* --baud */
     unsigned long slack;        /* --slack, in milliseconds */
+    unsigned long quiet;        /* --quiet, in milliseconds */
     unsigned long patience;     /* --patience, in seconds */
     const char *file;           /* -f, or NULL */
     const char *plans[SERIAL_PLANS_LIMIT];  /* --plan, in order */
     size_t plan_count;
-    char *const *words;         /* the first word that is not an option */
+    char *const *words;         /* those that are not options */
     size_t count;
 };
 
@@ -39,10 +40,11 @@ struct serial_names {
     enum port_signal reset;             /* its value if the command line has no --reset */
 };
 
-/* Reads the words after the program's name; the first that is not an option ends the options.
- * Returns NULL, or a text that says why it refuses the words, which stays until the next call. */
+/* Reads the words after the program's name. Options may be anywhere before `--`, but the word after
+ * `put TAG` is a value. Moves the other words to the front of `argv`. Returns NULL, or a text that
+ * says why it refuses the words, which stays until the next call. */
 const char *serial_options_read(struct serial_options *options, const struct serial_names *names,
-                                int argc, char *const *argv);
+                                int argc, char **argv);
 
 /* The line of one end, as the options have it, over this port. */
 struct line serial_options_line(const struct serial_options *options, struct port *port,

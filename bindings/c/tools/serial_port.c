@@ -205,6 +205,7 @@ const char *port_open(struct port *port, const char *name, unsigned long baud)
     if (holder > 0)
         return tell_holder(holder);
     memset(port, 0, sizeof *port);
+    port->until = INT64_MAX;
     port->fd = open(name, O_RDWR | O_NOCTTY | O_NONBLOCK);
     if (port->fd < 0)
         return text_fault("the tty cannot be opened", name, strerror(errno));
@@ -244,6 +245,7 @@ const char *port_make(struct port *port)
     const char *name = NULL, *fault = NULL;
     memset(port, 0, sizeof *port);
     port->is_pseudo = port->is_made = true;
+    port->until = INT64_MAX;
     port->fd = posix_openpt(O_RDWR | O_NOCTTY | O_NONBLOCK);
     if (port->fd < 0)
         return tell_error("no pseudo terminal");
@@ -349,10 +351,13 @@ void port_drop(struct port *port)
 static enum port_result await(const struct port *port, short events, int64_t then)
 {
     for (;;) {
-        const int64_t left = then - port_now();
+        const int64_t now = port_now();
+        const int64_t left = then - now;
         const int64_t most = left < SECOND ? left : SECOND;
         struct pollfd wait = { 0, 0, 0 };
         int ready;
+        if (now >= port->until)
+            return PORT_IS_LATE;
         wait.fd = port->fd;
         wait.events = events;
         ready = poll(&wait, 1, most > 0 ? (int)((most + MILLISECOND - 1) / MILLISECOND) : 0);

@@ -21,11 +21,13 @@ struct port {
     bool is_made;               /* it is the far end of a pseudo terminal: `name` is the near one */
     int watch;                  /* for that: reports when the near one is closed */
     bool is_cut;                /* a mark of another parity is cut: no more can be read */
+    int64_t until;              /* from then on nothing is read or written: PORT_IS_LATE. A wait in
+                                 * progress ends within a second */
     char name[PORT_NAME_ROOM];
 };
 
 /* PORT_IS_CUT: the mark of another parity came without its character. */
-enum port_result { PORT_IS_WELL, PORT_IS_SILENT, PORT_IS_GONE, PORT_IS_CUT };
+enum port_result { PORT_IS_WELL, PORT_IS_SILENT, PORT_IS_LATE, PORT_IS_GONE, PORT_IS_CUT };
 
 /* Returns the present time, by a clock that nobody sets, in microseconds. All times here are in
  * these. */
@@ -37,9 +39,9 @@ void port_sleep_until(int64_t then);
 /* The functions that return text return NULL for success, or a few words that say why they failed.
  * These stay until the next call. */
 
-/* Opens a tty, locks it, and sets it to this rate and even parity. If another process has locked
- * it, the text says which. `port_close` puts back the earlier setting. A port that fails to open is
- * closed again. */
+/* Opens a tty without an `until`, locks it, and sets it to this rate and even parity. If another
+ * process has locked it, the text says which. `port_close` puts back the earlier setting. A port
+ * that fails to open is closed again. */
 const char *port_open(struct port *port, const char *name, unsigned long baud);
 
 /* Makes a pseudo terminal, and is its far end. */

@@ -7,6 +7,9 @@ static const char *const OUTCOMES[] = {
     "the card has carried out the command",
 };
 
+/* the second byte of S(IFS request), which this end sends before its first command alone */
+#define IFS_REQUEST 0xC1
+
 static char told[160];
 
 struct t1_times t1_times_of(const struct line *line, const gt_atr_t1 *says, unsigned long clock)
@@ -54,15 +57,19 @@ static const char *give_up(struct t1_end *t1)
     return told;
 }
 
-/* Sends the end's block, and takes the card's. */
+/* Sends the end's block, and takes the card's. A line that echoes returns all blocks, the first of
+ * them, S(IFS request), too. */
 static const char *pass_block(struct t1_end *t1, const uint8_t *bytes, size_t n, uint8_t waits)
 {
+    const int64_t wait = t1->times.bwt * waits;
     struct t1_block block = { { 0 }, 0 };
     int32_t code = GT_OK;
     const char *fault = line_send_all(t1->line, bytes, n);
     if (fault != NULL)
         return fault;
-    fault = t1_receive(t1->line, &t1->times, t1->times.bwt * waits, &block);
+    fault = line_refuse_echo(t1->line, bytes, bytes[1] == IFS_REQUEST ? n : 0, wait);
+    if (fault == NULL)
+        fault = t1_receive(t1->line, &t1->times, wait, &block);
     if (fault == NULL)
         code = gt_t1_receive_bytes(&t1->end, block.bytes, block.n, &block.n);
     else if (fault == LINE_IS_BROKEN || fault == LINE_IS_SILENT)

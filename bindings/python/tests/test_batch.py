@@ -13,10 +13,16 @@ import time
 from pathlib import Path
 
 import pytest
-from galliumtoad import Card
+from galliumtoad import Card, Select, Terminal
 from galliumtoad.journal import Journal
+from galliumtoad.script import Script
 
-STANDIN = Path(__file__).resolve().parent / "standin"
+HERE = Path(__file__).resolve().parent
+STANDIN = HERE / "standin"
+sys.path.append(str(HERE.parents[2] / "checks/program"))
+import operations  # noqa: E402
+
+AID = bytes.fromhex("A0000000031010")
 CARDS = int(os.environ.get("CARDS", 300))
 KILLS = int(os.environ.get("KILLS", 20))
 SCRIPT = """# a person's card
@@ -174,17 +180,23 @@ def test_no_other_program_has_the_card_and_it_is_reset_at_the_end(tmp_path, monk
     assert asked == [(None, scard.SCARD_SHARE_EXCLUSIVE, scard.SCARD_RESET_CARD)]
 
 
-@pytest.mark.parametrize(("tag", "outcome"), [("5F20", "done"), ("50", "failed")])
-def test_a_get_returns_its_object(tmp_path, monkeypatch, tag, outcome):
+def outcome_of(tmp_path, monkeypatch, script, reader):
+    """How the first row ends, and why, if a reader carries out this script."""
     monkeypatch.syspath_prepend(str(STANDIN))
     monkeypatch.setenv("STANDIN", str(tmp_path))
     room = Room(tmp_path, 1)
     from galliumtoad import batch
 
-    room.write("script", f"select A0000000031010\nput 5F20 @{{name}}\nget {tag}\n")
+    room.write("script", script)
     monkeypatch.chdir(tmp_path)
     given = batch.parsed(["script", "--rows=rows.csv", "--journal=journal"])
-    card = Card({bytes.fromhex("A0000000031010"): {0x50: b"VISA"}})
+    return batch.carry_out(batch.Batch(given), None, 1, reader)
+
+
+@pytest.mark.parametrize(("tag", "outcome"), [("5F20", "done"), ("50", "failed")])
+def test_a_get_returns_its_object(tmp_path, monkeypatch, tag, outcome):
+    script = f"select A0000000031010\nput 5F20 @{{name}}\nget {tag}\n"
+    card = Card({AID: {0x50: b"VISA"}})
 
     def reader(tpdu):
         """Returns the value of 50 alone, without its tag and length."""
@@ -192,7 +204,36 @@ def test_a_get_returns_its_object(tmp_path, monkeypatch, tag, outcome):
         return answer[2:] if answer.startswith(b"\x50\x04") else answer
 
     why = "" if outcome == "done" else f"line 3: the answer is not the object {tag}"
-    assert batch.carry_out(batch.Batch(given), None, 1, reader) == (outcome, why)
+    assert outcome_of(tmp_path, monkeypatch, script, reader) == (outcome, why)
+
+
+@pytest.mark.parametrize("operation", ["send 00DA00500141", "put 50 41"])
+def test_what_may_write_keeps_its_row(tmp_path, monkeypatch, operation):
+    """A card that refused a put or a send may hold a part of the row."""
+    card = Card({AID: {0x50: b"VISA"}}, locked=[(AID, 0x50)])
+    script = f"select A0000000031010\n{operation}\n"
+    why = "line 2: 6982 security status not satisfied"
+    assert outcome_of(tmp_path, monkeypatch, script, card.tpdu) == ("failed", why)
+
+
+@pytest.mark.parametrize("answer", [b"", b"\x90", b"\x41\x41\x90\x00"])
+def test_an_answer_that_does_not_fit_leaves_its_row_unsure(tmp_path, monkeypatch, answer):
+    """The card may have carried out the put."""
+    card = Card({AID: {}})
+
+    def reader(tpdu):
+        """Hands on a select. A put gets this answer, which no card gives."""
+        return answer if tpdu[1] == 0xDA else card.tpdu(tpdu)
+
+    script = "select A0000000031010\nput 50 41\n"
+    assert outcome_of(tmp_path, monkeypatch, script, reader)[0] == "unsure"
+
+
+def test_the_longest_value(tmp_path, monkeypatch):
+    card = Card({AID: {}})
+    script = "select A0000000031010\nput 50 41*8192\n"
+    assert outcome_of(tmp_path, monkeypatch, script, card.tpdu) == ("done", "")
+    assert [len(it.value) for it in card.entries(AID)] == [8192]
 
 
 def test_a_row_in_progress_is_not_to_be_decided(tmp_path):
@@ -316,7 +357,7 @@ def test_a_card_of_another_profile_takes_no_row(tmp_path):
     (tmp_path / room.names[0] / "card").write_text("5")
     status, out, _ = room.run()
     assert status == 0 and out.splitlines() == [
-        f"{room.names[0]}: row 1 unused: line 2: 6A82 application not found",
+        f"{room.names[0]}: row 1 unused: line 2: 6A82 file or application not found",
         f"{room.names[0]}: row 1 done",
         "1 of 1 rows done, 0 to decide",
     ]
@@ -326,7 +367,7 @@ def test_a_card_without_an_identifier_takes_no_row(tmp_path):
     room = Room(tmp_path, 1)
     (tmp_path / room.names[0] / "card").write_text("17")
     assert room.run("--id=9F7F")[1].splitlines()[:2] == [
-        f"{room.names[0]}: row 1 unused: no 9F7F: 6A88 data object not found",
+        f"{room.names[0]}: row 1 unused: no 9F7F: 6A88 referenced data not found",
         f"{room.names[0]}: row 1 done",
     ]
 
@@ -383,7 +424,7 @@ def test_a_card_that_stores_another_byte_has_failed(tmp_path):
         ("get 5F20 41\n", None, (), "script:1: `get` with 2 words"),
         ("select A0\n", None, (), "script:1: no `select` for row 1: bad argument"),
         ("\nput 5F20 {name}\n", None, (), "script:2: no `put` for row 1"),
-        ("put 5F20 41*8193\n", None, (), "script:1: no `put` for row 1"),
+        ("put 5F20 41*16321\n", None, (), "script:1: no `put` for row 1"),
         ("put 5F20 @{name}.jpg\n", None, (), "script:1: no `put` for row 1: No such file or dir"),
         ("send 00\n", None, (), "script:1: no `send` for row 1: command too short"),
         ("put 50 @{name}\nput 50 {code}*0\n", None, (), "script:2: no `put` for row 1"),
@@ -414,6 +455,35 @@ def test_bad_input_is_named_before_any_card(tmp_path, script, rows, words, text)
     status, out, error = room.run(*words)
     assert status == 2 and error.startswith(f"galliumtoad.batch: {text}"), error
     assert out == "" and not list(tmp_path.glob("cards/*")) and "PERSON" not in error
+
+
+@pytest.mark.parametrize(("line", "sent", "reason"), operations.rows())
+def test_a_line_is_read_as_by_card_trace(line, sent, reason):
+    if reason:
+        with pytest.raises(ValueError):
+            Script("script", f"{line}\n", []).operations(1, {})
+        return
+    card, terminal, tpdus = Card({AID: {}}), Terminal(), []
+    terminal.run(card.tpdu, Select(AID))
+    made = Script("script", f"# 1\n{line}\n", []).operations(1, {})
+    terminal.run(lambda it: (tpdus.append(bytes(it)), card.tpdu(it))[1], made[2])
+    assert sent in (None, b"".join(tpdus).hex().upper())
+
+
+def test_columns_take_only_what_words_take(tmp_path):
+    """A cell is no more than a script's own word, and is not filled again."""
+    script = Script("script", "select {a}\nget {t}\nput {t} {v}\nput 50 @{v}\n", [*"atv"])
+    row = {"a": "A000000003", "t": "5F20", "v": "41*3"}
+    made = script.operations(1, row)
+    assert [made[2].tag, made[3].value, made[4].value] == [0x5F20, b"AAA", b"41*3"]
+    assert script.operations(1, {**row, "v": "-"})[3].value == b""
+    for bad in ({"a": "A000000003*1"}, {"t": "-"}, {"t": "50*1"}, {"v": "{t}"}, {"v": "4142*3"}):
+        with pytest.raises(ValueError):
+            script.operations(1, {**row, **bad})
+    (tmp_path / "long").write_bytes(b"A" * 16321)
+    for value in (f"@{tmp_path}/long", "@{v}"):
+        with pytest.raises(ValueError):
+            Script("script", f"put 50 {value}", ["v"]).operations(1, {"v": "A" * 16321})
 
 
 @pytest.mark.parametrize("word", ["5F", "XYZ", "12345678", "-1"])

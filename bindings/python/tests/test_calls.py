@@ -247,6 +247,42 @@ def test_an_exchange_by_characters():
         exchange.receive_bytes(b"\x90")
 
 
+@pytest.mark.parametrize(
+    ("operation", "came", "sent"),
+    [
+        (Put(0x5F20, b"ANN"), ["9000"], False),
+        (Put(0x5F20, b"ANN"), ["25", "9000"], False),
+        (Put(0x5F20, b"ANN"), ["25", "25", "DA", "9000"], True),
+        (Put(0x5F20, b"ANN"), ["DA", "9000"], True),
+        (Put(0x5F20, b""), ["9000"], True),
+        (Get(0x5F20), ["9000"], True),
+        (Select(AID), ["6101", "C0009000"], False),
+        (Select(AID), ["A4", "6101", "C0009000"], True),
+        (Put(0x5F20, bytes(300)), ["9000", "DA", "9000"], False),
+        (Put(0x5F20, bytes(300)), ["DA", "9000", "9000"], False),
+        (Put(0x5F20, bytes(300)), ["DA", "9000", "DA", "9000"], True),
+    ],
+)
+def test_data_that_have_left_and_have_not(operation, came, sent):
+    """A card may end a command before it takes the data: then 9000 is no success."""
+    with Terminal() as terminal:
+        with raises(CallError, "GT_STATE"):
+            terminal.data_sent()
+        terminal.begin(operation)
+        for characters in came:
+            terminal.send_bytes()
+            terminal.receive_bytes(bytes.fromhex(characters))
+        assert terminal.answer().status.is_ok and terminal.data_sent() is sent
+
+
+def test_of_whole_tpdus_and_commands_no_data_are_known():
+    for give in (Exchange.answered, Exchange.responded):
+        with Exchange(bytes.fromhex("00DA5F200100")) as exchange:
+            assert exchange.data_sent() is False
+            give(exchange, bytes.fromhex("9000"))
+            assert exchange.data_sent() is None
+
+
 def test_faults_of_an_exchange():
     with raises(CommandError, "GT_TOO_SHORT"):
         Exchange(b"123")
@@ -345,7 +381,14 @@ def test_the_fields_of_an_object():
 def test_what_shows():
     assert repr(Put(0x5F20, b"secret")) == "Put(tag=24352)" and repr(Send(b"secret")) == "Send()"
     assert repr(Status(0x61)) == "Status(0x0061)" and not Status(0x6110).is_ok
-    assert Status(0x9001).text == "unknown status"
+    assert Status(0x9001).text == "no known meaning"
+    assert Status(0x63C2).text == "a warning: a counter is at 2"
+    assert Status(0x63C2).words(0x7F, 0x20) == "a warning: 2 tries are left"
+    assert Status(0x63C2).words(0x20, 0x7F) == "a warning: a counter is at 2"
+    assert Status(0x9F16).words(0xA0, 0xA4) == "22 bytes of the response wait"
+    for cla, ins in ((-1, 0), (256, 0), (0, -1), (0, 256)):
+        with pytest.raises(ValueError):
+            Status(0x9000).words(cla, ins)
 
 
 def test_answers_to_reset_and_pps():

@@ -8,6 +8,7 @@ import os
 import pkgutil
 import subprocess
 import sys
+import time
 import tokenize
 from pathlib import Path
 
@@ -46,7 +47,7 @@ def run(name, **more):
 
 
 def test_a_terminal_and_a_card_in_memory():
-    assert run("terminal.py") == ["9000 ok ", "9000 ok ", "9000 ok b'ANN'"]
+    assert run("terminal.py") == [f"9000 normal processing {shown}" for shown in ("", "", "b'ANN'")]
 
 
 def test_a_card_in_a_reader(tmp_path):
@@ -55,26 +56,40 @@ def test_a_card_in_a_reader(tmp_path):
     (tmp_path / "Slot0" / "card").write_text("0")
     paths = [str(STANDIN), *filter(None, [os.environ.get("PYTHONPATH")])]
     environment = dict(os.environ, STANDIN=str(tmp_path), PYTHONPATH=":".join(paths))
-    assert run("reader.py", env=environment) == ["ok", "", ""]
+    assert run("reader.py", env=environment) == ["normal processing", "", ""]
     stored = (tmp_path / "cards" / "Slot0-0").read_text()
     assert f'"80": "{b"VISA".hex()}"' in stored and b"DOE/JOHN".hex() in stored
 
 
+def talk(line, *operations):
+    """The answers to these operations of a terminal at a line."""
+    answers = []
+    with Terminal() as terminal:
+        for operation in operations:
+            terminal.begin(operation)
+            while terminal.answer() is None:
+                os.write(line, terminal.send_bytes())
+                terminal.receive_bytes(os.read(line, 1))
+            answers.append(terminal.answer())
+    return answers
+
+
 def test_a_card_behind_a_pseudo_terminal():
+    """Each opening is a reset: nothing is selected, and nothing of an earlier talk is left."""
+    select, get = Select(bytes.fromhex("A0000000031010")), Get(0x5F20)
     program = [sys.executable, str(EXAMPLES / "behind_pty.py")]
     with subprocess.Popen(program, stdout=subprocess.PIPE, text=True) as card:
-        line = os.open(card.stdout.readline().rstrip(), os.O_RDWR | os.O_NOCTTY)
-        assert os.read(line, 2) == b"\x3b\x00"
-        with Terminal() as terminal:
-            answers = []
-            for operation in (Select(bytes.fromhex("A0000000031010")), Get(0x5F20)):
-                terminal.begin(operation)
-                while terminal.answer() is None:
-                    os.write(line, terminal.send_bytes())
-                    terminal.receive_bytes(os.read(line, 1))
-                answers.append(terminal.answer())
-        assert [it.status for it in answers] == [0x9000, 0x9000]
-        assert answers[1].object(0x5F20).value == b"JOE"
+        name = card.stdout.readline().rstrip()
+        for _ in range(3):
+            line = os.open(name, os.O_RDWR | os.O_NOCTTY)
+            assert os.read(line, 2) == b"\x3b\x00"
+            answers = talk(line, get, select, get)
+            assert [it.status for it in answers] == [0x6985, 0x9000, 0x9000]
+            assert answers[2].object(0x5F20).value == b"JOE"
+            os.write(line, bytes.fromhex("00CA5F2006"))
+            time.sleep(0.1)
+            os.close(line)
+            time.sleep(0.1)
         card.kill()
 
 
@@ -93,4 +108,4 @@ def code(file):
 def test_the_package_stays_small():
     """Its files, without tests and examples."""
     files = [*TOP.glob("*.py"), *TOP.glob("src/**/*.py")]
-    assert 500 < sum(len(code(it)) for it in files) <= 700
+    assert 500 < sum(len(code(it)) for it in files) <= 710

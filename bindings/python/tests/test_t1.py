@@ -64,7 +64,7 @@ def test_gives_up():
     with T1(line) as end, Terminal() as terminal:
         with pytest.raises(BlockError) as error:
             terminal.run(end, Select(bytes(5)))
-        assert error.value.outcome == "no"
+        assert error.value.outcome == "unknown"
         with pytest.raises(CallError):
             terminal.run(end, Get(0x50))
         end.reset()

@@ -9,6 +9,27 @@ use std::fmt;
 /// The most data bytes of an answer, if the caller sets no lower limit.
 pub const RESPONSE_LIMIT: usize = 16_384;
 
+/// Whether the terminal has sent all data of a command, or of an operation's commands so far.
+#[derive(Clone, Copy, Debug, PartialEq, Eq, Hash)]
+pub enum DataSent {
+    /// They have all left it, or it has no data to send.
+    All,
+    /// Not all have.
+    NotAll,
+    /// It is not known: a TPDU or a command went as a whole, or an error has ended it.
+    NotKnown,
+}
+
+impl DataSent {
+    pub(crate) fn of(code: i32) -> DataSent {
+        match code {
+            10 => DataSent::All,
+            11 => DataSent::NotAll,
+            _ => DataSent::NotKnown,
+        }
+    }
+}
+
 /// What an end does when it is asked. `Debug` leaves the character out.
 #[derive(Clone, Copy, PartialEq, Eq, Hash)]
 #[must_use = "a character that is sent is handed out once"]
@@ -231,6 +252,15 @@ impl Exchange {
     pub fn take(&mut self, byte: u8) -> Result<(), Error> {
         // SAFETY: an exchange's handle.
         done(unsafe { raw::galliumtoad_exchange_take(self.0.at(), byte) })
+    }
+
+    /// Returns whether all data of the command have left the terminal. A card may end a TPDU with
+    /// any status before it takes the data: then a status `61XX`, `62XX`, `63XX` or `9XXX` is no
+    /// success.
+    #[must_use]
+    pub fn data_sent(&self) -> DataSent {
+        // SAFETY: an exchange's handle.
+        DataSent::of(unsafe { raw::galliumtoad_exchange_data_sent(self.0.at()) })
     }
 
     /// Returns the answer, as often as it is asked for. `None` if the exchange is in progress or

@@ -28,6 +28,7 @@ declared! {
     fn galliumtoad_exchange_receive_bytes(
         e: *mut Held, bytes: *const u8, n: usize, taken: *mut usize
     ) -> i32;
+    fn galliumtoad_exchange_data_sent(e: *mut Held) -> i32;
     fn galliumtoad_exchange_answer(
         e: *mut Held, status: *mut u16, data: *mut u8, room: usize, len: *mut usize
     ) -> i32;
@@ -63,12 +64,13 @@ declared! {
         t: *mut Held, apdu: *mut u8, room: usize, n: *mut usize, most: *mut usize
     ) -> i32;
     fn galliumtoad_terminal_responded(t: *mut Held, response: *const u8, n: usize) -> i32;
+    fn galliumtoad_terminal_data_sent(t: *mut Held) -> i32;
     fn galliumtoad_terminal_answer(
         t: *mut Held, status: *mut u16, data: *mut u8, room: usize, len: *mut usize
     ) -> i32;
 
     fn galliumtoad_t1_new(
-        t: *mut Held, edc: u8, ifsc: u8, tries: u8, extensions: u8, limit: usize
+        t: *mut Held, edc: u8, ifsc: u8, tries: u8, extensions: u16, limit: usize
     ) -> i32;
     fn galliumtoad_t1_begin(t: *mut Held, apdu: *const u8, n: usize) -> i32;
     fn galliumtoad_t1_send_bytes(

@@ -15,6 +15,7 @@ mod error;
 mod exchange;
 #[cfg(heap_in_rust)]
 mod heap;
+mod meanings;
 mod objects;
 mod pps;
 mod raw;
@@ -39,7 +40,7 @@ pub use card::{AID_LEAST, AID_LIMIT, APPS_LIMIT, ENTRIES_LIMIT, OBJECT_LIMIT};
 pub use card::{PLANS_LIMIT, VALUE_LIMIT};
 pub use card_t1::CardT1;
 pub use error::Error;
-pub use exchange::{Answer, Copied, Exchange, Turn, RESPONSE_LIMIT};
+pub use exchange::{Answer, Copied, DataSent, Exchange, Turn, RESPONSE_LIMIT};
 pub use objects::{find, head, Object, Objects, ObjectsError, Reason, LEVELS_LIMIT};
 pub use pps::{Pps, PpsError, PPS_LIMIT};
 pub use session::{End, Session};

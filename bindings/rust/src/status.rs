@@ -1,5 +1,6 @@
 //! A card's status word (ISO/IEC 7816-4, 5.1.3).
 
+use crate::meanings::MEANINGS;
 use std::fmt;
 
 /// A status word, SW1 and SW2: `0x9000` if the card has carried out the command.
@@ -11,7 +12,7 @@ use std::fmt;
 /// assert!(!status.is_ok());
 /// assert_eq!((status.sw1(), status.sw2()), (0x69, 0x82));
 /// let shown = format!("{status}: {}", status.text());
-/// assert_eq!(shown, "6982: locked");
+/// assert_eq!(shown, "6982: security status not satisfied");
 /// ```
 #[derive(Clone, Copy, PartialEq, Eq, Hash)]
 pub struct Status(pub u16);
@@ -35,29 +36,37 @@ impl Status {
         self.0.to_be_bytes()[1]
     }
 
-    /// What it means if a [`Card`](crate::Card) returns it, in a few words. For any other status it
-    /// is `unknown status`.
+    /// What it means, in a few words (ISO/IEC 7816-4, 5.1.3). `X` or `XX` in it is a number, which
+    /// [`words`](Status::words) writes out.
     #[must_use]
     pub fn text(self) -> &'static str {
-        match self.0 {
-            0x9000 => "ok",
-            0x6100..=0x61FF => "more data available",
-            0x6581 => "memory failure",
-            0x6700 => "wrong length",
-            0x6883 => "last command of the chain expected",
-            0x6884 => "chaining not supported",
-            0x6982 => "locked",
-            0x6985 => "conditions of use not satisfied",
-            0x6A80 => "wrong data",
-            0x6A82 => "application not found",
-            0x6A84 => "not enough memory space",
-            0x6A86 => "wrong P1-P2",
-            0x6A88 => "data object not found",
-            0x6C00..=0x6CFF => "fewer data than asked for",
-            0x6D00 => "INS not supported",
-            0x6E00 => "CLA not supported",
-            _ => "unknown status",
+        self.meaning(0, 0).0
+    }
+
+    /// The same after a command with this CLA and INS, with its number. If the command is not
+    /// known, they are 0.
+    ///
+    /// ```
+    /// let after_verify = galliumtoad::Status(0x63C2).words(0x00, 0x20);
+    /// assert_eq!(after_verify, "a warning: 2 tries are left");
+    /// ```
+    #[must_use]
+    pub fn words(self, cla: u8, ins: u8) -> String {
+        let (text, number) = self.meaning(cla, ins);
+        match text.split_once('X') {
+            Some((before, after)) => format!("{before}{number}{}", after.trim_start_matches('X')),
+            None => text.to_owned(),
         }
+    }
+
+    /// The words of the first row that fits, and the number in them.
+    fn meaning(self, cla: u8, ins: u8) -> (&'static str, u16) {
+        let tries =
+            cla < 0x80 && matches!(ins, 0x20 | 0x21 | 0x24..=0x26 | 0x28 | 0x2C | 0x2D | 0x82);
+        let is_for = |of| of == 'A' || of == 'S' && cla == 0xA0 || of == 'T' && tries;
+        let mut rows = MEANINGS.iter();
+        let found = rows.find(|row| is_for(row.0) && row.1 <= self.0 && self.0 <= row.2);
+        found.map_or(("", 0), |row| (row.3, self.0 - row.1))
     }
 }
 

@@ -12,8 +12,8 @@ pub const BLOCK_LIMIT: usize = 258;
 /// The default of [`T1Limits::tries`]; EMV has 2.
 pub const T1_TRIES: u8 = 4;
 
-/// The default of [`T1Limits::extensions`].
-pub const T1_EXTENSIONS: u8 = 16;
+/// The default of [`T1Limits::extensions`]: the making of a key may take a card minutes.
+pub const T1_EXTENSIONS: u16 = 1_000;
 
 codes! {
     /// Why a terminal's end at T=1 gave up. Each has the number that `galliumtoad.h` gives it.
@@ -66,11 +66,13 @@ impl error::Error for T1Fault {}
 #[derive(Clone, Copy, Debug, PartialEq, Eq, Hash)]
 pub struct T1Limits {
     /// The fruitless receptions since the last progress that it survives: one more is a fault.
-    /// Fruitless are a time-out, an invalid block, and a block that brings no progress. A request
-    /// that the end grants is not counted.
+    /// Progress is the next field of the response, R that acknowledges a field of the command, or
+    /// the end of S(IFS request). Fruitless are a time-out, an invalid block, and a block that
+    /// brings no progress. So a lost block of the end costs two tries: the time-out, and the card's
+    /// R. A request that the end grants is not counted.
     pub tries: u8,
     /// The S(WTX request) and S(IFS request) of the card that it grants in one command.
-    pub extensions: u8,
+    pub extensions: u16,
     /// The longest response that it takes, in bytes, the status included.
     pub response: usize,
 }

@@ -1,7 +1,7 @@
 //! A terminal, which carries out operations with a card over any line.
 
 use crate::error::{done, told, Error};
-use crate::exchange::{self, Answer, Copied, Turn, RESPONSE_LIMIT};
+use crate::exchange::{self, Answer, Copied, DataSent, Turn, RESPONSE_LIMIT};
 use crate::raw::{self, Handle};
 use crate::whole::{self, Due, Tpdu, APDU_LIMIT, TPDU_LIMIT};
 use std::fmt;
@@ -210,6 +210,17 @@ impl Terminal {
         done(unsafe {
             raw::galliumtoad_terminal_responded(self.0.at(), response.as_ptr(), response.len())
         })
+    }
+
+    /// Returns whether all data of the operation's commands so far have left the terminal, as
+    /// [`Exchange::data_sent`](crate::Exchange::data_sent). `None` if no operation has begun. If
+    /// the card ends a piece of a put before it takes the piece, [`DataSent::NotAll`] stays for the
+    /// rest of the operation.
+    #[must_use]
+    pub fn data_sent(&self) -> Option<DataSent> {
+        // SAFETY: a terminal's handle.
+        let code = unsafe { raw::galliumtoad_terminal_data_sent(self.0.at()) };
+        told(code).ok().map(DataSent::of)
     }
 
     /// Returns the status and the data of the operation's last command, until the next operation

@@ -68,7 +68,7 @@ fn a_block_that_stops() {
             .is_whole
     );
     end.missed().expect("a card at T=1");
-    sends(&end, &block(0x80, b""));
+    sends(&end, &block(0x82, b""));
     takes(&mut end, block(0x00, SELECT));
     sends(&end, &block(0x00, NAME));
 }

@@ -217,6 +217,7 @@ fn of_an_exchange() {
     let mut it = begun.expect("started");
     hands!(it.next() => exchange_next(_, _));
     hands!(it.take(0xC3) => exchange_take(_, 0xC3));
+    hands!(it.data_sent() => exchange_data_sent(_));
     hands!(it.answer() => exchange_answer(_, _, _, 0, _), exchange_answer(_, _, _, 0, _));
     hands!(it.answer_into(&mut room) => exchange_answer(_, _, space, 260, _));
     hands!(it.tpdu() => exchange_tpdu(_, _, 260, _, _));
@@ -248,6 +249,7 @@ fn of_a_terminal() {
     let most = at(&longer);
     hands!(it.apdu_into(&mut longer) => terminal_apdu(_, most, 261, _, _));
     hands!(it.responded(&BYTES) => terminal_responded(_, bytes, 7));
+    hands!(it.data_sent() => terminal_data_sent(_));
     hands!(it.answer() => terminal_answer(_, _, _, 0, _), terminal_answer(_, _, _, 0, _));
     hands!(it.answer_into(&mut room) => terminal_answer(_, _, space, 260, _));
     hands!(it.reset() => terminal_reset(_));
@@ -260,12 +262,12 @@ fn of_an_end_at_t1() {
     let space = at(&room);
     let limits = T1Limits {
         tries: 3,
-        extensions: 250,
+        extensions: 65_000,
         response: usize::MAX - 1,
     };
     tell(0);
     let most = usize::MAX - 1;
-    let made = hands!(T1::new(Edc::Lrc, 254, limits) => t1_new(_, 1, 254, 3, 250, most));
+    let made = hands!(T1::new(Edc::Lrc, 254, limits) => t1_new(_, 1, 254, 3, 65_000, most));
     let mut it = made.expect("an end");
     hands!(it.begin(&BYTES) => t1_begin(_, bytes, 7));
     let sent = hands!(it.block_into(&mut room) => t1_send_bytes(_, space, 258, _, _));
@@ -298,7 +300,7 @@ fn of_an_end_at_t1() {
     hands!(drop(it) => t1_free(_));
     tell(-5);
     let refused = hands!(T1::new(Edc::Crc, 0, T1Limits::default()) =>
-        t1_new(_, 2, 0, 4, 16, 258), t1_free(_));
+        t1_new(_, 2, 0, 4, 1_000, 258), t1_free(_));
     assert_eq!(refused.err(), Some(Error::Argument));
 }
 

@@ -98,7 +98,7 @@ fn faults() {
     let mut end = end(5);
     open(&mut end);
     end.missed().expect("a block is awaited");
-    sends(&end, &block(0x80, b""), 1);
+    sends(&end, &block(0x82, b""), 1);
     end.missed().expect("a block is awaited");
     gives_up(&mut end, Cause::TriesSpent, Outcome::Unknown);
     open(&mut end);
@@ -114,10 +114,18 @@ fn faults() {
     open(&mut end);
     takes(&mut end, block(0x00, &[0; 10]));
     gives_up(&mut end, Cause::TooLong, Outcome::Unknown);
+    // the command goes without a response to S(IFS request), with all its tries
     end.begin(GET).expect("memory");
+    end.missed().expect("a block is awaited");
+    end.missed().expect("a block is awaited");
+    sends(&end, &block(0x00, GET), 1);
     end.missed().expect("a block is awaited");
     end.missed().expect("a block is awaited");
     let text = end.fault().expect("a fault").to_string();
     assert!(text.starts_with("too many tries without progress: "));
-    gives_up(&mut end, Cause::TriesSpent, Outcome::NotCarriedOut);
+    gives_up(&mut end, Cause::TriesSpent, Outcome::Unknown);
+    end.begin(GET).expect("memory");
+    takes(&mut end, block(0xC2, b""));
+    end.missed().expect("a block is awaited");
+    gives_up(&mut end, Cause::Aborted, Outcome::NotCarriedOut);
 }

@@ -1,7 +1,7 @@
 //! Tests a terminal with a card, over transports of whole TPDUs and of commands.
 
 use galliumtoad::{Card, CardBuilder, Error, Operation, RunError, Status, Terminal, Transport};
-use galliumtoad::{Level, Turn, ANSWER_LIMIT, APDU_LIMIT};
+use galliumtoad::{DataSent, Exchange, Level, Turn, ANSWER_LIMIT, APDU_LIMIT};
 use std::convert::Infallible;
 use std::error::Error as _;
 use std::io;
@@ -537,4 +537,107 @@ fn an_answer_is_one_object_or_none() {
     ] {
         assert_eq!(answered_by(data).object(0x5F20), None, "{data:02X?}");
     }
+}
+
+/// Plays a card: the terminal sends as many characters as it has, and then gets these.
+fn played(terminal: &mut Terminal, came: &[&[u8]]) -> usize {
+    let mut sent = 0;
+    for characters in came {
+        while let Turn::Sends(_) = terminal.next().expect("a turn") {
+            sent += 1;
+        }
+        for character in *characters {
+            terminal.take(*character).expect("taken");
+        }
+    }
+    sent
+}
+
+/// A card may end a command before it takes the data. The status is taken as any other, and the
+/// terminal tells that the data have not left.
+#[test]
+fn data_that_have_not_left() {
+    let put = Operation::Put(0x5F20, b"ANN");
+    let long = [0; 300];
+    let mut terminal = Terminal::new().expect("memory");
+    assert_eq!(terminal.data_sent(), None);
+    let cases: [(Operation<'_>, &[&[u8]], usize, DataSent); 11] = [
+        (put, &[&[0x90, 0x00]], 5, DataSent::NotAll),
+        (put, &[&[0x25], &[0x90, 0x00]], 6, DataSent::NotAll),
+        (
+            put,
+            &[&[0x25], &[0x25], &[0xDA], &[0x90, 0x00]],
+            8,
+            DataSent::All,
+        ),
+        (put, &[&[0xDA], &[0x90, 0x00]], 8, DataSent::All),
+        (
+            Operation::Put(0x5F20, &[]),
+            &[&[0x90, 0x00]],
+            5,
+            DataSent::All,
+        ),
+        (Operation::Get(0x5F20), &[&[0x90, 0x00]], 5, DataSent::All),
+        // SELECT is fetched from after 61XX, and the end of the fetch is the end of the operation.
+        (
+            Operation::Select(&AID),
+            &[&[0x61, 0x01], &[0xC0, 0x00, 0x90, 0x00]],
+            10,
+            DataSent::NotAll,
+        ),
+        (
+            Operation::Select(&AID),
+            &[&[0xA4], &[0x61, 0x01], &[0xC0, 0x00, 0x90, 0x00]],
+            17,
+            DataSent::All,
+        ),
+        // Each piece of a put counts.
+        (
+            Operation::Put(0x5F20, &long),
+            &[&[0x90, 0x00], &[0xDA], &[0x90, 0x00]],
+            55,
+            DataSent::NotAll,
+        ),
+        (
+            Operation::Put(0x5F20, &long),
+            &[&[0xDA], &[0x90, 0x00], &[0x90, 0x00]],
+            265,
+            DataSent::NotAll,
+        ),
+        (
+            Operation::Put(0x5F20, &long),
+            &[&[0xDA], &[0x90, 0x00], &[0xDA], &[0x90, 0x00]],
+            310,
+            DataSent::All,
+        ),
+    ];
+    for (operation, came, sent, told) in cases {
+        terminal.begin(operation).expect("begun");
+        assert_eq!(played(&mut terminal, came), sent);
+        assert_eq!(terminal.answer().expect("an answer").status, 0x9000);
+        assert_eq!(terminal.data_sent(), Some(told), "{came:02X?}");
+    }
+}
+
+/// Of whole TPDUs and commands it is not known.
+#[test]
+fn data_of_whole_tpdus_and_commands() {
+    for level in [Level::Tpdu, Level::Apdu] {
+        let mut terminal = Terminal::new().expect("memory");
+        let put = Operation::Put(0x5F20, b"ANN");
+        terminal
+            .run(&mut reader_at(level), Operation::Select(&AID))
+            .expect("selected");
+        assert_eq!(terminal.data_sent(), Some(DataSent::NotKnown));
+        terminal.begin(put).expect("begun");
+        assert_eq!(terminal.data_sent(), Some(DataSent::NotAll));
+    }
+    let mut exchange = Exchange::start(&[0x00, 0xDA, 0x5F, 0x20, 0x01, 0x00]).expect("begun");
+    assert_eq!(exchange.data_sent(), DataSent::NotAll);
+    exchange.answered(&[0x90, 0x00]).expect("taken");
+    assert_eq!(exchange.data_sent(), DataSent::NotKnown);
+    let mut exchange = Exchange::start(&[0x00, 0x20, 0x00, 0x00]).expect("begun");
+    assert_eq!(exchange.data_sent(), DataSent::All);
+    exchange.responded(&[0x90, 0x00]).expect("taken");
+    assert_eq!(exchange.data_sent(), DataSent::NotKnown);
 }

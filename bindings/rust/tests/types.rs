@@ -46,34 +46,60 @@ fn only_9000_is_ok() {
 
 /// The statuses of this library's card, as `Answer` lists them, and others.
 #[test]
-fn statuses_have_texts() {
-    for (word, text) in [
-        (0x9000, "ok"),
-        (0x9001, "unknown status"),
-        (0x60FF, "unknown status"),
-        (0x6100, "more data available"),
-        (0x61FF, "more data available"),
-        (0x6200, "unknown status"),
-        (0x6581, "memory failure"),
-        (0x6700, "wrong length"),
-        (0x6883, "last command of the chain expected"),
-        (0x6884, "chaining not supported"),
-        (0x6982, "locked"),
-        (0x6985, "conditions of use not satisfied"),
-        (0x6A80, "wrong data"),
-        (0x6A82, "application not found"),
-        (0x6A84, "not enough memory space"),
-        (0x6A86, "wrong P1-P2"),
-        (0x6A88, "data object not found"),
-        (0x6BFF, "unknown status"),
-        (0x6C00, "fewer data than asked for"),
-        (0x6CFF, "fewer data than asked for"),
-        (0x6D00, "INS not supported"),
-        (0x6E00, "CLA not supported"),
-        (0x0000, "unknown status"),
+fn statuses_have_words() {
+    for (cla, ins, word, words) in [
+        (0x00, 0x00, 0x9000, "normal processing"),
+        (0x00, 0x00, 0x60FF, "no known meaning"),
+        (
+            0x00,
+            0x00,
+            0x6100,
+            "at least 256 bytes of the response wait",
+        ),
+        (0x00, 0x00, 0x61FF, "255 bytes of the response wait"),
+        (
+            0x00,
+            0x00,
+            0x6282,
+            "a warning: the file or record ended before Le bytes",
+        ),
+        (
+            0x00,
+            0x00,
+            0x6983,
+            "the method of authentication is blocked",
+        ),
+        (0x00, 0x00, 0x63C0, "a warning: a counter is at 0"),
+        (0x00, 0x00, 0x63CF, "a warning: a counter is at 15"),
+        (0x00, 0x20, 0x63C1, "a warning: 1 try is left"),
+        (0x7F, 0x20, 0x63C2, "a warning: 2 tries are left"),
+        (0x80, 0x20, 0x63C2, "a warning: a counter is at 2"),
+        (0x00, 0x27, 0x63C2, "a warning: a counter is at 2"),
+        (0x00, 0x82, 0x63CF, "a warning: 15 tries are left"),
+        (
+            0x00,
+            0x20,
+            0x6983,
+            "the method of authentication is blocked",
+        ),
+        (0xA0, 0x20, 0x63C2, "a warning: a counter is at 2"),
+        (0xA0, 0xA4, 0x9F16, "22 bytes of the response wait"),
+        (0xA1, 0xA4, 0x9F16, "no known meaning"),
+        (0xA0, 0xA4, 0x9000, "normal processing"),
+        (0x00, 0x00, 0x6FFF, "an error of checking"),
+        (0x00, 0x00, 0xFFFF, "no known meaning"),
     ] {
-        assert_eq!(Status(word).text(), text, "{word:04X}");
+        let got = Status(word).words(cla, ins);
+        assert_eq!(got, words, "{cla:02X} {ins:02X} {word:04X}");
     }
+    for ins in 0..=0xFF {
+        let counts = [0x20, 0x21, 0x24, 0x25, 0x26, 0x28, 0x2C, 0x2D, 0x82].contains(&ins);
+        let got = Status(0x63C2).words(0x00, ins);
+        assert_eq!(got.ends_with("tries are left"), counts, "{ins:02X}");
+    }
+    assert_eq!(Status(0x6982).text(), "security status not satisfied");
+    assert_eq!(Status(0x61FF).text(), "XX bytes of the response wait");
+    assert_eq!(Status(0x63C2).text(), "a warning: a counter is at X");
 }
 
 fn shown(value: &impl fmt::Debug) -> String {

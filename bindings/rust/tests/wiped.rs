@@ -1,5 +1,6 @@
 //! Tests that a call leaves no copy of a value except what it returns. The library wipes and frees
-//! all memory that it held. An allocator counts bytes, and looks for a secret in each freed block.
+//! all memory that it held. An allocator counts bytes, looks for a secret in each freed block, and
+//! for what was written past its end.
 //! Each call runs on its own stack, in which the test then looks for the secret.
 #![cfg(not(feature = "own-memory"))]
 
@@ -31,6 +32,14 @@ fn has_secret(bytes: &[u8]) -> bool {
 /// The number of freed blocks that had the secret.
 static FOUND: AtomicUsize = AtomicUsize::new(0);
 
+/// The zeros past the end of each block, and the number of freed blocks whose zeros had changed.
+const PAST: usize = 256;
+static OVERRUN: AtomicUsize = AtomicUsize::new(0);
+
+fn with_zeros(layout: Layout) -> Layout {
+    Layout::from_size_align(layout.size() + PAST, layout.align()).expect("a layout")
+}
+
 thread_local! {
     /// The bytes that this thread has taken and not freed.
     static TAKEN: Cell<isize> = const { Cell::new(0) };
@@ -46,15 +55,17 @@ unsafe impl GlobalAlloc for Looking {
             return null_mut();
         }
         TAKEN.with(|it| it.set(it.get() + layout.size() as isize));
-        System.alloc_zeroed(layout)
+        System.alloc_zeroed(with_zeros(layout))
     }
 
     unsafe fn dealloc(&self, block: *mut u8, layout: Layout) {
         if has_secret(std::slice::from_raw_parts(block, layout.size())) {
             FOUND.fetch_add(1, SeqCst);
         }
+        let past = std::slice::from_raw_parts(block.add(layout.size()), PAST);
+        OVERRUN.fetch_add(usize::from(past.iter().any(|&it| it != 0)), SeqCst);
         TAKEN.with(|it| it.set(it.get() - layout.size() as isize));
-        System.dealloc(block, layout);
+        System.dealloc(block, with_zeros(layout));
     }
 }
 
@@ -77,6 +88,39 @@ extern "C" {
         with: *mut c_void,
     ) -> i32;
     fn pthread_join(thread: usize, result: *mut c_void) -> i32;
+}
+
+#[repr(C)]
+struct Taken {
+    some: bool,
+    at: *mut u8,
+}
+
+extern "C" {
+    fn rattle_alloc(size: usize, align: usize) -> Taken;
+    fn rattle_realloc(block: *mut u8, kept: usize, size: usize, align: usize) -> Taken;
+    fn rattle_dealloc(block: *mut u8);
+}
+
+/// A block that grows or shrinks keeps what fits, and nothing is written past its end.
+#[test]
+fn a_block_keeps_what_fits() {
+    let _one = one();
+    let before = OVERRUN.load(SeqCst);
+    for (kept, size) in [(16, 200), (200, 200), (17, 16), (200, 16), (200, 1)] {
+        // SAFETY: each block has the bytes that are written to it, and is freed once.
+        unsafe {
+            let old = rattle_alloc(kept, 1);
+            assert!(old.some);
+            old.at.write_bytes(0x41, kept);
+            let new = rattle_realloc(old.at, kept, size, 1);
+            assert!(new.some);
+            let fits = std::slice::from_raw_parts(new.at, kept.min(size));
+            assert!(fits.iter().all(|&it| it == 0x41), "{kept} to {size}");
+            rattle_dealloc(new.at);
+        }
+    }
+    assert_eq!(OVERRUN.load(SeqCst), before);
 }
 
 /// Reads all bytes, so that a compiler leaves out no write to them.

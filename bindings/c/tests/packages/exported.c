@@ -33,7 +33,9 @@ static void is_exported(const char *name) {
     if (strcmp(name, "gt_text") == 0)
         CHECK(strcmp(says(0), "ok"), 0);
     else if (strcmp(name, "gt_status_text") == 0)
-        CHECK(strcmp(says(0x9000), "ok"), 0);
+        CHECK(strcmp(says(0x9000), "normal processing"), 0);
+    else if (strcmp(name, "gt_status_words") == 0)
+        CHECK(function(NULL, NULL, NULL, NULL, NULL, NULL, NULL, NULL), 16);
     else if (strcmp(name, "gt_version") == 0)
         CHECK(version(), GT_VERSION);
     else if (strcmp(name, "gt_version_fits") == 0)

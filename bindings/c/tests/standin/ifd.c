@@ -1,10 +1,15 @@
 /* Tests the functions of the virtual reader, called as by pcscd. */
+#define _POSIX_C_SOURCE 200809L
+
 #include "check.h"
 
 #include <galliumtoad.h>
 #include <ifdhandler.h>
 
+#include <fcntl.h>
 #include <stdlib.h>
+#include <sys/stat.h>
+#include <time.h>
 
 /* Readers, by the numbers that pcscd gives them. Each has one slot. */
 #define ONE 0x00000
@@ -23,11 +28,16 @@ static char *file_of(DWORD lun)
     return name;
 }
 
-static void write_table(DWORD lun, const char *text)
+static void write_file(const char *name, const char *text)
 {
-    FILE *file = fopen(file_of(lun), "w");
+    FILE *file = fopen(name, "w");
     if (file == NULL || fputs(text, file) < 0 || fclose(file) != 0)
         exit(1);
+}
+
+static void write_table(DWORD lun, const char *text)
+{
+    write_file(file_of(lun), text);
 }
 
 /* Creates a reader with this table. */
@@ -107,7 +117,7 @@ static void two_cards(void)
 {
     CHECK(create(ONE, NAMES), IFD_SUCCESS);
     CHECK(create(OTHER, OTHERS), IFD_SUCCESS);
-    CHECK(create(ONE, OTHERS), IFD_COMMUNICATION_ERROR);
+    CHECK(IFDHCreateChannelByName(ONE, file_of(OTHER)), IFD_COMMUNICATION_ERROR);
     CHECK(IFDHICCPresence(ONE), IFD_ICC_PRESENT);
     CHECK(IFDHICCPresence(OTHER), IFD_ICC_PRESENT);
     no_reader(NONE);
@@ -248,7 +258,9 @@ static void tables(void)
 {
     char name[] = "there.table", text[128];
     int i;
-    CHECK(IFDHCreateChannelByName(NONE, name), IFD_COMMUNICATION_ERROR);
+    CHECK(IFDHCreateChannelByName(NONE, name), IFD_SUCCESS);
+    CHECK(IFDHICCPresence(NONE), IFD_ICC_NOT_PRESENT);
+    CHECK(IFDHCloseChannel(NONE), IFD_SUCCESS);
     CHECK(create(NONE, "atr 3B\n"), IFD_COMMUNICATION_ERROR);
     CHECK(create(NONE, "atr 3B0\n"), IFD_COMMUNICATION_ERROR);
     CHECK(create(NONE, "atr 3B 00\n"), IFD_COMMUNICATION_ERROR);
@@ -279,18 +291,24 @@ static void told_faults(void)
 {
     static const char *const wanted[] = {
         "2.table: line 2: bad argument", "there.table: No such file or directory",
-        ".: Is a directory"
+        "there.table: line 1: bad argument", ".: Is a directory", "ifd.told/table: Not a directory"
     };
-    char name[] = "there.table", folder[] = ".", line[128] = "";
+    char name[] = "there.table", folder[] = ".", under[] = "ifd.told/table", line[128] = "";
     size_t i;
     FILE *file = freopen("ifd.told", "w", stderr);
     CHECK(file != NULL, 1);
     CHECK(create(NONE, "app A000000003\nobject 50\n"), IFD_COMMUNICATION_ERROR);
-    CHECK(IFDHCreateChannelByName(NONE, name), IFD_COMMUNICATION_ERROR);
+    CHECK(IFDHCreateChannelByName(NONE, name), IFD_SUCCESS);
+    write_file(name, "app A0\n");
+    CHECK(IFDHICCPresence(NONE), IFD_ICC_NOT_PRESENT);
+    CHECK(IFDHICCPresence(NONE), IFD_ICC_NOT_PRESENT);
+    CHECK(IFDHCloseChannel(NONE), IFD_SUCCESS);
+    remove(name);
     CHECK(IFDHCreateChannelByName(NONE, folder), IFD_COMMUNICATION_ERROR);
+    CHECK(IFDHCreateChannelByName(NONE, under), IFD_COMMUNICATION_ERROR);
     fclose(stderr);
     file = fopen("ifd.told", "r");
-    for (i = 0; i < 3; i++) {
+    for (i = 0; i < sizeof wanted / sizeof wanted[0]; i++) {
         CHECK(file != NULL && fgets(line, sizeof line, file) != NULL, 1);
         line[strcspn(line, "\n")] = '\0';
         CHECK(strcmp(line, wanted[i]), 0);
@@ -365,36 +383,133 @@ static void both_protocols(void)
     CHECK(IFDHCloseChannel(NONE), IFD_SUCCESS);
 }
 
-/* The card is removed with the file, and inserted with a new table. */
-static void comes_and_goes(void)
+static void pause_for(long milliseconds)
+{
+    struct timespec pause;
+    pause.tv_sec = milliseconds / 1000;
+    pause.tv_nsec = milliseconds % 1000 * 1000000;
+    nanosleep(&pause, NULL);
+}
+
+/* The milliseconds of a clock that nobody sets. */
+static long now(void)
+{
+    struct timespec found;
+    clock_gettime(CLOCK_MONOTONIC, &found);
+    return (long)found.tv_sec * 1000 + found.tv_nsec / 1000000;
+}
+
+/* The slot is empty for a second, and then has the card of the file that is there now. A busy
+ * machine may be late. */
+static void check_change(DWORD lun, const char *name)
 {
     UCHAR atr[MAX_ATR_SIZE];
     DWORD size = sizeof atr;
+    const long began = now();
+    RESPONSECODE found;
+    CHECK(IFDHICCPresence(lun), IFD_ICC_NOT_PRESENT);
+    CHECK(IFDHPowerICC(lun, IFD_POWER_UP, atr, &size), IFD_ERROR_POWER_ACTION);
+    pause_for(900);
+    found = IFDHICCPresence(lun);
+    CHECK(found == IFD_ICC_NOT_PRESENT || now() >= began + 1000, 1);
+    pause_for(200);
+    CHECK(IFDHICCPresence(lun), IFD_ICC_PRESENT);
+    CHECK_FAULT(lun, 0, SELECT, 258, IFD_COMMUNICATION_ERROR);
+    size = sizeof atr;
+    CHECK(IFDHPowerICC(lun, IFD_POWER_UP, atr, &size), IFD_SUCCESS);
+    CHECK_ANSWER(lun, GET_NAME, "\x69\x85");
+    CHECK_ANSWER(lun, SELECT, "\x61\x0B");
+    CHECK(send_at(lun, 0, GET_NAME, 5, 258), IFD_SUCCESS);
+    CHECK_BYTES(received + 3, name, 3);
+}
+
+/* The card is removed with the file, and inserted with another: one that is there again at once,
+ * that replaces the first, or that is the same with another content. */
+static void comes_and_goes(void)
+{
     CHECK(create(NONE, NAMES), IFD_SUCCESS);
     check_power(NONE, IFD_POWER_UP, "\x3B\x00", 2);
     CHECK_ANSWER(NONE, SELECT, "\x61\x0B");
-    write_table(NONE, OTHERS);
     CHECK(IFDHICCPresence(NONE), IFD_ICC_PRESENT);
-    CHECK_ANSWER(NONE, GET_NAME, NAME);
     remove(file_of(NONE));
     CHECK(IFDHICCPresence(NONE), IFD_ICC_NOT_PRESENT);
-    CHECK(IFDHICCPresence(NONE), IFD_ICC_NOT_PRESENT);
-    CHECK(IFDHPowerICC(NONE, IFD_POWER_UP, atr, &size), IFD_ERROR_POWER_ACTION);
-    CHECK_FAULT(NONE, 0, GET_NAME, 258, IFD_COMMUNICATION_ERROR);
-    /* an invalid table is reported once, and there is no card until the file is removed */
+    write_table(NONE, OTHERS);
+    check_change(NONE, "ANN");
+    check_power(NONE, IFD_RESET, "\x3B\x65\x00\x00\x20\x63\xCB\x68\x00", 9);
+    /* with the same size, in the middle of a talk */
+    CHECK_ANSWER(NONE, SELECT, "\x61\x0B");
+    write_table(NONE, OTHERS);
+    CHECK_FAULT(NONE, 0, GET_NAME, 258, IFD_ICC_NOT_PRESENT);
+    check_change(NONE, "ANN");
+    write_file("other.table", NAMES);
+    CHECK(rename("other.table", file_of(NONE)), 0);
+    check_change(NONE, "JOE");
+    remove(file_of(NONE));
+    CHECK_FAULT(NONE, 0, GET_NAME, 258, IFD_ICC_NOT_PRESENT);
+    CHECK_FAULT(NONE, 0, GET_NAME, 258, IFD_ICC_NOT_PRESENT);
+    pause_for(1100);
+    /* an invalid table is reported once, and there is no card until the file changes */
     write_table(NONE, "app A0\n");
     CHECK(IFDHICCPresence(NONE), IFD_ICC_NOT_PRESENT);
-    write_table(NONE, OTHERS);
     CHECK(IFDHICCPresence(NONE), IFD_ICC_NOT_PRESENT);
+    write_table(NONE, OTHERS);
+    check_change(NONE, "ANN");
     remove(file_of(NONE));
+    CHECK(IFDHCloseChannel(NONE), IFD_SUCCESS);
+}
+
+/* Writes a table, and sets the time of its last change. */
+static void write_at(const char *name, const char *text, time_t seconds, long nanoseconds)
+{
+    struct timespec times[2];
+    write_file(name, text);
+    times[0].tv_sec = times[1].tv_sec = seconds;
+    times[0].tv_nsec = times[1].tv_nsec = nanoseconds;
+    CHECK(utimensat(AT_FDCWD, name, times, 0), 0);
+}
+
+/* What is another table: it has another size, another time by one nanosecond or one second, or is
+ * another file. With the same of all of these it is the same. */
+static void other_tables(void)
+{
+    static const struct {
+        const char *text;
+        time_t seconds;
+        long nanoseconds;
+        int is_renamed;
+    } tables[] = {
+        { "app A0000000031010\n", 1000, 0, 0 },
+        { "app A0000000031010\n\n", 1000, 0, 0 },
+        { "app A0000000031010\n", 1000, 1, 0 },
+        { "app A0000000031010\n", 1001, 0, 0 },
+        { "app A0000000031010\n", 1000, 0, 1 },
+    };
+    const char *name = "2.table", *other = "other.table";
+    size_t i;
+    for (i = 0; i < sizeof tables / sizeof tables[0]; i++) {
+        write_at(name, tables[0].text, 1000, 0);
+        CHECK(IFDHCreateChannelByName(NONE, file_of(NONE)), IFD_SUCCESS);
+        write_at(tables[i].is_renamed ? other : name, tables[i].text, tables[i].seconds,
+                 tables[i].nanoseconds);
+        if (tables[i].is_renamed)
+            CHECK(rename(other, name), 0);
+        CHECK(IFDHICCPresence(NONE), i == 0 ? IFD_ICC_PRESENT : IFD_ICC_NOT_PRESENT);
+        CHECK(IFDHCloseChannel(NONE), IFD_SUCCESS);
+    }
+    remove(name);
+}
+
+/* A slot that starts empty gets its card at once when there is a file. */
+static void starts_empty(void)
+{
+    char with_colon[] = "table:2.table";
+    remove(file_of(NONE));
+    CHECK(IFDHCreateChannelByName(NONE, with_colon), IFD_SUCCESS);
     CHECK(IFDHICCPresence(NONE), IFD_ICC_NOT_PRESENT);
-    write_table(NONE, OTHERS);
+    CHECK_FAULT(NONE, 0, GET_NAME, 258, IFD_ICC_NOT_PRESENT);
+    write_table(NONE, NAMES);
     CHECK(IFDHICCPresence(NONE), IFD_ICC_PRESENT);
-    CHECK_FAULT(NONE, 0, SELECT, 258, IFD_COMMUNICATION_ERROR);
-    check_power(NONE, IFD_POWER_UP, "\x3B\x65\x00\x00\x20\x63\xCB\x68\x00", 9);
-    CHECK_ANSWER(NONE, GET_NAME, "\x69\x85");
-    CHECK_ANSWER(NONE, SELECT, "\x61\x0B");
-    CHECK_ANSWER(NONE, GET_NAME, "\x5F\x20\x03" "ANN\x90\x00");
+    check_power(NONE, IFD_POWER_UP, "\x3B\x00", 2);
     remove(file_of(NONE));
     CHECK(IFDHCloseChannel(NONE), IFD_SUCCESS);
 }
@@ -470,6 +585,8 @@ int main(void)
     tables();
     whole_commands();
     both_protocols();
+    other_tables();
+    starts_empty();
     comes_and_goes();
     other_protocols();
     long_names();

@@ -139,6 +139,11 @@ static LONG fault_of(const char *call, unsigned long time)
     return word != NULL && strlen(word) == 8 ? (LONG)strtoul(word, NULL, 16) : SCARD_S_SUCCESS;
 }
 
+const char *pcsc_stringify_error(const LONG code)
+{
+    return code == SCARD_E_NO_MEMORY ? "Not enough memory." : "Another fault.";
+}
+
 LONG SCardEstablishContext(DWORD scope, LPCVOID reserved, LPCVOID more, LPSCARDCONTEXT context)
 {
     static unsigned long time;

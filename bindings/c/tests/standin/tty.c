@@ -15,6 +15,8 @@
  *   - stuck: a line stays as it is, without an error.
  *   - write: the port takes no character.
  *
+ * With or without these, STANDIN_CLOCK is how many times as fast the program's clock runs.
+ *
  * A pseudo terminal has no parity. So the other end writes the mark of a character with wrong
  * parity: FF 00 before it, and FF FF for FF. */
 #define _GNU_SOURCE
@@ -29,6 +31,7 @@
 #include <sys/ioctl.h>
 #include <sys/stat.h>
 #include <sys/sysmacros.h>
+#include <time.h>
 #include <unistd.h>
 
 /* The numbers of Linux for serial ports: the major number, and the first minor number. */
@@ -37,6 +40,7 @@ enum { SERIAL_PORTS = 4, FIRST_PORT = 64 };
 int __real_ioctl(int fd, unsigned long request, ...);
 int __real_fstat(int fd, struct stat *found);
 ssize_t __real_write(int fd, const void *bytes, size_t n);
+int __real_clock_gettime(clockid_t clock, struct timespec *now);
 
 /* The last settings, whether there are any, and how often a change was tried. */
 static struct termios2 settings;
@@ -196,4 +200,16 @@ ssize_t __wrap_write(int fd, const void *bytes, size_t n)
     if (fd > 2 && getenv("STANDIN_TTY") != NULL && refuses("write"))
         return fail(EAGAIN);
     return __real_write(fd, bytes, n);
+}
+
+int __wrap_clock_gettime(clockid_t clock, struct timespec *now)
+{
+    const char *times = getenv("STANDIN_CLOCK");
+    const int result = __real_clock_gettime(clock, now);
+    if (times != NULL) {
+        const long rate = strtol(times, NULL, 10);
+        now->tv_sec = now->tv_sec * rate + now->tv_nsec * rate / 1000000000;
+        now->tv_nsec = now->tv_nsec * rate % 1000000000;
+    }
+    return result;
 }

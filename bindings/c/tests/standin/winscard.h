@@ -77,6 +77,7 @@ extern const SCARD_IO_REQUEST g_rgSCardT1Pci;
 #define SCARD_LEAVE_CARD 0x0000
 #define SCARD_RESET_CARD 0x0001
 
+const char *pcsc_stringify_error(const LONG code);
 LONG SCardEstablishContext(DWORD scope, LPCVOID reserved, LPCVOID more, LPSCARDCONTEXT context);
 LONG SCardReleaseContext(SCARDCONTEXT context);
 LONG SCardListReaders(SCARDCONTEXT context, LPCSTR groups, LPSTR readers, LPDWORD size);

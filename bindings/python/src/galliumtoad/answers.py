@@ -15,7 +15,7 @@ class Status(int):
 
     >>> from galliumtoad import Status
     >>> Status(0x6A82), Status(0x6A82).is_ok, Status(0x6A82).text
-    (Status(0x6A82), False, 'application not found')
+    (Status(0x6A82), False, 'file or application not found')
     """
 
     @property
@@ -23,14 +23,18 @@ class Status(int):
         """Whether it is 9000: the card has done all of it. 61XX is not: a response waits."""
         return self == 0x9000
 
-    @property
-    def text(self) -> str:
-        """What a card of this library means by it, in a few words; else `unknown status`.
+    def words(self, cla: int = 0, ins: int = 0) -> str:
+        """What it means after a command with this CLA and INS (ISO/IEC 7816-4, 5.1.3).
 
-        Raises `ValueError` for a number below 0 or above 0xFFFF.
+        Raises `ValueError` for a number below 0 or above 0xFFFF, or a CLA or INS that is no byte.
+
+        >>> Status(0x63C2).words(0x00, 0x20)
+        'a warning: 2 tries are left'
         """
-        number = within(int(self), 0, 0xFFFF, "a status")
-        return str(ffi.string(lib.gt_status_text(number)).decode())
+        to, sw = ffi.new("char[]", lib.GT_WORDS_ROOM), within(int(self), 0, 0xFFFF, "a status")
+        return str(ffi.unpack(to, lib.gt_status_words(*bytes((cla, ins)), sw, to, len(to))), "utf8")
+
+    text = property(words, doc="What it means, if its command is not known: `words()`.")
 
     def __repr__(self) -> str:
         return f"Status(0x{int(self):04X})"

@@ -9,6 +9,7 @@ A row is in the journal, on disk, before its card's first byte.
 import argparse
 import contextlib
 import csv
+import io
 import multiprocessing
 import socket
 import sys
@@ -36,20 +37,20 @@ class Batch:
 
     def __init__(self, words: argparse.Namespace) -> None:
         # Each file is read once: it may be a pipe.
-        (rows, sum_of_rows), (lines, sum_of_lines) = map(script.read, (words.rows, words.script))
-        table = csv.DictReader(rows, strict=True)
+        (rows, sum_of_rows), (text, sum_of_text) = map(script.read, (words.rows, words.script))
+        table = csv.DictReader(io.StringIO(rows, ""), strict=True)
         try:
             self.rows = list(table)
         except csv.Error as error:
             raise ValueError(f"{words.rows}:{table.reader.line_num}: {error}") from None
-        self.script = script.Script(words.script, lines, list(table.fieldnames or ()))
+        self.script = script.Script(words.script, text, list(table.fieldnames or ()))
         for number, row in enumerate(self.rows, 1):
             if None in row or None in row.values():
                 raise ValueError(f"{words.rows}: row {number} has too many columns, or too few")
             self.script.operations(number, row)
         if not self.rows:
             raise ValueError(f"{words.rows} has no row")
-        heading = f"# rows {sum_of_rows} script {sum_of_lines}"
+        heading = f"# rows {sum_of_rows} script {sum_of_text}"
         self.id_tag, self.journal = words.id, (words.journal, heading, len(self.rows))
 
 
@@ -184,7 +185,7 @@ def summary(journal: Journal, rows: int) -> int:
 
 def tag(text: str) -> int:
     """Returns the tag with these digits. Raises `ValueError` if a command can't name it."""
-    script.Script("--id", [f"get {text}"], []).operations(0, {})
+    script.Script("--id", f"get {text}", []).operations(0, {})
     return script.tag(text, {})
 
 

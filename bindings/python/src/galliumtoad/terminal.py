@@ -152,6 +152,17 @@ class Machine(Handle):
         is_missing = self._call(name, made, count, most, but=[lib.GT_NOT_DUE])
         return None if is_missing else Due(copied(made, count), most[0])
 
+    def data_sent(self) -> Optional[bool]:
+        """Returns whether all data of the commands so far have left the terminal, or None if that
+        is not known: a TPDU or a command went as a whole, or an error has ended it.
+
+        A card may end a TPDU with any status before it takes the data: then a status 61XX, 62XX,
+        63XX or 9XXX is no success. If it ends a piece of a put so, this stays False.
+
+        Raises `CallError`, GT_STATE, if no operation has begun.
+        """
+        return {lib.GT_ALL_SENT: True, lib.GT_NOT_ALL_SENT: False}.get(self._call("data_sent"))
+
     def answer(self) -> Optional[Answer]:
         """Returns the status and the data of the last command, as often as it is asked for. Returns
         None before the end and after a failure.
@@ -266,7 +277,7 @@ class T1(Lasting):
     - TypeError: the line is not callable.
     - OutOfMemory: memory ran out.
 
-    It gives up after more than 4 fruitless receptions since the last progress, or more than 16
+    It gives up after more than 4 fruitless receptions since the last progress, or more than 1,000
     requests of the card in one command. A granted request is not fruitless. It also gives up after
     S(ABORT request), and if a response exceeds 258 bytes, which short commands never do.
 
@@ -281,7 +292,7 @@ class T1(Lasting):
     ...         no_card(bytes.fromhex("00CA005000"))
     ...     except BlockError as error:
     ...         print(f"{error}: carried out: {error.outcome}")
-    too many tries without progress: carried out: no
+    too many tries without progress: carried out: unknown
     """
 
     level = Level.APDU

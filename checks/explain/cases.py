@@ -17,8 +17,9 @@
   - lines.cases: the forms of lines; times.cases: times before the signs.
   - bare.cases: commands without data whose card repeats INS.
   - unsigned.cases: lines without signs; logs.cases: logs of whole TPDUs.
+  - loose.cases: headers and commands that a mask hides.
 
-Only cases/ lists the last block. Elsewhere `block_of` counts what is above it. In the eight tables
+Only cases/ lists the last block. Elsewhere `block_of` counts what is above it. In the nine tables
 a line that begins with `#` is a comment."""
 
 import re
@@ -35,7 +36,9 @@ CASES = HERE / "cases"
 TITLE = re.compile(r"#\d+ (.*)  \(line \d+\)$")
 STATUS = re.compile(r"  < status     ([0-9A-F]{4} .*)$")
 # A name consists of words in capitals. What SELECT selects may also be in capitals.
-COMMAND = re.compile(r"#\d+ (INS [0-9A-F]{2}|SELECT|part of a header|[A-Z]+(?:[ /][A-Z]+)*)\b")
+COMMAND = re.compile(
+    r"#\d+ (INS [0-9A-F]{2}|SELECT|part of a header|\*\*|[A-Z]+(?:[ /][A-Z]+)*)(?![A-Za-z])"
+)
 TIME = re.compile(r"^    time       (.*)$", re.MULTILINE)
 PROTOCOL_ERRORS = ("unexpected byte  (", "unexpected command or answer  (")
 BLOCK = "summary"
@@ -47,7 +50,7 @@ FORM = HERE.parents[1] / "crates/trace_explain/src/read/form.rt"
 SIGNS = sum(re.findall(r'Row\(.+, "(.+)", "(.+)"\)', FORM.read_text(encoding="utf-8")), ())
 ANY_SIGN = "|".join(sorted(map(re.escape, SIGNS), key=len, reverse=True)).encode()
 SIGNED = re.compile(
-    rb"^((?:\[ *[\d:.]+\] *|\+[\d:.]+ +[mu]?s +|\d+[:.][\d:.]* +)?)"
+    rb"^((?:\xEF\xBB\xBF)?(?:\[ *[\d:.]+\] *|\+[\d:.]+ +[mu]?s +|\d+[:.][\d:.]* +)?)"
     rb"(?:" + ANY_SIGN + rb")(?: +|(?=\r?$))",
     re.M,
 )
@@ -71,6 +74,13 @@ TOLD_BY_SIGNS = {
     # characters of the card at the place of a header, and a sign without characters
     "characters of the card after a reset that begin no answer, in two lines",
     "no TPDU begins with a sign alone, whose line has a time",
+    # characters of the card before a header that a mask hides
+    "one that begins with all that VERIFY sends, then a command",
+    "after a reset with a byte of the card, and after one with none",
+    "after an answer to reset that is cut off, one at fault, and a PPS response that is cut off",
+    "the status of a hidden command is worded as that of any command",
+    "a comparison of two such traces",
+    "a page",
     # notes that consist of digits
     "digits without a sign are notes after a line that has one",
     "a sign without characters is one, too",
@@ -160,8 +170,8 @@ def counted(counts, order):
 
 
 def rank(command):
-    """The order of commands: by name, then those without a name, then parts of headers."""
-    return command.startswith("part"), command.startswith("INS "), command
+    """The order of commands: by name, those without a name, parts of headers, hidden ones."""
+    return command == "**", command.startswith("part"), command.startswith("INS "), command
 
 
 def row(label, lines):
@@ -374,20 +384,20 @@ def lines_of(lines):
 
 
 def tables():
-    """The cases of the eight tables, those of secrets, and the long ones."""
+    """The cases of the nine tables, those of secrets, and the long ones."""
     ways = [], ["--html"], ["--resume"], ["--summary", "--resume"]
     long = long_cases([*long_traces.traces(), *long_traces.at_limits()])
     return [*rows_and_stories(), *secret_cases(ways), *long]
 
 
 def rows_and_stories():
-    """The cases of the eight tables. Those with signs are also tried without."""
+    """The cases of the nine tables. Those with signs are also tried without."""
     signed = table_cases()
     return [*signed, *unsigned_cases([*signed, *whole_cases()])]
 
 
 def table_cases():
-    """The cases of the eight tables."""
+    """The cases of the nine tables."""
     return [
         status_case(),
         title_case(),
@@ -397,6 +407,7 @@ def table_cases():
         *story_cases("bare.cases", "shown"),
         *story_cases("unsigned.cases", "shown"),
         *story_cases("logs.cases", "shown"),
+        *story_cases("loose.cases", "shown"),
         *link_cases(),
     ]
 

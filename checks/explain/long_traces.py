@@ -13,6 +13,8 @@ def traces():
     yield behind_tpdus()
     yield "a chain of 300 pieces", [], *chain_of(300, "80" * 16, 1, 1), ""
     yield "a response in 300 parts", [], *response_of(300, "80" * 16, 1, 1), ""
+    for made in (chain_of, response_of):
+        yield f"65,790 bytes: {made.__name__}", [], *titles_of(made(258, "80" * 255, 1, 1)), ""
     yield behind_nulls(70_000)
     yield behind_notes()
     yield passed_over(250)
@@ -23,9 +25,13 @@ def at_limits():
     """Values in pieces or parts, which are shown together if they have less than 65,536 bytes."""
     for made in (chain_of, response_of):
         yield f"65,535 bytes: {made.__name__}", [], *made(257, "80" * 255, 1, 1), ""
-        given, wanted = made(512, "80" * 128, 1, 1)
-        titles = [line for line in wanted if line.startswith("#")]
-        yield f"65,536 bytes: {made.__name__}", [], given, titles, ""
+        yield f"65,536 bytes: {made.__name__}", [], *titles_of(made(512, "80" * 128, 1, 1)), ""
+
+
+def titles_of(made):
+    """The lines of a trace, and only the titles of those expected."""
+    given, wanted = made
+    return given, [line for line in wanted if line.startswith("#")]
 
 
 def behind_tpdus():

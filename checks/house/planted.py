@@ -18,6 +18,10 @@ SOUND = {
     "bindings/lamp.h": "/* A lamp,\n * and its light. */\nint lamp(void);\n",
     TOOL: '/* Lights a lamp. */\nstatic const char *const HELP =\n    "It is "\n    "lit\\n";\n',
     "tools/lamp.help": "Lights a lamp.\n",
+    "docs/TOUR.md": (
+        "# Tour\n\n`Lamp::light` in `low/src/lamp.rt`, `lit` of `LampLaws`, `low/specs/Lamp`.\n"
+        "\n```\nLamp::dims\n```\n\n`dims`, `rt fmt`.\n"
+    ),
     "docs/RULES.md": "# Rules\n\n## Lamps\n\n- A lamp is lit or dark. (`IsLit`)\n",
     "crates/low/src/lib.rt": (
         "//! Lamps.\n\nmod lamp;\nmod wire;\n\npub use lamp::Lamp;\n\npub struct Shade;\n"
@@ -74,6 +78,7 @@ IMPORTED = "{Hanging, On_nothing}"
 ON_WIRE = "{Hanging, On_nothing, On_wire}"
 LONG = "x" * 101
 PAGE = "docs/LAMPS.md"
+TOUR = "docs/TOUR.md"
 MOST = " ".join(["Word"] + ["word"] * 34)
 
 # Planted faults: the kind of the finding, its file and line, and the edits. An edit is a file with
@@ -126,6 +131,10 @@ FAULTS = [
     ("sentence", PAGE, 7, [(PAGE, "One burns.", f"One burns. {MOST} `a lit lamp`.")]),
     ("sentence", LAMP, 7, [(LAMP, "Lights it.", f"{MOST[:80]}\n    /// {MOST[80:]} word.")]),
     ("cell", PAGE, 5, [(PAGE, "red", "x" * 301)]),
+    ("name", TOUR, 3, [(TOUR, "Lamp::light", "Lamp::lights")]),
+    ("name", TOUR, 3, [(TOUR, "src/lamp.rt", "src/lamps.rt")]),
+    ("name", TOUR, 3, [(TOUR, "`lit` of", "`burns` of")]),
+    ("name", TOUR, 9, [(TOUR, "`dims`", "`shines`")]),
     ("list", DONE, 6, [(DONE, "lamp.h\n", "lamp.h\ncrates/lost/\n")]),
     ("list", LIST, 2, [(LIST, "stay\n", "stay\nlong crates/low/src/lamp.rt: it was long once\n")]),
     ("list", LIST, 2, [(LIST, "stay\n", "stay\nlong crates/low/src/lamp.rt\n")]),

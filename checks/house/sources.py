@@ -1,16 +1,12 @@
 """The files of the repository as text, and what names alone tell about them: the declarations of a
 file of definitions or proofs, and the origin of each name in it."""
 
-import os
 import re
+import subprocess
 from collections import defaultdict
 from dataclasses import dataclass
 from pathlib import Path
 
-# Built or cached files, which are not part of the repository.
-NOT_READ = re.compile(
-    r"(.*/)?(\.git|__pycache__)|(crates/\w+/)?out|bindings/(c/build|rust/target)"
-)
 READ = {".rt", ".antt", ".c", ".h", ".rs", ".py", ".md", ".txt", ".help"}
 
 WORD = re.compile(r'[^\s(){}\[\],;.:`"]+')
@@ -87,15 +83,8 @@ class Repository:
 
     @classmethod
     def at(cls, top):
-        texts = {}
-        for folder, folders, names in os.walk(top):
-            path = Path(folder).relative_to(top)
-            folders[:] = sorted(it for it in folders if not NOT_READ.fullmatch(str(path / it)))
-            for name in sorted(names):
-                file = Path(folder, name)
-                if file.suffix in READ or is_script(file):
-                    texts[str(path / name)] = file.read_text(errors="replace")
-        return cls(texts)
+        files = [file for file in files_of(top) if file.suffix in READ or is_script(file)]
+        return cls({str(it.relative_to(top)): it.read_text(errors="replace") for it in files})
 
     def code(self, *suffixes):
         """The paths and texts of code, definitions and proofs."""
@@ -111,6 +100,17 @@ class Repository:
         """The file of a module of definitions or proofs, as Rattle.t0_core.specs.Front, if any."""
         path = "crates/" + module.removeprefix("Rattle.").replace(".", "/") + ".antt"
         return path if path in self.texts else None
+
+
+def files_of(top):
+    """The files that git tracks, or all, if this is no repository."""
+    # the checkout may belong to another user
+    command = ["git", "-C", top, "-c", "safe.directory=*", "ls-files", "-z"]
+    listed = subprocess.run(command, capture_output=True, text=True, check=False)
+    if listed.returncode or not listed.stdout:
+        return sorted(it for it in Path(top).rglob("*") if it.is_file())
+    files = [Path(top, name) for name in listed.stdout.split("\0")]
+    return sorted(it for it in files if it.is_file())
 
 
 def is_script(file):

@@ -375,6 +375,7 @@ def words():
         ([], "no tty or no table was provided"),
         (["x"], "no tty or no table was provided"),
         (["x", "y", "z"], "there are too many words"),
+        (["x", "y", "--pps"], "'--pps' is not an option"),
         (["--pty"], "no tty or no table was provided"),
         (["--pty", "x", "y"], "there are too many words"),
         (["--pps", "x", "y"], "'--pps' is not an option"),

@@ -8,10 +8,10 @@ import time
 
 from card_cases import APP, GONE, Far, table
 from lines import Line, Wire, trace_of
-from programs import TABLE, TOP, Program, Skipped
+from programs import TABLE, TOP, Program, in_time
 from terminal_cases import GET_WORDS, SELECT_WORDS, look, rate_of
 
-EXPLAIN = TOP / "crates/trace_explain/out/trace_explain"
+EXPLAIN = subprocess.check_output([TOP / "checks/built", "trace_explain"], text=True).strip()
 SLACK = ["--slack", "8000"]
 VALUE = bytes(range(256)) * 2 + b"\xff\xff\x00\x60\x03"
 WORDS = ["select", "A0000000031010", "get", "5F20", "put", "DF01", VALUE.hex(), "get", "DF01",
@@ -98,8 +98,6 @@ def own_line(inverse, echo):
 
 def is_explained():
     """trace_explain explains a terminal's trace with PPS, and finds no protocol error."""
-    if not EXPLAIN.exists():
-        raise Skipped("a trace of a serial line, since trace_explain is not built")
     with tempfile.TemporaryDirectory() as folder:
         far = Far(table(folder, f"atr 3B1095\n{APP}"))
         words = [*SLACK, "-v", "--pps", far.name, *WORDS[:4]]
@@ -168,6 +166,19 @@ def second_is_harmless():
     far.end()
 
 
+def is_in_time(echo):
+    """A card at T=1 with BWI 0 answers in time on the line that it creates. BWT and the slack are
+    0.3 s together. On a tty a block of 258 characters takes 0.32 s, and here no time."""
+    value = "41" * 600
+    no_echo = [] if echo else ["--no-echo"]
+    with tempfile.TemporaryDirectory() as folder:
+        far = Far(*no_echo, table(folder, f"atr 3B808131FE03CD\n{APP}object DF01 {value}\n"))
+        words = [*no_echo, far.name, "select", "A0000000031010", "get", "DF01"]
+        terminal = Program("gt_serial", words)
+        look(terminal, terminal.end(), f"{ANSWERS[:30]}= 9000 DF01820258{value}\n", "", 0)
+        far.end()
+
+
 def keeps_values():
     """A terminal finds what another one has stored before, over the line that a card creates."""
     far = Far(TABLE)
@@ -192,5 +203,8 @@ def tests():
         for echo in (True, False):
             yield (f"the card's own line, inverse {inverse}, echo {echo}",
                    lambda of=(inverse, echo): own_line(*of))
+    for echo in (True, False):
+        yield (f"the card's own line at T=1 with BWI 0, echo {echo}",
+               lambda echo=echo: in_time(lambda: is_in_time(echo)))
     for test in (is_explained, comes_back, comes_back_soon, second_is_harmless, keeps_values):
         yield (f"both: {test.__name__}", test)

@@ -24,10 +24,6 @@ def version():
     return ".".join(re.findall(r"^#define GT_VERSION_(?:MAJOR|MINOR|PATCH) (\d+)$", header, re.M))
 
 
-class Skipped(Exception):
-    """A test that can't be run: `WHAT, since REASON`."""
-
-
 class Late(AssertionError):
     """A program that ended later than it should, as on a busy machine it may."""
 

@@ -1,6 +1,7 @@
 """Tests gt_serial and serial_card at T=1 (ISO/IEC 7816-3, clause 11). Each talks to an end that
 these tests play, and both talk over a line that damages, loses, doubles and delays bytes."""
 
+import re
 import sys
 import tempfile
 import time
@@ -11,7 +12,7 @@ import card_cases
 import t1_card
 import terminal_cases
 from lines import Line, Other, play, trace_of
-from programs import Program, in_time
+from programs import Program, in_time, must_end
 from terminal_cases import Case, look
 
 SELECT_APDU = "00A4040007A000000003101000"
@@ -19,7 +20,8 @@ NAME = "6F098407A00000000310109000"
 GET_APDU, JOE = "00CA5F2000", "5F20034A4F459000"
 # T=1 first, IFSC 32, LRC, BWI 0 and CWI 3. At 9,600 baud BWT is 100 ms and 11 etu, and CWT 19 etu.
 QUICK = "3B8081210323"
-BOOK = Path(__file__).resolve().parents[2] / "examples/blocks"
+TOP = Path(__file__).resolve().parents[2]
+BOOK, HEADER = TOP / "examples/blocks", TOP / "bindings/c/include/galliumtoad.h"
 BWT = 0.1
 CAUSE = "operation 1: too many tries without progress: the card "
 OUTCOMES = {"none": "has not carried out the command\n",
@@ -56,7 +58,7 @@ def dialogues():
                        echo=echo, inverse=inverse, slack=5000)
     first, sent = f"< {QUICK} {OPEN}", talk(">", f"00:{SELECT_APDU}")
     for title, words in (
-        ("a damaged block", (">", "80", "<", f"00:{NAME}")),
+        ("a damaged block", (">", "82", "<", f"00:{NAME}")),
         ("more time", ("<", "C3:02", ">", "E3:02", "<", f"00:{NAME}")),
         ("another IFSC", ("<", "C1:08", ">", "E1:08", "<", f"00:{NAME}")),
         ("a response in two blocks", ("<", f"20:{NAME[:8]}", ">", "90", "<", f"40:{NAME[8:]}")),
@@ -70,6 +72,10 @@ def dialogues():
                echo=False, slack=2000)
     yield Case("T=1: an answer after more than one BWT", first + sent + more + f"~ 1.5 {answer}"
                + GETS, WORDS, ANSWERS, echo=False)
+    wait = "~ 0.7 "
+    yield Case("T=1: two commands, each within the patience",
+               first + sent + wait + answer + GETS.replace("<", wait + "<"), WORDS, ANSWERS,
+               echo=False, options=["--patience", "1"], slack=2000, quick=True)
     yield Case("T=1: by PPS", f"< 3B80800101 > FF01FE < FF01FE {OPEN}{SELECTS}",
                terminal_cases.SELECT, terminal_cases.SELECTED, options=["--protocol", "1"],
                slack=5000)
@@ -81,10 +87,11 @@ def block_waiting_time():
     try:
         program = Program("gt_serial", ["--no-echo", line.name, *terminal_cases.SELECT])
         other = Other(line, echo=False)
-        play(other, f"< {QUICK} " + talk(*[">", "C1:FE"] * 5), card=True)
-        look(program, program.end(), "", CAUSE + OUTCOMES["none"], 1)
-        assert 0.29 <= min(other.gaps[5::5]), f"{other.gaps}"
-        assert max(other.gaps[5::5]) < 0.8, f"{other.gaps}"
+        play(other, f"< {QUICK} " + talk(*[">", "C1:FE"] * 5, ">", f"00:{SELECT_APDU}",
+                                         *[">", "82"] * 4), card=True)
+        look(program, program.end(), "", CAUSE + OUTCOMES["unknown"], 1)
+        assert 0.29 <= min(other.gaps[5:26:5]), f"{other.gaps}"
+        assert max(other.gaps[5:26:5]) < 0.8, f"{other.gaps}"
     finally:
         line.close()
 
@@ -114,9 +121,13 @@ def faults():
     first, sent = f"< {QUICK} ", talk(">", f"00:{SELECT_APDU}")
     slack = 300
     for title, dialogue, fault in (
-        ("before a command", talk(*[">", "C1:FE"] * 5), CAUSE + OUTCOMES["none"]),
-        ("after a command", OPEN + sent + talk(*[">", "80"] * 4), CAUSE + OUTCOMES["unknown"]),
-        ("within a response", OPEN + sent + talk("<", f"20:{NAME[:8]}", *[">", "90"] * 5),
+        ("before a command", talk(">", "C1:FE", "<", "C2", ">", "E2"),
+         "operation 1: aborted by the card: the card " + OUTCOMES["none"]),
+        ("after a command", OPEN + sent + talk(*[">", "82"] * 4), CAUSE + OUTCOMES["unknown"]),
+        ("without S(IFS response)", talk(*[">", "C1:FE"] * 5) + sent + talk(*[">", "82"] * 4),
+         CAUSE + OUTCOMES["unknown"]),
+        ("within a response",
+         OPEN + sent + talk("<", f"20:{NAME[:8]}", ">", "90", *[">", "92"] * 4),
          CAUSE + OUTCOMES["part"]),
         ("after S(ABORT request)", OPEN + sent + talk("<", "C2", ">", "E2"),
          "operation 1: aborted by the card: the card " + OUTCOMES["unknown"]),
@@ -140,7 +151,7 @@ def faults():
 
 
 # A block that breaks a rule of blocks, so that it counts as damaged, or a rule of the dialogue. The
-# terminal asks again by R(0).
+# terminal asks again by R(0), with the error 1 if the LRC is wrong, and 2 otherwise.
 BROKEN = (
     ("another NAD", "01000001"),
     ("LEN FF", "0000FF00"),
@@ -148,7 +159,7 @@ BROKEN = (
     ("a byte behind it", block("00", NAME) + "00"),
     ("a wrong LRC", block("00", NAME)[:-2] + "00"),
     ("an I-block with a reserved bit", block("10", NAME)),
-    ("an R-block with a reserved bit", block("83")),
+    ("an R-block with a reserved bit", block("A0")),
     ("an R-block with a field", block("90", "00")),
     ("an S-block of no kind", block("C4")),
     ("S(WTX request) without its byte", block("C3")),
@@ -169,14 +180,18 @@ def breaks():
     first, sent = f"< {QUICK} {OPEN}", talk(">", f"00:{SELECT_APDU}")
     select, slack = terminal_cases.SELECT, 500
     for title, bad in BROKEN:
-        yield Case(f"T=1: {title}", f"{first}{sent}< {bad} " + talk(">", "80", "<", f"00:{NAME}"),
+        asks = "81" if title == "a wrong LRC" else "82"
+        yield Case(f"T=1: {title}", f"{first}{sent}< {bad} " + talk(">", asks, "<", f"00:{NAME}"),
                    select, terminal_cases.SELECTED, echo=False, slack=slack)
-    yield Case("T=1: R with the own number", f"{first}{sent}" + talk("<", "80") + SELECTS, select,
-               terminal_cases.SELECTED, echo=False, slack=slack)
+    for error in ("80", "83", "8F"):
+        yield Case(f"T=1: R with the own number, {error}", f"{first}{sent}" + talk("<", error)
+                   + SELECTS, select, terminal_cases.SELECTED, echo=False, slack=slack)
     yield Case("T=1: another IFSD", f"< {QUICK} " + talk(">", "C1:FE", "<", "E1:20") + OPEN
                + SELECTS, select, terminal_cases.SELECTED, echo=False, slack=slack)
-    yield Case("T=1: more time for ever", first + sent + talk(*["<", "C3:01", ">", "E3:01"] * 16)
+    more = int(re.search(r"GT_T1_EXTENSIONS = (\d+)", HEADER.read_text(encoding="utf-8"))[1])
+    yield Case("T=1: more time for ever", first + sent + talk(*["<", "C3:01", ">", "E3:01"] * more)
                + talk("<", "C3:01"), select, echo=False, slack=slack, status=1,
+               options=["--baud", "1000000"],
                fault="operation 1: too many requests from the card: the card "
                + OUTCOMES["unknown"])
     yield Case("T=1: a response of 259 bytes", first + sent
@@ -185,6 +200,59 @@ def breaks():
                fault="operation 1: response too long: the card " + OUTCOMES["part"])
     yield Case("T=1: a response without a status", first + sent + talk("<", "00:6F"), select,
                echo=False, slack=slack, status=1, fault="operation 1: no status\n")
+
+
+def echoes():
+    """A line that returns the terminal's first block: at once, late, in pieces 50 ms apart, damaged
+    at first, or before the card's answer."""
+    sent, echo = talk(">", "C1:FE"), talk("<", "C1:FE")
+    for title, dialogue in (
+        ("at once", sent + echo),
+        ("30 ms late", f"{sent}~ 0.03 {echo}"),
+        ("in pieces", f"{sent}~ 0.05 {echo[:4]} ~ 0.05 < {echo[4:10]} ~ 0.05 < {echo[10:]}"),
+        ("after a damaged block", f"{sent}< 00C101FF3E {sent}{echo}"),
+        ("before the card's answer", sent + echo + "~ 0.02 " + talk("<", "E1:FE")),
+    ):
+        yield Case(f"T=1: a line that echoes, {title}", f"< {QUICK} {dialogue}",
+                   terminal_cases.SELECT, fault="operation 1: the line echoes\n", status=1,
+                   echo=False, heaps=True)
+    yield Case("T=1: an answer that is the block but for its last byte",
+               f"< {QUICK} {sent}< 00C101FE3F {OPEN}{SELECTS}", terminal_cases.SELECT,
+               terminal_cases.SELECTED, echo=False, heaps=True, slack=2000)
+    yield Case("T=1: an answer that begins as the block does, and waits",
+               f"< {QUICK} {sent}< 00 ~ 0.2 < E101FE1E {SELECTS}", terminal_cases.SELECT,
+               terminal_cases.SELECTED, echo=False, slack=2000)
+
+
+def patience():
+    """What a card does for ever, so that the terminal gives up its command after --patience. It
+    asks for more time, or its block does not end, or what follows that."""
+    sent = OPEN + talk(">", f"00:{SELECT_APDU}")
+    yield "asks for more time", sent, block("C3", "01")
+    yield "asks for a long time", sent + talk("<", "C3:FF", ">", "E3:FF"), ""
+    yield "asks for a long time at first", talk(">", "C1:FE", "<", "C3:FF", ">", "E3:FF"), ""
+    yield "sends a byte of its block at a time", sent + "< 0000FE ", "00"
+    yield "sends more than its block", sent + f"< {block('00', NAME)}00 ", "00"
+
+
+def gives_up(dialogue, rest):
+    """Plays a dialogue, and then sends the rest again and again, until the terminal ends."""
+    line = Line()
+    try:
+        words = ["--no-echo", "--patience", "1", line.name, *terminal_cases.SELECT]
+        program = Program("gt_serial", words)
+        other = Other(line, echo=False, heaps=True)
+        play(other, f"< {QUICK} {dialogue}", card=True)
+        began = time.monotonic()
+        while program.process.poll() is None and time.monotonic() < began + 10:
+            time.sleep(0.1)
+            line.read(300, 0)
+            other.send(rest)
+        ended = time.monotonic() - began
+        look(program, program.end(), "", f"operation 1: {terminal_cases.TOO_LONG}", 1)
+        must_end(ended, 0.8, 1.0 + terminal_cases.LATE)
+    finally:
+        line.close()
 
 
 def chapter():
@@ -200,7 +268,7 @@ def chapter():
 
 
 SELECTED = talk("<", f"00:{NAME}")
-R0 = talk("<", "80")
+R0 = talk("<", "82")
 # T=0 first, then T=1: with LRC, and with CRC.
 BY_PPS, CRC_BY_PPS = "3B80800101", "3B8080410140"
 
@@ -208,23 +276,23 @@ BY_PPS, CRC_BY_PPS = "3B80800101", "3B8080410140"
 def own_part():
     """A title, and the blocks of a terminal and a card after an S(IFS request)."""
     sent = talk(">", f"00:{SELECT_APDU}")
-    yield "a wrong LRC", sent[:-3] + "FF " + R0 + sent + SELECTED
+    yield "a wrong LRC", sent[:-3] + "FF " + talk("<", "81") + sent + SELECTED
     yield "a byte behind the block", sent[:-1] + "00 " + R0 + sent + SELECTED
     yield "another NAD", "> 01000001 " + R0 + sent + SELECTED
     yield "LEN FF", "> 0000FF00 " + R0 + sent + SELECTED
     yield "a block that stops", sent[:16] + " " + R0 + sent + SELECTED
     yield "R asks again", sent + SELECTED + talk(">", "80") + SELECTED + GETS
-    yield "a block that comes twice", sent + SELECTED + sent + talk("<", "90") + GETS
+    yield "a block that comes twice", sent + SELECTED + sent + talk("<", "92") + GETS
     yield "another N(S)", talk(">", f"40:{SELECT_APDU}") + R0 + sent + SELECTED
-    yield "R before a command", talk(">", "80", "<", "80", ">", "90", "<", "80") + sent + SELECTED
+    yield "R before a command", talk(">", "80", "<", "82", ">", "90", "<", "82") + sent + SELECTED
     yield "S(ABORT request) in a command", talk(
         ">", f"20:{SELECT_APDU[:8]}", "<", "90", ">", "C2", "<", "E2", ">", f"40:{GET_APDU}",
         "<", "00:6985")
     yield "S(RESYNCH request)", sent + SELECTED + talk(">", "C0", "<", "E0", ">", f"00:{GET_APDU}",
                                                        "<", f"00:{JOE}")
-    yield "a request of no kind", talk(">", "C4", "<", "80", ">", "C3:01", "<", "80") + sent \
+    yield "a request of no kind", talk(">", "C4", "<", "82", ">", "C3:01", "<", "82") + sent \
         + SELECTED
-    yield "an answer to nothing", talk(">", "E3:01", "<", "80") + sent + SELECTED
+    yield "an answer to nothing", talk(">", "E3:01", "<", "82") + sent + SELECTED
     yield "another IFSD", talk(">", "C1:04", "<", "E1:04") + sent + talk(
         "<", f"20:{NAME[:8]}", ">", "90", "<", f"60:{NAME[8:16]}", ">", "80",
         "<", f"20:{NAME[16:24]}", ">", "90", "<", f"40:{NAME[24:]}")
@@ -415,8 +483,10 @@ def at_random(seed):
 
 def tests():
     """Each test of this part: its title, and a function that raises an error if it fails."""
-    for case in (*dialogues(), *faults(), *breaks(), *chapter()):
+    for case in (*dialogues(), *faults(), *breaks(), *echoes(), *chapter()):
         yield case.title, lambda case=case: terminal_cases.tried(case)
+    for title, *of in patience():
+        yield f"T=1: a card that {title}", lambda of=of: in_time(lambda: gives_up(*of))
     for case in at_card():
         yield case.title, lambda case=case: card_cases.run(case)
     yield "T=1: each opening of a card's line", each_opening

@@ -30,6 +30,7 @@ GOT = "= 9000 5F20034A4F45\n"
 DONE = "< 9000 "
 SHORT = ["send", "00200000"]
 SHORT_WORDS = "> 0020000000 "
+TOO_LONG = "the command takes longer than --patience\n"
 # How many seconds late a program may end on a busy machine.
 LATE = 4.0
 
@@ -133,15 +134,8 @@ def sessions():
                     inverse=inverse,
                     heaps=heaps,
                     slack=5000,
-                    options=["-v"],
                     baud=9600,
                 )
-
-
-def of_session(case):
-    """Removes `-v` from the words, since options precede the tty."""
-    case.words = [word for word in case.words if word != "-v"]
-    return case
 
 
 def statuses():
@@ -150,6 +144,11 @@ def statuses():
     yield Case("a status", "< 3B00 " + refused, [*GET, *SELECT], "= 6985\n", status=1)
     yield Case("a status, and -k", "< 3B00 " + refused + SELECT_WORDS, [*GET, *SELECT],
                "= 6985\n" + SELECTED, status=1, options=["-k"])
+    yield Case("options among operations", f"< 3B00 {refused}{SELECT_WORDS}> 00DA5F2000 < 9000",
+               ["get", "-k", "5F20", *SELECT, "--slack", "5000", "put", "5F20", "-"],
+               "= 6985\n" + SELECTED + "= 9000\n", status=1)
+    yield Case("options before and after the tty's name", "< 3B00 " + SELECT_WORDS,
+               ["--patience", "5", "--", *SELECT], SELECTED, options=["-k"])
     yield Case("operations of standard input", "< 3B00 " + SELECT_WORDS + GET_WORDS, [],
                SELECTED + GOT, given=b"# a name\nselect A0000000031010\nget 5F20\n",
                options=["-f", "-"])
@@ -170,6 +169,49 @@ def statuses():
                "< CA5F2081FCFF00FF" + "FF" * 249 + "9000 ",
                ["put", "5F20", "FFFF00", "get", "5F20"],
                "= 9000\n= 9000 5F2081FCFF00FF" + "FF" * 249 + "\n")
+
+
+def cut_short():
+    """A card that ends a command before it takes the data, with a status that is no refusal, has
+    not carried it out. The program prints the status, and stops, with -k too."""
+    cut = "operation 1: the card ended the command before it took the data\n"
+    put = ["put", "5F20", "414E4E"]
+    header, one_byte = "< 3B00 > 00DA5F2003 ", "< 25 > 41 "
+    long_put = ["put", "5F20", "00*600"]
+    pieces = [
+        ("> 10DA5F20FF ", "< DA > " + "00" * 255 + " < 9000 "),
+        ("> 10DA5F20FF ", "< DA > " + "00" * 255 + " < 9000 "),
+        ("> 00DA5F205A ", "< DA > " + "00" * 90 + " < 9000 "),
+    ]
+    selected = "> 00C000000B < C06F098407A00000000310109000 "
+    for echo in (True, False):
+        for status in ("9000", "9101", "6105", "6200", "63C1"):
+            yield Case(f"{status} before the data, echo {echo}", f"{header}< {status} ", put,
+                       f"= {status}\n", cut, 1, echo=echo)
+            yield Case(f"{status} after 1 of 3 bytes, echo {echo}",
+                       f"{header}{one_byte}< {status} ", put, f"= {status}\n", cut, 1, echo=echo)
+        yield Case(f"9000 before an identifier, echo {echo}", "< 3B00 > 00A4040007 < 9000 ",
+                   SELECT, "= 9000\n", cut, 1, echo=echo)
+        yield Case(f"610B before an identifier, echo {echo}",
+                   "< 3B00 > 00A4040007 < 610B " + selected, SELECT, SELECTED, cut, 1, echo=echo)
+        for place in range(3):
+            dialogue = "".join(
+                head + ("< 9000 " if place == at else rest)
+                for at, (head, rest) in enumerate(pieces)
+            )
+            yield Case(f"9000 before piece {place + 1}, echo {echo}", "< 3B00 " + dialogue,
+                       long_put, "= 9000\n", cut, 1, echo=echo)
+    yield Case("9000 before the data, and -k", header + "< 9000 ", [*put, *GET], "= 9000\n", cut, 1,
+               options=["-k"])
+    yield Case("9000 before the data, and --verify", header + "< 9000 ", put, "= 9000\n", cut, 1,
+               options=["--verify"])
+    for status in ("6700", "6985", "6F00", "6401"):
+        yield Case(f"a refusal by {status} before the data, and -k",
+                   f"{header}< {status} " + GET_WORDS, [*put, *GET], f"= {status}\n" + GOT,
+                   status=1, options=["-k"])
+    yield Case("63C2 after all data", "< 3B00 > 00DA5F2003 < DA > 414E4E < 63C2 " + GET_WORDS,
+               [*put, *GET], "= 63C2\n" + GOT, status=1, options=["-k"])
+    yield Case("a put of no bytes", "< 3B00 > 00DA5F2000 < 9000 ", ["put", "5F20", "-"], "= 9000\n")
 
 
 def verified():
@@ -264,9 +306,10 @@ def meanings():
         ("3B800282", "direct", "T=2", "negotiable", "9600 baud, Fi 372, Di 1", "12 etu", None,
          "none", "the card talks neither T=0 nor T=1\n"),
     ):
-        rows = ("answer", answer), ("convention", convention), ("protocols", protocols), \
-            ("mode", mode), ("rate", rate), ("guard time", guard), ("waiting time", wait), \
-            ("historical", historical)
+        t1 = [("IFSC", "32"), ("EDC", "LRC"), ("BWT", "1601 ms")] if "T=1" in protocols else []
+        rows = [("answer", answer), ("convention", convention), ("protocols", protocols),
+                ("mode", mode), ("rate", rate), ("guard time", guard), ("waiting time", wait), *t1,
+                ("historical", historical)]
         output = "".join(f"{name:14}{text}\n" for name, text in rows if text)
         yield Case(f"what {answer} says", f"< {answer}", [], output, fault, 1 if fault else 0,
                    inverse=answer.startswith("3F"))
@@ -277,6 +320,23 @@ def meanings():
         "pps > FF10957A", "pps < FF10957A"))
     yield Case("what an answer says, and PPS", "< 3B1095 > FF10957A < FF10957A", [], output,
                options=["-v", "--pps"])
+
+
+def meanings_at_t1():
+    """The same for T=1. BWT is 11 etu, and 2^BWI * 960 * 372 cycles."""
+    reserved = "the card's {} is reserved\n"
+    for answer, baud, ifsc, edc, bwt, fault in (
+        ("3B8081210323", 9600, "32", "LRC", "101 ms", ""),
+        ("3B808131FE03CD", 1200, "254", "LRC", "809 ms", ""),
+        ("3B8081410141", 9600, "32", "CRC", "1601 ms", "the card's blocks use CRC, not LRC\n"),
+        ("3B8081110010", 9600, "reserved", "LRC", "1601 ms", reserved.format("IFSC")),
+        ("3B808121A383", 9600, "32", "LRC", "reserved", reserved.format("block waiting time")),
+    ):
+        yield Case(f"what {answer} says", f"< {answer}", [], f"answer        {answer}\n"
+                   "convention    direct\nprotocols     T=1\nmode          negotiable\n"
+                   f"rate          {baud} baud, Fi 372, Di 1\nguard time    12 etu\n"
+                   f"IFSC          {ifsc}\nEDC           {edc}\nBWT           {bwt}\n"
+                   "historical    none\n", fault, 1 if fault else 0, options=["--baud", baud])
 
 
 def waiting():
@@ -309,12 +369,16 @@ def waiting():
                SHORT, "= 9000\n", slack=1000)
     yield Case("NULLs before data", quick + "> 00CA5F2006 < 6060CA5F20034A4F4560 ~ 0.1 < 609000 ",
                ["send", "00CA5F2006"], "= 9000 5F20034A4F45\n")
-    yield Case("NULLs with data between them", "< 3B00 > 00CA5F2006 < 60 ~ 0.7 < CA5F20034A4F45 "
-               "~ 0.7 < 609000 ", ["send", "00CA5F2006"], "= 9000 5F20034A4F45\n", slack=3000,
-               options=["--patience", "1"])
-    yield Case("NULLs before data in heaps", "< 3B00 > 00CA5F2006 < 60 ~ 0.7 < 60CA5F20034A4F45 "
-               "~ 0.7 < 609000 ", ["send", "00CA5F2006"], "= 9000 5F20034A4F45\n", slack=3000,
-               options=["--patience", "1"], heaps=True)
+    both = (SHORT_WORDS + "~ 0.7 " + DONE) * 2
+    yield Case("two commands, each within the patience", "< 3B00 " + both, SHORT * 2,
+               "= 9000\n" * 2, slack=3000, options=["--patience", "1"], quick=True)
+    for heaps in (True, False):
+        yield Case(f"NULLs with data between them, heaps {heaps}",
+                   "< 3B00 > 00CA5F2006 < 60 ~ 0.7 < 60CA5F20034A4F45 ~ 0.5",
+                   ["send", "00CA5F2006"], fault=f"operation 1: {TOO_LONG}", status=1, slack=3000,
+                   heaps=heaps, options=["--patience", "1"])
+    yield Case("a waiting time beyond the patience", "< 3B00 " + SHORT_WORDS + "~ 1.1", SHORT,
+               fault=f"operation 1: {TOO_LONG}", status=1, slack=3000, options=["--patience", "1"])
     yield Case("a trace that a fault cuts", quick + SHORT_WORDS + "< 60 ", SHORT,
                "reset\n< 3B804002\n> 0020000000\n< 60\n", fault, 1, options=["-v"], waits=0.2)
 
@@ -332,6 +396,9 @@ def noise():
                    "operation 1: bad procedure byte\n", 1, options=["-v"], heaps=heaps)
     yield Case("a NULL among others", "< 3B00 " + SHORT_WORDS + "< 6060609000 ", SHORT,
                "reset\n< 3B00\n> 0020000000\n< 6060609000\n= 9000\n", options=["-v"], heaps=True)
+    # the last of these echoes may take 2.55 s, and the slack
+    yield Case("an echo of 255 characters", f"< 3B00 > 00DA5F20FF < DA > {'41' * 255} < 9000",
+               ["put", "5F20", "41*255"], "= 9000\n", options=["--baud", "1200"])
     yield Case("no echo", "< 3B00 ", SHORT, fault="operation 1: there is no echo\n",
                status=1, waits=0.0)
     yield Case("GET RESPONSE that brings nothing",
@@ -391,6 +458,32 @@ def early():
                    fault="unexpected byte\n", options=["--baud", "1200", "--pps"], slack=5000)
 
 
+def stale():
+    """Without an echo the card is silent for 20 ms, or for --quiet, before each header and PPS
+    request. An adapter keeps a byte for 16 ms."""
+    behind, fault = "a byte after the answer to reset\n", "operation 2: unexpected byte\n"
+    put = ["put", "5F20", "414E4E"]
+    stored = "< 3B00 > 00DA5F2003 < DA > 414E4E < 9000 "
+    long = ["--quiet", "300"]
+    for title, dialogue, words, output, told, options in (
+        ("a status 12 ms behind a put's", stored + "~ 0.012 < 9000", put * 2, "= 9000\n", fault,
+         []),
+        ("a status 150 ms behind a put's", stored + "~ 0.15 < 9000", put * 2, "= 9000\n", fault,
+         long),
+        ("a byte within the guard time", "< 3B40FE " + SHORT_WORDS + "< 9000 ~ 0.1 < 55",
+         SHORT * 2, "= 9000\n", fault, ["--baud", "1200"]),
+        ("a byte 150 ms behind the answer to reset", "< 3B00 ~ 0.15 < 55", SHORT, "", behind, long),
+        ("a byte before PPS for a rate", "< 3B1095 ~ 0.45 < 55", SHORT, "", behind,
+         ["--pps", *long]),
+        ("a byte before PPS for T=1", "< 3B80800101 ~ 0.45 < 55", SHORT, "", behind,
+         ["--protocol", "1", *long]),
+    ):
+        yield Case(title, dialogue, words, output, told, 1, options, echo=False, heaps=True,
+                   slack=5000, quick=True)
+    yield Case("a byte before a header", "< 3B00 ~ 0.45 < 55", SHORT, status=1, options=long,
+               fault=f"operation 1: {behind}", echo=False, quick=True)
+
+
 def echoes():
     """A line with an unexpected echo: a command with CLA 6X or 9X would answer itself."""
     fault = "operation 1: the line echoes\n"
@@ -422,6 +515,9 @@ def echoes():
     whole = "< 3B00 > CACA5F2004 < CACA5F2004"
     yield Case("an answer that is its header", whole, ["send", "CACA5F2004"], fault=fault, status=1,
                echo=False, heaps=True)
+    yield Case("an answer that is its header, and waits", "< 3B00 > CACA5F2004 < CA ~ 0.3 "
+               "< CA5F20049000", ["send", "CACA5F2004"], "= 9000 CA5F2004\n", echo=False,
+               heaps=True, slack=2000, quick=True)
     yield Case("an answer that is its header, with an echo", whole + "9000",
                ["send", "CACA5F2004"], "= 9000 CA5F2004\n", heaps=True)
     yield Case("INS that is CLA, before data", "< 3B00 > DADA5F2003 < DA > 414E4E < 9000",
@@ -494,9 +590,9 @@ def gaps():
 
 def all_cases():
     """The cases that consist of a dialogue."""
-    parts = (sessions, statuses, verified, answers, meanings, waiting, noise, early, echoes, pps,
-             gaps)
-    return [of_session(case) for part in parts for case in part()]
+    parts = (sessions, statuses, verified, cut_short, answers, meanings, meanings_at_t1, waiting,
+             noise, early, stale, echoes, pps, gaps)
+    return [case for part in parts for case in part()]
 
 
 def guard_time():
@@ -573,6 +669,21 @@ def wrong_echo():
             line.close()
 
 
+def no_echo_of_data():
+    """The echo of the first of 255 characters must be there after 10 ms and the slack, at 1,200
+    baud. The last takes 2.55 s."""
+    line = Line()
+    try:
+        words = ["--baud", "1200", line.name, "put", "5F20", "41*255"]
+        program = Program("gt_serial", words)
+        play(Other(line), "< 3B00 > 00DA5F20FF < DA", card=True)
+        began = time.monotonic()
+        look(program, program.end(), "", "operation 1: there is no echo\n", 1)
+        must_end(time.monotonic() - began, 0.15, 2.0)
+    finally:
+        line.close()
+
+
 def passes_over_a_signal():
     """SIGHUP does not end a program that is started with it ignored, as by nohup."""
     line = Line()
@@ -604,12 +715,13 @@ def line_gone():
         look(program, program.end(), "", fault, 1)
 
 
-def nulls_for_ever():
-    """The program gives up a card that sends only NULLs after the time of --patience."""
+def nulls_for_ever(options, seconds, clock):
+    """The program gives up a card that sends only NULLs after the time of --patience, or after 600
+    s. Its clock is faster than that of these tests."""
     line = Line()
     try:
-        words = ["--patience", "1", "--slack", "2000", line.name, *SHORT]
-        program = Program("gt_serial", words)
+        words = [*options, "--slack", "2000", line.name, *SHORT]
+        program = Program("gt_serial", words, environment={"STANDIN_CLOCK": str(clock)})
         other = Other(line)
         play(other, "< 3B00 " + SHORT_WORDS, card=True)
         began = time.monotonic()
@@ -617,8 +729,42 @@ def nulls_for_ever():
             other.send("60")
             time.sleep(0.05)
         ended = time.monotonic() - began
-        look(program, program.end(), "", "operation 1: the card sends nothing but NULLs\n", 1)
-        must_end(ended, 1.0, 1.0 + LATE)
+        look(program, program.end(), "", f"operation 1: {TOO_LONG}", 1)
+        must_end(ended, seconds / clock - 0.2, seconds / clock + 0.8)
+    finally:
+        line.close()
+
+
+def is_quiet():
+    """How long the card is silent before a header. A busy machine is late at some."""
+    long = ["--no-echo", "--quiet", "100"]
+    for options, least in (([], 0.0), (["--no-echo"], 0.02), (long, 0.1)):
+        line = Line()
+        try:
+            program = Program("gt_serial", ["--slack", "5000", *options, line.name, *SHORT * 8])
+            other = Other(line, echo=not options)
+            play(other, "< 3B00 " + (SHORT_WORDS + DONE) * 8, card=True)
+            look(program, program.end(), "= 9000\n" * 8, "", 0)
+            gap = min(other.gaps[5::5])
+            assert least <= gap < least + 0.02, f"{options}: {other.gaps}"
+        finally:
+            line.close()
+
+
+def is_stopped():
+    """A program that is stopped before a header still finds what arrived in that time."""
+    line = Line()
+    try:
+        words = ["--slack", "5000", "--no-echo", "--quiet", "200", line.name, *SHORT * 2]
+        program = Program("gt_serial", words)
+        other = Other(line, echo=False)
+        play(other, "< 3B00 " + SHORT_WORDS + DONE, card=True)
+        time.sleep(0.05)
+        program.kill(signal.SIGSTOP)
+        time.sleep(0.3)
+        other.send("9000")
+        program.kill(signal.SIGCONT)
+        look(program, program.end(), "= 9000\n", "operation 2: unexpected byte\n", 1)
     finally:
         line.close()
 
@@ -724,11 +870,18 @@ def words():
         (["--baud", "-1", "x", *GET], "'--baud' takes a number from 1200 to 1000000"),
         (["--slack", "60001", "x", *GET], "'--slack' takes a number from 0 to 60000"),
         (["--slack", "", "x", *GET], "'--slack' takes a number from 0 to 60000"),
+        (["--quiet", "19", "x", *GET], "'--quiet' takes a number from 20 to 1000"),
+        (["--quiet", "1001", "x", *GET], "'--quiet' takes a number from 20 to 1000"),
         (["--patience", "0", "x", *GET], "'--patience' takes a number from 1 to 86400"),
         (["--protocol", "2", "x", *GET], "'--protocol' takes a number from 0 to 1"),
         (["--reset", "cts", "x", *GET], "'cts' is not a line for '--reset'"),
         (["--held-by", "high", "x", *GET], "'high' is neither 'on' nor 'off'"),
-        (["x", "walk"], "operation 1: unknown word"),
+        (["x", "walk"], "operation 1: unknown word: 'walk'"),
+        (["x", *GET, "-walk"], "'-walk' is not an option"),
+        (["x", *GET, "--", "-k"], "operation 2: unknown word: '-k'"),
+        (["x", "put", "5F20", "-k"], "operation 1: bad hex: '-k': a character that is not a digit"),
+        (["put", "5F20", "-walk"], "'-walk' is not an option"),
+        (["x", *GET, "--baud"], "'--baud' needs a value"),
         (["x", *GET, "get"], "operation 2: wrong number of words"),
         (["x", *GET, "get", "3E"], "operation 2: bad tag: '3E': neither 40 to FE without 5F, 7F, "
          "9F, BF and DF, nor one of these or FF and then 01 to 7F"),
@@ -766,7 +919,11 @@ def tests():
         (f"signal {number.name}", lambda number=number: puts_back(number))
         for number in (signal.SIGTERM, signal.SIGINT, signal.SIGHUP, signal.SIGQUIT)
     )
-    for test in (guard_time, turn_time, wrong_echo, passes_over_a_signal, line_gone,
-                 nulls_for_ever, settings, full_device, full_device_for_an_answer, nobody_reads,
-                 closed_descriptors, words, helps):
+    for test in (turn_time, wrong_echo, passes_over_a_signal, line_gone,
+                 is_stopped, settings, full_device, full_device_for_an_answer,
+                 nobody_reads, closed_descriptors, words, helps):
         yield (f"terminal: {test.__name__}", test)
+    for of in ((["--patience", "2"], 2, 1), ([], 600, 300)):
+        yield f"terminal: NULLs for {of[1]} s", lambda of=of: nulls_for_ever(*of)
+    for test in (guard_time, is_quiet, no_echo_of_data):
+        yield f"terminal: {test.__name__}", lambda test=test: in_time(test)

@@ -94,7 +94,7 @@ class Marking(Other):
 
 
 def terminal(dialogue, noted, fault="", refuses="", options=(), output="= 9000\n", play_it=None,
-             reset="rts off", inverse=False, waits=0.0, echo=True, words=SHORT):
+             reset="rts off", inverse=False, waits=0.0, echo=True, words=SHORT, status=None):
     """A terminal at a tty. The card answers after the end of the reset."""
     with tempfile.TemporaryDirectory() as folder:
         tty = Tty(folder, refuses)
@@ -107,8 +107,8 @@ def terminal(dialogue, noted, fault="", refuses="", options=(), output="= 9000\n
                 tty.await_note(reset)
             other.sent_at = time.monotonic()
             (play_it or (lambda it: play(it, dialogue, card=True)))(other)
-            status = program.end()
-            look(program, status, output, fault, 0 if not fault else 1)
+            ended = program.end()
+            look(program, ended, output, fault, bool(fault) if status is None else status)
             assert tty.noted() == noted, f"noted {tty.noted()}, and not {noted}"
             assert tty.line.is_put_back(), "the tty is not set as it was before"
             must_end(program.seconds, waits, other.sent_at - program.began + waits + LATE)
@@ -134,6 +134,11 @@ def resets():
     yield ("no line for the reset, and nobody does it", lambda: terminal(
         "", [EVEN, *END], "the card does not answer to reset\n", reset=EVEN, output="",
         options=["--reset", "none", "--patience", "1"], waits=0.9))
+    # 40,000 cycles are 90 ms there
+    slow = SET.format(1200, "even")
+    yield ("an answer 60 ms after the reset, at 1,200 baud", lambda: in_time(lambda: terminal(
+        f"~ 0.06 < 3B00 {SHORT_WORDS}~ 0.1 {DONE}", [slow, *RESET, slow, *END], echo=False,
+        options=["--slack", "0", "--baud", "1200"])))
     yield ("silent after two resets", lambda: terminal(
         "", [EVEN, *RESET, *RESET, *END], "the card does not answer to reset\n", output="",
         waits=2.4))
@@ -315,6 +320,28 @@ def parities():
         yield (f"a mark of a wrong parity that is late by {title}", lambda of=cut_mark: terminal(
             "", [*reset, EVEN, *END], "operation 1: " + PARITY, output="", play_it=of))
 
+    first = "< 3B8081210323 > 00C101FE3E ~ 0.05"
+    for before in ("", "00E101FE1E"):
+        def cut_mark_at_t1(other, before=before):
+            play(other, first, card=True)
+            other.line.write(bytes.fromhex(before) + b"\xff\0")
+
+        yield (f"a mark of a wrong parity that is cut at T=1, after {before}", lambda of=
+               cut_mark_at_t1: terminal("", [*reset, EVEN, *END], "operation 1: too many tries "
+               "without progress: the card may have carried out the command\n", output="",
+               play_it=of, echo=False))
+
+    def marked_at_t1(other):
+        play(other, first, card=True)
+        other.sends_marked("00")
+        other.send("E101FE1E")
+        play(other, first[15:] + " < 00E101FE1E > 00000500B0000000B5 ~ 0.05 < 0000026D006F",
+             card=True)
+
+    yield ("a wrong parity of the first byte at T=1", lambda: terminal(
+        "", [*reset, EVEN, *END], output="= 6D00\n", play_it=marked_at_t1, echo=False,
+        words=["-k", "send", "00B0000000"], status=1))
+
     def unmarked_t0(other):
         other.sends_marked("3F")
         other.send("00")
@@ -350,12 +377,21 @@ def without_echo():
         ("an echo", "< 0020000000", SHORT, "operation 1: the line echoes\n"),
         ("a status within data", "> 0020000103 ~ 0.1 < 20 > 414E4E < 9000", put, fault),
         ("a status behind data, in time", "> 0020000103 ~ 0.1 < 20 > 414E4E ~ 0.1 < 9000", put, ""),
+        # 255 characters take 2.55 s, and a 32nd of that is 80 ms
+        ("a status within the last 32nd of data", f"> 00200001FF ~ 0.1 < 20 > {'41' * 255} ~ 2.5 "
+         "< 9000", ["send", "00200001FF" + "41" * 255], ""),
     ):
-        whole = f"< 3B00 {'' if words == put else SHORT_WORDS}{dialogue}"
+        whole = f"< 3B00 {SHORT_WORDS if words == SHORT else ''}{dialogue}"
         more = {"options": slow, "output": "" if told else "= 9000\n", "echo": False,
                 "words": words}
         yield (f"without echo: {title}", lambda of=(whole, noted, told), more=more: in_time(
             lambda: terminal(*of, **more)))
+    yield ("without echo: T=1, an echo", lambda: in_time(lambda: terminal(
+        "< 3B8081210323 > 00C101FE3E < 00C101FE3E", noted, "operation 1: the line echoes\n",
+        options=slow, output="", echo=False)))
+    yield ("without echo: T=1, an answer within the block", lambda: in_time(lambda: terminal(
+        "< 3B8081210323 > 00C101FE3E < 00E101FE1E", noted, fault, options=slow, output="",
+        echo=False)))
     yield ("without echo: a PPS response within the request", lambda: in_time(lambda: terminal(
         "< 3B1095 > FF10957A < FF10957A", tried, "unexpected byte\n",
         options=[*slow, "--pps"], output="", echo=False)))
@@ -557,20 +593,23 @@ def card_settings():
     yield ("a character to a card with a mark that is late", lambda: card(
         cut_mark, ["--reset", "cts"], fault=PARITY + GONE))
 
-    def at_t1(place):
+    def at_t1(place, pause):
         get = "00000500CA5F2000B0"
 
         def session(_, other):
             play(other, "< 3B8081210323 > 00C101FE3E < 00E101FE1E", card=False)
             other.send(get[:2 * place])
             other.sends_marked(get[2 * place:2 * place + 2])
+            time.sleep(pause)
             other.send(get[2 * place + 2:])
-            play(other, f"< 00800080 > {get} < 0000026985EE", card=False)
+            play(other, f"< 00820082 > {get} < 0000026985EE", card=False)
         return session
 
-    for place in (0, 2, 8):
-        yield (f"a card at T=1, a wrong parity of byte {place}", lambda place=place: card(
-            at_t1(place), ["--slack", "300"], answer="3B8081210323"))
+    # a pause is longer than BGT, 2.3 ms, and shorter than CWT
+    for place, pause in ((0, 0), (2, 0), (8, 0), (0, 0.05), (2, 0.05)):
+        yield (f"a card at T=1, a wrong parity of byte {place}, pause {pause}",
+               lambda of=(place, pause): card(at_t1(*of), ["--slack", "300"],
+                                              answer="3B8081210323"))
 
 
 def tests():

@@ -4,7 +4,8 @@ over all that a line can do.
 The machines are written from the rules, not from the proved definitions. They can also break rules:
 the search then shows what a broken rule leads to.
 
-Blocks: ('I', ns, more, symbols) ('R', nr) ('S', kind, 'q' or 'p', value), q for a request. The line
+Blocks: ('I', ns, more, symbols) ('R', nr, error) ('S', kind, 'q' or 'p', value), q for a request.
+An error of R is 0, 1 for a wrong EDC or 2 for another one. The line
 delivers a block, damages it ('bad': the LRC shows it), loses it (the terminal: 'timeout'; the card:
 nothing), delays it until after the terminal's time-out, or doubles it."""
 
@@ -109,17 +110,17 @@ def gives_up(cfg, t):
     return t._replace(mode='broken', res=t.res + (fault(t),), fails=0, naks=0, i=0, air=False,
         got=()), None
 
-def again(t):                # the next block after a reception without progress
+def again(t, error):         # the next block after a reception without progress
     if t.mode == 'ifs':
         return t, ('S', 'IFS', 'q', LARGE)
     if t.mode == 'resync':
         return t, ('S', 'RESYNCH', 'q', 0)
-    return t, ('R', t.nr)
+    return t, ('R', t.nr, error)
 
-def no_progress(cfg, t):
+def no_progress(cfg, t, error):
     t = t._replace(fails=t.fails + 1)
     if t.fails < (cfg.limit if t.mode != 'ifs' or cfg.ifs_limit is None else cfg.ifs_limit):
-        return again(t)
+        return again(t, error)
     if t.mode == 'ifs':
         if cfg.ifs_fail == 'goon':
             return begin(cfg, t._replace(mode='idle'))
@@ -137,6 +138,7 @@ def terminal(cfg, t, e):
     if t.mode in ('done', 'broken', 'idle'):
         return t, None, False
     b = None if e in ('bad', 'timeout') else e
+    error = 1 if e == 'bad' else 2
     if b and b[0] == 'I' and len(b[3]) > t.ifsd:       # LEN beyond IFSD: invalid
         b = None
     if t.mode == 'ifs':
@@ -144,7 +146,7 @@ def terminal(cfg, t, e):
             fails = 0 if cfg.ifs_step else t.fails
             t, out = begin(cfg, t._replace(mode='idle', ifsd=LARGE))
             return t._replace(fails=fails), out, cfg.ifs_step
-        return (*no_progress(cfg, t), False)
+        return (*no_progress(cfg, t, error), False)
     if t.mode == 'resync':
         if b == ('S', 'RESYNCH', 'p', 0):
             t = t._replace(ns=0, nr=0, fails=0, naks=0, i=0)
@@ -154,7 +156,7 @@ def terminal(cfg, t, e):
                 return t._replace(mode='broken', res=t.res + (fault(t),), fails=0, air=False,
                     got=()), None, True
             return (*sends_i(cfg, t._replace(mode='send', resy=t.resy + 1, got=())), True)
-        return (*no_progress(cfg, t), False)
+        return (*no_progress(cfg, t, error), False)
     if b and b[0] == 'S' and b[2] == 'q' and b[1] in ('WTX', 'IFS'):       # rules 3, 4
         if t.wtx >= cfg.wtx_limit:
             return (*gives_up(cfg, t), False)
@@ -175,7 +177,7 @@ def terminal(cfg, t, e):
                     False)
             if not last:
                 return (*sends_i(cfg, t._replace(i=t.i + 1, ns=1 - t.ns, fails=0, naks=0)), True)
-            return (*no_progress(cfg, t), False)
+            return (*no_progress(cfg, t, error), False)
         if e == 'timeout' and cfg.timeout_i and t.fails + 1 < cfg.limit:
             return (*sends_i(cfg, t._replace(fails=t.fails + 1)), False)
         if b and b[0] == 'I' and b[1] == t.nr and last:
@@ -183,18 +185,18 @@ def terminal(cfg, t, e):
                 return (*gives_up(cfg, t), False)
             t = t._replace(ns=1 - t.ns, nr=1 - t.nr, got=b[3], fails=0, naks=0)
             if b[2]:
-                return t._replace(mode='recv'), ('R', t.nr), True
+                return t._replace(mode='recv'), ('R', t.nr, 0), True
             return (*answers(cfg, t, ('ok', t.got)), True)
-        return (*no_progress(cfg, t), False)
+        return (*no_progress(cfg, t, error), False)
     if t.mode == 'recv':
         if b and b[0] == 'I' and b[1] == t.nr:
             if len(t.got) + len(b[3]) > cfg.most:
                 return (*gives_up(cfg, t), False)
             t = t._replace(nr=1 - t.nr, got=t.got + b[3], fails=0, naks=0)
             if b[2]:
-                return t, ('R', t.nr), True
+                return t, ('R', t.nr, 0), True
             return (*answers(cfg, t, ('ok', t.got)), True)
-        return (*no_progress(cfg, t), False)
+        return (*no_progress(cfg, t, error), False)
     raise ValueError(t)
 
 # ---- the card
@@ -206,18 +208,18 @@ def c_answer(c):             # the first block of the response
     c = c._replace(j=0, vs=1 - c.vs)
     return c, c_iblock(c)
 
-def c_again(c):
+def c_again(c, error=2):
     if c.pend:
         return c, c.pend
-    return c, ('R', c.vr)
+    return c, ('R', c.vr, error)
 
 def card(cfg, c, b):
     """-> (state, block or None)"""
     if b == 'bad':
         if cfg.card_limit is None:
-            return c_again(c)
+            return c_again(c, 1)
         c = c._replace(bads=min(c.bads + 1, cfg.card_limit + 1))
-        return c_again(c) if c.bads <= cfg.card_limit else (c, None)
+        return c_again(c, 1) if c.bads <= cfg.card_limit else (c, None)
     c = c._replace(bads=0)
     if b[0] == 'S':
         if b[1] == 'RESYNCH' and b[2] == 'q':
@@ -242,20 +244,20 @@ def card(cfg, c, b):
                 return c, c_iblock(c)
             if cfg.ack_r == 'R':
                 # a gap in the rules: its response was complete; it asks
-                return c, ('R', c.vr)
+                return c, ('R', c.vr, 2)
             if cfg.ack_r == 'repeat':
                 return c, c_iblock(c)
             return c, None
         if c.fresh and cfg.first_r == 'silent':
             return c, None
-        return c, ('R', c.vr)
+        return c, ('R', c.vr, 2)
     # an I-block
     if b[1] != c.vr and cfg.dup == 'R' or (c.ans is not None and c.j < len(c.ans) - 1):
-        return c, ('R', c.vr)
+        return c, ('R', c.vr, 2)
     coll = (() if c.ans is not None else c.coll) + b[3]
     c = c._replace(vr=1 - b[1], coll=coll, ans=None, j=0, fresh=False)
     if b[2]:
-        return c, ('R', c.vr)
+        return c, ('R', c.vr, 0)
     c = c._replace(ran=c.ran + (coll,), coll=(), ans=cut(response(cfg, coll), c.ifsd))
     if cfg.card_ifs and len(c.ran) == 1:
         request = ('S', 'IFS', 'q', cfg.card_ifs_value)

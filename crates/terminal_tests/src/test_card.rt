@@ -62,7 +62,7 @@ impl TpduCard for TestCard {
 
     ghost MayReceive = { λ h. h.ins ≡ 0xDA };
 
-    ghost MaySend = { λ ins. (ins ≡ 0xCA) ⊎ (ins ≡ 0xC0) };
+    ghost MaySend = { λ h. (h.ins ≡ 0xCA) ⊎ (h.ins ≡ 0xC0) };
 
     ghost prepared = { λ c. elim c.ready [
       | ready.Idle ↦ Nothing

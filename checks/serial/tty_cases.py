@@ -342,6 +342,16 @@ def parities():
         "", [*reset, EVEN, *END], output="= 6D00\n", play_it=marked_at_t1, echo=False,
         words=["-k", "send", "00B0000000"], status=1))
 
+    def marked_response_at_t1(other):
+        play(other, first[:-6] + "< 00E101FE1E > 00000500B0000000B5", card=True)
+        other.sends_marked("00")
+        other.send("00026D006F")
+        play(other, "> 00810081 < 0000026D006F", card=True)
+
+    yield ("a wrong parity of a response at T=1", lambda: terminal(
+        "", [*reset, EVEN, *END], output="= 6D00\n", play_it=marked_response_at_t1, echo=False,
+        words=["-k", "send", "00B0000000"], status=1))
+
     def unmarked_t0(other):
         other.sends_marked("3F")
         other.send("00")
@@ -602,7 +612,8 @@ def card_settings():
             other.sends_marked(get[2 * place:2 * place + 2])
             time.sleep(pause)
             other.send(get[2 * place + 2:])
-            play(other, f"< 00820082 > {get} < 0000026985EE", card=False)
+            # R says that the EDC or a parity was wrong
+            play(other, f"< 00810081 > {get} < 0000026985EE", card=False)
         return session
 
     # a pause is longer than BGT, 2.3 ms, and shorter than CWT

@@ -298,6 +298,8 @@ static const char *take_block(const struct socket *socket, const struct t1_block
         code = gt_card_t1_receive_bytes(card, block->bytes, block->n, &taken);
     else if (what == LINE_IS_BROKEN)
         code = gt_card_t1_missed(card);
+    else if (what == LINE_HAS_WRONG_PARITY)
+        code = gt_card_t1_damaged(card);
     else
         return what;
     return code == GT_SENDS || code == GT_MEMORY ? answer_block(socket) : gt_text(code);
@@ -311,7 +313,7 @@ static const char *receive_block(struct line *line, const struct t1_times *times
     if (is_well)
         return t1_receive(line, times, times->cwt, block);
     what = line_drop(line, times->cwt, times->cwt);
-    return what == NULL ? LINE_IS_BROKEN : what;
+    return what == NULL ? LINE_HAS_WRONG_PARITY : what;
 }
 
 /* Talks T=1 from the terminal's first character on, until a reset or a fault. */

@@ -519,11 +519,11 @@ typedef struct {
  *                 answered, or apdu and responded; answer; free
  * - gt_terminal_  new or new_within; then, again and again: select, get, put or send; those of an
  *                 exchange; answer; .. reset; free
- * - gt_t1_        new; then, again and again: begin; send_bytes, receive_bytes or missed; response
- *                 or fault; .. reset; free
+ * - gt_t1_        new; then, again and again: begin; send_bytes, and receive_bytes, missed or
+ *                 damaged; response or fault; .. reset; free
  * - gt_card_      new; app and object; finish; take and turn, send_bytes and receive_bytes, tpdu
- *                 or apdu; or t1_begin, then t1_receive_bytes or t1_missed, and t1_send_bytes; ..
- *                 plan, selected, app_at, entry_at, reset; free
+ *                 or apdu; or t1_begin, then t1_receive_bytes, t1_missed or t1_damaged, and
+ *                 t1_send_bytes; .. plan, selected, app_at, entry_at, reset; free
  * - gt_session_   start, with a card; listen, to call heard; select, get, put or send; .. answer,
  *                 heard, idle, plan, selected, app_at, entry_at, reset; end, which gives the card
  *                 back, or free
@@ -633,6 +633,7 @@ int32_t galliumtoad_t1_send_bytes(gt_t1 *t, uint8_t *bytes, size_t room, size_t 
                                   uint8_t *waits);
 int32_t galliumtoad_t1_receive_bytes(gt_t1 *t, const uint8_t *bytes, size_t n, size_t *taken);
 int32_t galliumtoad_t1_missed(gt_t1 *t);
+int32_t galliumtoad_t1_damaged(gt_t1 *t);
 int32_t galliumtoad_t1_response(gt_t1 *t, uint8_t *response, size_t room, size_t *len);
 int32_t galliumtoad_t1_fault(gt_t1 *t, int32_t *cause, int32_t *outcome);
 int32_t galliumtoad_t1_reset(gt_t1 *t);
@@ -657,6 +658,7 @@ int32_t galliumtoad_card_t1_send_bytes(gt_card *c, uint8_t *bytes, size_t room, 
 int32_t galliumtoad_card_t1_receive_bytes(gt_card *c, const uint8_t *bytes, size_t n,
                                           size_t *taken);
 int32_t galliumtoad_card_t1_missed(gt_card *c);
+int32_t galliumtoad_card_t1_damaged(gt_card *c);
 int32_t galliumtoad_card_plan(gt_card *c, const char *steps, size_t n, uint16_t cut);
 int32_t galliumtoad_card_selected(gt_card *c, uint8_t *aid, size_t room, size_t *n);
 int32_t galliumtoad_card_app_at(gt_card *c, size_t app, uint8_t *aid, size_t room, size_t *n);
@@ -1222,8 +1224,10 @@ GT_FUNCTION void gt_terminal_free(gt_terminal *t) {
  * while (gt_t1_send_bytes(&t, block, sizeof block, &n, &waits) == GT_OK) {
  *     .. send the n bytes; then hand on each received byte, until this is GT_SENDS:
  *     gt_t1_receive_bytes(&t, bytes, count, &taken);
- *     .. or, if no block begins or the block stops, or a character has a wrong parity:
+ *     .. or, if no block begins or the block stops:
  *     gt_t1_missed(&t);
+ *     .. or, if a character has a wrong parity:
+ *     gt_t1_damaged(&t);
  * }
  * gt_t1_response(&t, response, sizeof response, &n);       or gt_t1_fault
  * ```
@@ -1237,8 +1241,8 @@ GT_FUNCTION void gt_terminal_free(gt_terminal *t) {
  * takes blocks of 254 bytes (profile). It keeps NAD 00, and never sends S(RESYNCH request): if it
  * gives up, reset card and end (profile).
  *
- * R-blocks of both ends say why: 0 acknowledges, 1 is a wrong LRC, and 2 any other error, a missed
- * block too. Both ends take any value. */
+ * R-blocks of both ends say why: 0 acknowledges, 1 is a wrong LRC or parity, and 2 any other error,
+ * a missed block too. Both ends take any value. */
 
 /* Makes an end, as after a reset of the card, in a handle that holds nothing. `edc` and `ifsc` are
  * those of `gt_atr.t1`; only LRC is supported (profile).
@@ -1278,7 +1282,8 @@ GT_MUST_CHECK int32_t gt_t1_begin(gt_t1 *t, const uint8_t *apdu, size_t n) {
 
 /* Copies the block to send now to `bytes`. `n` gets its length, 4 to GT_BLOCK_LIMIT. `waits` gets
  * how many times BWT the card has for its answer: 1, or as many as it asked for. Each further call
- * gives the same block, until `gt_t1_receive_bytes` returns GT_SENDS, or a call of `gt_t1_missed`.
+ * gives the same block, until `gt_t1_receive_bytes` returns GT_SENDS, or a call of `gt_t1_missed` or
+ * `gt_t1_damaged`.
  *
  * - GT_OK.
  * - GT_DONE: no command is in progress. The last one has its response, or none has started.
@@ -1309,15 +1314,25 @@ GT_MUST_CHECK int32_t gt_t1_receive_bytes(gt_t1 *t, const uint8_t *bytes, size_t
     return galliumtoad_t1_receive_bytes(t, gt_bytes_(bytes), n, taken);
 }
 
-/* Reports that no valid block of the card came: none began in time, one stopped for longer than
- * CWT, or a character had a wrong parity. This is a fruitless reception. The received part of the
- * block is dropped.
+/* Reports that no valid block of the card came: none began in time, or one stopped for longer than
+ * CWT. This is a fruitless reception. The received part of the block is dropped.
  *
  * - GT_OK: `gt_t1_send_bytes` has the next block, or the end gave up.
  * - GT_STATE: no block is awaited. */
 GT_MUST_CHECK int32_t gt_t1_missed(gt_t1 *t) {
     if (!t) return GT_NULL;
     return galliumtoad_t1_missed(t);
+}
+
+/* Reports that a character of the card's block had a wrong parity: as `gt_t1_missed`, but the
+ * R-block says so. The other bytes of the block still come: before this call, drop all until none
+ * comes for CWT.
+ *
+ * - GT_OK: `gt_t1_send_bytes` has the next block, or the end gave up.
+ * - GT_STATE: no block is awaited. */
+GT_MUST_CHECK int32_t gt_t1_damaged(gt_t1 *t) {
+    if (!t) return GT_NULL;
+    return galliumtoad_t1_damaged(t);
 }
 
 /* Copies the response to the last command: data, and then SW1 SW2, at the front of `response`.
@@ -1541,7 +1556,7 @@ GT_MUST_CHECK int32_t gt_card_apdu(gt_card *c, const uint8_t *apdu, size_t n,
     return gt_pass_(galliumtoad_card_apdu, c, apdu, n, response, room, len);
 }
 
-/* The next four calls are the card's end of a line at T=1 (ISO/IEC 7816-3, clause 11). It carries
+/* The next five calls are the card's end of a line at T=1 (ISO/IEC 7816-3, clause 11). It carries
  * out each command as `gt_card_apdu` does, and answers each block of the terminal with one block:
  *
  * ```
@@ -1549,8 +1564,10 @@ GT_MUST_CHECK int32_t gt_card_apdu(gt_card *c, const uint8_t *apdu, size_t n,
  *   for (;;) {
  *       .. for the bytes received:
  *       gt_card_t1_receive_bytes(&c, bytes, count, &taken);  until that is GT_SENDS
- *       .. or, if the block stops, or a character has a wrong parity:
+ *       .. or, if the block stops:
  *       gt_card_t1_missed(&c);
+ *       .. or, if a character has a wrong parity:
+ *       gt_card_t1_damaged(&c);
  *       gt_card_t1_send_bytes(&c, block, sizeof block, &n);  and send the n bytes
  *   }
  * ```
@@ -1605,15 +1622,25 @@ GT_MUST_CHECK int32_t gt_card_t1_receive_bytes(gt_card *c, const uint8_t *bytes,
     return galliumtoad_card_t1_receive_bytes(c, gt_bytes_(bytes), n, taken);
 }
 
-/* Reports that a block of the terminal stopped for longer than CWT, or that a character had a wrong
- * parity. The received part of the block is dropped. After a wrong parity its other bytes still
- * come: before this call, drop all until none comes for CWT.
+/* Reports that a block of the terminal stopped for longer than CWT. The received part of the block
+ * is dropped.
  *
  * - GT_SENDS: `gt_card_t1_send_bytes` has the answer.
  * - GT_STATE: the card does not speak T=1. Nothing changes. */
 GT_MUST_CHECK int32_t gt_card_t1_missed(gt_card *c) {
     if (!c) return GT_NULL;
     return galliumtoad_card_t1_missed(c);
+}
+
+/* Reports that a character of the terminal's block had a wrong parity: as `gt_card_t1_missed`, but
+ * the R-block says so. The other bytes of the block still come: before this call, drop all until
+ * none comes for CWT.
+ *
+ * - GT_SENDS: `gt_card_t1_send_bytes` has the answer.
+ * - GT_STATE: the card does not speak T=1. Nothing changes. */
+GT_MUST_CHECK int32_t gt_card_t1_damaged(gt_card *c) {
+    if (!c) return GT_NULL;
+    return galliumtoad_card_t1_damaged(c);
 }
 
 /* Plans how the card answers one more of the TPDUs to come, in turn. `steps` is a string of

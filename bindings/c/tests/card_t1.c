@@ -82,6 +82,7 @@ static void has_no_t1(gt_card *c, int32_t code) {
     CHECK(gt_card_t1_send_bytes(c, &byte, 1, &n), code);
     CHECK(gt_card_t1_receive_bytes(c, &byte, 1, &n), code);
     CHECK(gt_card_t1_missed(c), code);
+    CHECK(gt_card_t1_damaged(c), code);
     CHECK(byte, 0xEE);
     CHECK(n, 7);
 }
@@ -193,6 +194,10 @@ static void errors(void) {
     CHECK(taken, 7);
     CHECK(gt_card_t1_missed(&c), GT_SENDS);
     sends(&c, 0x82, NULL, 0);
+    /* A wrong parity drops what came of the block, and R says 1. */
+    CHECK(gt_card_t1_receive_bytes(&c, bytes, 7, &taken), GT_OK);
+    CHECK(gt_card_t1_damaged(&c), GT_SENDS);
+    sends(&c, 0x81, NULL, 0);
     comes(&c, 0x40, SELECT, sizeof SELECT);
     sends(&c, 0x82, NULL, 0);
     comes(&c, 0x00, SELECT, sizeof SELECT);

@@ -47,6 +47,7 @@ static void is_silent(gt_t1 *t, int32_t code) {
     CHECK(gt_t1_send_bytes(t, &byte, 1, &n, &waits), code);
     CHECK(gt_t1_receive_bytes(t, &byte, 1, &n), GT_STATE);
     CHECK(gt_t1_missed(t), GT_STATE);
+    CHECK(gt_t1_damaged(t), GT_STATE);
     CHECK(byte, 0xEE);
     CHECK(waits, 0xEE);
     CHECK(n, 7);
@@ -117,6 +118,7 @@ static void arguments(void) {
     CHECK(gt_t1_send_bytes(&t, &byte, 1, &n, &byte), GT_EMPTY);
     CHECK(gt_t1_receive_bytes(&t, &byte, 1, &n), GT_EMPTY);
     CHECK(gt_t1_missed(&t), GT_EMPTY);
+    CHECK(gt_t1_damaged(&t), GT_EMPTY);
     CHECK(gt_t1_reset(&t), GT_EMPTY);
     for (edc = 0; edc < 256; edc++)
         if (edc != GT_LRC)
@@ -182,6 +184,17 @@ static void tries(void) {
     CHECK(gt_t1_missed(&t), GT_OK);
     sends(&t, 0x82, NULL, 0, 1);
     CHECK(gt_t1_missed(&t), GT_OK);
+    is_faulty(&t, GT_TRIES_SPENT, GT_UNKNOWN);
+    CHECK(gt_t1_damaged(&t), GT_STATE);
+    gt_t1_free(&t);
+    /* A wrong parity drops what came of the block, and R says 1. */
+    open_end(&t, 5, GET, sizeof GET);
+    CHECK(gt_t1_receive_bytes(&t, bytes, 3, &taken), GT_OK);
+    CHECK(gt_t1_damaged(&t), GT_OK);
+    sends(&t, 0x81, NULL, 0, 1);
+    CHECK(gt_t1_missed(&t), GT_OK);
+    sends(&t, 0x82, NULL, 0, 1);
+    CHECK(gt_t1_damaged(&t), GT_OK);
     is_faulty(&t, GT_TRIES_SPENT, GT_UNKNOWN);
     gt_t1_free(&t);
     open_end(&t, 5, SELECT, sizeof SELECT);

@@ -45,7 +45,7 @@ const char *t1_receive(struct line *line, const struct t1_times *times, int64_t 
     if (fault != NULL && fault != LINE_HAS_WRONG_PARITY)
         return fault;
     end = line_drop(line, fault == NULL ? times->bgt : times->cwt, times->cwt);
-    return end == NULL && fault != NULL ? LINE_IS_BROKEN : end;
+    return end == NULL ? fault : end;
 }
 
 static const char *give_up(struct t1_end *t1)
@@ -74,6 +74,8 @@ static const char *pass_block(struct t1_end *t1, const uint8_t *bytes, size_t n,
         code = gt_t1_receive_bytes(&t1->end, block.bytes, block.n, &block.n);
     else if (fault == LINE_IS_BROKEN || fault == LINE_IS_SILENT)
         code = gt_t1_missed(&t1->end);
+    else if (fault == LINE_HAS_WRONG_PARITY)
+        code = gt_t1_damaged(&t1->end);
     else
         return fault;
     return code < 0 ? gt_text(code) : NULL;

@@ -65,10 +65,8 @@ impl CardT1 {
         Ok(Received { taken, is_whole })
     }
 
-    /// Reports that a block of the terminal stopped for longer than CWT, or that a character had a
-    /// wrong parity. The received part of the block is dropped, and
-    /// [`block_into`](CardT1::block_into) has the answer. After a wrong parity the other bytes of
-    /// the block still come: before this call, drop all until none comes for CWT.
+    /// Reports that a block of the terminal stopped for longer than CWT. The received part of the
+    /// block is dropped, and [`block_into`](CardT1::block_into) has the answer.
     ///
     /// # Errors
     ///
@@ -76,6 +74,18 @@ impl CardT1 {
     pub fn missed(&mut self) -> Result<(), Error> {
         // SAFETY: a card's handle.
         done(unsafe { raw::galliumtoad_card_t1_missed(self.0 .0 .0.at()) })
+    }
+
+    /// Reports that a character of the terminal's block had a wrong parity: as
+    /// [`missed`](CardT1::missed), but the R-block says so. The other bytes of the block still
+    /// come: before this call, drop all until none comes for CWT.
+    ///
+    /// # Errors
+    ///
+    /// None today.
+    pub fn damaged(&mut self) -> Result<(), Error> {
+        // SAFETY: a card's handle.
+        done(unsafe { raw::galliumtoad_card_t1_damaged(self.0 .0 .0.at()) })
     }
 
     /// Copies the block to send now to the front of `room`, and returns its length, 4 to

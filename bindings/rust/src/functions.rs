@@ -80,6 +80,7 @@ declared! {
         t: *mut Held, bytes: *const u8, n: usize, taken: *mut usize
     ) -> i32;
     fn galliumtoad_t1_missed(t: *mut Held) -> i32;
+    fn galliumtoad_t1_damaged(t: *mut Held) -> i32;
     fn galliumtoad_t1_response(
         t: *mut Held, response: *mut u8, room: usize, len: *mut usize
     ) -> i32;
@@ -113,6 +114,7 @@ declared! {
         c: *mut Held, bytes: *const u8, n: usize, taken: *mut usize
     ) -> i32;
     fn galliumtoad_card_t1_missed(c: *mut Held) -> i32;
+    fn galliumtoad_card_t1_damaged(c: *mut Held) -> i32;
     fn galliumtoad_card_plan(c: *mut Held, steps: *const u8, n: usize, cut: u16) -> i32;
     fn galliumtoad_card_selected(c: *mut Held, aid: *mut u8, room: usize, n: *mut usize) -> i32;
     fn galliumtoad_card_app_at(

@@ -226,8 +226,8 @@ impl T1 {
     }
 
     /// Reports that no valid block of the card came. Either none began within BWT times
-    /// [`Block::waits`], or one stopped for longer than CWT, or a character had a wrong parity.
-    /// This is a fruitless reception. The received part of the block is dropped.
+    /// [`Block::waits`], or one stopped for longer than CWT. This is a fruitless reception. The
+    /// received part of the block is dropped.
     ///
     /// # Errors
     ///
@@ -235,6 +235,18 @@ impl T1 {
     pub fn missed(&mut self) -> Result<(), Error> {
         // SAFETY: an end's handle.
         done(unsafe { raw::galliumtoad_t1_missed(self.0.at()) })
+    }
+
+    /// Reports that a character of the card's block had a wrong parity: as
+    /// [`missed`](T1::missed), but the R-block says so. The other bytes of the block still come:
+    /// before this call, drop all until none comes for CWT.
+    ///
+    /// # Errors
+    ///
+    /// - [`Error::State`]: no block is awaited. Nothing has changed.
+    pub fn damaged(&mut self) -> Result<(), Error> {
+        // SAFETY: an end's handle.
+        done(unsafe { raw::galliumtoad_t1_damaged(self.0.at()) })
     }
 
     /// Copies the response to the last command to the front of `room`: data, and then SW1 SW2.

@@ -278,6 +278,7 @@ fn of_an_end_at_t1() {
             .is_whole
     );
     hands!(it.missed() => t1_missed(_));
+    hands!(it.damaged() => t1_damaged(_));
     hands!(it.response_into(&mut room[..5]) => t1_response(_, space, 5, _));
     let fault = hands!(it.fault() => t1_fault(_, _, _)).expect("a fault");
     assert_eq!(fault.outcome, Outcome::NotCarriedOut);
@@ -319,6 +320,7 @@ fn of_a_card_at_t1() {
     let came = hands!(it.receive(&BYTES) => card_t1_receive_bytes(_, bytes, 7, _));
     assert!(came.expect("bytes").is_whole);
     assert_eq!(hands!(it.missed() => card_t1_missed(_)), Ok(()));
+    assert_eq!(hands!(it.damaged() => card_t1_damaged(_)), Ok(()));
     tell(2);
     let sent = hands!(it.block_into(&mut room) => card_t1_send_bytes(_, space, 258, _));
     assert_eq!(sent, Ok(None));

@@ -1,5 +1,6 @@
 //! The exports of a card at T=1.
-ghost use Rattle.std.specs.Prelude.{◌≡◌, ⊤};
+ghost use Rattle.std.specs.Prelude.{◌≡◌, ⊤, if◌then◌else◌};
+ghost use Rattle.t1_core.specs.declared.pcb.Reason.TheVariants.{Edc, Other};
 ghost use Rattle.card_c.specs.Handles.{held_by, OnHandle, OnHandleOr};
 ghost use Rattle.card_c.specs.CardT1Calls.{BeginsT1, HearsBytes, Misses, OnLine, SendsReply, at_t0};
 
@@ -131,18 +132,36 @@ fn receive(side: &mut CardSide, bytes: &[u8], count: &mut usize) -> i32
     answer
 }
 
-/// Reports that the terminal's block stopped, or that a character was damaged. The answer asks for
-/// the block because of another error than the EDC.
+/// Reports that the terminal's block stopped. The answer asks for the block because of another
+/// error than the EDC.
 #[unsafe(no_mangle)]
 pub extern "C" fn galliumtoad_card_t1_missed(alloc: Global, card: &mut GtCard) -> i32
-    ensures { OnHandle (OnLine Misses ⊤) (held_by card.old) result (held_by card.new) }
+    ensures { OnHandle (OnLine (Misses Other) ⊤) (held_by card.old) result (held_by card.new) }
 {
-    with(alloc, card, |side| {
-        let CardSide::AtT1(at) = side else {
-            return code::STATE;
-        };
-        at.reply = Some(at.end.invalid());
-        at.block.clear();
-        code::SENDS
-    })
+    with(alloc, card, |side| misses(side, false))
+}
+
+/// Reports that a character of the terminal's block had a wrong parity. The answer asks for the
+/// block because of that.
+#[unsafe(no_mangle)]
+pub extern "C" fn galliumtoad_card_t1_damaged(alloc: Global, card: &mut GtCard) -> i32
+    ensures { OnHandle (OnLine (Misses Edc) ⊤) (held_by card.old) result (held_by card.new) }
+{
+    with(alloc, card, |side| misses(side, true))
+}
+
+fn misses(side: &mut CardSide, is_damaged: bool) -> i32
+    ensures { OnLine (Misses (if is_damaged then Edc else Other)) ⊤ side.old result side.new }
+{
+    let CardSide::AtT1(at) = side else {
+        return code::STATE;
+    };
+    let reply = if is_damaged {
+        at.end.damaged()
+    } else {
+        at.end.invalid()
+    };
+    at.reply = Some(reply);
+    at.block.clear();
+    code::SENDS
 }

@@ -12,12 +12,12 @@ use Rattle.t0_core.specs.CardSide.{Stage}
 use Rattle.t0_core.specs.Front.{front_characters}
 use Rattle.t0_core.specs.History.{Event, Item, Whole, Cut_off, RunsOver}
 use Rattle.t0_core.specs.Meaning.{Prepared, Tpdu, tpdu_of}
-use Rattle.command_card.specs.Carrying.{Did, GivesUp, Makes, asking, taking}
+use Rattle.command_card.specs.Carrying.{Did, Makes, asking, taking}
 use Rattle.command_card.specs.State.{CardState, For_fetch, For_repeat, Hand, Left, Nothing_left, Outcome, announcing, fetch_left, handed, is_fetch, pending_for, refusing, same_header}
 use Rattle.command_card.specs.Meaning.{Answers, Does, DoesBy, kind_of}
 use Rattle.command_card.proofs.HandLemmas.{handed_enough, handed_fewer}
 use Rattle.command_card.specs.View.{after_reset}
-use Rattle.command_card.specs.Deeds.{AreDeeds, Deed, GoesBy, IsCarriedBy, IsThrough, IsWithout, Made, Repeats, Resets}
+use Rattle.command_card.specs.Deeds.{AreDeeds, Deed, Dropped, GoesBy, IsCarriedBy, IsDeedOf, IsThrough, IsWithout, Made, Repeats, Resets, StepsBy}
 
 -- the TPDU before got no 6CXX, unless it was a GET RESPONSE
 abbrev NotSaid : Option Tpdu → Type 0
@@ -40,15 +40,12 @@ fetched_said [] status cut t own is =
 fetched_said (b ∷ bytes) status cut t own is =
     (λ other. subst (λ (s : StatusWord). corrects s ≡ None) (sym is) refl, own)
 
-gives_no_count : (status : StatusWord) → GivesUp status → corrects status ≡ None
-gives_no_count status (inl is) = subst (λ (s : StatusWord). corrects s ≡ None) (sym is) refl
-gives_no_count status (inr is) = subst (λ (s : StatusWord). corrects s ≡ None) (sym is) refl
-
 made_own : {S : Type 0} (Act : S → Did → S → Type 0) (old : S) (c : Command)
     (response : List ℕ) (status : StatusWord) (new : S) → Makes Act old c response status new
     → corrects status ≡ None
 made_own Act old c response status new (inl made) = made.1.1
-made_own Act old c response status new (inr gave) = gives_no_count status gave.2
+made_own Act old c response status new (inr gave) =
+    subst (λ (s : StatusWord). corrects s ≡ None) (sym gave.2) refl
 
 -- after 6CXX the same header with that P3 finds the response
 never_repeats : (left : Left) (before : Option Tpdu) (t : Tpdu) → IsSaid left before
@@ -119,7 +116,7 @@ module _ {S : Type 0} (takes : S → Header → Bool) (Act : S → Did → S →
   record Tells (old : CardState S) (before : Option Tpdu) (t : Tpdu) (new : CardState S) : Type 0
     where
       deed : ((new.app ≡ old.app) × IsWithout before t)
-          ⊎ ((did : Did) × IsCarriedBy before t did × Act old.app did new.app)
+          ⊎ ((deed : Deed) × IsDeedOf before t deed × StepsBy Act reset old.app deed new.app)
       said : IsSaid new.left (Some t)
 
   refused_tells : (old new : CardState S) (before : Option Tpdu) (t : Tpdu) (status : StatusWord)
@@ -132,28 +129,17 @@ module _ {S : Type 0} (takes : S → Header → Bool) (Act : S → Did → S →
   }
 
   made_tells : (old new : CardState S) (before : Option Tpdu) (t : Tpdu) (c : Command)
-      (response : List ℕ) (status : StatusWord) → ins_is_valid t.header.ins ≡ true
-      → is_fetch t.header ≡ false → (Repeats before t → ⊥) → c.header ≡ t.header
-      → c.content ≡ t.sent → Makes Act old.app c response status new.app
-      → (response ≡ [] → t.status ≡ status)
+      (response : List ℕ) (status : StatusWord) → IsCarriedBy before t c
+      → Makes Act old.app c response status new.app → (response ≡ [] → t.status ≡ status)
       → ((new.app ≡ old.app) × IsWithout before t)
-      ⊎ ((did : Did) × IsCarriedBy before t did × Act old.app did new.app)
-  made_tells old new before t c response status valid fetch once header_is content_is (inl made)
-      bare =
-      inr (
-        record { command = c; response = response; status = status },
-        record {
-          valid = valid;
-          no_fetch = fetch;
-          no_repeat = once;
-          header_is = header_is;
-          content_is = content_is;
-        },
-        made.0,
-      )
-  made_tells old new before t c response status valid fetch once header_is content_is
-      (inr (same, none, gives)) bare =
-      inl (same, inr (inr (inr (subst GivesUp (sym (bare none)) gives))))
+      ⊎ ((deed : Deed) × IsDeedOf before t deed × StepsBy Act reset old.app deed new.app)
+  made_tells old new before t c response status carried (inl made) bare = inr (
+    Made (record { command = c; response = response; status = status }),
+    carried,
+    (made.0, made.2),
+  )
+  made_tells old new before t c response status carried (inr (same, none, gives, long)) bare =
+      inr (Dropped c, (carried, bare none ∙ gives), (long, same))
 
   -- a pending response that is handed over
   hand_tells : (left : Left) (old new : CardState S) (before : Option Tpdu) (cut : ℕ) (t : Tpdu)
@@ -207,7 +193,7 @@ module _ {S : Type 0} (takes : S → Header → Bool) (Act : S → Did → S →
           subst (λ b. Repeats b t) (sym before_is)
           (u_header ∙ same, u_told ∙ ap (λ n. Some n) long) in
           record {
-            deed = inl (is.same, inr (inr (inl repeats)));
+            deed = inl (is.same, inr (inr repeats));
             said = subst (λ l. IsSaid l (Some t)) (sym is.brings.left_is)
                 (handed_said (For_repeat g bytes status) hand.bytes hand.status (count t.p3) cut t
                 own is.brings.status_is
@@ -242,8 +228,14 @@ module _ {S : Type 0} (takes : S → Header → Bool) (Act : S → Did → S →
       by true None true k valid pending fetch takes_is is =
           refused_tells old new before t (0x69, 0x85) refl is (inr (inl fetch))
       by true None false true valid pending fetch takes_is is = record {
-        deed = made_tells old new before t (taking t.header t.sent) is.response is.status valid
-            fetch (never_repeats old.left before t said pending fetch) refl refl is.makes
+        deed = made_tells old new before t (taking t.header t.sent) is.response is.status
+            (record {
+              valid = valid;
+              no_fetch = fetch;
+              no_repeat = never_repeats old.left before t said pending fetch;
+              header_is = refl;
+              content_is = refl;
+            }) is.makes
             (λ none. is.brings.status_is
             ∙ ap (λ xs. announcing xs is.status cut) none);
         said = subst (λ l. IsSaid l (Some t)) (sym is.brings.left_is)
@@ -254,8 +246,13 @@ module _ {S : Type 0} (takes : S → Header → Bool) (Act : S → Did → S →
           let kept : Left = For_repeat t.header is.response is.status in
           let own = made_own Act old.app _ is.response is.status new.app is.makes in record {
             deed = made_tells old new before t (asking t.header (count t.p3)) is.response is.status
-                valid fetch (never_repeats old.left before t said pending fetch) refl
-                (sym is.none_sent) is.makes (λ none. is.brings.status_is
+                (record {
+                  valid = valid;
+                  no_fetch = fetch;
+                  no_repeat = never_repeats old.left before t said pending fetch;
+                  header_is = refl;
+                  content_is = sym is.none_sent;
+                }) is.makes (λ none. is.brings.status_is
                 ∙ ap (λ xs. (handed kept xs is.status (count t.p3) cut).status) none);
             said = subst (λ l. IsSaid l (Some t)) (sym is.brings.left_is)
                 (handed_said kept is.response is.status (count t.p3) cut t own is.brings.status_is
@@ -286,12 +283,12 @@ module _ {S : Type 0} (takes : S → Header → Bool) (Act : S → Did → S →
           inl (without, are),
           subst (λ s. GoesBy Act reset s deeds last.app) same go,
         )
-        | inr (did, carried, acts) ↦
-            (Made did ∷ deeds, inr (did, deeds, refl, carried, are), (mid.app, acts, go))
+        | inr (deed, is, steps) ↦
+            (deed ∷ deeds, inr (deed, deeds, refl, is, are), (mid.app, steps, go))
       ]
   all_deeds (Cut_off part ∷ items) first last before said (is_part, runs) =
       let (deeds, are, go) = all_deeds items (after_reset reset first) last None tt runs in
-      (Resets ∷ deeds, (deeds, refl, are), go)
+      (Resets ∷ deeds, (deeds, refl, are), (reset first.app, refl, go))
 
 pub deeds_of_the_line : {S : Type 0} (takes : S → Header → Bool) (Act : S → Did → S → Type 0)
     (reset : S → S) (first last : CardState S) (items : List Item) → first.left ≡ Nothing_left

@@ -5,3 +5,4 @@ pub mod CutLemmas
 pub mod WholeLemmas
 pub mod DeedLemmas
 pub mod LineLemmas
+pub mod GatherLemmas

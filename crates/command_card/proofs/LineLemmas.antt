@@ -30,17 +30,6 @@ module _ {S : Type 0} (takes : S → Header → Bool) (Act : S → Did → S →
         left_is = ap (λ xs. fetch_left xs status) (sym none);
       }
 
-  all_handed : (bytes response : List ℕ) (status : StatusWord) (left : _) → length bytes ≤ 256
-      → HandsOut bytes status 256 response left
-      → (response ≡ bytes ++ status_bytes status) × (left ≡ Nothing_left)
-  all_handed bytes response status left few hands =
-      let none = drop_all 256 bytes few in (
-        hands.response_is
-            ∙ ap (λ xs. take 256 bytes ++ status_bytes (announcing xs status 256)) none
-            ∙ ap (λ xs. xs ++ status_bytes status) (take_all 256 bytes few),
-        hands.left_is ∙ ap (λ xs. fetch_left xs status) none,
-      )
-
   by_takes : (first new : CardState S) (c : Command) (response bytes : List ℕ)
       (status : StatusWord) (v : Bool) (content : List ℕ) → c.le ≡ Some 256
       → c.content ≡ content → (v ≡ false → content ≡ [])
@@ -96,18 +85,16 @@ module _ {S : Type 0} (takes : S → Header → Bool) (Act : S → Did → S →
         (sym takes_is)
         (subst (λ xs. Makes Act old.app (taking c.header xs) carries.bytes carries.status new.app)
         (sym is) carries.makes);
-    comes = λ few. all_handed carries.bytes response carries.status new.left few
-        (subst (λ (m : Option ℕ). HandsOut carries.bytes carries.status (may_bring m) response
-        new.left) asks carries.hands);
+    hands = subst (λ (m : Option ℕ). HandsOut carries.bytes carries.status (may_bring m) response
+        new.left) asks carries.hands;
   }
   told_by old new c response false [] takes_is is asks none no_le carries = record {
     bytes = carries.bytes;
     status = carries.status;
     makes = subst (λ v. Makes Act old.app (told v c) carries.bytes carries.status new.app)
         (sym takes_is) carries.makes;
-    comes = λ few. all_handed carries.bytes response carries.status new.left few
-        (subst (λ (m : Option ℕ). HandsOut carries.bytes carries.status (may_bring m) response
-        new.left) asks carries.hands);
+    hands = subst (λ (m : Option ℕ). HandsOut carries.bytes carries.status (may_bring m) response
+        new.left) asks carries.hands;
   }
   told_by old new c response false (b ∷ content) takes_is is asks none no_le carries =
       let no : b ∷ content ≡ [] = none refl in absurd (cc)

@@ -249,13 +249,11 @@ opened_with : (h : Header) (content : List ℕ) (le : Option ℕ) (d : Dialogue)
 opened_with h content le d opens = (opens_taking h content le d opens).0
 
 -- a status of the application's own
-own_status : {S : Type 0} (Act : S → Did → S → Type 0) (old : S) (c : Command)
+pub own_status : {S : Type 0} (Act : S → Did → S → Type 0) (old : S) (c : Command)
     (response : List ℕ) (status : StatusWord) (new : S)
     → Makes Act old c response status new → IsOwn status
 own_status Act old c response status new (inl made) = made.1
-own_status Act old c response status new (inr (same, none, inl is)) =
-    subst IsOwn (sym is) (refl, refl)
-own_status Act old c response status new (inr (same, none, inr is)) =
+own_status Act old c response status new (inr (same, none, is, long)) =
     subst IsOwn (sym is) (refl, refl)
 
 module _ {S : Type 0} (takes : S → Header → Bool) (Act : S → Did → S → Type 0) where

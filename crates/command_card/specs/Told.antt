@@ -1,15 +1,15 @@
 -- The command that reaches an application.
-use Rattle.std.specs.Prelude.{Some, take, drop, unwrap_or, ◌≡◌, ℕ, ◌≤◌, List, [], ◌++◌, length, None, Bool, true, false}
+use Rattle.std.specs.Prelude.{Some, take, drop, unwrap_or, ◌≡◌, ◌≢◌, ℕ, ◌≤◌, List, [], ◌∷◌, ◌++◌, Option, None, Bool, true, false}
 use Rattle.apdu_core.specs.declared.header.Header.{Header}
 use Rattle.apdu_core.specs.HeaderBytes.{ins_is_valid}
 use Rattle.apdu_core.specs.CommandBytes.{Command}
-use Rattle.apdu_core.specs.StatusWord.{StatusWord}
+use Rattle.apdu_core.specs.StatusWord.{StatusWord, announces}
 use Rattle.command_card.specs.Carrying.{Did, Makes, asking, taking}
-use Rattle.command_card.specs.State.{CardState, Nothing_left, announcing, fetch_left, is_fetch, pending_for}
+use Rattle.command_card.specs.State.{CardState, announcing, fetch_left, is_fetch, pending_for}
 use Rattle.card_terminal.specs.declared.wanted.Wanted.{Wanted}
 use Rattle.card_terminal.specs.declared.wanted.Wanted.TheVariants.{Bytes, Everything}
 use Rattle.card_terminal.specs.Gathered.{wanted_by}
-use Rattle.command_card.specs.AtT1.{status_bytes}
+use Rattle.command_card.specs.AtT1.{HandsOut, Responds, status_bytes}
 
 -- The command as T=0 tells it to the card: data without Le, or Le without data.
 abbrev pub told : Bool → Command → Command
@@ -51,11 +51,21 @@ pub record GathersPart {S : Type 0} (takes : S → Header → Bool) (Act : S →
   pub status_is : status ≡ announcing (unwanted_part (wanted_by c.le) bytes) own cut
   pub left_is : last.left ≡ fetch_left (unwanted_part (wanted_by c.le) bytes) own
 
--- One step of the application, whose whole response comes if it has at most 256 bytes.
+-- One step of the application. Up to 256 bytes of its response come, and 61XX announces the rest.
 pub record IsOneStep {S : Type 0} (takes : S → Header → Bool) (Act : S → Did → S → Type 0)
     (old : CardState S) (c : Command) (response : List ℕ) (new : CardState S) : Type 0 where
   pub bytes : List ℕ
   pub status : StatusWord
   pub makes : Makes Act old.app (told (takes old.app c.header) c) bytes status new.app
-  pub comes : length bytes ≤ 256
-      → (response ≡ bytes ++ status_bytes status) × (new.left ≡ Nothing_left)
+  pub hands : HandsOut bytes status 256 response new.left
+
+-- GET RESPONSE with Le 00, as long as 61XX announces more: the data of all, and the last status.
+abbrev pub GathersRest : {S : Type 0} → (S → Header → Bool) → (S → Did → S → Type 0)
+    → CardState S → StatusWord → List (List ℕ) → List ℕ → StatusWord → CardState S → Type 0
+GathersRest takes Act old sw [] gathered status new =
+    (announces sw ≡ None) × (gathered ≡ []) × (status ≡ sw) × (new ≡ old)
+GathersRest {S = S} takes Act old sw (response ∷ others) gathered status new =
+    (announces sw ≢ None) × (fetch : Command) × (is_fetch fetch.header ≡ true)
+    × (fetch.le ≡ Some 256) × (mid : CardState S) × Responds takes Act old fetch response mid
+    × (front rest : List ℕ) × (next : StatusWord) × (response ≡ front ++ status_bytes next)
+    × (gathered ≡ front ++ rest) × GathersRest takes Act mid next others rest status new

@@ -193,8 +193,8 @@ pub(crate) fn judged<A: Application>(
     ensures judged { Judges (Does A.takes A.Does)
         (state_of (A.standing application.old) kept.now.items waiting) (ask_of header p3 cut)
         result.0 (prepared_of (A.standing application.new) (A.next application.new)
-        kept.now.items fresh.new.items result.1) }
-    ensures fits { IsReady A.takes A.Does (A.standing application.new) (A.next application.new)
+        kept.now.items fresh.new.items result.1)
+        × IsReady A.takes A.Does (A.standing application.new) (A.next application.new)
         kept.now.items fresh.new.items waiting result.1 }
     ensures invalid { ins_is_valid header.ins ≡ false → IsRefusal result.0 }
     ensures under { (h : Header) → LeavesFor result.1 h → MaySend A.takes h }

@@ -13,9 +13,9 @@ pub const GET_RESPONSE: u8 = 0xC0;
 /// Each command is carried out once, by `carry_out`. It takes effect at `settle`, once the status
 /// of its TPDU is sent. A reset before that drops it.
 pub trait Application {
-    ghost use Rattle.std.specs.Prelude.{◌≡◌, [], Bool, IfOk};
+    ghost use Rattle.std.specs.Prelude.{◌≡◌, [], Bool, IfOk, IfErr};
     ghost use Rattle.apdu_core.specs.declared.header.Header.{Header};
-    ghost use Rattle.command_card.specs.Carrying.{Did, IsOwn};
+    ghost use Rattle.command_card.specs.Carrying.{Did, IsOwn, out_of_memory};
 
     /// The type of the application's states.
     ghost State: { Type 0 };
@@ -30,7 +30,7 @@ pub trait Application {
     ghost takes: { State → Header → Bool };
 
     /// What carrying out a command does. It is a relation, so the application may choose among
-    /// several responses and states.
+    /// several responses and states. If it may run out of memory, `out_of_memory` is one of them.
     ghost Does: { State → Did → State → Type 0 };
 
     /// The state after a reset.
@@ -47,7 +47,7 @@ pub trait Application {
     /// settle is dropped.
     ///
     /// # Errors
-    /// - `AllocError`: memory ran out; the command is not carried out.
+    /// - `AllocError`: memory ran out; the command is not carried out. The card answers `6581`.
     fn carry_out(
         &mut self,
         command: Command<'_>,
@@ -59,7 +59,9 @@ pub trait Application {
           command = command.entry;
           response = response.new.items;
           status = status;
-        }) (next self.new) × IsOwn status) };
+        }) (next self.new) × IsOwn status) }
+        ensures failed { IfErr result (λ e. Does (standing self.old) (out_of_memory command.entry)
+            (standing self.old)) };
 
     /// The command that was carried out last takes effect.
     fn settle(&mut self)

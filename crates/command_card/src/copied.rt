@@ -1,6 +1,6 @@
 //! An application that changes at once. The card works on a copy of it.
-ghost use Rattle.std.specs.Prelude.{◌≡◌, [], IfOk};
-ghost use Rattle.command_card.specs.Carrying.{Did, IsOwn};
+ghost use Rattle.std.specs.Prelude.{◌≡◌, [], IfOk, IfErr};
+ghost use Rattle.command_card.specs.Carrying.{Did, IsOwn, out_of_memory};
 
 use crate::application::Application;
 use apdu_core::{Command, Header, Status};
@@ -11,6 +11,7 @@ use std::alloc::AllocError;
 pub trait Eager {
     ghost use Rattle.std.specs.Prelude.{Bool};
     ghost use Rattle.apdu_core.specs.declared.header.Header.{Header};
+    ghost use Rattle.apdu_core.specs.CommandBytes.{Command};
 
     /// The type of the application's states.
     ghost State: { Type 0 };
@@ -21,7 +22,7 @@ pub trait Eager {
     /// Whether data follow this header to the card.
     ghost takes: { State → Header → Bool };
 
-    /// What carrying out a command does.
+    /// What carrying out a command does. If memory may run out, `out_of_memory` is a part of it.
     ghost Does: { State → Did → State → Type 0 };
 
     /// The state after a reset.
@@ -43,18 +44,22 @@ pub trait Eager {
         response: &mut Vec<u8>,
     ) -> Result<Status, AllocError>
         requires { response.old.items ≡ [] }
-        ensures { IfOk result (λ status. Does (standing self.old) (record {
+        ensures done { IfOk result (λ status. Does (standing self.old) (record {
           command = command.entry;
           response = response.new.items;
           status = status;
-        }) (standing self.new) × IsOwn status) };
+        }) (standing self.new) × IsOwn status) }
+        ensures failed { IfErr result (λ e. Does (standing self.old) (out_of_memory command.entry)
+            (standing self.old)) };
 
     /// Copies the application.
     ///
     /// # Errors
     /// - `AllocError`: memory ran out.
     fn copy(&self) -> Result<Self, AllocError>
-        ensures { IfOk result (λ copy. standing copy ≡ standing self.now) };
+        ensures done { IfOk result (λ copy. standing copy ≡ standing self.now) }
+        ensures failed { IfErr result (λ e. (c : Command) → Does (standing self.now)
+            (out_of_memory c) (standing self.now)) };
 
     /// Resets the application, at any time.
     fn reset(&mut self)

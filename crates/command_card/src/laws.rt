@@ -16,7 +16,7 @@ ghost use Rattle.command_card.specs.View.{after_reset};
 ghost use Rattle.command_card.specs.AtT1.{Responds, status_bytes};
 ghost use Rattle.command_card.specs.State.{CardState, Nothing_left};
 ghost use Rattle.command_card.specs.Meaning.{Does};
-ghost use Rattle.command_card.specs.Told.{AreAgreed, GathersPart, IsOneStep, told};
+ghost use Rattle.command_card.specs.Told.{AreAgreed, GathersPart, GathersRest, IsOneStep, told};
 ghost use Rattle.command_card.specs.Deeds.{IsThrough};
 
 use crate::application::Application;
@@ -49,8 +49,8 @@ pub fn an_exchange_gathers_what_is_asked_for<A: Application>()
 /// At most once, whatever characters the terminal sends and whenever the card is reset. The
 /// application has been through exactly the resets and the commands that whole TPDUs carried, in
 /// order, each once. The TPDUs without a command are known from the line: an INS of `6X` or `9X`,
-/// GET RESPONSE, the repetition after `6CXX`, and those that the card answers `6581` or `6F00`. A
-/// TPDU that a reset cuts off has no effect. The events are those of a `t0_core::CardEnd` over the
+/// GET RESPONSE, and the repetition after `6CXX`. A command whose response is too long gets `6F00`
+/// and has no effect; so has a TPDU that a reset cuts off. The events are those of a `t0_core::CardEnd` over the
 /// card (its clauses `led`), and nothing may be pending at first.
 pub fn each_command_at_most_once<A: Application>()
     ensures { (first last : CardState A.State) (events : List Event)
@@ -59,10 +59,21 @@ pub fn each_command_at_most_once<A: Application>()
         IsThrough A.Does A.after_reset first.app events last.app }
 {}
 
-/// The same answers at T=0 and T=1. What an exchange at T=0 gathers, the application may respond at
-/// T=1, and is then in the same state. What it responds at T=1 is one step of it, by the same
-/// relation `Makes` as at T=0. Le is 00, and the response has at most 256 bytes; a longer one is
-/// fetched at T=1 too.
+/// By whole commands, as at T=1: a command with Le 00, and then GET RESPONSE with Le 00 as long as
+/// `61XX` announces more, gather exactly the response and status of one step of the application.
+pub fn whole_commands_gather_the_response<A: Application>()
+    ensures { (first mid last : CardState A.State) (c : Command) (front rest : List ℕ)
+        (sw status : StatusWord) (others : List (List ℕ)) → c.le ≡ Some 256 →
+        AreAgreed A.takes first c →
+        Responds A.takes A.Does first c (front ++ status_bytes sw) mid →
+        GathersRest A.takes A.Does mid sw others rest status last →
+        Makes A.Does first.app (told (A.takes first.app c.header) c) (front ++ rest) status last.app
+        × (last.left ≡ Nothing_left) }
+{}
+
+/// The same answers at T=0 and T=1. What an exchange at T=0 gathers, up to 256 bytes, the
+/// application may respond at T=1, and is then in the same state. What it responds at T=1 is one
+/// step of it, by the same relation `Makes` as at T=0. Le is 00.
 pub fn both_lines_answer_alike<A: Application>()
     ensures from_t0 { (first last : CardState A.State) (c : Command) (units : List UnitOf)
         (plans : List Course) (gathered : List ℕ) (status : StatusWord) → c.le ≡ Some 256 →

@@ -18,27 +18,12 @@ returns-then-not-ins_is_valid-clause-judged g c =
     let h = c.args.header in
     let invalid = sym c.ins_is_valid.ensures ∙ c.if-not-ins_is_valid.true in
     let old = state_of app kept c.args.waiting in
-    (judges a.takes a.Does app app (a.next c.args.application.now) kept c.args.fresh.now.items
+    judges a.takes a.Does app app (a.next c.args.application.now) kept c.args.fresh.now.items
     c.args.waiting h c.args.p3 c.args.cut (refusing c.word.result) false false _ _ refl
     (refusal_allowed a.takes a.Does old h c.args.p3 c.args.cut c.word.result Invalid
     (kind_by _ false _ _ _ _ _ _ invalid refl refl refl)
     (λ t new is. subst (λ (s : StatusWord). Answers old t new (refusing s)) c.word.ensures is))
-    (c.refused.ensures.prepares kept h c.args.p3 c.args.cut)).0
-
-pub returns-then-not-ins_is_valid-clause-fits : goal.returns-then-not-ins_is_valid-clause-fits
-returns-then-not-ins_is_valid-clause-fits g c =
-    let a = g.A.Application in
-    let app = a.standing c.args.application.now in
-    let kept = c.args.kept.now.items in
-    let h = c.args.header in
-    let invalid = sym c.ins_is_valid.ensures ∙ c.if-not-ins_is_valid.true in
-    let old = state_of app kept c.args.waiting in
-    (judges a.takes a.Does app app (a.next c.args.application.now) kept c.args.fresh.now.items
-    c.args.waiting h c.args.p3 c.args.cut (refusing c.word.result) false false _ _ refl
-    (refusal_allowed a.takes a.Does old h c.args.p3 c.args.cut c.word.result Invalid
-    (kind_by _ false _ _ _ _ _ _ invalid refl refl refl)
-    (λ t new is. subst (λ (s : StatusWord). Answers old t new (refusing s)) c.word.ensures is))
-    (c.refused.ensures.prepares kept h c.args.p3 c.args.cut)).1
+    (c.refused.ensures.prepares kept h c.args.p3 c.args.cut)
 
 pub returns-then-not-ins_is_valid-clause-invalid :
     goal.returns-then-not-ins_is_valid-clause-invalid
@@ -55,12 +40,12 @@ returns-in-Some-clause-judged g c =
     let old = state_of app kept c.args.waiting in
     let place = c.in-Some.place in
     let hand : Hand = record { bytes = drop place.0 kept; status = place.1 } in
-    (judges a.takes a.Does app app (a.next c.args.application.now) kept c.args.fresh.now.items
+    judges a.takes a.Does app app (a.next c.args.application.now) kept c.args.fresh.now.items
     c.args.waiting h c.args.p3 c.args.cut
     (handed old.left hand.bytes hand.status (count c.args.p3) c.args.cut) false false _ _ refl
     (hand_allowed a.takes a.Does old h c.args.p3 c.args.cut hand
     (kind_by _ true _ (Some hand) _ _ _ _ valid (sym c.in-Some.ensures) refl refl))
-    c.handed.ensures.prepares).0
+    c.handed.ensures.prepares
 
 pub returns-then-header-eq-GET_RESPONSE-clause-judged :
     goal.returns-then-header-eq-GET_RESPONSE-clause-judged
@@ -72,31 +57,13 @@ returns-then-header-eq-GET_RESPONSE-clause-judged g c =
     let valid = sym c.ins_is_valid.ensures ∙ c.if-not-ins_is_valid.false in
     let old = state_of app kept c.args.waiting in
     let word = c.word-then-header-eq-GET_RESPONSE in
-    (judges a.takes a.Does app app (a.next c.args.application.now) kept c.args.fresh.now.items
+    judges a.takes a.Does app app (a.next c.args.application.now) kept c.args.fresh.now.items
     c.args.waiting h c.args.p3 c.args.cut (refusing word.result) false false _ _ refl
     (refusal_allowed a.takes a.Does old h c.args.p3 c.args.cut word.result Unfetched
     (kind_by _ true _ None _ true _ _ valid (sym c.in_default.ensures)
     (eq-eqb h.ins 192 c.if-header-eq-GET_RESPONSE.true) refl)
     (λ t new is. subst (λ (s : StatusWord). Answers old t new (refusing s)) word.ensures is))
-    (c.refused-then-header-eq-GET_RESPONSE.ensures.prepares kept h c.args.p3 c.args.cut)).0
-
-pub returns-then-header-eq-GET_RESPONSE-clause-fits :
-    goal.returns-then-header-eq-GET_RESPONSE-clause-fits
-returns-then-header-eq-GET_RESPONSE-clause-fits g c =
-    let a = g.A.Application in
-    let app = a.standing c.args.application.now in
-    let kept = c.args.kept.now.items in
-    let h = c.args.header in
-    let valid = sym c.ins_is_valid.ensures ∙ c.if-not-ins_is_valid.false in
-    let old = state_of app kept c.args.waiting in
-    let word = c.word-then-header-eq-GET_RESPONSE in
-    (judges a.takes a.Does app app (a.next c.args.application.now) kept c.args.fresh.now.items
-    c.args.waiting h c.args.p3 c.args.cut (refusing word.result) false false _ _ refl
-    (refusal_allowed a.takes a.Does old h c.args.p3 c.args.cut word.result Unfetched
-    (kind_by _ true _ None _ true _ _ valid (sym c.in_default.ensures)
-    (eq-eqb h.ins 192 c.if-header-eq-GET_RESPONSE.true) refl)
-    (λ t new is. subst (λ (s : StatusWord). Answers old t new (refusing s)) word.ensures is))
-    (c.refused-then-header-eq-GET_RESPONSE.ensures.prepares kept h c.args.p3 c.args.cut)).1
+    (c.refused-then-header-eq-GET_RESPONSE.ensures.prepares kept h c.args.p3 c.args.cut)
 
 pub returns-clause-judged : goal.returns-clause-judged
 returns-clause-judged g c =
@@ -117,7 +84,7 @@ returns-clause-judged g c =
     ∙ ap (λ (n : ℕ). asking h n) c.count.ensures in
     let M : Command → Type 0 = λ m. Makes a.Does app m fresh out.result.0
     (if out.result.1 then next else app) in
-    (judges a.takes a.Does app now next kept fresh
+    judges a.takes a.Does app now next kept fresh
     c.args.waiting h p3 c.args.cut
     (handed (For_repeat h fresh out.result.0) fresh out.result.0 (count p3) c.args.cut)
     out.result.1 true _ _ out.ensures.stands
@@ -127,4 +94,4 @@ returns-clause-judged g c =
     (ne_eqb h.ins 192 c.if-header-eq-GET_RESPONSE.false)
     (sym c.takes_data.ensures ∙ c.if-takes_data.false))
     (subst M command_is out.ensures.makes))
-    c.handed-2.ensures.prepares).0
+    c.handed-2.ensures.prepares

@@ -16,4 +16,4 @@ returns-clause-permitted g c =
     (prepared_of now (a.next out.new.application) i.kept.items out.new.fresh.items out.result.1) in
     permits a.takes a.Does now (a.next out.new.application) i.kept.items out.new.fresh.items
     i.waiting c.args.header c.args.p3 c.args.cut out.result.0 out.result.1 c.self.invariant.1
-    (subst J (sym out.ensures.stands) out.ensures.judged) out.ensures.fits
+    (subst J (sym out.ensures.stands) out.ensures.judged.0) out.ensures.judged.1

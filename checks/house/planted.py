@@ -135,18 +135,22 @@ FAULTS = [
     ("name", TOUR, 3, [(TOUR, "src/lamp.rt", "src/lamps.rt")]),
     ("name", TOUR, 3, [(TOUR, "`lit` of", "`burns` of")]),
     ("name", TOUR, 9, [(TOUR, "`dims`", "`shines`")]),
+    ("uncalled", LAMP, 8, [(LAMP, "-> bool", "-> bool\n        requires { lit }")]),
     ("list", DONE, 6, [(DONE, "lamp.h\n", "lamp.h\ncrates/lost/\n")]),
     ("list", LIST, 2, [(LIST, "stay\n", "stay\nlong crates/low/src/lamp.rt: it was long once\n")]),
     ("list", LIST, 2, [(LIST, "stay\n", "stay\nlong crates/low/src/lamp.rt\n")]),
 ]
 
-# No faults: words that are code or in a file that is not listed, 35 words, 300 characters.
+# No faults: words that are code or in a file that is not listed, 35 words, 300 characters, a
+# requirement that a caller in another crate meets.
 PLAIN = [
     (LAMP, "Lights it.", "Lights `what is told`. Who is, told him."),
     (HOUSE, "IsDark :", "IsDark : -- is told\n  "),
     (TOOL, '"It is "\n    "lit', '"It is",\n    "told'),
     (PAGE, "One burns.", f"{MOST}. {MOST}.\n\n```c\nis told {MOST} {MOST}\n```\n"),
     (PAGE, "red", "x" * 300),
+    (LAMP, "-> bool", "-> bool\n        requires { lit }"),
+    ("crates/high/src/lib.rt", "{}", "{\n    Lamp.light();\n}"),
 ]
 
 # A fault, and the entry of the list that allows it.

@@ -6,7 +6,7 @@
 //! the same header again. [`AppletOf`] is the same application at T=1. A card with a counter:
 //!
 //! ```rust
-//! // crates/command_tests/src/tpdu_tests.rt
+//! // crates/proved_calls/src/calls.rt
 //! CardEnd::new(CommandCard::new(alloc, Copied::new(Counter::new())))
 //! ```
 //!

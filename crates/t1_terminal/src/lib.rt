@@ -5,7 +5,7 @@
 //! answers and the fault, if the terminal gave up. Operations with a new card:
 //!
 //! ```rust
-//! // crates/terminal_tests/src/line_tests.rt
+//! // crates/proved_calls/src/calls.rt
 //! let card = DataApplet::new(rt.alloc(), end);
 //! assert!(rt; card.card().is_idle());
 //! run(rt.alloc(), card, line, settings, ops).expect(rt, "memory")

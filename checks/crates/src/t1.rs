@@ -1,0 +1,7 @@
+//! Tests of `t1_core`.
+
+mod dialogue_tests;
+mod echo;
+mod line;
+mod random;
+mod random_tests;

@@ -1,3 +1,0 @@
-//! Tests of `apdu_core`.
-
-mod tests;

@@ -1,6 +1,6 @@
 //! The exports of a card at T=1.
 ghost use Rattle.std.specs.Prelude.{◌≡◌, ⊤, if◌then◌else◌};
-ghost use Rattle.t1_core.specs.declared.pcb.Reason.TheVariants.{Edc, Other};
+ghost use Rattle.t1_core.specs.declared.pcb.Reason.TheVariants as reason;
 ghost use Rattle.card_c.specs.Handles.{held_by, OnHandle, OnHandleOr};
 ghost use Rattle.card_c.specs.CardT1Calls.{BeginsT1, HearsBytes, Misses, OnLine, SendsReply, at_t0};
 
@@ -136,7 +136,7 @@ fn receive(side: &mut CardSide, bytes: &[u8], count: &mut usize) -> i32
 /// error than the EDC.
 #[unsafe(no_mangle)]
 pub extern "C" fn galliumtoad_card_t1_missed(alloc: Global, card: &mut GtCard) -> i32
-    ensures { OnHandle (OnLine (Misses Other) ⊤) (held_by card.old) result (held_by card.new) }
+    ensures { OnHandle (OnLine (Misses reason.Other) ⊤) (held_by card.old) result (held_by card.new) }
 {
     with(alloc, card, |side| misses(side, false))
 }
@@ -145,13 +145,13 @@ pub extern "C" fn galliumtoad_card_t1_missed(alloc: Global, card: &mut GtCard) -
 /// block because of that.
 #[unsafe(no_mangle)]
 pub extern "C" fn galliumtoad_card_t1_damaged(alloc: Global, card: &mut GtCard) -> i32
-    ensures { OnHandle (OnLine (Misses Edc) ⊤) (held_by card.old) result (held_by card.new) }
+    ensures { OnHandle (OnLine (Misses reason.Edc) ⊤) (held_by card.old) result (held_by card.new) }
 {
     with(alloc, card, |side| misses(side, true))
 }
 
 fn misses(side: &mut CardSide, is_damaged: bool) -> i32
-    ensures { OnLine (Misses (if is_damaged then Edc else Other)) ⊤ side.old result side.new }
+    ensures { OnLine (Misses (if is_damaged then reason.Edc else reason.Other)) ⊤ side.old result side.new }
 {
     let CardSide::AtT1(at) = side else {
         return code::STATE;

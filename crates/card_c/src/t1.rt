@@ -1,6 +1,6 @@
 //! The exports of a terminal's end of a line at T=1, which pass its blocks as bytes.
 ghost use Rattle.std.specs.Prelude.{◌≡◌, Option, Some, None, MatchOption, if◌then◌else◌};
-ghost use Rattle.t1_core.specs.declared.pcb.Reason.TheVariants.{Edc, Other};
+ghost use Rattle.t1_core.specs.declared.pcb.Reason.TheVariants as reason;
 ghost use Rattle.t1_core.specs.declared.settings.Settings.{Settings};
 ghost use Rattle.t1_core.specs.Block.{said};
 ghost use Rattle.card_c.specs.Handles.{t1_in, OnHandle, OnHandleOr};
@@ -81,7 +81,7 @@ pub extern "C" fn galliumtoad_t1_begin(alloc: Global, t1: &mut T1Handle, apdu: &
 /// Reports that no valid block of the card arrived. Its received part is dropped.
 #[unsafe(no_mangle)]
 pub extern "C" fn galliumtoad_t1_missed(alloc: Global, t1: &mut T1Handle) -> i32
-    ensures { OnHandle (Misses Other) (t1_in t1.old) result (t1_in t1.new) }
+    ensures { OnHandle (Misses reason.Other) (t1_in t1.old) result (t1_in t1.new) }
 {
     with(alloc, t1, |side| misses(side, false))
 }
@@ -89,13 +89,13 @@ pub extern "C" fn galliumtoad_t1_missed(alloc: Global, t1: &mut T1Handle) -> i32
 /// Reports that a character of the block had a wrong parity. Its received part is dropped.
 #[unsafe(no_mangle)]
 pub extern "C" fn galliumtoad_t1_damaged(alloc: Global, t1: &mut T1Handle) -> i32
-    ensures { OnHandle (Misses Edc) (t1_in t1.old) result (t1_in t1.new) }
+    ensures { OnHandle (Misses reason.Edc) (t1_in t1.old) result (t1_in t1.new) }
 {
     with(alloc, t1, |side| misses(side, true))
 }
 
 fn misses(side: &mut T1Side, is_damaged: bool) -> i32
-    ensures { Misses (if is_damaged then Edc else Other) side.old result side.new }
+    ensures { Misses (if is_damaged then reason.Edc else reason.Other) side.old result side.new }
 {
     if side.end.has_stopped() {
         return code::STATE;

@@ -1,7 +1,7 @@
 //! The texts of `--help` and `--version`, and the message about words that are not UTF-8.
 
 /// What `--version` prints after the program's name.
-pub const VERSION: &str = "0.2.0";
+pub const VERSION: &str = "0.3.0";
 
 /// What the program does.
 pub const PROGRAM: &str = "Plays scripts of a terminal and a smart card that talk T=0";

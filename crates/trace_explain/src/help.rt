@@ -5,7 +5,7 @@ pub const PROGRAM: &str = "Explains the trace of a dialogue with a smart card ov
     command and its response";
 
 /// The version.
-pub const VERSION: &str = "0.2.0";
+pub const VERSION: &str = "0.3.0";
 
 // The help of each option.
 pub const DIFF: &str = "Compares the traces of two files, and shows the first TPDU that differs";

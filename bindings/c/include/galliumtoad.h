@@ -1282,8 +1282,8 @@ GT_MUST_CHECK int32_t gt_t1_begin(gt_t1 *t, const uint8_t *apdu, size_t n) {
 
 /* Copies the block to send now to `bytes`. `n` gets its length, 4 to GT_BLOCK_LIMIT. `waits` gets
  * how many times BWT the card has for its answer: 1, or as many as it asked for. Each further call
- * gives the same block, until `gt_t1_receive_bytes` returns GT_SENDS, or a call of `gt_t1_missed` or
- * `gt_t1_damaged`.
+ * gives the same block, until `gt_t1_receive_bytes` returns GT_SENDS, or a call of `gt_t1_missed`
+ * or `gt_t1_damaged`.
  *
  * - GT_OK.
  * - GT_DONE: no command is in progress. The last one has its response, or none has started.

@@ -194,7 +194,7 @@ static void errors(void) {
     CHECK(taken, 7);
     CHECK(gt_card_t1_missed(&c), GT_SENDS);
     sends(&c, 0x82, NULL, 0);
-    /* A wrong parity drops what came of the block, and R says 1. */
+    /* A wrong parity drops the received part of the block, and R says 1. */
     CHECK(gt_card_t1_receive_bytes(&c, bytes, 7, &taken), GT_OK);
     CHECK(gt_card_t1_damaged(&c), GT_SENDS);
     sends(&c, 0x81, NULL, 0);

@@ -187,7 +187,7 @@ static void tries(void) {
     is_faulty(&t, GT_TRIES_SPENT, GT_UNKNOWN);
     CHECK(gt_t1_damaged(&t), GT_STATE);
     gt_t1_free(&t);
-    /* A wrong parity drops what came of the block, and R says 1. */
+    /* A wrong parity drops the received part of the block, and R says 1. */
     open_end(&t, 5, GET, sizeof GET);
     CHECK(gt_t1_receive_bytes(&t, bytes, 3, &taken), GT_OK);
     CHECK(gt_t1_damaged(&t), GT_OK);

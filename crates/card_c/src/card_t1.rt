@@ -136,7 +136,8 @@ fn receive(side: &mut CardSide, bytes: &[u8], count: &mut usize) -> i32
 /// error than the EDC.
 #[unsafe(no_mangle)]
 pub extern "C" fn galliumtoad_card_t1_missed(alloc: Global, card: &mut GtCard) -> i32
-    ensures { OnHandle (OnLine (Misses reason.Other) ⊤) (held_by card.old) result (held_by card.new) }
+    ensures { OnHandle (OnLine (Misses reason.Other) ⊤) (held_by card.old) result
+        (held_by card.new) }
 {
     with(alloc, card, |side| misses(side, false))
 }
@@ -151,7 +152,8 @@ pub extern "C" fn galliumtoad_card_t1_damaged(alloc: Global, card: &mut GtCard) 
 }
 
 fn misses(side: &mut CardSide, is_damaged: bool) -> i32
-    ensures { OnLine (Misses (if is_damaged then reason.Edc else reason.Other)) ⊤ side.old result side.new }
+    ensures { OnLine (Misses (if is_damaged then reason.Edc else reason.Other)) ⊤ side.old result
+        side.new }
 {
     let CardSide::AtT1(at) = side else {
         return code::STATE;

@@ -50,8 +50,8 @@ pub fn an_exchange_gathers_what_is_asked_for<A: Application>()
 /// application has been through exactly the resets and the commands that whole TPDUs carried, in
 /// order, each once. The TPDUs without a command are known from the line: an INS of `6X` or `9X`,
 /// GET RESPONSE, and the repetition after `6CXX`. A command whose response is too long gets `6F00`
-/// and has no effect; so has a TPDU that a reset cuts off. The events are those of a `t0_core::CardEnd` over the
-/// card (its clauses `led`), and nothing may be pending at first.
+/// and has no effect; so has a TPDU that a reset cuts off. The events are those of a
+/// `t0_core::CardEnd` over the card (its clauses `led`), and nothing may be pending at first.
 pub fn each_command_at_most_once<A: Application>()
     ensures { (first last : CardState A.State) (events : List Event)
         (prepared : Prepared (CardState A.State)) (stage : Stage) → first.left ≡ Nothing_left →
@@ -59,8 +59,8 @@ pub fn each_command_at_most_once<A: Application>()
         IsThrough A.Does A.after_reset first.app events last.app }
 {}
 
-/// By whole commands, as at T=1: a command with Le 00, and then GET RESPONSE with Le 00 as long as
-/// `61XX` announces more, gather exactly the response and status of one step of the application.
+/// By whole commands, as at T=1, a command with Le 00 gathers exactly the response and status of one
+/// step of the application. GET RESPONSE with Le 00 follows as long as `61XX` announces more.
 pub fn whole_commands_gather_the_response<A: Application>()
     ensures { (first mid last : CardState A.State) (c : Command) (front rest : List ℕ)
         (sw status : StatusWord) (others : List (List ℕ)) → c.le ≡ Some 256 →

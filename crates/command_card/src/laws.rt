@@ -59,8 +59,8 @@ pub fn each_command_at_most_once<A: Application>()
         IsThrough A.Does A.after_reset first.app events last.app }
 {}
 
-/// By whole commands, as at T=1, a command with Le 00 gathers exactly the response and status of one
-/// step of the application. GET RESPONSE with Le 00 follows as long as `61XX` announces more.
+/// By whole commands, as at T=1, a command with Le 00 gathers exactly the response and status of
+/// one step of the application. GET RESPONSE with Le 00 follows as long as `61XX` announces more.
 pub fn whole_commands_gather_the_response<A: Application>()
     ensures { (first mid last : CardState A.State) (c : Command) (front rest : List ℕ)
         (sw status : StatusWord) (others : List (List ℕ)) → c.le ≡ Some 256 →

@@ -100,19 +100,13 @@ fn an_application_over_t1(rt: HostRuntime) {
     assert!(rt; ended.answers.len() == 1 && ended.fault.is_none());
 }
 
-/// The length of the response in a session with the application.
-fn counted(rt: &(impl Abort + AllocGlobal), command: Command<'_>) -> usize {
-    let none: &[Plan] = &[];
-    let mut session = Session::new(counter(rt.alloc()));
-    session
-        .transmit(rt.alloc(), command, &mut Plans::over(none), &mut Silent)
-        .expect(rt, "an answer")
-        .data()
-        .len()
-}
-
 #[test]
 fn an_application_in_a_session(rt: HostRuntime) {
+    let none: &[Plan] = &[];
     let command = Command::new(COUNT, &[], Some(256)).expect(&rt, "a command");
-    assert!(rt; counted(&rt, command) == 3);
+    let mut session = Session::new(counter(rt.alloc()));
+    let answer = session
+        .transmit(rt.alloc(), command, &mut Plans::over(none), &mut Silent)
+        .expect(&rt, "an answer");
+    assert!(rt; answer.data().len() == 3);
 }

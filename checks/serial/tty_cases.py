@@ -255,6 +255,9 @@ def refusals():
     yield ("a tty that takes no characters", lambda: terminal(
         "< 3B00", [*reset, EVEN, *END], "operation 1: the tty takes no more characters\n", "write",
         output="", waits=1.2))
+    yield ("a tty that takes four characters at once", lambda: terminal(
+        "< 3B00 > 00DA5F2007 < DA > 41424344454647 < 9000", [*reset, EVEN, *END], refuses="many",
+        words=["put", "5F20", "41424344454647"]))
     yield ("a tty without lines, where none is needed", lambda: terminal(
         f"< 3B00 {SHORT_WORDS}{DONE}", [EVEN, EVEN, *END], refuses="lines",
         options=["--reset", "none"], reset=EVEN))

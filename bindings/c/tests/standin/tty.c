@@ -14,6 +14,7 @@
  *   - on, off: switching a line on, or off, is an error.
  *   - stuck: a line stays as it is, without an error.
  *   - write: the port takes no character.
+ *   - many: the port takes at most four characters at once.
  *
  * With or without these, STANDIN_CLOCK is how many times as fast the program's clock runs.
  *
@@ -199,6 +200,8 @@ ssize_t __wrap_write(int fd, const void *bytes, size_t n)
 {
     if (fd > 2 && getenv("STANDIN_TTY") != NULL && refuses("write"))
         return fail(EAGAIN);
+    if (fd > 2 && n > 4 && getenv("STANDIN_TTY") != NULL && refuses("many"))
+        n = 4;
     return __real_write(fd, bytes, n);
 }
 

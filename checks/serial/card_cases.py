@@ -139,13 +139,15 @@ def plans():
 
 
 def long_responses():
-    """Without a plan a card announces up to 256 bytes."""
+    """With --plan a card announces up to 256 bytes, as without."""
     spelled = "DF01820258" + "41" * 600
     put = [f"> 10DADF01FF < DA > {'41' * 255} < 9000 "] * 2 + [
         f"> 00DADF015A < DA > {'41' * 90} < 9000 "]
     get = [f"> 00CADF0100 < CA{spelled[:512]}6100 ", f"> 00C0000000 < C0{spelled[512:1024]}615D ",
            f"> 00C000005D < C0{spelled[1024:]}9000 "]
-    yield Case("a response of 605 bytes", "".join(["< 3B00 ", SELECT_WORDS, *put, *get]))
+    for options in ([], ["--plan", "a"] * 8):
+        yield Case(f"a response of 605 bytes, {len(options)} words",
+                   "".join(["< 3B00 ", SELECT_WORDS, *put, *get]), options=options)
 
 
 def all_cases():

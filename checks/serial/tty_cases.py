@@ -323,6 +323,18 @@ def parities():
         yield (f"a mark of a wrong parity that is late by {title}", lambda of=cut_mark: terminal(
             "", [*reset, EVEN, *END], "operation 1: " + PARITY, output="", play_it=of))
 
+    def halved_ff(other):
+        play(other, "< 3B00 > 00CA5F2001 < CA", card=True)
+        for _ in range(2):
+            other.line.write(b"\xff")
+            time.sleep(0.003)
+        other.send("9000")
+
+    # a busy machine may be late here
+    yield ("FF, of which the second half is 3 ms late", lambda: in_time(lambda: terminal(
+        "", [*reset, EVEN, *END], output="= 9000 FF\n", play_it=halved_ff,
+        words=["send", "00CA5F2001"])))
+
     first = "< 3B8081210323 > 00C101FE3E ~ 0.05"
     for before in ("", "00E101FE1E"):
         def cut_mark_at_t1(other, before=before):
@@ -496,9 +508,9 @@ def card(play_it, options=(), answer="3B00", refuses="", fault=GONE, inverse=Fal
         assert noted is None or tty.noted()[: len(noted)] == noted, f"noted {tty.noted()}"
 
 
-def pulse(tty, held, released=""):
+def pulse(tty, held, released="", seconds=0.4):
     tty.switch(held)
-    time.sleep(0.4)
+    time.sleep(seconds)
     tty.switch(released)
 
 
@@ -535,6 +547,17 @@ def card_resets():
         else:
             yield (f"a card that is reset by {' '.join(option)}",
                    lambda of=(held, released, others), option=option: card(play_it(*of), option))
+
+
+    # as long as gt_serial holds it; a busy machine may be late
+    def quick(tty, other):
+        tty.await_note(EVEN)
+        other.take_nothing(0.2)
+        pulse(tty, "cts", seconds=0.05)
+        play(other, f"< 3B00 {ask}", card=False)
+
+    yield ("a card that is reset for 50 ms",
+           lambda: in_time(lambda: card(quick, ["--reset", "cts"])))
 
 
 def held_first(held, released, others, ask):

@@ -323,18 +323,6 @@ def parities():
         yield (f"a mark of a wrong parity that is late by {title}", lambda of=cut_mark: terminal(
             "", [*reset, EVEN, *END], "operation 1: " + PARITY, output="", play_it=of))
 
-    def halved_ff(other):
-        play(other, "< 3B00 > 00CA5F2001 < CA", card=True)
-        for _ in range(2):
-            other.line.write(b"\xff")
-            time.sleep(0.003)
-        other.send("9000")
-
-    # a busy machine may be late here
-    yield ("FF, of which the second half is 3 ms late", lambda: in_time(lambda: terminal(
-        "", [*reset, EVEN, *END], output="= 9000 FF\n", play_it=halved_ff,
-        words=["send", "00CA5F2001"])))
-
     first = "< 3B8081210323 > 00C101FE3E ~ 0.05"
     for before in ("", "00E101FE1E"):
         def cut_mark_at_t1(other, before=before):
@@ -373,7 +361,8 @@ def parities():
     yield ("an echo with a wrong parity", lambda: terminal(
         "", [*reset, EVEN, *END], output="", play_it=marked_echo,
         fault="operation 1: the echo differs from what was sent\n"))
-    yield ("FF is no mark", ff_is_no_mark)
+    for refuses in ("", "halves"):
+        yield (f"FF is no mark, {refuses}", lambda of=refuses: ff_is_no_mark(of))
 
 
 def without_echo():
@@ -412,10 +401,10 @@ def without_echo():
         options=[*slow, "--pps"], output="", echo=False)))
 
 
-def ff_is_no_mark():
+def ff_is_no_mark(refuses):
     """FF in an answer to reset, as a procedure byte, in data, and as an echo."""
     with tempfile.TemporaryDirectory() as folder:
-        tty = Tty(folder)
+        tty = Tty(folder, refuses)
         try:
             words = ["send", "00CA5F2002", "put", "51", "FF00FFFF"]
             words = ["--slack", "5000", tty.line.name, *words]

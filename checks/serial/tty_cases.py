@@ -324,22 +324,22 @@ def parities():
             "", [*reset, EVEN, *END], "operation 1: " + PARITY, output="", play_it=of))
 
     first = "< 3B8081210323 > 00C101FE3E ~ 0.05"
-    for before in ("", "00E101FE1E"):
-        def cut_mark_at_t1(other, before=before):
-            play(other, first, card=True)
+    whole = first + " < 00E101FE1E > 00000500B0000000B5 ~ 0.05"
+    for start, before in ((first, ""), (first, "00E101FE1E"), (whole, "0000026D006F")):
+        def cut_mark_at_t1(other, start=start, before=before):
+            play(other, start, card=True)
             other.line.write(bytes.fromhex(before) + b"\xff\0")
 
         yield (f"a mark of a wrong parity that is cut at T=1, after {before}", lambda of=
                cut_mark_at_t1: terminal("", [*reset, EVEN, *END], "operation 1: too many tries "
                "without progress: the card may have carried out the command\n", output="",
-               play_it=of, echo=False))
+               play_it=of, echo=False, words=["send", "00B0000000"]))
 
     def marked_at_t1(other):
         play(other, first, card=True)
         other.sends_marked("00")
         other.send("E101FE1E")
-        play(other, first[15:] + " < 00E101FE1E > 00000500B0000000B5 ~ 0.05 < 0000026D006F",
-             card=True)
+        play(other, whole[15:] + " < 0000026D006F", card=True)
 
     yield ("a wrong parity of the first byte at T=1", lambda: terminal(
         "", [*reset, EVEN, *END], output="= 6D00\n", play_it=marked_at_t1, echo=False,

@@ -4,6 +4,8 @@ or in hundreds of pieces or parts. Each is its name, the words, its lines (of bo
 
 HEADER_DUE = "a character of a header"
 PROCEDURE_DUE = "a procedure byte or SW1 of the card"
+# The most bytes of an answer or a dump in several lines, in lines of 16.
+READ_LINES = 4_194_304 // 16
 # With this name the title in behind_notes has 101 columns, with its line number.
 NAME = "00112233445566778899AABBCCDD"
 
@@ -22,10 +24,30 @@ def traces():
 
 
 def at_limits():
-    """Values in pieces or parts, which are shown together if they have less than 65,536 bytes."""
+    """Values in pieces or parts, which are shown together if they have less than 65,536 bytes; and
+    answers of logs at the limit of those in several lines, and one byte longer."""
     for made in (chain_of, response_of):
         yield f"65,535 bytes: {made.__name__}", [], *made(257, "80" * 255, 1, 1), ""
         yield f"65,536 bytes: {made.__name__}", [], *titles_of(made(512, "80" * 128, 1, 1)), ""
+    yield from log_answers()
+
+
+def log_answers():
+    """An answer to READ BINARY in lines of 16 bytes, as `scriptor` and as OpenSC write it."""
+    title = ["#1 READ BINARY from byte 0 on  (line 1)"]
+    lines = ["00" * 16] * (READ_LINES - 1) + ["00" * 14 + "9000"]
+    answer = ["> 00B0000000", f"< {lines[0]}", *lines[1:]]
+    yield "the longest answer", ["--tpdu"], answer, title, ""
+    error = f"line {READ_LINES + 2}: line too long\n"
+    yield "an answer too long", ["--tpdu"], [*answer, "00"], title, error
+    command = ["Outgoing APDU (5 bytes):", "00 B0 00 00 00 ....."]
+    dump = ["00 " * 16] * (READ_LINES - 1) + ["00 " * 14 + "90 00 "]
+    head = f"Incoming APDU ({16 * READ_LINES} bytes):"
+    yield "the longest dump", ["--tpdu"], [*command, head, *dump], title, ""
+    head, error = "Incoming APDU (9999999 bytes):", f"line {READ_LINES + 4}: line too long\n"
+    part = together("".join(lines), "")[1:]
+    part = [f"| {line.strip()}" for line in ["a part of an answer:", *part]]
+    yield "a dump too long", ["--tpdu"], [*command, head, *dump, "00 " * 16], part + title, error
 
 
 def titles_of(made):

@@ -11,7 +11,7 @@ from dataclasses import dataclass, field
 from pathlib import Path
 
 from lines import Line, Other, play, trace_of
-from programs import TABLE, Program, version
+from programs import TABLE, Late, Program, version
 from terminal_cases import GET_WORDS, SELECT_WORDS, look, rate_of
 
 USAGE = (
@@ -138,9 +138,21 @@ def plans():
     )
 
 
+def long_responses():
+    """With --plan a card announces up to 256 bytes, as without."""
+    spelled = "DF01820258" + "41" * 600
+    put = [f"> 10DADF01FF < DA > {'41' * 255} < 9000 "] * 2 + [
+        f"> 00DADF015A < DA > {'41' * 90} < 9000 "]
+    get = [f"> 00CADF0100 < CA{spelled[:512]}6100 ", f"> 00C0000000 < C0{spelled[512:1024]}615D ",
+           f"> 00C000005D < C0{spelled[1024:]}9000 "]
+    for options in ([], ["--plan", "a"] * 8):
+        yield Case(f"a response of 605 bytes, {len(options)} words",
+                   "".join(["< 3B00 ", SELECT_WORDS, *put, *get]), options=options)
+
+
 def all_cases():
     """The cases that consist of a dialogue."""
-    return [case for part in (sessions, pps, plans) for case in part()]
+    return [case for part in (sessions, pps, plans, long_responses) for case in part()]
 
 
 def wrong_echo():
@@ -171,6 +183,27 @@ def is_slow():
     finally:
         line.close()
     look(program, program.end(), "", GONE, 1)
+
+
+def rate_after_response():
+    """A card changes its rate once its PPS response was sent: 10 ms after the last character, at
+    1,200 baud."""
+    line = Line()
+    try:
+        with tempfile.TemporaryDirectory() as folder:
+            path = table(folder, f"atr 3B1095\n{APP}")
+            words = ["--no-echo", "--baud", "1200", "--slack", "5000", line.name, path]
+            program = Program("serial_card", words)
+            play(Other(line, echo=False), "< 3B1095 > FF10957A < FF10957A", card=False)
+            early = rate_of(line)
+            time.sleep(0.2)
+            late = rate_of(line)
+    finally:
+        line.close()
+    look(program, program.end(), "", GONE, 1)
+    assert late == 13950, f"the tty runs at {late} baud"
+    if early != 1200:
+        raise Late(f"the tty runs at {early} baud at once")
 
 
 def puts_back():
@@ -412,7 +445,7 @@ def helps():
 def tests():
     """Each test of this part: its title, and a function that raises an error if it fails."""
     yield from ((case.title, lambda case=case: run(case)) for case in all_cases())
-    for test in (wrong_echo, is_slow, puts_back, opening_is_the_reset, quick_reopening,
-                 mute_and_reopened, gives_the_echo, is_not_read, mute_until_reset, tables, warns,
-                 closed_descriptors, full_device, words, helps):
+    for test in (wrong_echo, is_slow, rate_after_response, puts_back, opening_is_the_reset,
+                 quick_reopening, mute_and_reopened, gives_the_echo, is_not_read, mute_until_reset,
+                 tables, warns, closed_descriptors, full_device, words, helps):
         yield (f"card: {test.__name__}", test)

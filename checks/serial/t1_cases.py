@@ -20,6 +20,8 @@ NAME = "6F098407A00000000310109000"
 GET_APDU, JOE = "00CA5F2000", "5F20034A4F459000"
 # T=1 first, IFSC 32, LRC, BWI 0 and CWI 3. At 9,600 baud BWT is 100 ms and 11 etu, and CWT 19 etu.
 QUICK = "3B8081210323"
+# As QUICK, with BWI 9: BWT is 51 s.
+SLOW = "3B80812193B3"
 TOP = Path(__file__).resolve().parents[2]
 BOOK, HEADER = TOP / "examples/blocks", TOP / "bindings/c/include/galliumtoad.h"
 BWT = 0.1
@@ -66,6 +68,9 @@ def dialogues():
         bad = "< 00000200FF " if title == "a damaged block" else ""
         yield Case(f"T=1: {title}", first + sent + bad + talk(*words), terminal_cases.SELECT,
                    terminal_cases.SELECTED, echo=False, slack=2000)
+    yield Case("T=1: a block that stops, long before BWT",
+               f"< {SLOW} {OPEN}{sent}< 0000 " + talk(">", "82", "<", f"00:{NAME}"),
+               terminal_cases.SELECT, terminal_cases.SELECTED, echo=False)
     answer, more = talk("<", f"00:{NAME}"), talk("<", "C3:05", ">", "E3:05")
     yield Case("T=1: a block with a pause of less than the slack",
                first + sent + f"{answer[:10]} ~ 0.3 < {answer[10:]}" + GETS, WORDS, ANSWERS,
@@ -313,9 +318,8 @@ def at_card():
     for title, dialogue in own_part():
         yield card_cases.Case(f"T=1: a card, {title}", f"< {QUICK} {OPEN}{dialogue}", QUICK,
                               echo=False, slack=300)
-    slow = "3B80812193B3"  # as QUICK, with BWI 9: BWT is 51 s
     yield card_cases.Case("T=1: a card, a block that stops after its first byte",
-                          f"< {slow} {OPEN}> 00 {R0}{SELECTS}", slow, echo=False, slack=300)
+                          f"< {SLOW} {OPEN}> 00 {R0}{SELECTS}", SLOW, echo=False, slack=300)
     lines = (BOOK / "fine.talk").read_text(encoding="utf-8").splitlines()
     words = " ".join(" ".join(line.split()[:2]) for line in lines if line[0] in "<>")
     yield card_cases.Case("T=1: the book at a card", words, QUICK, echo=False, slack=300)

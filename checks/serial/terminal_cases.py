@@ -528,6 +528,10 @@ def echoes():
                "= 9000\n", echo=False, heaps=True)
     yield Case("silent behind the front of its header", "< 3B804002 > 9000000000 < 90", command,
                fault="operation 1: the card is silent\n", status=1, echo=False, waits=0.2)
+    # the waiting time, 0.8 s, begins once the header, which takes 50 ms, was sent
+    yield Case("silent after a header, without echo, at 1,200 baud", "< 3B804001 " + SHORT_WORDS,
+               SHORT, fault="operation 1: the card is silent\n", status=1, echo=False, waits=0.83,
+               options=["--baud", "1200"])
     # the program waits once, and not again for an echo
     yield Case("silent after a header, without echo", "< 3B00 " + SHORT_WORDS, SHORT,
                fault="operation 1: the card is silent\n", status=1, echo=False, waits=1.0,
@@ -571,6 +575,9 @@ def pps():
     yield Case("PPS that is answered by half", answer + request + "< FF1095 ", SHORT,
                "reset\n< 3B1095\npps > FF10957A\npps < FF1095\n", mute, 1, options=["-v", "--pps"],
                waits=1.0)
+    yield Case("PPS that is answered by PPS3, and its trace", answer + request + "< FF4000BF ",
+               SHORT, "reset\n< 3B1095\npps > FF10957A\npps < FF4000BF\n", refused, 1,
+               options=["-v", "--pps"])
     yield Case("specific mode", "< 3B90951000 " + rest, SHORT, "= 9000\n", options=own, baud=111600)
     yield Case("specific mode at the rate of a reset", "< 3B801000 " + rest, SHORT, "= 9000\n",
                baud=9600)
@@ -651,6 +658,29 @@ def turn_time():
         play(other, "< 3B00 " + (SHORT_WORDS + "~ 0.08 " + DONE) * 12, card=True)
         look(program, program.end(), "= 9000\n" * 12, "", 0)
         assert min(other.gaps[5::5]) >= 0.005, f"{other.gaps}"
+    finally:
+        line.close()
+
+
+def late_echo():
+    """With N = 4 a character comes at the earliest 6 etu after the echo of the one before, however
+    late that is: 5 ms at 1,200 baud. A busy machine is late at some, so there are sixteen."""
+    line, gaps = Line(), []
+    try:
+        words = ["--baud", "1200", "--slack", "5000", line.name, *SHORT * 4]
+        program = Program("gt_serial", words)
+        other = Other(line, echo=False)
+        play(other, "< 3B4004", card=True)
+        for _ in range(4):
+            for byte in ("00", "20", "00", "00", "00"):
+                other.take(byte)
+                gaps.append(other.gaps[-1])
+                time.sleep(0.03)
+                other.send(byte)
+            gaps[-5] = 1.0  # a header's first character follows the card's
+            other.send("9000")
+        look(program, program.end(), "= 9000\n" * 4, "", 0)
+        assert min(gaps) >= 0.005, f"{gaps}"
     finally:
         line.close()
 
@@ -919,7 +949,7 @@ def tests():
         (f"signal {number.name}", lambda number=number: puts_back(number))
         for number in (signal.SIGTERM, signal.SIGINT, signal.SIGHUP, signal.SIGQUIT)
     )
-    for test in (turn_time, wrong_echo, passes_over_a_signal, line_gone,
+    for test in (turn_time, late_echo, wrong_echo, passes_over_a_signal, line_gone,
                  is_stopped, settings, full_device, full_device_for_an_answer,
                  nobody_reads, closed_descriptors, words, helps):
         yield (f"terminal: {test.__name__}", test)

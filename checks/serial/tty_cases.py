@@ -255,6 +255,9 @@ def refusals():
     yield ("a tty that takes no characters", lambda: terminal(
         "< 3B00", [*reset, EVEN, *END], "operation 1: the tty takes no more characters\n", "write",
         output="", waits=1.2))
+    yield ("a tty that takes four characters at once", lambda: terminal(
+        "< 3B00 > 00DA5F2007 < DA > 41424344454647 < 9000", [*reset, EVEN, *END], refuses="many",
+        words=["put", "5F20", "41424344454647"]))
     yield ("a tty without lines, where none is needed", lambda: terminal(
         f"< 3B00 {SHORT_WORDS}{DONE}", [EVEN, EVEN, *END], refuses="lines",
         options=["--reset", "none"], reset=EVEN))
@@ -321,22 +324,22 @@ def parities():
             "", [*reset, EVEN, *END], "operation 1: " + PARITY, output="", play_it=of))
 
     first = "< 3B8081210323 > 00C101FE3E ~ 0.05"
-    for before in ("", "00E101FE1E"):
-        def cut_mark_at_t1(other, before=before):
-            play(other, first, card=True)
+    whole = first + " < 00E101FE1E > 00000500B0000000B5 ~ 0.05"
+    for start, before in ((first, ""), (first, "00E101FE1E"), (whole, "0000026D006F")):
+        def cut_mark_at_t1(other, start=start, before=before):
+            play(other, start, card=True)
             other.line.write(bytes.fromhex(before) + b"\xff\0")
 
         yield (f"a mark of a wrong parity that is cut at T=1, after {before}", lambda of=
                cut_mark_at_t1: terminal("", [*reset, EVEN, *END], "operation 1: too many tries "
                "without progress: the card may have carried out the command\n", output="",
-               play_it=of, echo=False))
+               play_it=of, echo=False, words=["send", "00B0000000"]))
 
     def marked_at_t1(other):
         play(other, first, card=True)
         other.sends_marked("00")
         other.send("E101FE1E")
-        play(other, first[15:] + " < 00E101FE1E > 00000500B0000000B5 ~ 0.05 < 0000026D006F",
-             card=True)
+        play(other, whole[15:] + " < 0000026D006F", card=True)
 
     yield ("a wrong parity of the first byte at T=1", lambda: terminal(
         "", [*reset, EVEN, *END], output="= 6D00\n", play_it=marked_at_t1, echo=False,
@@ -368,7 +371,8 @@ def parities():
     yield ("an echo with a wrong parity", lambda: terminal(
         "", [*reset, EVEN, *END], output="", play_it=marked_echo,
         fault="operation 1: the echo differs from what was sent\n"))
-    yield ("FF is no mark", ff_is_no_mark)
+    for refuses in ("", "halves"):
+        yield (f"FF is no mark, {refuses}", lambda of=refuses: ff_is_no_mark(of))
 
 
 def without_echo():
@@ -407,10 +411,10 @@ def without_echo():
         options=[*slow, "--pps"], output="", echo=False)))
 
 
-def ff_is_no_mark():
+def ff_is_no_mark(refuses):
     """FF in an answer to reset, as a procedure byte, in data, and as an echo."""
     with tempfile.TemporaryDirectory() as folder:
-        tty = Tty(folder)
+        tty = Tty(folder, refuses)
         try:
             words = ["send", "00CA5F2002", "put", "51", "FF00FFFF"]
             words = ["--slack", "5000", tty.line.name, *words]
@@ -503,9 +507,9 @@ def card(play_it, options=(), answer="3B00", refuses="", fault=GONE, inverse=Fal
         assert noted is None or tty.noted()[: len(noted)] == noted, f"noted {tty.noted()}"
 
 
-def pulse(tty, held, released=""):
+def pulse(tty, held, released="", seconds=0.4):
     tty.switch(held)
-    time.sleep(0.4)
+    time.sleep(seconds)
     tty.switch(released)
 
 
@@ -542,6 +546,17 @@ def card_resets():
         else:
             yield (f"a card that is reset by {' '.join(option)}",
                    lambda of=(held, released, others), option=option: card(play_it(*of), option))
+
+
+    # as long as gt_serial holds it; a busy machine may be late
+    def quick(tty, other):
+        tty.await_note(EVEN)
+        other.take_nothing(0.2)
+        pulse(tty, "cts", seconds=0.05)
+        play(other, f"< 3B00 {ask}", card=False)
+
+    yield ("a card that is reset for 50 ms",
+           lambda: in_time(lambda: card(quick, ["--reset", "cts"])))
 
 
 def held_first(held, released, others, ask):

@@ -22,12 +22,11 @@ struct t1_times t1_times_of(const struct line *line, const gt_atr_t1 *says, unsi
     return times;
 }
 
-/* Whether LEN, the third byte, says that the last one was received. No block is longer than
- * GT_BLOCK_LIMIT by more than one. */
+/* Whether LEN, the third byte, says that the last one was received. LEN is 0 before it comes, and
+ * at most FF: then the block fills its room. */
 static bool is_whole(const struct t1_block *block)
 {
-    return block->n == sizeof block->bytes
-        || (block->n > 3 && block->n >= block->bytes[2] + (size_t)4);
+    return block->n >= block->bytes[2] + (size_t)4;
 }
 
 const char *t1_receive(struct line *line, const struct t1_times *times, int64_t wait,

@@ -470,6 +470,12 @@ def test_a_line_is_read_as_by_card_trace(line, sent, reason):
     assert sent in (None, b"".join(tpdus).hex().upper())
 
 
+def test_a_cr_without_an_lf_is_a_character_of_a_word():
+    assert [*Script("script", "get 50\r\nget 50", []).operations(1, {})] == [1, 2]
+    with pytest.raises(ValueError):
+        Script("script", "get 50\r", []).operations(1, {})
+
+
 def test_columns_take_only_what_words_take(tmp_path):
     """A cell is no more than a script's own word, and is not filled again."""
     script = Script("script", "select {a}\nget {t}\nput {t} {v}\nput 50 @{v}\n", [*"atv"])

@@ -14,6 +14,8 @@
  *   - on, off: switching a line on, or off, is an error.
  *   - stuck: a line stays as it is, without an error.
  *   - write: the port takes no character.
+ *   - many: the port takes at most four characters at once.
+ *   - halves: after FF the port first has no character.
  *
  * With or without these, STANDIN_CLOCK is how many times as fast the program's clock runs.
  *
@@ -39,6 +41,7 @@ enum { SERIAL_PORTS = 4, FIRST_PORT = 64 };
 
 int __real_ioctl(int fd, unsigned long request, ...);
 int __real_fstat(int fd, struct stat *found);
+ssize_t __real_read(int fd, void *bytes, size_t n);
 ssize_t __real_write(int fd, const void *bytes, size_t n);
 int __real_clock_gettime(clockid_t clock, struct timespec *now);
 
@@ -195,10 +198,25 @@ int __wrap_fstat(int fd, struct stat *found)
     return result;
 }
 
+ssize_t __wrap_read(int fd, void *bytes, size_t n)
+{
+    static bool is_behind_ff;
+    const bool waits = is_behind_ff && getenv("STANDIN_TTY") != NULL && refuses("halves");
+    ssize_t count;
+    is_behind_ff = false;
+    if (waits)
+        return fail(EAGAIN);
+    count = __real_read(fd, bytes, n);
+    is_behind_ff = count == 1 && *(const unsigned char *)bytes == 0xFF;
+    return count;
+}
+
 ssize_t __wrap_write(int fd, const void *bytes, size_t n)
 {
     if (fd > 2 && getenv("STANDIN_TTY") != NULL && refuses("write"))
         return fail(EAGAIN);
+    if (fd > 2 && n > 4 && getenv("STANDIN_TTY") != NULL && refuses("many"))
+        n = 4;
     return __real_write(fd, bytes, n);
 }
 

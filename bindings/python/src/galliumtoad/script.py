@@ -64,8 +64,8 @@ class Script:
 
     def __init__(self, path: str, text: str, columns: list[str]) -> None:
         self.path, self.lines = path, dict[int, list[str]]()
-        for number, line in enumerate(text.split("\n"), 1):
-            words = [it for it in line.removesuffix("\r").split(" ") if it]
+        for number, line in enumerate(text.replace("\r\n", "\n").split("\n"), 1):
+            words = [it for it in line.split(" ") if it]
             if not words or line[0] == "#":
                 continue
             if len(words) != len(_KINDS.get(words[0], ())):

@@ -8,6 +8,7 @@ import re
 import subprocess
 import sys
 from pathlib import Path
+from types import SimpleNamespace
 
 import galliumtoad
 import pytest
@@ -40,10 +41,11 @@ def test_the_version_is_the_header_s():
 
 
 def test_the_help_lists_each_program():
-    """Every module that is a program is one of them."""
-    modules = [it for it in TOP.glob("src/galliumtoad/*.py") if it.stem[:2] != "__"]
-    programs = {it.stem for it in modules if "def main(" in it.read_text()}
-    assert set(PROGRAMS) == programs and "batch" in programs
+    """Every public module with a `main` is one of them."""
+    folder = Path(galliumtoad.__file__).parent
+    files = [it for it in folder.rglob("*.py") if "def main(" in it.read_text()]
+    modules = {it.relative_to(folder).parts[0].removesuffix(".py") for it in files}
+    assert set(PROGRAMS) == {it for it in modules if it[0] != "_"} and "batch" in PROGRAMS
     for words in ([], ["--help"]):
         done = python("-m", "galliumtoad", *words)
         assert (done.returncode, done.stderr) == (0, "")
@@ -56,27 +58,23 @@ def test_other_words_are_refused(words):
     assert (done.returncode, done.stdout) == (2, "") and "\ngalliumtoad: error: " in done.stderr
 
 
-def test_a_program_that_misses_a_module_says_so(monkeypatch, capsys):
-    monkeypatch.setitem(sys.modules, "galliumtoad.batch", None)
-    with pytest.raises(SystemExit) as ended:
-        main(["batch", "script"])
-    assert ended.value.code == 2 and "galliumtoad.batch" in capsys.readouterr().err
+@pytest.mark.parametrize("words", [[], ["--help"], ["--version", "x"], ["a", "-b"]])
+@pytest.mark.parametrize("status", [0, 1, 2])
+def test_a_program_gets_its_words_and_gives_its_status(monkeypatch, words, status):
+    said = []
+    program = SimpleNamespace(main=lambda words: said.append(words) or status)
+    monkeypatch.setitem(sys.modules, "galliumtoad.batch", program)
+    monkeypatch.setattr(sys, "argv", ["galliumtoad", "batch", *words])
+    assert main() == main(["batch", *words]) == status
+    assert said == [words, words]
 
 
-def test_a_program_gets_its_words_and_gives_its_status(tmp_path):
-    (tmp_path / "cards").mkdir()
-    (tmp_path / "Slot0").mkdir()
-    (tmp_path / "Slot0" / "card").write_text("0")
-    (tmp_path / "script").write_text("select A0000000031010\nput 5F20 @{name}\n")
-    (tmp_path / "rows").write_text("name\nANN\n")
-    words = ["-m", "galliumtoad", "batch", "script", "--rows", "rows", "--journal", "journal"]
-    more = {"cwd": tmp_path, "env": {"STANDIN": str(tmp_path)}, "timeout": 60}
-    done = python(*words, "--status", **more)
-    assert done.returncode == 1 and "0 of 1 rows done" in done.stdout
-    done = python(*words, **more)
-    assert done.returncode == 0 and "1 of 1 rows done" in done.stdout
-    assert b"ANN".hex() in (tmp_path / "cards" / "Slot0-0").read_text()
-    assert python(*words[:4], "--nonsense", **more).returncode == 2
+def test_a_program_is_that_of_its_own_module():
+    of_module, of_package = (
+        python("-m", *words, "--help", env={"STANDIN": "/"})
+        for words in (["galliumtoad.batch"], ["galliumtoad", "batch"])
+    )
+    assert of_module.stdout == of_package.stdout and "--journal" in of_module.stdout
 
 
 def test_what_pip_reads():

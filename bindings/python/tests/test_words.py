@@ -42,6 +42,6 @@ def test_each_place_shows_the_same_words(number):
 def test_the_package_has_no_words_of_its_own():
     """No module repeats a meaning of the table."""
     known = {words for _, _, words in ROWS}
-    for file in PACKAGE.glob("*.py"):
+    for file in PACKAGE.rglob("*.py"):
         shown = re.sub(r'"""(?s:.*?)"""', "", file.read_text())
         assert not [it for it in known if it in shown], file.name

@@ -19,11 +19,7 @@ def main(words: Optional[list[str]] = None) -> int:
     parser.add_argument("program", choices=PROGRAMS, metavar="PROGRAM", help=listed)
     parser.add_argument("words", nargs=argparse.REMAINDER, metavar="..", help="its words")
     given = parser.parse_args((sys.argv[1:] if words is None else words) or ["--help"])
-    try:
-        program = importlib.import_module(f"galliumtoad.{given.program}")
-    except ModuleNotFoundError as error:
-        parser.error(f"{given.program}: {error}")
-    return int(program.main(given.words))
+    return int(importlib.import_module(f"galliumtoad.{given.program}").main(given.words))
 
 
 if __name__ == "__main__":

@@ -186,6 +186,7 @@ class AtrT1(NamedTuple):
 class Atr:
     """What an answer to reset says (ISO/IEC 7816-3, clause 8): the fields of `gt_atr` in the
     header. For a missing character the standard's default holds. A reserved code gives 0.
+    `protocols` are in the order offered. `historical` has the bytes, not their place.
 
     Raises `AtrError` with the place of the first fault if the bytes are not an answer to reset.
 

@@ -257,7 +257,7 @@ class Terminal(Machine, Lasting):
         """Carries out an operation over a transport, and returns the card's answer.
 
         Errors:
-        - TypeError: it is not callable, or its `level` is missing or no `Level`; nothing was sent.
+        - TypeError: the transport is not callable, or its `level` is no `Level`; nothing was sent.
         - as `begin`: nothing was sent.
         - what the transport raises, or as `answered` and `apdu`: the terminal is reset. What the
           card has done is unknown, so reset it too.

@@ -5,6 +5,7 @@ import gc
 import threading
 from contextlib import contextmanager
 from dataclasses import FrozenInstanceError
+from types import SimpleNamespace
 from unittest.mock import Mock
 
 import pytest
@@ -161,6 +162,8 @@ def test_what_is_wrong_is_refused_before_a_call(monkeypatch):
         lambda: Session(session),
         lambda: T1(5),
         lambda: terminal.run(5, Get(0x50)),
+        lambda: terminal.run(SimpleNamespace(level=Level.TPDU), Get(0x50)),
+        lambda: terminal.run(enum, Get(0x50)),  # it has a name, as a function has
         lambda: terminal.run(held.tpdu, Get),
         lambda: terminal.run(held.tpdu, Status(0x9000)),
         lambda: Card(5),

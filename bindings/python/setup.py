@@ -16,7 +16,7 @@ COPY = "native"
 BINDINGS = HERE / COPY if (HERE / COPY).is_dir() else HERE.parent
 HEADER = BINDINGS / "c" / "include" / "galliumtoad.h"
 TEXT = HEADER.read_text(encoding="utf-8")
-VERSION = re.findall(r"^#define GT_VERSION_(?:MAJOR|MINOR|PATCH) (\d+)$", TEXT, re.M)
+VERSION = ".".join(re.findall(r"^#define GT_VERSION_(?:MAJOR|MINOR|PATCH) (\d+)$", TEXT, re.M))
 
 
 def declarations():
@@ -57,4 +57,4 @@ class SourceDistribution(sdist):
 # The hook reads this file, too, under another name.
 if __name__ == "__main__":
     made_from = {"cffi_modules": ["setup.py:builder"], "cmdclass": {"sdist": SourceDistribution}}
-    setup(version=".".join(VERSION), **made_from)
+    setup(version=VERSION, options={"bdist_wheel": {"py_limited_api": "cp39"}}, **made_from)

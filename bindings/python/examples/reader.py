@@ -11,8 +11,5 @@ with Terminal() as terminal:
     print(terminal.run(reader, Select(bytes.fromhex("A0000000031010"))).status.text)
     for tag in (0x50, 0x5F20):
         print(terminal.run(reader, Get(tag)).data.hex())
-    values = {0x50: b"VISA", 0x5F20: b"DOE/JOHN"}
-    for tag, value in values.items():
-        status = terminal.run(reader, Put(tag, value)).status
-        if not status.is_ok:
-            raise SystemExit(f"{tag:X}: {status:04X} {status.text}")
+    for put in (Put(0x50, b"VISA"), Put(0x5F20, b"DOE/JOHN")):
+        terminal.run(reader, put).raise_for_status()

@@ -1,28 +1,38 @@
 """Tests arguments, errors and handles: what each call takes, and what it raises."""
 
+import enum
 import gc
 import threading
 from contextlib import contextmanager
+from dataclasses import FrozenInstanceError
+from types import SimpleNamespace
+from unittest.mock import Mock
 
 import pytest
 from galliumtoad import (
     Answer,
     Atr,
     AtrError,
+    AtrT1,
     BlockError,
     BuildError,
     CallError,
     Card,
+    Code,
     CommandError,
+    Due,
+    Edc,
     Exchange,
     Get,
     Level,
     LineError,
     ObjectsError,
     OutOfMemory,
+    Outcome,
     Pps,
     PpsError,
     Put,
+    Refused,
     Select,
     Send,
     Session,
@@ -84,6 +94,31 @@ def test_each_code_has_its_kind():
     assert issubclass(OutOfMemory, MemoryError) and issubclass(OutOfMemory, CallError)
 
 
+def named(kind, prefix=""):
+    """The members of an enumeration, which are numbers, with their names in the header."""
+    assert issubclass(kind, enum.IntEnum)
+    return {f"GT_{prefix}{it.name}": it.value for it in kind}
+
+
+def test_numbers_have_the_names_of_the_header():
+    numbers = {it: getattr(lib, it) for it in dir(lib) if it.startswith("GT_")}
+    assert named(Code) == {name: it for name, it in numbers.items() if it < 0}
+    assert named(Outcome) == {it: numbers[it] for it in named(Outcome)}
+    assert named(Edc) == {"GT_RESERVED": 0, "GT_LRC": lib.GT_LRC, "GT_CRC": lib.GT_CRC}
+    assert issubclass(Level, enum.IntEnum) and set(Level) == {Level.TPDU, Level.APDU}
+    with raises(CallError, "GT_STATE"):
+        Terminal().data_sent()
+    with pytest.raises(CallError) as found:
+        Terminal().send_bytes()
+    assert found.value.code is Code.STATE
+
+
+@pytest.mark.parametrize("outcome", [None, *Outcome])
+def test_an_outcome_that_is_not_known_is_unknown(outcome):
+    error = BlockError(Code.ABORTED, outcome)
+    assert error.outcome is (Outcome.UNKNOWN if outcome is None else outcome)
+
+
 @pytest.mark.parametrize("wrong", ["9000", 5, None, [1, 2]])
 def test_what_is_no_bytes_is_a_type_error(wrong):
     calls = [
@@ -127,6 +162,8 @@ def test_what_is_wrong_is_refused_before_a_call(monkeypatch):
         lambda: Session(session),
         lambda: T1(5),
         lambda: terminal.run(5, Get(0x50)),
+        lambda: terminal.run(SimpleNamespace(level=Level.TPDU), Get(0x50)),
+        lambda: terminal.run(enum, Get(0x50)),  # it has a name, as a function has
         lambda: terminal.run(held.tpdu, Get),
         lambda: terminal.run(held.tpdu, Status(0x9000)),
         lambda: Card(5),
@@ -354,6 +391,68 @@ def test_a_level_decides_what_a_transport_carries():
     ]
 
 
+class Levelled:
+    """What may be a transport: it keeps what it is given, and answers 9000."""
+
+    def __init__(self, *level):
+        self.sent = []
+        if level:
+            [self.level] = level
+
+    def __call__(self, data, /):
+        self.sent.append(data)
+        return b"\x90\x00"
+
+
+@pytest.mark.parametrize("level", [(), ("apdu",), (1,), (True,), (None,), (Mock(),), (Level,)])
+def test_a_wrong_level_is_a_type_error(level):
+    transport, terminal = Levelled(*level), Terminal()
+    with pytest.raises(TypeError, match="level"):
+        terminal.run(transport, Select(AID))
+    assert transport.sent == [] and terminal.tpdu() is None
+    assert terminal.run(Levelled(Level.APDU), Select(AID)).status.is_ok
+
+
+def test_a_mock_without_a_level_is_a_type_error():
+    with pytest.raises(TypeError):
+        Terminal().run(Mock(return_value=b"\x90\x00"), Get(0x50))
+    reader = Mock(return_value=b"\x90\x00", level=Level.TPDU)
+    assert Terminal().run(reader, Get(0x50)).status.is_ok
+    reader.assert_called_once_with(bytes.fromhex("00CA005000"))
+
+
+def test_a_terminal_is_reset_if_its_answer_is_lost(monkeypatch):
+    def failing():
+        raise MemoryError
+
+    terminal = Terminal()
+    monkeypatch.setattr(terminal, "answer", failing)
+    with pytest.raises(MemoryError):
+        terminal.run(lambda tpdu: b"\x90\x00", Get(0x50))
+    monkeypatch.undo()
+    assert terminal.answer() is None
+    assert terminal.run(lambda tpdu: b"\x90\x00", Get(0x50)).status.is_ok
+
+
+@pytest.mark.parametrize("number", [0x6110, 0x6282, 0x63C0, 0x6A82, 0x9001, 0x0000, 0xFFFF])
+def test_every_status_but_9000_is_raised(number):
+    answer = Answer(Status(number), b"JOE")
+    with pytest.raises(Refused) as found:
+        answer.raise_for_status()
+    assert found.value.status is answer.status
+    assert str(found.value) == f"{number:04X} {answer.status.text}"
+    assert not isinstance(found.value, ValueError) and "JOE" not in repr(found.value)
+
+
+def test_9000_is_not_raised():
+    answer = Answer(Status(0x9000), b"JOE")
+    assert answer.raise_for_status() is answer
+    with Terminal() as terminal:
+        terminal.run(card().tpdu, Select(AID)).raise_for_status()
+        with pytest.raises(Refused, match="^6985 "):
+            terminal.run(card().tpdu, Get(0x50)).raise_for_status()
+
+
 def test_objects_and_their_faults():
     with raises(ObjectsError, "GT_VALUE_CUT", 0):
         objects(bytes.fromhex("5F2003414E"))
@@ -380,6 +479,13 @@ def test_the_fields_of_an_object():
 
 def test_what_shows():
     assert repr(Put(0x5F20, b"secret")) == "Put(tag=24352)" and repr(Send(b"secret")) == "Send()"
+    due, answer = Due(b"secret", 256), Answer(Status(0x9000), b"secret")
+    for shown in ([repr(due), repr(answer)], [f"{due}", f"{answer}"], [str(due), "%s" % (answer,)]):
+        assert shown == [
+            "Due(data=<6 bytes>, most=256)",
+            "Answer(status=Status(0x9000), data=<6 bytes>)",
+        ]
+    assert repr([answer]) == f"[{answer}]"
     assert repr(Status(0x61)) == "Status(0x0061)" and not Status(0x6110).is_ok
     assert Status(0x9001).text == "no known meaning"
     assert Status(0x63C2).text == "a warning: a counter is at 2"
@@ -409,6 +515,24 @@ def test_answers_to_reset_and_pps():
     with raises(PpsError, "GT_PPS_NO_PPSS"):
         Pps(0).is_agreed(b"\x00")
     assert not Pps(1, 0x95).is_agreed(bytes.fromhex("FF10957A"))
+
+
+def test_an_answer_to_reset_has_the_fields_of_the_header():
+    for kind, record in ((Atr, "gt_atr"), (AtrT1, "gt_atr_t1")):
+        assert set(kind.__annotations__) == {name for name, _ in ffi.typeof(record).fields}
+    # By ISO/IEC 7816-3, 8.2 and 8.3: TA1; TA2, the mode is specific; TA3, TB3 and TC3 for T=1; TA4
+    # for T=15, the clock may stop at either level, classes A and B; one historical byte
+    atr = Atr(bytes.fromhex("3B91959181F17D45011FC34343"))
+    assert type(atr.specific) is type(atr.can_change) is bool and type(atr.t1.edc) is Edc
+    assert (atr.length, atr.historical, atr.historical_count) == (13, b"\x43", 1)
+    assert (atr.protocols, atr.protocol_count, atr.names_15) == ((1,), 1, True)
+    assert (atr.rate_code, atr.fi, atr.di, atr.max_khz) == (0x95, 512, 16, 5000)
+    assert (atr.specific, atr.specific_t, atr.can_change, atr.implicit) == (True, 1, False, False)
+    assert (atr.clock_stop, atr.classes) == (lib.GT_STOP_EITHER, lib.GT_CLASS_A + lib.GT_CLASS_B)
+    assert (atr.waiting_integer, atr.waiting_time) == (10, 10 * 960 * 512)
+    assert atr.t1 == AtrT1(0x7D, Edc.CRC, 4, 5, 11 + 2**5, 11, 22, 2**4 * 960 * 372)
+    with pytest.raises(FrozenInstanceError):
+        atr.fi = 1
 
 
 def test_a_closed_handle_raises():

@@ -108,4 +108,4 @@ def code(file):
 def test_the_package_stays_small():
     """Its files, without tests and examples."""
     files = [*TOP.glob("*.py"), *TOP.glob("src/**/*.py")]
-    assert 500 < sum(len(code(it)) for it in files) <= 710
+    assert 500 < sum(len(code(it)) for it in files) <= 802

@@ -5,7 +5,7 @@ import sys
 from pathlib import Path
 
 import pytest
-from galliumtoad import T1, BlockError, CallError, Get, Level, Select, Terminal
+from galliumtoad import T1, BlockError, CallError, Get, Level, Outcome, Select, Terminal
 from hypothesis import given, settings
 from hypothesis import strategies as st
 from test_model import OPERATIONS, compare, held, new_card
@@ -64,7 +64,7 @@ def test_gives_up():
     with T1(line) as end, Terminal() as terminal:
         with pytest.raises(BlockError) as error:
             terminal.run(end, Select(bytes(5)))
-        assert error.value.outcome == "unknown"
+        assert error.value.outcome is Outcome.UNKNOWN
         with pytest.raises(CallError):
             terminal.run(end, Get(0x50))
         end.reset()

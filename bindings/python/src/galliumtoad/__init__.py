@@ -10,15 +10,18 @@ and a card that holds them, over a proved library.
 What Python holds is not wiped: `bytes` can't be. What the library holds is wiped when it is freed.
 """
 
-from .answers import Answer, Atr, Object, Pps, Status, find, head, objects
+from ._library import lib as _lib
+from .answers import Answer, Atr, AtrT1, Edc, Object, Pps, Refused, Status, find, head, objects
 from .card import Card, Character, Entry, Session
-from .errors import AtrError, BlockError, BuildError, CallError, CommandError, Error, LineError
-from .errors import ObjectsError, OutOfMemory, PpsError, TransportError
-from .terminal import T1, Due, Exchange, Get, Level, Operation, Put, Select, Send, Terminal
-from .terminal import Transport
+from .errors import AtrError, BlockError, BuildError, CallError, Code, CommandError, Error
+from .errors import LineError, ObjectsError, OutOfMemory, Outcome, PpsError, TransportError
+from .terminal import T1, Due, Exchange, Function, Get, Level, Operation, Put, Select, Send
+from .terminal import Terminal, Transport
 
-__all__ = ["Answer", "Atr", "AtrError", "BlockError", "BuildError", "CallError", "Card"]
-__all__ += ["Character", "CommandError", "Due", "Entry", "Error", "Exchange", "Get", "Level"]
-__all__ += ["LineError", "Object", "ObjectsError", "Operation", "OutOfMemory", "Pps", "PpsError"]
-__all__ += ["Put", "Select", "Send", "Session", "Status", "T1", "Terminal", "Transport"]
-__all__ += ["TransportError", "find", "head", "objects"]
+__version__ = ".".join(map(str, _lib.GT_VERSION.to_bytes(3, "big")))  # that of the header for C
+__all__ = ["Answer", "Atr", "AtrError", "AtrT1", "BlockError", "BuildError", "CallError", "Card"]
+__all__ += ["Character", "Code", "CommandError", "Due", "Edc", "Entry", "Error", "Exchange"]
+__all__ += ["Function", "Get", "Level", "LineError", "Object", "ObjectsError", "Operation"]
+__all__ += ["OutOfMemory", "Outcome", "Pps", "PpsError", "Put", "Refused", "Select", "Send"]
+__all__ += ["Session", "Status", "T1", "Terminal", "Transport", "TransportError", "find", "head"]
+__all__ += ["objects"]

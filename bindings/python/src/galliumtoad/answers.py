@@ -1,6 +1,7 @@
 """What a card sends: statuses, answers, data objects, answers to reset and PPS responses."""
 
-from types import SimpleNamespace
+import enum
+from dataclasses import dataclass
 from typing import Any, NamedTuple, Optional
 
 from ._library import ffi, lib
@@ -34,7 +35,10 @@ class Status(int):
         to, sw = ffi.new("char[]", lib.GT_WORDS_ROOM), within(int(self), 0, 0xFFFF, "a status")
         return str(ffi.unpack(to, lib.gt_status_words(*bytes((cla, ins)), sw, to, len(to))), "utf8")
 
-    text = property(words, doc="What it means, if its command is not known: `words()`.")
+    @property
+    def text(self) -> str:
+        """What it means, if its command is not known: `words()`."""
+        return self.words()
 
     def __repr__(self) -> str:
         return f"Status(0x{int(self):04X})"
@@ -115,16 +119,35 @@ def head(tag: int, length: int) -> bytes:
     return copied(made, count)
 
 
+class Refused(Exception):
+    """The card's `status` is another than 9000. The text is its digits and what it means."""
+
+    def __init__(self, status: Status) -> None:
+        super().__init__(status)
+        self.status = status
+
+    def __str__(self) -> str:
+        return f"{self.status:04X} {self.status.text}"
+
+
 class Answer(NamedTuple):
-    """The status of a card, and its data. A status that refuses a command is an answer too.
+    """The status of a card, and its data. A status that refuses a command is an answer too. Its
+    `repr` hides the data.
 
     >>> from galliumtoad import Answer, Status
-    >>> Answer(Status(0x9000), bytes.fromhex("5F20034A4F45")).object(0x5F20).value
-    b'JOE'
+    >>> answer = Answer(Status(0x9000), bytes.fromhex("5F20034A4F45"))
+    >>> answer, answer.raise_for_status().object(0x5F20).value
+    (Answer(status=Status(0x9000), data=<6 bytes>), b'JOE')
     """
 
     status: Status
     data: bytes
+
+    def raise_for_status(self) -> "Answer":
+        """Returns the answer if its status is 9000. Raises `Refused` for every other status."""
+        if not self.status.is_ok:
+            raise Refused(self.status)
+        return self
 
     def object(self, tag: int) -> Optional[Object]:
         """Returns the object if the data are exactly one, with this tag; else None. Some cards
@@ -135,16 +158,37 @@ class Answer(NamedTuple):
         is_it = lib.gt_is_object(*readable(self.data), tag_number(tag))
         return find(self.data, tag) if is_it else None
 
+    def __repr__(self) -> str:
+        return f"Answer(status={self.status!r}, data=<{len(self.data)} bytes>)"
 
+
+class Edc(enum.IntEnum):
+    """The error detection code of blocks at T=1, by the number of its bytes."""
+
+    RESERVED, LRC, CRC = range(3)
+
+
+class AtrT1(NamedTuple):
+    """What an answer to reset says of T=1, by the first TA, TB and TC for T=1 from TA3, TB3 and TC3
+    on: the fields of `gt_atr_t1` in the header."""
+
+    ifsc: int
+    edc: Edc
+    bwi: int
+    cwi: int
+    cwt_etu: int
+    bwt_etu: int
+    bgt_etu: int
+    bwt_cycles: int
+
+
+@dataclass(frozen=True, init=False)
 class Atr:
     """What an answer to reset says (ISO/IEC 7816-3, clause 8): the fields of `gt_atr` in the
-    header, as attributes. For a missing character the standard's default holds. A reserved code
-    gives 0.
+    header. For a missing character the standard's default holds. A reserved code gives 0.
+    `protocols` are in the order offered. `historical` has the bytes, not their place.
 
-    `protocols` is a tuple, in the order offered. `historical` has the historical bytes. `t1` has
-    the values for T=1: `ifsc`, `edc` and the times. They are by the first TA, TB and TC for T=1
-    from TA3, TB3 and TC3 on. Raises `AtrError` with the place of the first fault if the bytes are
-    not an answer to reset.
+    Raises `AtrError` with the place of the first fault if the bytes are not an answer to reset.
 
     >>> from galliumtoad import Atr
     >>> Atr(bytes.fromhex("3B0214"))
@@ -155,22 +199,45 @@ class Atr:
     ((0,), 372, 1, '144e')
     """
 
+    length: int
+    historical: bytes
+    historical_count: int
+    category: int
+    convention: int
+    protocol_count: int
+    protocols: tuple[int, ...]
+    names_15: bool
+    rate_code: int
+    di: int
+    extra_guard_time: int
+    waiting_integer: int
+    specific: bool
+    specific_t: int
+    can_change: bool
+    implicit: bool
+    clock_stop: int
+    classes: int
+    fi: int
+    max_khz: int
+    guard_etu: int
+    guard_etu_t1: int
+    guard_indicated: int
+    waiting_time: int
+    t1: AtrT1
+
     def __init__(self, data: Bytes) -> None:
         atr, place = ffi.new("gt_atr *"), ffi.new("size_t *")
         checked(lib.gt_atr_read(*readable(data), atr, place), place)
-        self.__dict__.update(_fields(atr[0]))
-        self.protocols = tuple(atr.protocols[0 : atr.protocol_count])
-        self.historical = bytes(data)[atr.historical :][: atr.historical_count]
-
-    def __getattr__(self, name: str) -> Any:
-        raise AttributeError(f"an answer to reset has no {name}")
+        start, count = atr.historical, atr.historical_count
+        vars(self).update(_numbers(Atr, atr), historical=bytes(data)[start : start + count])
+        protocols = tuple(atr.protocols[0 : atr.protocol_count])
+        vars(self).update(protocols=protocols, t1=AtrT1(**_numbers(AtrT1, atr.t1)))
 
 
-def _fields(record: Any) -> dict[str, Any]:
-    """Returns the fields of a record of the library. A record in it becomes a namespace."""
-    found = {name: getattr(record, name) for name, _ in ffi.typeof(record).fields}
-    inner = {name for name, it in ffi.typeof(record).fields if it.type.kind == "struct"}
-    return {**found, **{name: SimpleNamespace(**_fields(found[name])) for name in inner}}
+def _numbers(kind: Any, record: Any) -> dict[str, Any]:
+    """Returns the numbers of a record of the library, each of the type of its field."""
+    types = {name: it for name, it in kind.__annotations__.items() if it in (int, bool, Edc)}
+    return {name: it(getattr(record, name)) for name, it in types.items()}
 
 
 class Pps:

@@ -1,18 +1,40 @@
 """The exceptions that calls of the library raise: one class for each kind of code."""
 
+import enum
 from typing import Any, Collection, Optional
 
 from ._library import ffi, lib
 
-_NAMES = {getattr(lib, it): it for it in dir(lib) if isinstance(getattr(lib, it), int)}
+
+class Code(enum.IntEnum):
+    """Why a call failed: the codes of `galliumtoad.h` below 0, without GT_ in front."""
+
+    NULL, EMPTY, STATE, MEMORY, ARGUMENT, BUFFER = range(-1, -7, -1)
+    BUSY, NOT_FOUND, FAILED, PLANS = range(-7, -11, -1)
+    APP_TWICE, TOO_MANY_APPS, NO_APP, VALUE_TOO_LONG, NOT_OBJECTS, TABLE_FULL = range(-20, -26, -1)
+    NOT_LISTENING, BAD_PROCEDURE, TOO_LONG, STALLED, AFTER_END = range(-30, -35, -1)
+    TAG_CUT, TAG_FORM, LENGTH_CUT, LENGTH_FORM, VALUE_CUT, TOO_DEEP = range(-40, -46, -1)
+    TOO_SHORT, BAD_LENGTH, INVALID_INS = range(-50, -53, -1)
+    NOT_DUE, NO_STATUS, NOT_ASKED, TOO_MANY, NO_TPDU, WANTS_DATA, SENDS_DATA = range(-60, -67, -1)
+    ATR_NO_TS, ATR_CUT, ATR_TOO_LONG, ATR_ORDER, ATR_SURPLUS = range(-70, -75, -1)
+    ATR_CHECK_MISSING, ATR_CHECK_NOT_DUE, ATR_CHECK_WRONG = range(-75, -78, -1)
+    PPS_NO_PPSS, PPS_CUT, PPS_RESERVED, PPS_SURPLUS, PPS_CHECK_WRONG = range(-80, -85, -1)
+    TRIES_SPENT, EXTENSIONS_SPENT, ABORTED = range(-90, -93, -1)
+
+
+class Outcome(enum.IntEnum):
+    """Whether a card carried out the command at which an end at T=1 gave up. With IN_PART it did,
+    and only a part of the response arrived."""
+
+    NOT_CARRIED_OUT, UNKNOWN, IN_PART = range(3)
 
 
 class Error(Exception):
     """The library refused a call. The text is the library's.
 
-    `code` is the number in `galliumtoad.h`, below 0; `name` is its name there. `place` is the
-    index of the faulty byte, from 0, or None if the call has no such place. For data objects it is
-    the first byte of the innermost object at fault.
+    `code` is a `Code`, and `name` its name in `galliumtoad.h`. `place` is the index of the faulty
+    byte, from 0, or None if the call has no such place. For data objects it is the first byte of
+    the innermost object at fault.
 
     >>> import galliumtoad
     >>> try:
@@ -25,7 +47,11 @@ class Error(Exception):
     def __init__(self, code: int, place: Optional[int] = None) -> None:
         text = ffi.string(lib.gt_text(code)).decode()
         super().__init__(text if place is None else f"{text} at byte {place}")
-        self.code, self.name, self.place = code, _NAMES.get(code, "unknown"), place
+        self.code, self.place = Code(code), place
+        self.name = f"GT_{self.code.name}"
+
+    def __reduce__(self) -> tuple[Any, ...]:  # for pickle and copy, which would pass the text alone
+        return type(self), (self.code, self.place), vars(self)
 
 
 class CallError(Error):
@@ -79,13 +105,11 @@ class PpsError(Error):
 
 
 class BlockError(Error):
-    """A terminal's end at T=1 gave up. `outcome` is whether the card carried out the command: `no`,
-    `unknown`, or `in part` if it did and only a part of the response arrived."""
+    """A terminal's end at T=1 gave up. `outcome` is an `Outcome`."""
 
     def __init__(self, code: int, outcome: Optional[int] = None) -> None:
         super().__init__(code)
-        names = {lib.GT_NOT_CARRIED_OUT: "no", lib.GT_UNKNOWN: "unknown", lib.GT_IN_PART: "in part"}
-        self.outcome = names.get(outcome)
+        self.outcome = Outcome.UNKNOWN if outcome is None else Outcome(outcome)
 
 
 # The header numbers its codes by kind, ten for each, in the order above; CallError has twenty.

@@ -5,47 +5,58 @@ from dataclasses import dataclass, field
 from typing import Any, Callable, NamedTuple, Optional, Protocol, Union
 
 from ._library import ffi, lib
-from .answers import Answer, Status
+from .answers import Answer, Edc, Status
 from .errors import BlockError
 from .handle import Bytes, Handle, Lasting, copied, readable, tag_number, within, writable
 
 Line = Callable[[bytes, int], Bytes]
 
 
-class Level(enum.Enum):
+class Level(enum.IntEnum):
     """What a transport carries: whole TPDUs, as PC/SC does at T=0, or whole commands, as at T=1 or
     without contacts."""
 
-    TPDU = "tpdu"
-    APDU = "apdu"
+    TPDU, APDU = range(2)
 
 
 class Transport(Protocol):
-    """Any callable that carries bytes to a card and returns the card's data and SW1 SW2.
+    """Carries bytes to a card, at its `level`, and returns the card's data and SW1 SW2. If it
+    raises, `Terminal.run` ends with that, and sends nothing again."""
 
-    Its attribute `level` is a `Level`. Any other value, or no attribute, means TPDUs. It may raise:
-    then `Terminal.run` ends with that, and sends nothing again.
-    """
+    @property
+    def level(self) -> Level: ...
 
     def __call__(self, data: bytes, /) -> Bytes: ...
 
 
+class Function(Protocol):
+    """A function or a method, as a transport of whole TPDUs."""
+
+    __name__: str
+
+    def __call__(self, data: bytes, /) -> Bytes: ...
+
+
+class Operation:
+    """What a terminal carries out: a `Select`, `Get`, `Put` or `Send`."""
+
+
 @dataclass(frozen=True)
-class Select:
+class Select(Operation):
     """Selects the application with this identifier, of 5 to 16 bytes."""
 
     aid: Bytes
 
 
 @dataclass(frozen=True)
-class Get:
+class Get(Operation):
     """Reads the data object with this tag. The answer's data are its tag, length and value."""
 
     tag: int
 
 
 @dataclass(frozen=True)
-class Put:
+class Put(Operation):
     """Stores a value under a tag, in a chain of commands of at most 255 bytes of data each. It
     stops at the first status other than 9000."""
 
@@ -54,14 +65,11 @@ class Put:
 
 
 @dataclass(frozen=True)
-class Send:
+class Send(Operation):
     """Sends one command, and fetches as much of the response as its Le asks for: all with Le 00,
     and none without Le."""
 
     command: Bytes = field(repr=False)
-
-
-Operation = Union[Select, Get, Put, Send]
 
 
 def call_of(operation: Operation) -> list[Any]:
@@ -77,10 +85,13 @@ def call_of(operation: Operation) -> list[Any]:
 
 class Due(NamedTuple):
     """What goes to the card now, and the most bytes of data that may come back, 0 to 256, before
-    SW1 SW2."""
+    SW1 SW2. Its `repr` hides the data."""
 
     data: bytes
     most: int
+
+    def __repr__(self) -> str:
+        return f"Due(data=<{len(self.data)} bytes>, most={self.most})"
 
 
 class Machine(Handle):
@@ -194,7 +205,7 @@ class Exchange(Machine):
     ...         while (due := exchange.tpdu()) is not None:
     ...             exchange.answered(card.tpdu(due.data))
     ...         print(exchange.answer())
-    Answer(status=Status(0x9000), data=b'o\\x07\\x84\\x05\\x00\\x00\\x00\\x00\\x00')
+    Answer(status=Status(0x9000), data=<9 bytes>)
     """
 
     def __init__(self, command: Bytes, limit: int = lib.GT_RESPONSE_LIMIT) -> None:
@@ -242,27 +253,28 @@ class Terminal(Machine, Lasting):
         """
         self._call(*call_of(operation))
 
-    def run(self, transport: Transport, operation: Operation) -> Answer:
+    def run(self, transport: Union[Transport, Function], operation: Operation) -> Answer:
         """Carries out an operation over a transport, and returns the card's answer.
 
         Errors:
-        - TypeError: the transport is not callable; nothing was sent.
+        - TypeError: the transport is not callable, or its `level` is no `Level`; nothing was sent.
         - as `begin`: nothing was sent.
         - what the transport raises, or as `answered` and `apdu`: the terminal is reset. What the
           card has done is unknown, so reset it too.
         """
-        if not callable(transport):
-            raise TypeError("the transport is not callable")
+        level = getattr(transport, "level", Level.TPDU if hasattr(transport, "__name__") else None)
+        if not (callable(transport) and isinstance(level, Level)):
+            raise TypeError("the transport is not callable, or its `level` is no Level")
         self.begin(operation)
-        is_whole = getattr(transport, "level", Level.TPDU) is Level.APDU
+        is_whole = level is Level.APDU
         due, take = (self.apdu, self.responded) if is_whole else (self.tpdu, self.answered)
         try:
             while (asked := due()) is not None:
                 take(transport(asked.data))
+            answer = self.answer()
         except BaseException:
             self.reset()
             raise
-        answer = self.answer()
         assert answer is not None, "an operation with nothing due has ended"
         return answer
 
@@ -291,13 +303,13 @@ class T1(Lasting):
     ...     try:
     ...         no_card(bytes.fromhex("00CA005000"))
     ...     except BlockError as error:
-    ...         print(f"{error}: carried out: {error.outcome}")
-    too many tries without progress: carried out: unknown
+    ...         print(f"{error}: {error.outcome.name}")
+    too many tries without progress: UNKNOWN
     """
 
     level = Level.APDU
 
-    def __init__(self, line: Line, edc: int = lib.GT_LRC, ifsc: int = 32) -> None:
+    def __init__(self, line: Line, edc: int = Edc.LRC, ifsc: int = 32) -> None:
         if not callable(line):
             raise TypeError("the line is not callable")
         self.line, limits = line, (lib.GT_T1_TRIES, lib.GT_T1_EXTENSIONS, lib.GT_ANSWER_LIMIT)

@@ -1,0 +1,26 @@
+"""The programs of the package: `python3 -m galliumtoad PROGRAM ..`."""
+
+import argparse
+import importlib
+import sys
+from typing import Optional
+
+from . import __version__
+
+# Each is a module with a function `main`, which takes words and returns an exit status.
+PROGRAMS = {"batch": "personalises cards by the hundred; needs pyscard (the extra `pcsc`)"}
+
+
+def main(words: Optional[list[str]] = None) -> int:
+    """Runs a program, or prints the help. Returns the exit status."""
+    parser = argparse.ArgumentParser("galliumtoad", description="Both ends of a smart card.")
+    parser.add_argument("--version", action="version", version=f"%(prog)s {__version__}")
+    listed = "; ".join(f"{name}: {what}" for name, what in PROGRAMS.items())
+    parser.add_argument("program", choices=PROGRAMS, metavar="PROGRAM", help=listed)
+    parser.add_argument("words", nargs=argparse.REMAINDER, metavar="..", help="its words")
+    given = parser.parse_args((sys.argv[1:] if words is None else words) or ["--help"])
+    return int(importlib.import_module(f"galliumtoad.{given.program}").main(given.words))
+
+
+if __name__ == "__main__":
+    sys.exit(main())

@@ -178,7 +178,10 @@ fn a_library_of_another_version_is_refused() {
     const CALL: &str = "GALLIUMTOAD_FIRST_CALL";
     if let Ok(name) = std::env::var(CALL) {
         let call = first.iter().find(|(it, _)| *it == name);
-        return call.expect("a call").1();
+        let call = call.expect("a call").1;
+        // the second is refused as the first
+        let _ = std::panic::catch_unwind(call);
+        return call();
     }
     let own = std::env::current_exe().expect("this program");
     let numbers = [OWN, OWN + 1, OWN + 0x010000, 0x0F00];

@@ -45,13 +45,16 @@ thread_local! {
     static TAKEN: Cell<isize> = const { Cell::new(0) };
     /// Blocks of this size or more are refused.
     static MOST: Cell<usize> = const { Cell::new(usize::MAX) };
+    /// After this number of blocks the next is refused.
+    static LEFT: Cell<usize> = const { Cell::new(usize::MAX) };
 }
 
 struct Looking;
 
 unsafe impl GlobalAlloc for Looking {
     unsafe fn alloc(&self, layout: Layout) -> *mut u8 {
-        if layout.size() >= MOST.with(Cell::get) {
+        let left = LEFT.with(|it| it.replace(it.get().wrapping_sub(1)));
+        if layout.size() >= MOST.with(Cell::get) || left == 0 {
             return null_mut();
         }
         TAKEN.with(|it| it.set(it.get() + layout.size() as isize));
@@ -484,6 +487,14 @@ fn without<T>(size: usize, run: impl FnOnce() -> T) -> T {
     made
 }
 
+/// Runs `run` while there is this number of blocks, and no further one.
+fn with_blocks<T>(count: usize, run: impl FnOnce() -> T) -> T {
+    LEFT.with(|it| it.set(count));
+    let made = run();
+    LEFT.with(|it| it.set(usize::MAX));
+    made
+}
+
 /// An answer without memory for its data is an error that says so, and stays: the operation was
 /// carried out.
 #[test]
@@ -534,6 +545,7 @@ fn an_answer_without_memory_stays() {
     assert_eq!(session.get(0x5F20).expect("an answer").data, object);
     // GET DATA, 256 bytes and 6131, GET RESPONSE, 49 bytes and 9000: two bytes of memory for each
     assert_eq!(without(642, || session.heard()), Err(Error::Buffer));
+    assert_eq!(with_blocks(1, || session.heard()), Err(Error::Buffer));
     assert_eq!(
         session.heard().expect("memory").len(),
         5 + 1 + 256 + 2 + 5 + 1 + 49 + 2
@@ -562,6 +574,10 @@ fn without_memory_nothing_is_done() {
     assert_eq!(encode(0x5F20, &[&value]).map(|it| it.len()), Ok(305));
     let list = Objects::over(b"\x70\x02\x50\x00").expect("objects").next();
     let children = list.expect("one");
-    let found = without(1, || children.children().map(|it| it.count()));
-    assert_eq!(found, Err(ObjectsError::Memory));
+    for blocks in [0, 1] {
+        let found = with_blocks(blocks, || children.children().map(|it| it.count()));
+        assert_eq!(found, Err(ObjectsError::Memory));
+    }
+    let found = with_blocks(2, || children.children().map(|it| it.count()));
+    assert_eq!(found, Ok(1));
 }

@@ -28,6 +28,10 @@ fn main() {
     } else {
         here.join("../lib")
     };
+    if here.join("Cargo.toml.orig").is_file() && !archives.is_dir() {
+        eprintln!("a package by `cargo package` has no archives: make it by bindings/package");
+        exit(1);
+    }
     if !link(&archives.join(target()), "card_c") {
         return link_nothing();
     }
@@ -36,13 +40,15 @@ fn main() {
     }
 }
 
-/// The target, as the archives' folders name it. For Linux only the processor counts, since an
-/// archive uses only functions of the C library that copy and set memory. No archive is for
-/// big-endian processors or pointers of another width than 64 bits.
+/// The target, as the archives' folders name it. For Linux, and without a system, the processor
+/// alone counts: an archive uses only functions that copy and set memory, which Rust has too. No
+/// archive is for big-endian processors or pointers of another width than 64 bits.
 fn target() -> String {
     let of = |name: &str| env::var(format!("CARGO_CFG_TARGET_{name}")).unwrap_or_default();
     match (of("OS"), of("POINTER_WIDTH"), of("ENDIAN")) {
-        (os, width, endian) if (&*os, &*width, &*endian) == ("linux", "64", "little") => {
+        (os, width, endian)
+            if matches!(&*os, "linux" | "none") && (&*width, &*endian) == ("64", "little") =>
+        {
             format!("{}-linux-gnu", of("ARCH"))
         }
         (os, width, endian) => format!("{}-{os}-{width}-{endian}", of("ARCH")),

@@ -112,16 +112,7 @@ impl Way {
 }
 
 fn by_session(session: &mut Session, operation: Operation<'_>) -> Vec<u8> {
-    let answer = match operation {
-        Operation::Select(aid) => session.select(aid),
-        Operation::Get(tag) => session.get(tag),
-        Operation::Put(tag, value) => {
-            assert!(session.put(tag, value).expect("an operation").is_ok());
-            return Vec::new();
-        }
-        Operation::Send(command) => session.send(command),
-    }
-    .expect("an operation");
+    let answer = session.run(operation).expect("an operation");
     assert!(answer.status.is_ok());
     answer.data
 }
@@ -144,7 +135,7 @@ fn by_buffers(terminal: &mut Terminal, card: &mut Card) {
 
 fn by_characters(terminal: &mut Terminal, card: &mut Card) {
     loop {
-        match terminal.next().expect("an operation") {
+        match terminal.turn().expect("an operation") {
             Turn::Sends(byte) => card.take(byte).expect("the card listens"),
             Turn::Listens => match card.turn().expect("the card sends") {
                 Turn::Sends(byte) => terminal.take(byte).expect("the terminal listens"),

@@ -2,8 +2,8 @@
 
 use crate::error::codes;
 use crate::{raw, version};
-use std::error;
-use std::fmt;
+use core::fmt;
+use core::time::Duration;
 
 /// The most bytes of an answer to reset.
 pub const ATR_LIMIT: usize = 33;
@@ -51,8 +51,6 @@ impl fmt::Display for AtrError {
         write!(f, "{} at {}", self.reason, self.place)
     }
 }
-
-impl error::Error for AtrError {}
 
 /// How the line shows the bits of a character (8.1).
 #[derive(Clone, Copy, Debug, PartialEq, Eq, Hash)]
@@ -134,6 +132,7 @@ pub struct GuardTime {
 
 /// The error detection code of blocks of T=1 (clause 11).
 #[derive(Clone, Copy, Debug, PartialEq, Eq, Hash)]
+#[non_exhaustive]
 pub enum Edc {
     /// One byte: the exclusive-or of all others of the block.
     Lrc,
@@ -150,6 +149,27 @@ pub struct BlockWaitingTime {
     pub etu: u16,
     /// The clock cycles in addition: 2^BWI * 960 * 372.
     pub cycles: u64,
+}
+
+/// The times of a line, rounded up to nanoseconds. A reserved code gives `None`.
+#[derive(Clone, Copy, Debug, PartialEq, Eq, Hash)]
+#[non_exhaustive]
+pub struct Waits {
+    /// WT of T=0: the most from one character to the next.
+    pub character: Option<Duration>,
+    /// Those of T=1.
+    pub t1: Option<T1Waits>,
+}
+
+/// The times of a line at T=1; [`Atr`] says what each is.
+#[derive(Clone, Copy, Debug, PartialEq, Eq, Hash)]
+pub struct T1Waits {
+    /// BWT.
+    pub block: Duration,
+    /// CWT.
+    pub character: Duration,
+    /// BGT.
+    pub guard: Duration,
 }
 
 /// What an answer to reset says. For a missing character the standard's default holds (8.2 and 8.3;
@@ -293,6 +313,40 @@ impl<'a> Atr<'a> {
             etu: if protocol == 1 { etu_t1 } else { etu },
             indicated,
         }
+    }
+}
+
+impl Atr<'_> {
+    /// Returns the times of the line without a PPS, at a clock of this frequency in Hz. `None` if
+    /// it is 0, or if the rate is reserved or not stated.
+    #[must_use]
+    pub fn waits(&self, clock: u32) -> Option<Waits> {
+        match self.mode {
+            Mode::Negotiable => self.waits_at(clock, 0x11),
+            Mode::Specific { is_implicit, .. } if is_implicit => None,
+            Mode::Specific { .. } => self.waits_at(clock, self.rate_code),
+        }
+    }
+
+    /// The same after a PPS that has agreed on this PPS1.
+    #[must_use]
+    pub fn waits_at(&self, clock: u32, pps1: u8) -> Option<Waits> {
+        let at = [0x3B, 0x10, pps1];
+        let at = Atr::read(&at).ok()?;
+        let (fi, di) = (u64::from(at.fi?), u64::from(at.di?));
+        let clock = Some(u64::from(clock)).filter(|&it| it > 0)?;
+        // no more than 255 * 960 * 2048 cycles, so this fits
+        let nanos = |cycles: u64, clock: u64| (cycles * 1_000_000_000 + clock - 1) / clock;
+        let lasting = |etu: u16, cycles: u64| {
+            Duration::from_nanos(nanos(u64::from(etu) * fi, di * clock) + nanos(cycles, clock))
+        };
+        let t1 = self.block_waiting_time.map(|it| T1Waits {
+            block: lasting(it.etu, it.cycles),
+            character: lasting(self.character_waiting_time, 0),
+            guard: lasting(self.block_guard_time, 0),
+        });
+        let character = self.waiting_time.map(|it| lasting(0, it.into()));
+        Some(Waits { character, t1 })
     }
 }
 

@@ -2,11 +2,8 @@
 
 use crate::card::Card;
 use crate::error::{done, told, Error};
-use crate::exchange::Exchange;
 use crate::raw::{self, Handle, Held};
-use crate::terminal::Terminal;
-use std::error;
-use std::fmt;
+use core::fmt;
 
 /// What an end has handed out into a buffer.
 #[derive(Clone, Copy, Debug, PartialEq, Eq, Hash)]
@@ -46,91 +43,6 @@ impl fmt::Display for ReceiveError {
     }
 }
 
-/// It has no source: its text is that of the fault, with the place.
-impl error::Error for ReceiveError {}
-
-impl Exchange {
-    /// Hands out what the terminal sends now, as [`next`](Exchange::next) one at a time, as many
-    /// characters as `room` has place for. An empty `room` gives [`Stop::Full`], also if the
-    /// exchange has ended or failed.
-    ///
-    /// # Errors
-    ///
-    /// - [`Error::Failed`]: it has failed for good, and `room` is not empty. Nothing is handed out.
-    /// - [`Error::State`]: it goes by whole commands. Nothing is handed out.
-    #[inline]
-    pub fn send_bytes(&mut self, room: &mut [u8]) -> Result<Sent, Error> {
-        send(&self.0, raw::galliumtoad_exchange_send_bytes, room)
-    }
-
-    /// Takes characters of the card, as [`take`](Exchange::take) one at a time, up to the first
-    /// fault.
-    ///
-    /// # Errors
-    ///
-    /// - [`ReceiveError`]: the first fault of a character, with the state that [`take`] leaves.
-    ///   Those before it are taken.
-    ///
-    /// [`take`]: Exchange::take
-    #[inline]
-    pub fn receive_bytes(&mut self, bytes: &[u8]) -> Result<(), ReceiveError> {
-        receive(&self.0, raw::galliumtoad_exchange_receive_bytes, bytes)
-    }
-}
-
-impl Terminal {
-    /// Hands out what the terminal sends now, as [`next`](Terminal::next) one at a time, as many
-    /// characters as `room` has place for. It goes from one command of the operation to the next.
-    ///
-    /// ```
-    /// use galliumtoad::{CardBuilder, Operation, Stop, Terminal};
-    ///
-    /// let aid = [0xA0, 0x00, 0x00, 0x00, 0x03, 0x10, 0x10];
-    /// let mut builder = CardBuilder::new()?;
-    /// builder.app(&aid)?;
-    /// let mut card = builder.finish()?;
-    ///
-    /// let mut terminal = Terminal::new()?;
-    /// let mut room = [0; 300]; // more than either end sends at once
-    /// terminal.begin(Operation::Select(&aid))?;
-    /// loop {
-    ///     let sent = terminal.send_bytes(&mut room)?;
-    ///     card.receive_bytes(&room[..sent.count])?;
-    ///     if sent.stop == Stop::Done {
-    ///         break;
-    ///     }
-    ///     let sent = card.send_bytes(&mut room)?;
-    ///     terminal.receive_bytes(&room[..sent.count])?;
-    /// }
-    /// assert_eq!(terminal.answer().unwrap().status, 0x9000);
-    /// # Ok::<(), Box<dyn std::error::Error>>(())
-    /// ```
-    ///
-    /// # Errors
-    ///
-    /// - [`Error::State`]: no operation has begun, or it goes by whole commands. Nothing is handed
-    ///   out.
-    /// - [`Error::Failed`]: it has failed for good, and `room` is not empty. Nothing is handed out.
-    #[inline]
-    pub fn send_bytes(&mut self, room: &mut [u8]) -> Result<Sent, Error> {
-        send(&self.0, raw::galliumtoad_terminal_send_bytes, room)
-    }
-
-    /// Takes characters of the card, as [`take`](Terminal::take) one at a time, up to the first
-    /// fault.
-    ///
-    /// # Errors
-    ///
-    /// - [`ReceiveError`]: the first fault of a character, with the state that [`take`] leaves.
-    ///   Those before it are taken.
-    ///
-    /// [`take`]: Terminal::take
-    #[inline]
-    pub fn receive_bytes(&mut self, bytes: &[u8]) -> Result<(), ReceiveError> {
-        receive(&self.0, raw::galliumtoad_terminal_receive_bytes, bytes)
-    }
-}
-
 impl Card {
     /// Hands out what the card sends now, as [`turn`](Card::turn) one at a time, as many characters
     /// as `room` has place for. It never stops with [`Stop::Done`].
@@ -160,7 +72,7 @@ type Sends = unsafe extern "C" fn(*mut Held, *mut u8, usize, *mut usize) -> i32;
 type Receives = unsafe extern "C" fn(*mut Held, *const u8, usize, *mut usize) -> i32;
 
 /// What an end hands out; the handle is of the function's kind.
-fn send(handle: &Handle, sends: Sends, room: &mut [u8]) -> Result<Sent, Error> {
+pub(crate) fn send(handle: &Handle, sends: Sends, room: &mut [u8]) -> Result<Sent, Error> {
     let mut count = 0;
     // SAFETY: a handle of this crate; a slice with its length, and `count`, which are apart.
     let code = unsafe { sends(handle.at(), room.as_mut_ptr(), room.len(), &mut count) };
@@ -173,7 +85,11 @@ fn send(handle: &Handle, sends: Sends, room: &mut [u8]) -> Result<Sent, Error> {
 }
 
 /// What an end takes; the handle is of the function's kind.
-fn receive(handle: &Handle, receives: Receives, bytes: &[u8]) -> Result<(), ReceiveError> {
+pub(crate) fn receive(
+    handle: &Handle,
+    receives: Receives,
+    bytes: &[u8],
+) -> Result<(), ReceiveError> {
     let mut taken = 0;
     // SAFETY: a handle of this crate; a slice with its length, and `taken`, which are apart.
     let code = unsafe { receives(handle.at(), bytes.as_ptr(), bytes.len(), &mut taken) };

@@ -4,7 +4,8 @@ use crate::error::{done, told, Error};
 use crate::exchange::{turn, Turn};
 use crate::raw::{self, Handle};
 use crate::tables::{Tables, OF_CARD};
-use std::fmt;
+use alloc::vec::Vec;
+use core::fmt;
 
 /// The most bytes of a value on a card.
 pub const VALUE_LIMIT: usize = 8_192;
@@ -33,7 +34,9 @@ pub const PLANS_LIMIT: usize = 1_048_576;
 #[derive(Clone, PartialEq, Eq, Hash)]
 #[non_exhaustive]
 pub struct Entry {
+    /// The tag as a number, as `0x5F20`.
     pub tag: u32,
+    /// The value, without tag and length.
     pub value: Vec<u8>,
     /// Whether no command changes it.
     pub is_locked: bool,
@@ -71,7 +74,7 @@ pub struct CardBuilder(Owned);
 /// select.extend(aid);
 /// let mut terminal = Exchange::start(&select)?;
 /// loop {
-///     match terminal.next()? {
+///     match terminal.turn()? {
 ///         Turn::Sends(byte) => card.take(byte)?,
 ///         Turn::Listens => match card.turn()? {
 ///             Turn::Sends(byte) => terminal.take(byte)?,
@@ -242,6 +245,13 @@ impl Card {
     /// Returns the identifiers of the applications, in the order of building.
     pub fn apps(&self) -> impl Iterator<Item = Vec<u8>> + '_ {
         Tables(&self.0 .0, &OF_CARD).apps()
+    }
+
+    /// Returns the place of the application with this identifier, from 0, for
+    /// [`entries`](Card::entries).
+    #[must_use]
+    pub fn place_of(&self, aid: &[u8]) -> Option<usize> {
+        self.apps().position(|it| it == aid)
     }
 
     /// Returns the data objects of the application at this place, from 0, in order of first

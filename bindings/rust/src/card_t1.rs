@@ -3,7 +3,7 @@
 use crate::card::Card;
 use crate::error::{done, told, Error};
 use crate::raw;
-use crate::t1::{Received, BLOCK_LIMIT};
+use crate::t1::Received;
 
 /// A card's end of a line at T=1. It answers each block of a terminal with one block, and carries
 /// out each command as [`Card::apdu`]. The response to other bytes than a short command is `6700`,
@@ -89,13 +89,17 @@ impl CardT1 {
     }
 
     /// Copies the block to send now to the front of `room`, and returns its length, 4 to
-    /// [`BLOCK_LIMIT`]. Returns `None` if the terminal sent no block, or if memory ran out at its
-    /// last one. Each further call gives the same block, until the next one of the terminal.
+    /// [`BLOCK_LIMIT`](crate::BLOCK_LIMIT). Returns `None` if the terminal sent no block, or if
+    /// memory ran out at its last one. Each further call gives the same block, until the next one
+    /// of the terminal.
     ///
     /// # Errors
     ///
-    /// - [`Error::Memory`]: memory ran out. Nothing changes.
-    pub fn block_into(&self, room: &mut [u8; BLOCK_LIMIT]) -> Result<Option<usize>, Error> {
+    /// After both nothing has changed.
+    ///
+    /// - [`Error::Memory`]: memory ran out.
+    /// - [`Error::Buffer`]: `room` is too short.
+    pub fn block_into(&self, room: &mut [u8]) -> Result<Option<usize>, Error> {
         let (at, n) = (self.0 .0 .0.at(), room.len());
         let mut count = 0;
         // SAFETY: a card's handle; `room` with its length and `count` are apart.

@@ -1,7 +1,5 @@
 //! Why a call was refused, and the codes of `galliumtoad.h`.
 
-use std::error;
-
 /// Declares the codes of one kind of fault, each with its number and its text in the header.
 macro_rules! codes {
     (
@@ -35,8 +33,8 @@ macro_rules! codes {
             }
         }
 
-        impl std::fmt::Display for $name {
-            fn fmt(&self, f: &mut std::fmt::Formatter<'_>) -> std::fmt::Result {
+        impl core::fmt::Display for $name {
+            fn fmt(&self, f: &mut core::fmt::Formatter<'_>) -> core::fmt::Result {
                 match self {
                     $($name::$fault => f.write_str($text),)*
                     $name::Unknown(code) => write!(f, "unknown code {code}"),
@@ -58,7 +56,8 @@ codes! {
         Memory = -4, "out of memory";
         /// An argument is out of its range.
         Argument = -5, "bad argument";
-        /// The caller's buffer is too short, and is unchanged.
+        /// There is too little room for the output: the caller's buffer is too short, and is
+        /// unchanged, or there is no memory for a buffer. The output stays: ask again.
         Buffer = -6, "buffer too short";
         /// A chain is pending at the card.
         Busy = -7, "a chain is pending";
@@ -116,7 +115,25 @@ codes! {
     }
 }
 
-impl error::Error for Error {}
+/// `core` has the trait from Rust 1.81 on, so without `std` no type of this crate has it.
+#[cfg(feature = "std")]
+mod with_std {
+    use std::error::Error;
+
+    macro_rules! errors {
+        ($($name:ident)*) => { $(impl Error for crate::$name {})* };
+    }
+    errors!(Error AtrError ObjectsError PpsError ReceiveError Refused T1Fault);
+
+    impl<E: Error> Error for crate::RunError<E> {
+        fn source(&self) -> Option<&(dyn Error + 'static)> {
+            match self {
+                crate::RunError::Terminal(error) => error.source(),
+                crate::RunError::Transport(error) => error.source(),
+            }
+        }
+    }
+}
 
 /// The result if the code is 0 or above, else the fault.
 #[inline]

@@ -1,10 +1,12 @@
 //! A terminal's exchange of one command.
 
-use crate::error::{done, told, Error};
+use crate::error::{told, Error};
 use crate::objects::{find, Object};
 use crate::raw::{self, Handle, Held};
-use crate::status::Status;
-use std::fmt;
+use crate::status::{Refused, Status};
+use crate::wiped::room_for;
+use alloc::vec::Vec;
+use core::fmt;
 
 /// The most data bytes of an answer, if the caller sets no lower limit.
 pub const RESPONSE_LIMIT: usize = 16_384;
@@ -83,13 +85,25 @@ impl fmt::Debug for Turn {
 /// | `6D00` | INS is not `A4`, `CA`, `DA` or `C0` |
 /// | `6E00` | CLA is not `00` or `10`, nor `80` of a GET DATA |
 #[derive(Clone, PartialEq, Eq, Hash)]
+#[must_use = "the card may have refused"]
 #[non_exhaustive]
 pub struct Answer {
+    /// What the card says of the command.
     pub status: Status,
+    /// The bytes before the status.
     pub data: Vec<u8>,
 }
 
 impl Answer {
+    /// Returns the answer if its status is `9000`.
+    ///
+    /// # Errors
+    ///
+    /// - [`Refused`]: the status is any other, also `61XX` and a warning. The data are dropped.
+    pub fn ok(self) -> Result<Answer, Refused> {
+        self.status.ok().map(|()| self)
+    }
+
     /// Returns the data as one object with this tag, and nothing else: the answer to a get of that
     /// tag. `None` if they are not, or if `tag` is not a tag: then the card has sent something
     /// else, as the value alone.
@@ -110,6 +124,7 @@ impl fmt::Debug for Answer {
 #[derive(Clone, Copy, Debug, PartialEq, Eq, Hash)]
 #[non_exhaustive]
 pub struct Copied {
+    /// What the card says of the command.
     pub status: Status,
     /// The number of data bytes at the front of the buffer. The rest of it is unchanged.
     pub count: usize,
@@ -156,21 +171,24 @@ pub(crate) fn answer_into(
 
 /// An answer that owns its data, in no more memory than they need.
 pub(crate) fn answer(handle: &Handle, copies: Copies) -> Result<Answer, Error> {
-    let (code, asked) = copy(handle, copies, &mut []);
-    let count = if code == raw::BUFFER { asked.count } else { 0 };
-    let mut data = vec![0; count];
-    let status = answer_into(handle, copies, &mut data)?.status;
+    let (code, Copied { status, count }) = copy(handle, copies, &mut []);
+    if code != raw::BUFFER {
+        let data = Vec::new();
+        return told(code).map(|_| Answer { status, data });
+    }
+    let mut data = room_for(count).ok_or(Error::Buffer)?;
+    answer_into(handle, copies, &mut data)?;
     Ok(Answer { status, data })
 }
 
 /// A terminal's exchange of one command with a card, over all its TPDUs (ISO/IEC 7816-3, clause
 /// 12).
 ///
-/// Ask it for its [`next`](Exchange::next) character, send that or wait for one of the card, and
+/// Ask it for its [`turn`](Exchange::turn), send that character or wait for one of the card, and
 /// hand that to [`take`](Exchange::take), until it is done. Or carry whole TPDUs
 /// ([`tpdu`](Exchange::tpdu), [`answered`](Exchange::answered)), or whole commands
-/// ([`apdu_into`](Exchange::apdu_into), [`responded`](Exchange::responded)). Commands don't mix
-/// with the other two.
+/// ([`apdu`](Exchange::apdu), [`responded`](Exchange::responded)). Commands don't mix with the
+/// other two.
 ///
 /// An exchange may be several TPDUs. If the card answers `6CXX` to one that asks for data, it sends
 /// that again with XX, once, unless XX is more than it still wants. If the card answers `61XX`, and
@@ -225,35 +243,6 @@ impl Exchange {
         Ok(exchange)
     }
 
-    /// Returns what the terminal does now. A character that it returns counts as sent: the next
-    /// call returns the next one. Any other result changes nothing.
-    ///
-    /// # Errors
-    ///
-    /// - [`Error::Failed`]: the exchange has failed for good.
-    /// - [`Error::State`]: it goes by whole commands, see [`apdu_into`](Exchange::apdu_into).
-    #[allow(clippy::should_implement_trait)] // no iterator: it may wait, and then continue
-    #[inline]
-    pub fn next(&mut self) -> Result<Turn, Error> {
-        turn(&self.0, raw::galliumtoad_exchange_next)
-    }
-
-    /// Takes a character of the card. If it completes a status, the next TPDU begins, or the
-    /// exchange has ended.
-    ///
-    /// # Errors
-    ///
-    /// - [`Error::BadProcedure`], [`Error::TooLong`], [`Error::Stalled`]: with this character the
-    ///   exchange has failed for good.
-    /// - [`Error::NotListening`]: it has characters to send. Nothing has changed.
-    /// - [`Error::AfterEnd`]: it has ended, or has failed. Nothing has changed.
-    /// - [`Error::State`]: it goes by whole commands. Nothing has changed.
-    #[inline]
-    pub fn take(&mut self, byte: u8) -> Result<(), Error> {
-        // SAFETY: an exchange's handle.
-        done(unsafe { raw::galliumtoad_exchange_take(self.0.at(), byte) })
-    }
-
     /// Returns whether all data of the command have left the terminal. A card may end a TPDU with
     /// any status before it takes the data: then a status `61XX`, `62XX`, `63XX` or `9XXX` is no
     /// success.
@@ -261,24 +250,6 @@ impl Exchange {
     pub fn data_sent(&self) -> DataSent {
         // SAFETY: an exchange's handle.
         DataSent::of(unsafe { raw::galliumtoad_exchange_data_sent(self.0.at()) })
-    }
-
-    /// Returns the answer, as often as it is asked for. `None` if the exchange is in progress or
-    /// has failed.
-    #[must_use]
-    pub fn answer(&self) -> Option<Answer> {
-        answer(&self.0, raw::galliumtoad_exchange_answer).ok()
-    }
-
-    /// Copies the answer, with its data at the front of `room`. This takes no memory, and the data
-    /// are in the caller's buffer alone. [`RESPONSE_LIMIT`] bytes are always enough.
-    ///
-    /// # Errors
-    ///
-    /// - [`Error::State`]: the exchange is in progress or has failed. `room` is unchanged.
-    /// - [`Error::Buffer`]: there are more data than `room` has place for. `room` is unchanged.
-    pub fn answer_into(&self, room: &mut [u8]) -> Result<Copied, Error> {
-        answer_into(&self.0, raw::galliumtoad_exchange_answer, room)
     }
 }
 

@@ -4,12 +4,12 @@
 #![allow(clippy::cast_ptr_alignment)] // blocks and their heads are aligned to `HEAD`
 
 use crate::wiped::wipe_from;
-use std::alloc::{alloc, dealloc, Layout};
-use std::ptr::NonNull;
+use alloc::alloc::{alloc, dealloc, Layout};
+use core::ptr::NonNull;
 
 // Each library of a process has its own functions, since each may have another allocator. They are
 // not exported, so no call of the archive goes to those of another library.
-std::arch::global_asm!(
+core::arch::global_asm!(
     ".hidden rattle_alloc",
     ".hidden rattle_realloc",
     ".hidden rattle_dealloc"

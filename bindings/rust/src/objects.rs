@@ -1,9 +1,10 @@
 //! Data objects in bytes: all of them, the one at a path, and the start of one.
 
 use crate::error::codes;
+use crate::wiped::room_for;
 use crate::{raw, version};
-use std::error;
-use std::fmt;
+use alloc::vec::{self, Vec};
+use core::{fmt, iter, slice};
 
 /// The deepest level of a list of objects.
 pub const LEVELS_LIMIT: u8 = 16;
@@ -26,14 +27,16 @@ codes! {
     }
 }
 
-/// Why [`Objects::over`] or [`find`] has no result.
+/// Why [`Objects::over`], [`find`] or [`encode`] has no result.
 #[derive(Clone, Copy, Debug, PartialEq, Eq, Hash)]
 #[non_exhaustive]
 pub enum ObjectsError {
-    /// Memory ran out. Only [`Objects::over`] returns this.
+    /// Memory ran out.
     Memory,
-    /// A step of the path is not a tag of one to three bytes. Only [`find`] returns this.
+    /// A step of the path is not a tag of one to three bytes, or the tag of [`encode`] is not.
     NoTag,
+    /// The value has more than 65,535 bytes. Only [`encode`] returns this.
+    TooLong,
     /// The bytes are not a list of objects. This is their first fault, from the left.
     #[non_exhaustive]
     Fault {
@@ -56,13 +59,12 @@ impl fmt::Display for ObjectsError {
     fn fmt(&self, f: &mut fmt::Formatter<'_>) -> fmt::Result {
         match self {
             ObjectsError::Memory => f.write_str("out of memory"),
-            ObjectsError::NoTag => f.write_str("a step is not a tag"),
+            ObjectsError::NoTag => f.write_str("not a tag"),
+            ObjectsError::TooLong => f.write_str("value too long"),
             ObjectsError::Fault { place, reason } => write!(f, "{reason} at {place}"),
         }
     }
 }
-
-impl error::Error for ObjectsError {}
 
 /// A data object of a list. `Debug` leaves its value out.
 #[derive(Clone, Copy, PartialEq, Eq, Hash)]
@@ -101,6 +103,23 @@ impl<'a> Object<'a> {
             value: &bytes[told.value..told.value + told.length],
         }
     }
+
+    /// Lists the objects one level below, with places and levels in the same list. It is empty if
+    /// the value is not a list of objects.
+    ///
+    /// # Errors
+    ///
+    /// - [`ObjectsError::Memory`]: it ran out.
+    pub fn children(&self) -> Result<impl Iterator<Item = Object<'a>>, ObjectsError> {
+        let inside = if self.is_constructed { self.value } else { &[] };
+        let (above, start) = (self.level, self.place + self.size - self.value.len());
+        let direct = Objects::over(inside)?.filter(|it| it.level == 1);
+        Ok(direct.map(move |it| Object {
+            level: above + 1,
+            place: start + it.place,
+            ..it
+        }))
+    }
 }
 
 /// All objects of all levels of a list, in the order of their first bytes (EMV Book 3, Annex B). A
@@ -116,30 +135,41 @@ impl<'a> Object<'a> {
 /// # Ok::<(), galliumtoad::ObjectsError>(())
 /// ```
 #[derive(Clone)]
-pub struct Objects<'a> {
-    bytes: &'a [u8],
-    listed: std::vec::IntoIter<raw::Object>,
-}
+pub struct Objects<'a>(vec::IntoIter<Object<'a>>);
 
 impl<'a> Objects<'a> {
-    /// Checks all levels, and lists the objects. Each takes 40 bytes of memory.
+    /// Checks all levels, and lists the objects. Each takes 40 bytes of memory, and 40 more during
+    /// this call.
     ///
     /// # Errors
     ///
     /// - [`ObjectsError::Fault`]: the bytes are not a list of objects; this is their first fault.
     /// - [`ObjectsError::Memory`]: it ran out.
     pub fn over(bytes: &'a [u8]) -> Result<Objects<'a>, ObjectsError> {
-        let (count, mut listed) = (list(bytes, &mut [])?, Vec::new());
+        let count = list(bytes, &mut [])?;
+        let mut told = room_for(count).ok_or(ObjectsError::Memory)?;
+        let mut listed = Vec::new();
         let room = listed.try_reserve_exact(count);
         room.map_err(|_| ObjectsError::Memory)?;
-        listed.resize(count, raw::Object::default());
         if count > 0 {
-            list(bytes, &mut listed)?;
+            list(bytes, &mut told)?;
         }
-        Ok(Objects {
-            bytes,
-            listed: listed.into_iter(),
-        })
+        listed.extend(told.iter().map(|it| Object::of(it, bytes)));
+        Ok(Objects(listed.into_iter()))
+    }
+
+    /// Goes through the objects that are left, which stay.
+    pub fn iter(&self) -> iter::Copied<slice::Iter<'_, Object<'a>>> {
+        self.0.as_slice().iter().copied()
+    }
+}
+
+impl<'l, 'a> IntoIterator for &'l Objects<'a> {
+    type Item = Object<'a>;
+    type IntoIter = iter::Copied<slice::Iter<'l, Object<'a>>>;
+
+    fn into_iter(self) -> Self::IntoIter {
+        self.iter()
     }
 }
 
@@ -167,18 +197,17 @@ impl<'a> Iterator for Objects<'a> {
     type Item = Object<'a>;
 
     fn next(&mut self) -> Option<Object<'a>> {
-        let object = self.listed.next()?;
-        Some(Object::of(&object, self.bytes))
+        self.0.next()
     }
 
     fn size_hint(&self) -> (usize, Option<usize>) {
-        self.listed.size_hint()
+        self.0.size_hint()
     }
 }
 
 impl ExactSizeIterator for Objects<'_> {}
 
-impl std::iter::FusedIterator for Objects<'_> {}
+impl iter::FusedIterator for Objects<'_> {}
 
 /// Finds the object at a path: the first one, in the order of the bytes, whose tags from level 1
 /// down to its own are those of the path. `None` if there is no such object, or the path has no
@@ -224,4 +253,34 @@ pub fn head(tag: u32, length: u16) -> Option<Vec<u8>> {
     let code =
         unsafe { raw::galliumtoad_head(tag, length, bytes.as_mut_ptr(), bytes.len(), &mut n) };
     (code == raw::OK).then(|| bytes[..n].to_vec())
+}
+
+/// Writes one data object, with the length in its shortest form. The parts of its value come one
+/// after another, so those of a template are objects. The caller wipes the bytes.
+///
+/// ```
+/// use galliumtoad::encode;
+///
+/// let name = encode(0x5F20, &[b"JOE"])?;
+/// let record = encode(0x70, &[&encode(0x50, &[b"VISA"])?, &name])?;
+/// assert_eq!(record, b"\x70\x0C\x50\x04VISA\x5F\x20\x03JOE");
+/// # Ok::<(), galliumtoad::ObjectsError>(())
+/// ```
+///
+/// # Errors
+///
+/// - [`ObjectsError::NoTag`]: no tag of one to three bytes has this number.
+/// - [`ObjectsError::TooLong`]: the value has more than 65,535 bytes.
+/// - [`ObjectsError::Memory`]: it ran out.
+/// - [`ObjectsError::Fault`]: the tag is that of a template, and the value is no list of objects.
+pub fn encode(tag: u32, value: &[&[u8]]) -> Result<Vec<u8>, ObjectsError> {
+    let add = |sum: usize, part: &&[u8]| sum.saturating_add(part.len());
+    let length = u16::try_from(value.iter().fold(0, add)).map_err(|_| ObjectsError::TooLong)?;
+    let mut bytes = head(tag, length).ok_or(ObjectsError::NoTag)?;
+    let room = bytes.try_reserve_exact(length.into());
+    room.map_err(|_| ObjectsError::Memory)?;
+    for part in value {
+        bytes.extend_from_slice(part);
+    }
+    list(&bytes, &mut []).map(|_| bytes)
 }

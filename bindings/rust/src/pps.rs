@@ -3,7 +3,7 @@
 
 use crate::error::codes;
 use crate::{raw, version};
-use std::error;
+use alloc::vec::Vec;
 
 /// The most bytes of a PPS request or response.
 pub const PPS_LIMIT: usize = 6;
@@ -53,8 +53,6 @@ codes! {
         CheckWrong = -84, "wrong PCK";
     }
 }
-
-impl error::Error for PpsError {}
 
 impl Pps {
     /// Returns the request's bytes, 3 to 6. `None` if T is above 15. The caller knows whether the

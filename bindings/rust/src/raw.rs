@@ -8,8 +8,8 @@
 //! The last of these holds when a handle's owner is called by `&` or `&mut`, see [`Handle`].
 
 use crate::version;
-use std::cell::UnsafeCell;
-use std::ffi::c_void;
+use core::cell::UnsafeCell;
+use core::ffi::c_void;
 
 /// What C sees of a handle: 16 bytes that only the library reads or writes.
 #[repr(C)]
@@ -21,14 +21,17 @@ pub struct Held {
 
 /// A handle, in a cell, since each function writes to it: it takes out what the handle holds, and
 /// puts it back before it returns. A `&Handle` is enough for a call. A cell is not `Sync`, so no
-/// other thread has one, and no function of the archive calls back. So no two calls have one handle
-/// at once.
+/// other thread has one. The archive calls nothing that could call it again, except the three
+/// functions for memory, and these the program's allocator. An allocator must not call this crate
+/// (README, Memory), and writing one is `unsafe`. So no two calls have one handle at once.
 #[derive(Debug)]
 pub struct Handle(UnsafeCell<Held>);
 
 // SAFETY: it is proved for each kind of handle that it may move to another thread. Whatever moves a
-// Rust value there orders what both threads do with it. The functions for memory are those of a
-// Rust allocator, or of `malloc`, or the program's own, which must allow the same.
+// Rust value there makes all that the first thread did happen before all that the second does. That
+// is enough, because the archive has only plain reads and writes: no atomics, no thread-locals.
+// The header's lock, thread and atomic are three ways to the same order in C. The functions for
+// memory are those of a Rust allocator, or of `malloc`, or the program's own, which must allow it.
 unsafe impl Send for Handle {}
 
 impl Handle {
@@ -41,7 +44,7 @@ impl Handle {
         version::look();
         Handle(UnsafeCell::new(Held {
             live: false,
-            held: std::ptr::null_mut(),
+            held: core::ptr::null_mut(),
         }))
     }
 

@@ -6,12 +6,16 @@ use crate::exchange::{self, Answer, Copied};
 use crate::raw::{self, Handle};
 use crate::status::Status;
 use crate::tables::{Tables, OF_SESSION};
-use crate::wiped::wipe;
+use crate::terminal::Operation;
+use crate::wiped::{room_for, wipe};
+use alloc::vec::Vec;
 
 /// One of the two ends of the line.
 #[derive(Clone, Copy, Debug, PartialEq, Eq, Hash)]
 pub enum End {
+    /// The terminal.
     Terminal,
+    /// The card.
     Card,
 }
 
@@ -88,21 +92,45 @@ impl Session {
         })
     }
 
+    /// Carries out an operation, as [`select`](Session::select), [`get`](Session::get),
+    /// [`put`](Session::put) or [`send`](Session::send) do.
+    ///
+    /// # Errors
+    ///
+    /// As those.
+    pub fn run(&mut self, operation: Operation<'_>) -> Result<Answer, Error> {
+        let s = self.0.at();
+        // SAFETY: a session's handle; each slice has its length.
+        done(unsafe {
+            match operation {
+                Operation::Select(aid) => {
+                    raw::galliumtoad_session_select(s, aid.as_ptr(), aid.len())
+                }
+                Operation::Get(tag) => raw::galliumtoad_session_get(s, tag),
+                Operation::Put(tag, it) => {
+                    raw::galliumtoad_session_put(s, tag, it.as_ptr(), it.len())
+                }
+                Operation::Send(it) => raw::galliumtoad_session_send(s, it.as_ptr(), it.len()),
+            }
+        })?;
+        self.answer()
+    }
+
     /// Selects the application with this identifier, of 5 to 16 bytes. After `6A82` the one before
     /// it stays selected.
     ///
     /// # Errors
     ///
-    /// The first that holds. After each of these nothing was sent, and plans and the last answer
-    /// stay.
+    /// The first that holds. After each but the last nothing was sent, and plans and the last
+    /// answer stay.
     ///
     /// - [`Error::Argument`]: the identifier has another length.
     /// - [`Error::Busy`]: a chain is pending.
     /// - [`Error::Memory`]: it ran out.
+    /// - [`Error::Buffer`]: it was carried out, and there is no memory for the data. The answer
+    ///   stays: ask for [`answer`](Session::answer).
     pub fn select(&mut self, aid: &[u8]) -> Result<Answer, Error> {
-        // SAFETY: a session's handle; a slice with its length.
-        told(unsafe { raw::galliumtoad_session_select(self.0.at(), aid.as_ptr(), aid.len()) })?;
-        self.answer()
+        self.run(Operation::Select(aid))
     }
 
     /// Reads a data object of the selected application: the data are its tag, length and value, at
@@ -114,9 +142,7 @@ impl Session {
     ///   [`CardBuilder::object`](crate::CardBuilder::object). Nothing was sent.
     /// - Any other: as [`Session::select`].
     pub fn get(&mut self, tag: u32) -> Result<Answer, Error> {
-        // SAFETY: a session's handle.
-        told(unsafe { raw::galliumtoad_session_get(self.0.at(), tag) })?;
-        self.answer()
+        self.run(Operation::Get(tag))
     }
 
     /// Stores a value of the selected application, in as many chained commands of up to 255 bytes
@@ -124,13 +150,9 @@ impl Session {
     ///
     /// # Errors
     ///
-    /// As [`Session::get`].
+    /// As [`Session::get`], except [`Error::Buffer`].
     pub fn put(&mut self, tag: u32, value: &[u8]) -> Result<Status, Error> {
-        // SAFETY: a session's handle; a slice with its length.
-        told(unsafe {
-            raw::galliumtoad_session_put(self.0.at(), tag, value.as_ptr(), value.len())
-        })?;
-        Ok(self.answer_into(&mut [])?.status)
+        self.run(Operation::Put(tag, value)).map(|it| it.status)
     }
 
     /// Sends any one command. It may start or continue a chain, and never gets [`Error::Busy`]. The
@@ -138,7 +160,7 @@ impl Session {
     ///
     /// # Errors
     ///
-    /// After each of these nothing was sent.
+    /// After each but the last nothing was sent.
     ///
     /// - [`Error::TooShort`], [`Error::BadLength`], [`Error::InvalidIns`]: the bytes are not a
     ///   command.
@@ -146,12 +168,9 @@ impl Session {
     ///   the command the other way. That is a SELECT or PUT DATA without data and with Le, and a
     ///   GET DATA or GET RESPONSE of any other form.
     /// - [`Error::Memory`]: it ran out.
+    /// - [`Error::Buffer`]: as [`Session::select`].
     pub fn send(&mut self, command: &[u8]) -> Result<Answer, Error> {
-        // SAFETY: a session's handle; a slice with its length.
-        told(unsafe {
-            raw::galliumtoad_session_send(self.0.at(), command.as_ptr(), command.len())
-        })?;
-        self.answer()
+        self.run(Operation::Send(command))
     }
 
     /// Returns the last answer again. It stays until the next operation or command is carried out,
@@ -160,6 +179,7 @@ impl Session {
     /// # Errors
     ///
     /// - [`Error::NotFound`]: there is no answer yet.
+    /// - [`Error::Buffer`]: there is no memory for the data. The answer stays.
     pub fn answer(&self) -> Result<Answer, Error> {
         exchange::answer(&self.0, raw::galliumtoad_session_answer)
     }
@@ -193,8 +213,12 @@ impl Session {
     ///
     /// - [`Error::State`]: nobody [listens](Session::listen).
     /// - [`Error::Memory`]: memory ran out in the operation, so not all were noted.
+    /// - [`Error::Buffer`]: there is no memory for the list. It stays.
     pub fn heard(&self) -> Result<Vec<(End, u8)>, Error> {
-        let mut line = vec![raw::Character::default(); self.hear(&mut [])?];
+        let mut line: Vec<raw::Character> = room_for(self.hear(&mut [])?).ok_or(Error::Buffer)?;
+        let mut heard = Vec::new();
+        let room = heard.try_reserve_exact(line.len());
+        room.map_err(|_| Error::Buffer)?;
         if !line.is_empty() {
             self.hear(&mut line)?;
         }
@@ -202,7 +226,7 @@ impl Session {
             raw::TERMINAL => End::Terminal,
             _ => End::Card,
         };
-        let heard = line.iter().map(|it| (from(it), it.byte)).collect();
+        heard.extend(line.iter().map(|it| (from(it), it.byte)));
         wipe(&mut line);
         Ok(heard)
     }
@@ -240,6 +264,12 @@ impl Session {
     /// Returns the identifiers of the card's applications, as [`Card::apps`].
     pub fn apps(&self) -> impl Iterator<Item = Vec<u8>> + '_ {
         Tables(&self.0, &OF_SESSION).apps()
+    }
+
+    /// Returns the place of an application of the card, as [`Card::place_of`].
+    #[must_use]
+    pub fn place_of(&self, aid: &[u8]) -> Option<usize> {
+        self.apps().position(|it| it == aid)
     }
 
     /// Returns the data objects of an application of the card, as [`Card::entries`].

@@ -1,7 +1,10 @@
 //! A card's status word (ISO/IEC 7816-4, 5.1.3).
 
 use crate::meanings::MEANINGS;
-use std::fmt;
+use alloc::borrow::ToOwned;
+use alloc::format;
+use alloc::string::String;
+use core::fmt;
 
 /// A status word, SW1 and SW2: `0x9000` if the card has carried out the command.
 ///
@@ -14,7 +17,8 @@ use std::fmt;
 /// let shown = format!("{status}: {}", status.text());
 /// assert_eq!(shown, "6982: security status not satisfied");
 /// ```
-#[derive(Clone, Copy, PartialEq, Eq, Hash)]
+#[derive(Clone, Copy, PartialEq, Eq, PartialOrd, Ord, Hash)]
+#[must_use = "the card may have refused"]
 pub struct Status(pub u16);
 
 impl Status {
@@ -22,6 +26,16 @@ impl Status {
     #[must_use]
     pub fn is_ok(self) -> bool {
         self.0 == 0x9000
+    }
+
+    /// Returns `Ok` if it is `9000`.
+    ///
+    /// # Errors
+    ///
+    /// - [`Refused`]: it is any other, also `61XX` and a warning.
+    pub fn ok(self) -> Result<(), Refused> {
+        let refused = Refused { status: self };
+        self.is_ok().then_some(()).ok_or(refused)
     }
 
     /// The first byte.
@@ -77,6 +91,12 @@ impl fmt::Display for Status {
     }
 }
 
+impl fmt::UpperHex for Status {
+    fn fmt(&self, f: &mut fmt::Formatter<'_>) -> fmt::Result {
+        fmt::UpperHex::fmt(&self.0, f)
+    }
+}
+
 impl fmt::Debug for Status {
     fn fmt(&self, f: &mut fmt::Formatter<'_>) -> fmt::Result {
         write!(f, "Status({self})")
@@ -87,5 +107,25 @@ impl fmt::Debug for Status {
 impl PartialEq<u16> for Status {
     fn eq(&self, word: &u16) -> bool {
         self.0 == *word
+    }
+}
+
+impl From<u16> for Status {
+    fn from(word: u16) -> Status {
+        Status(word)
+    }
+}
+
+/// A card's status other than `9000`, as an error: `6982: security status not satisfied`.
+#[derive(Clone, Copy, Debug, PartialEq, Eq, Hash)]
+#[non_exhaustive]
+pub struct Refused {
+    /// What the card says of the command.
+    pub status: Status,
+}
+
+impl fmt::Display for Refused {
+    fn fmt(&self, f: &mut fmt::Formatter<'_>) -> fmt::Result {
+        write!(f, "{}: {}", self.status, self.status.text())
     }
 }

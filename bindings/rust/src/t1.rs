@@ -4,7 +4,7 @@ use crate::atr::Edc;
 use crate::error::{codes, done, told, Error};
 use crate::raw::{self, Handle};
 use crate::whole::ANSWER_LIMIT;
-use std::{error, fmt};
+use core::fmt;
 
 /// The most bytes of a block: NAD, PCB, LEN, 254 bytes and LRC.
 pub const BLOCK_LIMIT: usize = 258;
@@ -32,6 +32,7 @@ codes! {
 
 /// What is known of a command if a terminal's end at T=1 gave up.
 #[derive(Clone, Copy, Debug, PartialEq, Eq, Hash)]
+#[non_exhaustive]
 pub enum Outcome {
     /// The card has not carried it out: its last block was never sent.
     NotCarriedOut,
@@ -45,7 +46,9 @@ pub enum Outcome {
 #[derive(Clone, Copy, Debug, PartialEq, Eq, Hash)]
 #[non_exhaustive]
 pub struct T1Fault {
+    /// Why it gave up.
     pub cause: Cause,
+    /// What is known of the command.
     pub outcome: Outcome,
 }
 
@@ -59,8 +62,6 @@ impl fmt::Display for T1Fault {
         write!(f, "{}: {outcome}", self.cause)
     }
 }
-
-impl error::Error for T1Fault {}
 
 /// The limits of a terminal's end at T=1.
 #[derive(Clone, Copy, Debug, PartialEq, Eq, Hash)]
@@ -111,32 +112,8 @@ pub struct Received {
 }
 
 /// A terminal's end of a line at T=1, which carries whole commands over a line that may damage and
-/// lose bytes. The times of the line are the caller's to keep; [`Atr`](crate::Atr) has them.
-///
-/// ```
-/// use galliumtoad::{Edc, Error, T1Limits, BLOCK_LIMIT, T1};
-///
-/// /// Sends a block, and receives the card's answer: a stand-in for a line.
-/// fn pass(block: &[u8]) -> &'static [u8] {
-///     match block[1] {
-///         0xC1 => b"\x00\xE1\x01\xFE\x1E",
-///         _ => b"\x00\x00\x02\x90\x00\x92",
-///     }
-/// }
-///
-/// let mut end = T1::new(Edc::Lrc, 32, T1Limits::default())?;
-/// let mut room = [0; BLOCK_LIMIT];
-/// end.begin(b"\x00\xDA\x5F\x20\x03JOE")?;
-/// while let Some(block) = end.block_into(&mut room)? {
-///     // the answer begins within BWT times `block.waits`
-///     if !end.receive(pass(&room[..block.count]))?.is_whole {
-///         end.missed()?;
-///     }
-/// }
-/// let count = end.response_into(&mut room)?;
-/// assert_eq!(room[..count], [0x90, 0x00]);
-/// # Ok::<(), Error>(())
-/// ```
+/// lose bytes. The times of the line are the caller's to keep: [`Atr::waits`](crate::Atr::waits)
+/// has them, and [`T1Line`](crate::T1Line) keeps them. [`CardT1`](crate::CardT1) has an example.
 #[derive(Debug)]
 pub struct T1(Handle);
 
@@ -188,7 +165,8 @@ impl T1 {
     ///
     /// - [`Error::Failed`]: the end gave up, see [`fault`](T1::fault).
     /// - [`Error::Memory`]: it ran out.
-    pub fn block_into(&self, room: &mut [u8; BLOCK_LIMIT]) -> Result<Option<Block>, Error> {
+    /// - [`Error::Buffer`]: `room` is too short. [`BLOCK_LIMIT`] bytes are always enough.
+    pub fn block_into(&self, room: &mut [u8]) -> Result<Option<Block>, Error> {
         let (mut count, mut waits) = (0, 0);
         // SAFETY: an end's handle; `room` with its length, `count` and `waits` are apart.
         let code = unsafe {

@@ -2,6 +2,8 @@
 
 use crate::card::{Entry, AID_LIMIT};
 use crate::raw::{self, Handle, Held};
+use alloc::vec;
+use alloc::vec::Vec;
 
 /// The tables of the card that a handle has, and the functions for that kind of handle.
 #[derive(Clone, Copy)]

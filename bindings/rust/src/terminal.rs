@@ -1,13 +1,13 @@
 //! A terminal, which carries out operations with a card over any line.
 
 use crate::error::{done, told, Error};
-use crate::exchange::{self, Answer, Copied, DataSent, Turn, RESPONSE_LIMIT};
+use crate::exchange::{DataSent, RESPONSE_LIMIT};
 use crate::raw::{self, Handle};
-use crate::whole::{self, Due, Tpdu, APDU_LIMIT, TPDU_LIMIT};
-use std::fmt;
+use core::fmt;
 
 /// What a terminal does with a card of data objects. `Debug` leaves out what goes to the card.
 #[derive(Clone, Copy, PartialEq, Eq, Hash)]
+#[non_exhaustive]
 pub enum Operation<'a> {
     /// Selects the application with this identifier, of 5 to 16 bytes.
     Select(&'a [u8]),
@@ -37,7 +37,8 @@ impl fmt::Debug for Operation<'_> {
 /// An operation begins ([`begin`](Terminal::begin)). Then its characters, its whole TPDUs or its
 /// commands go to the card and what comes back to the terminal, until it has an
 /// [`answer`](Terminal::answer).
-/// [`run`](Terminal::run) does all of that with a [`Transport`](crate::Transport).
+/// [`run`](Terminal::run) does all of that with a [`Transport`](crate::Transport), and
+/// [`begin_guarded`](Terminal::begin_guarded) is for code that may be cancelled on the way.
 ///
 /// No chain may be pending at the card when an operation begins. One may be after a fault: a put
 /// under the same tag would continue it, and the card refuses any other with `6883`. So reset the
@@ -57,7 +58,7 @@ impl fmt::Debug for Operation<'_> {
 ///
 /// let mut terminal = Terminal::new()?;
 /// terminal.begin(Operation::Select(&aid))?;
-/// while let Some(tpdu) = terminal.tpdu() {
+/// while let Some(tpdu) = terminal.tpdu()? {
 ///     terminal.answered(&card.tpdu(&tpdu.bytes)?)?;
 /// }
 /// assert_eq!(terminal.answer().unwrap().status, 0x9000);
@@ -127,91 +128,6 @@ impl Terminal {
         done(code)
     }
 
-    /// Returns what the terminal does now, as [`Exchange::next`](crate::Exchange::next), from one
-    /// command of the operation to the next.
-    ///
-    /// # Errors
-    ///
-    /// - [`Error::State`]: no operation has begun, or it goes by whole commands.
-    /// - [`Error::Failed`]: it has failed for good.
-    #[allow(clippy::should_implement_trait)] // no iterator: it may wait, and then continue
-    #[inline]
-    pub fn next(&mut self) -> Result<Turn, Error> {
-        exchange::turn(&self.0, raw::galliumtoad_terminal_next)
-    }
-
-    /// Takes a character of the card.
-    ///
-    /// # Errors
-    ///
-    /// - [`Error::AfterEnd`]: no operation has begun, or it has ended or failed. Nothing has
-    ///   changed.
-    /// - Any other: as [`Exchange::take`](crate::Exchange::take). After those that fail the
-    ///   operation for good the next may begin: reset the card first.
-    #[inline]
-    pub fn take(&mut self, byte: u8) -> Result<(), Error> {
-        // SAFETY: a terminal's handle.
-        done(unsafe { raw::galliumtoad_terminal_take(self.0.at(), byte) })
-    }
-
-    /// Returns the next whole TPDU. `None` if one of its characters was sent, or if no operation
-    /// has begun. `None` too if it has ended, has failed or goes by whole commands.
-    #[must_use]
-    pub fn tpdu(&self) -> Option<Tpdu> {
-        whole::tpdu(&self.0, raw::galliumtoad_terminal_tpdu)
-    }
-
-    /// As [`tpdu`](Terminal::tpdu), with the bytes at the front of `room`, and without memory.
-    pub fn tpdu_into(&self, room: &mut [u8; TPDU_LIMIT]) -> Option<Due> {
-        whole::due_into(&self.0, raw::galliumtoad_terminal_tpdu, room).ok()?
-    }
-
-    /// Takes the answer to the TPDU of [`tpdu`](Terminal::tpdu): data, and then SW1 SW2. Another
-    /// TPDU follows, or the operation has ended.
-    ///
-    /// # Errors
-    ///
-    /// - [`Error::State`]: the operation goes by whole commands. Nothing has changed.
-    /// - [`Error::NoStatus`]: the bytes don't end in a status word. Nothing has changed.
-    /// - [`Error::NotDue`]: [`tpdu`](Terminal::tpdu) returns `None`. Nothing has changed.
-    /// - [`Error::NotAsked`], [`Error::TooMany`]: more data came back than may. Nothing has
-    ///   changed.
-    /// - [`Error::TooLong`], [`Error::Stalled`]: the operation has failed for good.
-    pub fn answered(&mut self, answer: &[u8]) -> Result<(), Error> {
-        // SAFETY: a terminal's handle; a slice with its length.
-        done(unsafe {
-            raw::galliumtoad_terminal_answered(self.0.at(), answer.as_ptr(), answer.len())
-        })
-    }
-
-    /// Copies the command to send now to the front of `room`, as
-    /// [`Exchange::apdu_into`](crate::Exchange::apdu_into). Each operation has a level of its own.
-    ///
-    /// # Errors
-    ///
-    /// After each of these nothing has changed.
-    ///
-    /// - [`Error::State`]: the operation goes by characters and TPDUs, or none has begun.
-    /// - [`Error::Memory`]: it ran out for this level, which takes its memory by the first of these
-    ///   calls.
-    pub fn apdu_into(&self, room: &mut [u8; APDU_LIMIT]) -> Result<Option<Due>, Error> {
-        whole::due_into(&self.0, raw::galliumtoad_terminal_apdu, room)
-    }
-
-    /// Takes the response to the command of [`apdu_into`](Terminal::apdu_into): data, and then SW1
-    /// SW2. Another command follows, or the operation has ended.
-    ///
-    /// # Errors
-    ///
-    /// As [`Exchange::responded`](crate::Exchange::responded), and [`Error::State`] if no operation
-    /// has begun.
-    pub fn responded(&mut self, response: &[u8]) -> Result<(), Error> {
-        // SAFETY: a terminal's handle; a slice with its length.
-        done(unsafe {
-            raw::galliumtoad_terminal_responded(self.0.at(), response.as_ptr(), response.len())
-        })
-    }
-
     /// Returns whether all data of the operation's commands so far have left the terminal, as
     /// [`Exchange::data_sent`](crate::Exchange::data_sent). `None` if no operation has begun. If
     /// the card ends a piece of a put before it takes the piece, [`DataSent::NotAll`] stays for the
@@ -221,24 +137,6 @@ impl Terminal {
         // SAFETY: a terminal's handle.
         let code = unsafe { raw::galliumtoad_terminal_data_sent(self.0.at()) };
         told(code).ok().map(DataSent::of)
-    }
-
-    /// Returns the status and the data of the operation's last command, until the next operation
-    /// begins or a [`reset`](Terminal::reset). `None` if no operation has begun, or if the last one
-    /// is in progress or has failed.
-    #[must_use]
-    pub fn answer(&self) -> Option<Answer> {
-        exchange::answer(&self.0, raw::galliumtoad_terminal_answer).ok()
-    }
-
-    /// As [`Exchange::answer_into`](crate::Exchange::answer_into).
-    ///
-    /// # Errors
-    ///
-    /// - [`Error::State`]: [`answer`](Terminal::answer) returns `None`. `room` is unchanged.
-    /// - [`Error::Buffer`]: there are more data than `room` has place for. `room` is unchanged.
-    pub fn answer_into(&self, room: &mut [u8]) -> Result<Copied, Error> {
-        exchange::answer_into(&self.0, raw::galliumtoad_terminal_answer, room)
     }
 
     /// Drops the last operation, at any point of it, and its answer. Wipes and frees the memory

@@ -1,16 +1,18 @@
 //! A terminal's operations over a transport of whole TPDUs or commands.
 
+use crate::card::Card;
 use crate::error::Error;
 use crate::exchange::Answer;
 use crate::raw;
 use crate::terminal::{Operation, Terminal};
 use crate::whole::{due_into, ANSWER_LIMIT, APDU_LIMIT};
 use crate::wiped::Wiped;
-use std::error;
-use std::fmt;
+use core::fmt;
+use core::ops::DerefMut;
 
 /// What a transport carries.
 #[derive(Clone, Copy, Debug, PartialEq, Eq, Hash)]
+#[non_exhaustive]
 pub enum Level {
     /// Whole TPDUs, at most [`TPDU_LIMIT`](crate::TPDU_LIMIT) bytes: a reader of PC/SC at T=0.
     Tpdu,
@@ -37,33 +39,10 @@ pub enum Level {
 /// # Ok::<(), Box<dyn std::error::Error>>(())
 /// ```
 ///
-/// A card at T=1, in memory:
+/// [`whole_commands`] makes one at [`Level::Apdu`]. A [`Card`] is one, and so is a [`T1Line`],
+/// which carries commands in blocks. References and boxes are transports by [`By`].
 ///
-/// ```
-/// use galliumtoad::{Card, CardBuilder, Error, Level, Operation, Terminal, Transport};
-///
-/// struct Reader(Card);
-///
-/// impl Transport for Reader {
-///     type Error = Error;
-///
-///     fn level(&self) -> Level {
-///         Level::Apdu
-///     }
-///
-///     fn transmit(&mut self, command: &[u8], answer: &mut [u8]) -> Result<usize, Error> {
-///         self.0.apdu_into(command, answer)
-///     }
-/// }
-///
-/// let aid = [0xA0, 0x00, 0x00, 0x00, 0x03, 0x10, 0x10];
-/// let mut builder = CardBuilder::new()?;
-/// builder.app(&aid)?;
-/// let mut reader = Reader(builder.finish()?);
-/// let answer = Terminal::new()?.run(&mut reader, Operation::Select(&aid)).unwrap();
-/// assert_eq!(answer.status, 0x9000);
-/// # Ok::<(), Error>(())
-/// ```
+/// [`T1Line`]: crate::T1Line
 pub trait Transport {
     /// Why nothing was carried: of a closure, its own error.
     type Error;
@@ -92,6 +71,60 @@ impl<E, F: FnMut(&[u8], &mut [u8]) -> Result<usize, E> + ?Sized> Transport for F
     }
 }
 
+/// A card in memory, by TPDUs and their plans. By whole commands it is
+/// `whole_commands(|command, answer| card.apdu_into(command, answer))`.
+impl Transport for Card {
+    type Error = Error;
+
+    fn transmit(&mut self, sent: &[u8], answer: &mut [u8]) -> Result<usize, Error> {
+        self.tpdu_into(sent, answer)
+    }
+}
+
+/// A closure as a transport of whole commands, see [`whole_commands`].
+#[derive(Clone, Copy, Debug)]
+pub struct WholeCommands<F>(F);
+
+/// Makes a transport at [`Level::Apdu`] of a closure: for cards at T=1 or without contacts.
+pub fn whole_commands<E, F>(transmit: F) -> WholeCommands<F>
+where
+    F: FnMut(&[u8], &mut [u8]) -> Result<usize, E>,
+{
+    WholeCommands(transmit)
+}
+
+impl<E, F: FnMut(&[u8], &mut [u8]) -> Result<usize, E>> Transport for WholeCommands<F> {
+    type Error = E;
+
+    fn level(&self) -> Level {
+        Level::Apdu
+    }
+
+    fn transmit(&mut self, sent: &[u8], answer: &mut [u8]) -> Result<usize, E> {
+        self.0(sent, answer)
+    }
+}
+
+/// A transport behind a pointer: `By(&mut reader)`, or `By(reader)` of a box. A reference to a
+/// closure is a closure, and so a transport by itself: `&mut T` can't be another.
+#[derive(Clone, Copy, Debug)]
+pub struct By<P>(pub P);
+
+impl<P: DerefMut> Transport for By<P>
+where
+    P::Target: Transport,
+{
+    type Error = <P::Target as Transport>::Error;
+
+    fn level(&self) -> Level {
+        self.0.level()
+    }
+
+    fn transmit(&mut self, sent: &[u8], answer: &mut [u8]) -> Result<usize, Self::Error> {
+        self.0.transmit(sent, answer)
+    }
+}
+
 /// Why an operation was not carried out to its answer. Its text and its source are those of the
 /// error in it.
 #[derive(Clone, Copy, Debug, PartialEq, Eq, Hash)]
@@ -114,27 +147,9 @@ impl<E: fmt::Display> fmt::Display for RunError<E> {
     }
 }
 
-impl<E: error::Error> error::Error for RunError<E> {
-    fn source(&self) -> Option<&(dyn error::Error + 'static)> {
-        match self {
-            RunError::Terminal(error) => error.source(),
-            RunError::Transport(error) => error.source(),
-        }
-    }
-}
-
 impl<E> From<Error> for RunError<E> {
     fn from(error: Error) -> RunError<E> {
         RunError::Terminal(error)
-    }
-}
-
-/// An operation that is carried out: if it is dropped on the way, its terminal is reset.
-struct InProgress<'a>(&'a mut Terminal);
-
-impl Drop for InProgress<'_> {
-    fn drop(&mut self) {
-        let _ = self.0.reset();
     }
 }
 
@@ -147,6 +162,8 @@ impl Terminal {
     ///
     /// - [`RunError::Terminal`] of [`Terminal::begin`]: nothing was sent, and nothing has changed.
     /// - [`Error::Memory`] at [`Level::Apdu`]: nothing was sent, and the terminal is reset.
+    /// - [`Error::Buffer`]: the operation was carried out, and there is no memory for the data. The
+    ///   terminal keeps the answer: ask for [`answer`](Terminal::answer).
     /// - Any other: the terminal is reset, and the next operation may begin. What the card has done
     ///   is unknown: reset it. Nothing was sent a second time.
     ///
@@ -156,11 +173,9 @@ impl Terminal {
         transport: &mut T,
         operation: Operation<'_>,
     ) -> Result<Answer, RunError<T::Error>> {
-        self.begin(operation)?;
-        let passing = InProgress(self);
-        passing.0.pass(transport)?;
-        std::mem::forget(passing);
-        Ok(self.answer().ok_or(Error::Failed)?)
+        let mut passing = self.begin_guarded(operation)?;
+        passing.pass(transport)?;
+        Ok(passing.finish()?)
     }
 
     /// Passes what the operation that has begun sends, until it has nothing more to send.

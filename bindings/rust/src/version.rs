@@ -1,7 +1,7 @@
 //! The version of the library, and whether it fits this crate.
 
 use crate::raw;
-use std::sync::Once;
+use core::sync::atomic::{AtomicBool, Ordering::Relaxed};
 
 /// Returns the version of the header that the library was built for: major, minor and patch number.
 /// It never panics.
@@ -27,14 +27,15 @@ pub fn version_fits() -> bool {
     own.0.parse() == Ok(major) && own.1.parse() == Ok(minor)
 }
 
-/// Checks once whether the library fits this crate; if not, every call panics.
+/// Checks whether the library fits this crate, until it does once; if not, every call panics.
 pub(crate) fn look() {
-    static LOOKED: Once = Once::new();
-    LOOKED.call_once(|| {
+    static FITS: AtomicBool = AtomicBool::new(false);
+    if !FITS.load(Relaxed) {
         let (own, (major, minor, patch)) = (env!("CARGO_PKG_VERSION"), version());
         assert!(
             version_fits(),
             "the library is galliumtoad {major}.{minor}.{patch}, and the crate is {own}"
         );
-    });
+        FITS.store(true, Relaxed);
+    }
 }

@@ -2,10 +2,10 @@
 
 use crate::card::Card;
 use crate::error::{done, Error};
-use crate::exchange::Exchange;
 use crate::raw::{self, Handle, Held};
-use crate::wiped::{wipe, Wiped};
-use std::fmt;
+use crate::wiped::{room_for, wipe, Wiped};
+use alloc::vec::Vec;
+use core::fmt;
 
 /// The most bytes of a whole TPDU: header, P3 and 255 bytes of data.
 pub const TPDU_LIMIT: usize = 260;
@@ -16,26 +16,26 @@ pub const APDU_LIMIT: usize = 261;
 /// The most bytes of the answer to a TPDU or a command: 256 bytes of data, and the status.
 pub const ANSWER_LIMIT: usize = 258;
 
-/// A whole TPDU to send: the header alone, if no data move; the header and P3, if data come back;
-/// or the header, P3 and P3 bytes of data.
+/// A whole TPDU or command (APDU) to send. A TPDU is the header alone, if no data move; the header
+/// and P3, if data come back; or the header, P3 and P3 bytes of data.
 ///
 /// A drop wipes its bytes, as they are then. `Debug` shows their number.
 #[derive(Clone, PartialEq, Eq, Hash)]
 #[non_exhaustive]
-pub struct Tpdu {
-    /// Its bytes, 4 to 260.
+pub struct Pdu {
+    /// Its bytes, 4 to 260, or to 261 of a command.
     pub bytes: Vec<u8>,
     /// How many bytes of data may come back before the status, 0 to 256.
     pub most: usize,
 }
 
-impl fmt::Debug for Tpdu {
+impl fmt::Debug for Pdu {
     fn fmt(&self, f: &mut fmt::Formatter<'_>) -> fmt::Result {
-        write!(f, "Tpdu({} bytes, {} back)", self.bytes.len(), self.most)
+        write!(f, "Pdu({} bytes, {} back)", self.bytes.len(), self.most)
     }
 }
 
-impl Drop for Tpdu {
+impl Drop for Pdu {
     fn drop(&mut self) {
         wipe(&mut self.bytes);
     }
@@ -72,82 +72,16 @@ pub(crate) fn due_into(
     }
 }
 
-/// The next TPDU, in memory of its own.
-pub(crate) fn tpdu(handle: &Handle, copies: Copies) -> Option<Tpdu> {
-    let mut room = Wiped([0; TPDU_LIMIT]);
-    let Due { count, most } = due_into(handle, copies, &mut room.0).ok()??;
-    let bytes = room.0[..count].to_vec();
-    Some(Tpdu { bytes, most })
-}
-
-impl Exchange {
-    /// Returns the next whole TPDU, for a reader that carries whole TPDUs. `None` if one of its
-    /// characters was sent, or if the exchange has ended, has failed or goes by whole commands.
-    #[must_use]
-    pub fn tpdu(&self) -> Option<Tpdu> {
-        tpdu(&self.0, raw::galliumtoad_exchange_tpdu)
-    }
-
-    /// As [`tpdu`](Exchange::tpdu), with the bytes at the front of `room`, and without memory.
-    pub fn tpdu_into(&self, room: &mut [u8; TPDU_LIMIT]) -> Option<Due> {
-        due_into(&self.0, raw::galliumtoad_exchange_tpdu, room).ok()?
-    }
-
-    /// Takes the answer to the TPDU of [`tpdu`](Exchange::tpdu): data, and then SW1 SW2. The
-    /// exchange continues as after the characters of any TPDU that brings these: another TPDU
-    /// follows, or it has ended.
-    ///
-    /// # Errors
-    ///
-    /// - [`Error::State`]: the exchange goes by whole commands. Nothing has changed.
-    /// - [`Error::NoStatus`]: the bytes don't end in a status word. Nothing has changed.
-    /// - [`Error::NotDue`]: [`tpdu`](Exchange::tpdu) returns `None`. Nothing has changed.
-    /// - [`Error::NotAsked`], [`Error::TooMany`]: more data came back than may. Nothing has
-    ///   changed.
-    /// - [`Error::TooLong`], [`Error::Stalled`]: the exchange has failed for good.
-    pub fn answered(&mut self, answer: &[u8]) -> Result<(), Error> {
-        // SAFETY: the handle is one of this crate, and the slice has its length.
-        done(unsafe {
-            raw::galliumtoad_exchange_answered(self.0.at(), answer.as_ptr(), answer.len())
-        })
-    }
-
-    /// Copies the command to send now to the front of `room`: for a reader that carries whole
-    /// commands, see [`Level::Apdu`](crate::Level::Apdu). It is `None` if the exchange has ended or
-    /// has failed.
-    ///
-    /// The first character sent, or the first answer that is taken or fails the exchange, sets the
-    /// level. From then on calls of the other level are [`Error::State`], or `None`, and nothing
-    /// changes.
-    ///
-    /// # Errors
-    ///
-    /// After each of these nothing has changed.
-    ///
-    /// - [`Error::State`]: the exchange goes by characters and TPDUs.
-    /// - [`Error::Memory`]: it ran out for this level, which takes its memory by the first of these
-    ///   calls.
-    pub fn apdu_into(&self, room: &mut [u8; APDU_LIMIT]) -> Result<Option<Due>, Error> {
-        due_into(&self.0, raw::galliumtoad_exchange_apdu, room)
-    }
-
-    /// Takes the response to the command of [`apdu_into`](Exchange::apdu_into): data, and then SW1
-    /// SW2. Another command follows, or the exchange has ended.
-    ///
-    /// # Errors
-    ///
-    /// - [`Error::State`], [`Error::Memory`]: as [`apdu_into`](Exchange::apdu_into).
-    /// - [`Error::NoStatus`]: the bytes don't end in a status word. Nothing has changed.
-    /// - [`Error::NotDue`]: the exchange has ended or has failed. Nothing has changed.
-    /// - [`Error::NotAsked`], [`Error::TooMany`]: more data came back than may. Nothing has
-    ///   changed.
-    /// - [`Error::TooLong`], [`Error::Stalled`]: the exchange has failed for good.
-    pub fn responded(&mut self, response: &[u8]) -> Result<(), Error> {
-        // SAFETY: an exchange's handle; a slice with its length.
-        done(unsafe {
-            raw::galliumtoad_exchange_responded(self.0.at(), response.as_ptr(), response.len())
-        })
-    }
+/// What to send, in memory of its own.
+pub(crate) fn pdu(handle: &Handle, copies: Copies) -> Result<Option<Pdu>, Error> {
+    let mut room = Wiped([0; APDU_LIMIT]);
+    let due = due_into(handle, copies, &mut room.0)?;
+    due.map(|Due { count, most }| {
+        let mut bytes = room_for(count).ok_or(Error::Memory)?;
+        bytes.copy_from_slice(&room.0[..count]);
+        Ok(Pdu { bytes, most })
+    })
+    .transpose()
 }
 
 /// A function of the archive that has a card carry out a TPDU or a command.
@@ -165,9 +99,7 @@ impl Card {
     /// - [`Error::WantsData`], [`Error::SendsData`]: both ends would deadlock, so the card was
     ///   reset. The plan is used up.
     pub fn tpdu(&mut self, tpdu: &[u8]) -> Result<Vec<u8>, Error> {
-        let mut room = Wiped([0; ANSWER_LIMIT]);
-        let count = self.tpdu_into(tpdu, &mut room.0)?;
-        Ok(room.0[..count].to_vec())
+        self.answer_to(raw::galliumtoad_card_tpdu, tpdu)
     }
 
     /// As [`tpdu`](Card::tpdu), with the answer at the front of `room`. Returns the number of its
@@ -200,9 +132,7 @@ impl Card {
     /// - [`Error::TooShort`], [`Error::InvalidIns`]: the bytes are not a command.
     /// - [`Error::Memory`]: it ran out.
     pub fn apdu(&mut self, command: &[u8]) -> Result<Vec<u8>, Error> {
-        let mut room = Wiped([0; ANSWER_LIMIT]);
-        let count = self.apdu_into(command, &mut room.0)?;
-        Ok(room.0[..count].to_vec())
+        self.answer_to(raw::galliumtoad_card_apdu, command)
     }
 
     /// As [`apdu`](Card::apdu), with the response at the front of `room`. Returns the number of its
@@ -215,6 +145,14 @@ impl Card {
     /// - Any other: as [`apdu`](Card::apdu); `room` is unchanged.
     pub fn apdu_into(&mut self, command: &[u8], room: &mut [u8]) -> Result<usize, Error> {
         self.carry_out(raw::galliumtoad_card_apdu, command, room)
+    }
+
+    /// The answer in memory that is taken before the card does anything.
+    fn answer_to(&mut self, call: Carries, sent: &[u8]) -> Result<Vec<u8>, Error> {
+        let mut room = room_for(ANSWER_LIMIT).ok_or(Error::Memory)?;
+        let count = self.carry_out(call, sent, &mut room)?;
+        room.truncate(count);
+        Ok(room)
     }
 
     fn carry_out(&mut self, call: Carries, sent: &[u8], room: &mut [u8]) -> Result<usize, Error> {

@@ -1,8 +1,9 @@
-//! Memory that is wiped after it held a value.
+//! Memory for values, and how it is wiped.
 
 use crate::raw::Character;
-use std::mem::size_of_val;
-use std::ptr::addr_of;
+use alloc::vec::Vec;
+use core::mem::size_of_val;
+use core::ptr::addr_of;
 
 /// A type whose zero bytes are a value.
 ///
@@ -42,6 +43,14 @@ pub(crate) fn wipe<T: Zero>(room: &mut [T]) {
     unsafe { wipe_from(room.as_mut_ptr().cast(), size_of_val(room)) }
 }
 
+/// A buffer of zeros, if there is memory for it.
+pub(crate) fn room_for<T: Clone + Default>(count: usize) -> Option<Vec<T>> {
+    let mut room = Vec::new();
+    room.try_reserve_exact(count).ok()?;
+    room.resize(count, T::default());
+    Some(room)
+}
+
 /// A buffer on the stack, which a drop wipes.
 pub(crate) struct Wiped<const N: usize>(pub(crate) [u8; N]);
 
@@ -54,6 +63,7 @@ impl<const N: usize> Drop for Wiped<N> {
 #[cfg(test)]
 mod tests {
     use super::wipe;
+    use alloc::vec;
 
     #[test]
     fn each_place_is_wiped() {

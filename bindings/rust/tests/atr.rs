@@ -3,7 +3,8 @@
 
 use galliumtoad::{version, version_fits, Pps, PpsError, PPS_LIMIT};
 use galliumtoad::{Atr, AtrReason, Category, ClockStop, Convention, Edc, Mode};
-use galliumtoad::{ATR_LIMIT, PROTOCOLS_LIMIT};
+use galliumtoad::{Waits, ATR_LIMIT, PROTOCOLS_LIMIT};
+use std::time::Duration;
 
 fn atr(bytes: &[u8]) -> Atr<'_> {
     Atr::read(bytes).expect("an answer to reset")
@@ -334,4 +335,61 @@ fn the_library_is_of_this_version() {
     let (major, minor, patch) = version();
     assert_eq!(format!("{major}.{minor}.{patch}"), own);
     assert!(version_fits());
+}
+
+/// Times by hand from the clauses: WT 10.2, CWT and BWT 11.4.3, with etu of F/D cycles.
+#[test]
+fn lines_have_times() {
+    let plain = atr(b"\x3B\x00");
+    let micros = |it: Duration| it.as_nanos() as f64 / 1000.0;
+    let told = |waits: Waits| {
+        let t1 = waits.t1.expect("T=1");
+        let of_t0 = waits.character.expect("T=0");
+        [of_t0, t1.block, t1.character, t1.guard].map(micros)
+    };
+    // an etu of 100 us; 10 * 960 * 372 cycles; 11 etu and 16 * 960 * 372 cycles; 8203 and 22 etu
+    let waits = plain.waits(3_720_000).expect("a rate");
+    assert_eq!(told(waits), [960_000.0, 1_537_100.0, 820_300.0, 2_200.0]);
+    // an etu of 512/32 cycles, 4 us, if both agree on it
+    let waits = plain.waits_at(4_000_000, 0x96).expect("a rate");
+    assert_eq!(told(waits), [892_800.0, 1_428_524.0, 32_812.0, 88.0]);
+    // TA1 is 96: it holds from the start in specific mode, and WT goes by its Fi
+    let specific = atr(b"\x3B\x90\x96\x10\x00");
+    let waits = specific.waits(4_000_000).expect("a rate");
+    assert_eq!(told(waits), [1_228_800.0, 1_428_524.0, 32_812.0, 88.0]);
+    let negotiable = atr(b"\x3B\x10\x96");
+    let waits = negotiable.waits(3_720_000).expect("a rate");
+    assert_eq!(told(waits)[2..], [820_300.0, 2_200.0]);
+    // 22 etu are 8184 cycles: each time is rounded up
+    let guard = plain.waits(7).expect("a rate").t1.expect("T=1").guard;
+    assert_eq!(guard, Duration::from_nanos(1_169_142_857_143));
+}
+
+#[test]
+fn times_are_of_any_length_or_not_known() {
+    let plain = atr(b"\x3B\x00");
+    assert_eq!(plain.waits(0), None);
+    for reserved in [0x7F, 0x70, 0x1F, 0x10, 0x71] {
+        assert_eq!(plain.waits_at(4_000_000, reserved), None);
+    }
+    // implicit values in specific mode: bit 5 of TA2
+    let implicit = atr(b"\x3B\x90\x96\x10\x10");
+    assert_eq!(implicit.waits(4_000_000), None);
+    assert!(implicit.waits_at(4_000_000, 0x96).is_some());
+    // TB3 has a reserved BWI; WI is reserved
+    let no_bwi = atr(b"\x3B\x80\x81\x21\xA0\x80");
+    let waits = no_bwi.waits(4_000_000).expect("a rate");
+    assert!(waits.t1.is_none() && waits.character.is_some());
+    let no_wi = atr(b"\x3B\x80\x40\x00");
+    let waits = no_wi.waits(4_000_000).expect("a rate");
+    assert!(waits.t1.is_some() && waits.character.is_none());
+    // BWI 9 and CWI 15 at the slowest clock, with an etu of 2048/64 cycles
+    let slow = atr(b"\x3B\x80\x81\x21\x9F\xBF");
+    let waits = slow.waits_at(1, 0xD7).expect("a rate").t1.expect("T=1");
+    assert_eq!(waits.block, Duration::from_secs(512 * 960 * 372 + 352));
+    assert_eq!(waits.character, Duration::from_secs(32_779 * 32));
+    // WI 255 with Fi 2048
+    let longest = atr(b"\x3B\x90\xD7\x40\xFF");
+    let waits = longest.waits_at(1, 0xD7).expect("a rate");
+    assert_eq!(waits.character, Some(Duration::from_secs(255 * 960 * 2048)));
 }

@@ -73,6 +73,58 @@ fn targets_with_an_archive_link_it() {
     }
 }
 
+/// Without an operating system the processor counts, as on Linux.
+#[test]
+fn targets_without_an_operating_system_link_it_too() {
+    let script = script("bare");
+    for arch in ["x86_64", "aarch64"] {
+        let os = ("CARGO_CFG_TARGET_OS", "none".as_ref());
+        let with = [os, ("CARGO_CFG_TARGET_ARCH", arch.as_ref())];
+        let (passes, says, _) = prints(&script, &with);
+        assert!(
+            passes && says.contains(ARCHIVE) && says.contains(HEAP),
+            "{says}"
+        );
+        assert!(says.contains(&format!("lib/{arch}-linux-gnu\n")), "{says}");
+        let narrow = ("CARGO_CFG_TARGET_POINTER_WIDTH", "32".as_ref());
+        let (passes, says, _) = prints(&script, &[with[0], with[1], narrow]);
+        assert!(passes && !says.contains(ARCHIVE), "{says}");
+    }
+}
+
+/// A package without archives is refused, with the reason. Cargo adds `Cargo.toml.orig` to each.
+#[test]
+fn a_package_has_the_archives() {
+    let script = script("packaged");
+    let folder = room("packaged").join("crate");
+    let _ = std::fs::remove_dir_all(&folder);
+    std::fs::create_dir(&folder).expect("a folder");
+    let with = [("CARGO_MANIFEST_DIR", folder.as_os_str())];
+    let (passes, says, _) = prints(&script, &with);
+    assert!(passes && says.contains("galliumtoad-has-no-archive-for-here"));
+    std::fs::write(folder.join("Cargo.toml.orig"), "").expect("written");
+    let (passes, _, says) = prints(&script, &with);
+    assert!(!passes && says.contains("bindings/package"), "{says}");
+    let archives = folder.join("lib/x86_64-linux-gnu");
+    std::fs::create_dir_all(&archives).expect("a folder");
+    std::fs::write(archives.join("libcard_c.a"), "").expect("written");
+    let (passes, says, _) = prints(&script, &with);
+    assert!(passes && says.contains(ARCHIVE), "{says}");
+    // as cargo does it
+    let done = Command::new(env!("CARGO"))
+        .args(["package", "--offline", "--allow-dirty", "--target-dir"])
+        .arg(room("packaged").join("target"))
+        .env_remove("GALLIUMTOAD_LIB_DIR")
+        .current_dir(CRATE)
+        .output()
+        .expect("cargo runs");
+    let says = String::from_utf8_lossy(&done.stderr).into_owned();
+    assert!(
+        !done.status.success() && says.contains("bindings/package"),
+        "{says}"
+    );
+}
+
 #[test]
 fn targets_without_an_archive_link_a_name_that_says_so() {
     let script = script("without");

@@ -1,7 +1,8 @@
 //! Tests each call, by the rules of the card and the line.
 
-use galliumtoad::{find, head, ObjectsError};
-use galliumtoad::{Card, CardBuilder, End, Error, Exchange, Objects, Reason, Session, Turn};
+use galliumtoad::Turn;
+use galliumtoad::{encode, find, head, ObjectsError};
+use galliumtoad::{Card, CardBuilder, End, Error, Exchange, Objects, Operation, Reason, Session};
 use std::error::Error as _;
 
 const AID: [u8; 7] = [0xA0, 0x00, 0x00, 0x00, 0x03, 0x10, 0x10];
@@ -73,7 +74,7 @@ fn objects_are_found_by_path() {
     assert_eq!(find(&[], &[0x50]), Ok(None));
     let no_tag = find(list, &[0x70, 0x5F]).expect_err("a fault");
     assert_eq!(no_tag, ObjectsError::NoTag);
-    assert_eq!(no_tag.to_string(), "a step is not a tag");
+    assert_eq!(no_tag.to_string(), "not a tag");
     let fault = find(&[0x50, 0x05, 0x41], &[0x50]).expect_err("a fault");
     assert_eq!(placed(fault), Some((0, Reason::ValueCut)));
     assert_eq!(fault.to_string(), "value cut at 0");
@@ -94,6 +95,106 @@ fn heads_have_the_shortest_length() {
     let longest = vec![0x9F, 0x81, 0x01, 0x82, 0x01, 0x00];
     assert_eq!(head(0x9F8101, 256), Some(longest));
     assert_eq!(head(0x9F00, 1), None);
+}
+
+/// Returns the tag, the level, the place and the value of each object.
+fn parts<'a>(
+    objects: impl Iterator<Item = galliumtoad::Object<'a>>,
+) -> Vec<(u32, u8, usize, &'a [u8])> {
+    let of = |it: galliumtoad::Object<'a>| (it.tag, it.level, it.place, it.value);
+    objects.map(of).collect()
+}
+
+/// `70 { 50 "A", 61 { 4F "B" }, 50 "C" }`, after padding, and then `50 "D"`.
+const NESTED: &[u8] = b"\x00\x70\x0B\x50\x01A\x61\x03\x4F\x01B\x50\x01C\x50\x01D";
+
+#[test]
+fn objects_have_children() {
+    let objects: Vec<_> = Objects::over(NESTED).expect("objects").collect();
+    let children = |at: usize| parts(objects[at].children().expect("memory"));
+    assert_eq!(
+        children(0),
+        [
+            (0x50, 2, 3, &b"A"[..]),
+            (0x61, 2, 6, b"\x4F\x01B"),
+            (0x50, 2, 11, b"C"),
+        ]
+    );
+    assert_eq!(objects[2].tag, 0x61);
+    assert_eq!(children(2), [(0x4F, 3, 8, &b"B"[..])]);
+    // each child is as in the list of all
+    let all = parts(objects.iter().copied());
+    assert!(children(0)
+        .iter()
+        .chain(&children(2))
+        .all(|it| all.contains(it)));
+    // a value that looks like an object is one only in a template
+    let flat = Objects::over(b"\x50\x02\x51\x00").expect("objects").next();
+    assert_eq!(flat.expect("one").children().expect("memory").count(), 0);
+    let empty = Objects::over(b"\x70\x00").expect("objects").next();
+    assert_eq!(empty.expect("one").children().expect("memory").count(), 0);
+}
+
+#[test]
+fn objects_may_be_gone_through_twice() {
+    let mut objects = Objects::over(NESTED).expect("objects");
+    let first = objects.next().expect("one");
+    let mut tags = Vec::new();
+    for object in &objects {
+        tags.push(object.tag);
+    }
+    assert_eq!(tags, [0x50, 0x61, 0x4F, 0x50, 0x50]);
+    assert_eq!(parts(objects.iter()), parts(objects.clone()));
+    assert_eq!((first.tag, objects.len()), (0x70, 5));
+}
+
+/// Heads by BER (ISO/IEC 8825-1, 8.1.3): the shortest length.
+#[test]
+fn objects_are_written() {
+    assert_eq!(encode(0x50, &[]), Ok(b"\x50\x00".to_vec()));
+    let name = encode(0x5F20, &[b"JO", b"", b"E"]).expect("an object");
+    assert_eq!(name, b"\x5F\x20\x03JOE");
+    let template = encode(0x70, &[&name, b"\x50\x00"]).expect("a template");
+    assert_eq!(template, b"\x70\x08\x5F\x20\x03JOE\x50\x00");
+    for (length, wanted) in [
+        (127, &b"\x9F\x81\x01\x7F"[..]),
+        (128, b"\x9F\x81\x01\x81\x80"),
+        (255, b"\x9F\x81\x01\x81\xFF"),
+        (256, b"\x9F\x81\x01\x82\x01\x00"),
+        (65_535, b"\x9F\x81\x01\x82\xFF\xFF"),
+    ] {
+        let (half, value) = (length / 2, vec![0xA5; length]);
+        let object = encode(0x9F8101, &[&value[..half], &value[half..]]).expect("an object");
+        assert_eq!(object, [wanted, &value].concat());
+    }
+    let long = [0; 65_535];
+    assert_eq!(encode(0x50, &[&long, b"A"]), Err(ObjectsError::TooLong));
+    assert_eq!(encode(0x70, &[&long, b"A"]), Err(ObjectsError::TooLong));
+    assert_eq!(ObjectsError::TooLong.to_string(), "value too long");
+    assert_eq!(encode(0x5F, &[b"A"]), Err(ObjectsError::NoTag));
+    // the parts of a template are objects
+    let fault = encode(0x70, &[b"\x50\x02A"]).expect_err("a fault");
+    assert_eq!(placed(fault), Some((2, Reason::ValueCut)));
+    assert!(encode(0x50, &[b"\x50\x02A"]).is_ok());
+}
+
+/// The place of an application goes with `entries`.
+#[test]
+fn applications_are_found_by_identifier() {
+    let mut builder = builder();
+    let other = [0xD0, 0, 0, 0, 1];
+    builder.app(&other).expect("an application");
+    builder.object(0x50, b"OTHER").expect("an object");
+    let card = builder.finish().expect("a card");
+    assert_eq!(card.place_of(&AID), Some(0));
+    assert_eq!(card.place_of(&other), Some(1));
+    assert_eq!(card.place_of(&AID[..5]), None);
+    assert_eq!(card.place_of(&[]), None);
+    let session = Session::start(card).expect("a session");
+    let place = session.place_of(&other).expect("an application");
+    assert_eq!(session.entries(place).next().expect("one").value, b"OTHER");
+    assert_eq!(session.place_of(&AID), Some(0));
+    assert_eq!(session.place_of(&[0xD0; 5]), None);
 }
 
 #[test]
@@ -138,20 +239,20 @@ fn an_exchange_follows_its_card() {
     let mut exchange = Exchange::start(&command).expect("an exchange");
     assert_eq!(exchange.take(0x6C), Err(Error::NotListening));
     for byte in command {
-        assert_eq!(exchange.next(), Ok(Turn::Sends(byte)));
+        assert_eq!(exchange.turn(), Ok(Turn::Sends(byte)));
     }
-    assert_eq!(exchange.next(), Ok(Turn::Listens));
+    assert_eq!(exchange.turn(), Ok(Turn::Listens));
     for byte in [0x6C, 0x02] {
         assert_eq!(exchange.take(byte), Ok(()));
     }
     for byte in [0x00, 0xCA, 0x5F, 0x20, 0x02] {
-        assert_eq!(exchange.next(), Ok(Turn::Sends(byte)));
+        assert_eq!(exchange.turn(), Ok(Turn::Sends(byte)));
     }
-    assert_eq!(exchange.answer(), None);
+    assert_eq!(exchange.answer(), Err(Error::State));
     for byte in [0xCA, 0x50, 0x00, 0x90, 0x00] {
         assert_eq!(exchange.take(byte), Ok(()));
     }
-    assert_eq!(exchange.next(), Ok(Turn::Done));
+    assert_eq!(exchange.turn(), Ok(Turn::Done));
     let answer = exchange.answer().expect("an answer");
     assert_eq!(answer.status, 0x9000);
     assert_eq!(answer.data, [0x50, 0x00]);
@@ -161,7 +262,7 @@ fn an_exchange_follows_its_card() {
 /// Passes characters until the exchange is done, or both ends wait.
 fn talk(exchange: &mut Exchange, card: &mut Card) -> Result<Turn, Error> {
     loop {
-        match exchange.next()? {
+        match exchange.turn()? {
             Turn::Sends(byte) => card.take(byte)?,
             Turn::Listens => match card.turn()? {
                 Turn::Sends(byte) => exchange.take(byte)?,
@@ -227,9 +328,9 @@ fn an_exchange_fails_for_good() {
     assert_eq!(refused(&[0x00, 0xCA]), Some(Error::TooShort));
     assert_eq!(refused(&[0x00, 0x60, 0x00, 0x00]), Some(Error::InvalidIns));
     let mut exchange = Exchange::start(&[0x00, 0xCA, 0x5F, 0x20]).expect("an exchange");
-    while let Ok(Turn::Sends(_)) = exchange.next() {}
+    while let Ok(Turn::Sends(_)) = exchange.turn() {}
     assert_eq!(exchange.take(0x41), Err(Error::BadProcedure));
-    assert_eq!(exchange.next(), Err(Error::Failed));
+    assert_eq!(exchange.turn(), Err(Error::Failed));
     assert_eq!(exchange.take(0x41), Err(Error::AfterEnd));
 }
 
@@ -253,6 +354,36 @@ fn a_session_carries_out_operations() {
     assert_eq!(card.entries(0).next().expect("one").value, [0x42; 300]);
 }
 
+/// `run` is select, get, put and send by an operation.
+#[test]
+fn a_session_runs_operations() {
+    let card = builder().finish().expect("a card");
+    let mut session = Session::start(card).expect("a session");
+    let name = b"\x6F\x09\x84\x07\xA0\x00\x00\x00\x03\x10\x10";
+    for (operation, status, data) in [
+        (Operation::Get(0x5F20), 0x6985, &b""[..]),
+        (Operation::Select(&AID), 0x9000, name),
+        (Operation::Put(0x5F20, b"ANN"), 0x9000, b""),
+        (Operation::Get(0x5F20), 0x9000, b"\x5F\x20\x03ANN"),
+        (
+            Operation::Send(&[0x00, 0xCA, 0x5F, 0x20, 0x02]),
+            0x6104,
+            b"\x5F\x20",
+        ),
+        (Operation::Put(0x50, b"ANN"), 0x6982, b""),
+    ] {
+        let answer = session.run(operation).expect("an answer");
+        assert_eq!(
+            (answer.status.0, &answer.data[..]),
+            (status, data),
+            "{operation:?}"
+        );
+        assert_eq!(session.answer(), Ok(answer));
+    }
+    assert_eq!(session.run(Operation::Get(0x9F8101)), Err(Error::Argument));
+    assert_eq!(session.run(Operation::Send(&[0x00])), Err(Error::TooShort));
+}
+
 #[test]
 fn plans_say_how_the_card_answers() {
     let card = builder().finish().expect("a card");
@@ -261,12 +392,12 @@ fn plans_say_how_the_card_answers() {
     session.listen().expect("somebody listens");
     assert_eq!(session.heard(), Ok(Vec::new()));
     assert_eq!(session.is_idle(), Ok(true));
-    session.select(&AID).expect("an answer");
+    assert_eq!(session.select(&AID).expect("an answer").status, 0x9000);
     assert_eq!(session.plan("x", 256), Err(Error::Argument));
     assert_eq!(session.plan("", 257), Err(Error::Argument));
     session.plan("", 256).expect("a plan");
     session.plan("nona", 256).expect("a plan");
-    session.get(0x5F20).expect("an answer");
+    let _ = session.get(0x5F20).expect("an answer");
     let mut wanted: Vec<(End, u8)> = Vec::new();
     let mut says = |end, bytes: &[u8]| wanted.extend(bytes.iter().map(|byte| (end, *byte)));
     says(End::Terminal, &[0x00, 0xCA, 0x5F, 0x20, 0x00]);
@@ -281,7 +412,7 @@ fn plans_say_how_the_card_answers() {
 fn a_chain_keeps_a_session_busy() {
     let card = builder().finish().expect("a card");
     let mut session = Session::start(card).expect("a session");
-    session.select(&AID).expect("an answer");
+    assert_eq!(session.select(&AID).expect("an answer").status, 0x9000);
     let first = session.send(&[0x10, 0xDA, 0x5F, 0x20, 0x01, 0xAA]);
     assert_eq!(first.expect("an answer").status, 0x9000);
     assert_eq!(session.is_idle(), Ok(false));

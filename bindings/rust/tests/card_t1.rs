@@ -1,6 +1,6 @@
 //! Tests the card's end at T=1, against blocks by ISO/IEC 7816-3, clause 11.
 
-use galliumtoad::{Card, CardBuilder, CardT1, BLOCK_LIMIT};
+use galliumtoad::{Card, CardBuilder, CardT1, Error, BLOCK_LIMIT};
 
 const AID: &[u8] = b"\xA0\x00\x00\x00\x03\x10\x10";
 const SELECT: &[u8] = b"\x00\xA4\x04\x00\x07\xA0\x00\x00\x00\x03\x10\x10\x00";
@@ -57,6 +57,17 @@ fn commands_and_their_responses() {
     sends(&end, &block(0x60, b"\x5F\x20\x03JO"));
     takes(&mut end, block(0x80, b""));
     sends(&end, &block(0x00, b"E\x90\x00"));
+}
+
+#[test]
+fn a_block_needs_its_room() {
+    let mut end = CardT1::new(card()).expect("a card");
+    takes(&mut end, block(0xC1, b"\xFE"));
+    let mut room = [0xEE; BLOCK_LIMIT + 9];
+    assert_eq!(end.block_into(&mut room[..4]), Err(Error::Buffer));
+    assert_eq!(room, [0xEE; BLOCK_LIMIT + 9]);
+    assert_eq!(end.block_into(&mut room[..5]), Ok(Some(5)));
+    assert_eq!(end.block_into(&mut room), Ok(Some(5)));
 }
 
 #[test]

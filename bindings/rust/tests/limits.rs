@@ -125,7 +125,7 @@ fn the_longest_value_goes_through_a_session() {
     let card = full_card().finish().expect("a card");
     let mut session = Session::start(card).expect("a session");
     session.listen().expect("somebody listens");
-    session.select(&aid(7, 16)).expect("an answer");
+    let _ = session.select(&aid(7, 16)).expect("an answer");
     let value = bytes(VALUE_LIMIT, 77);
     assert_eq!(session.put(0xDF01, &value).expect("one"), 0x9000);
     assert_eq!(session.heard().expect("all").len(), 33 * 8 + VALUE_LIMIT);
@@ -147,7 +147,7 @@ fn the_longest_value_goes_through_a_session() {
 /// Sends 64 TPDUs of 256 bytes, the longest answer: one byte more is too much.
 fn longest_answer(exchange: &mut Exchange) {
     for tpdu in 0..64 {
-        while let Ok(Turn::Sends(_)) = exchange.next() {}
+        while let Ok(Turn::Sends(_)) = exchange.turn() {}
         let procedure = if tpdu == 0 { 0xCA } else { 0xC0 };
         exchange.take(procedure).expect("a procedure byte");
         for byte in bytes(256, 256 * tpdu) {
@@ -166,7 +166,7 @@ fn the_longest_answer_is_told() {
     let mut exchange = Exchange::start(&get).expect("an exchange");
     longest_answer(&mut exchange);
     exchange.take(0x90).expect("SW1");
-    assert_eq!(exchange.answer(), None);
+    assert_eq!(exchange.answer(), Err(Error::State));
     exchange.take(0x00).expect("SW2");
     let answer = exchange.answer().expect("an answer");
     assert_eq!(answer.status, 0x9000);
@@ -176,10 +176,10 @@ fn the_longest_answer_is_told() {
     longest_answer(&mut exchange);
     exchange.take(0x61).expect("SW1");
     exchange.take(0x01).expect("SW2");
-    while let Ok(Turn::Sends(_)) = exchange.next() {}
+    while let Ok(Turn::Sends(_)) = exchange.turn() {}
     exchange.take(0xC0).expect("a procedure byte");
     assert_eq!(exchange.take(0x00), Err(Error::TooLong));
-    assert_eq!(exchange.answer(), None);
+    assert_eq!(exchange.answer(), Err(Error::State));
 }
 
 #[test]
@@ -188,12 +188,12 @@ fn the_longest_command_is_sent() {
     let mut exchange = Exchange::start(&command).expect("an exchange");
     for (i, byte) in command.iter().enumerate() {
         if i == 5 {
-            assert_eq!(exchange.next(), Ok(Turn::Listens));
+            assert_eq!(exchange.turn(), Ok(Turn::Listens));
             exchange.take(0xDA).expect("a procedure byte");
         }
-        assert_eq!(exchange.next(), Ok(Turn::Sends(*byte)));
+        assert_eq!(exchange.turn(), Ok(Turn::Sends(*byte)));
     }
-    assert_eq!(exchange.next(), Ok(Turn::Listens));
+    assert_eq!(exchange.turn(), Ok(Turn::Listens));
     let refused = Exchange::start(&[&command[..], &[0x00, 0x00]].concat());
     assert_eq!(refused.err(), Some(Error::BadLength));
 }
@@ -204,16 +204,16 @@ fn the_longest_tpdus_go_through_a_terminal() {
     let command = [&[0x00, 0xDA, 0xDF, 0x01, 0xFF], &bytes(255, 3)[..]].concat();
     assert_eq!(command.len(), TPDU_LIMIT);
     let exchange = Exchange::start(&command).expect("an exchange");
-    let due = exchange.tpdu().expect("a TPDU");
+    let due = exchange.tpdu().expect("memory").expect("a TPDU");
     assert_eq!((&due.bytes, due.most), (&command, 0));
     let mut terminal = Terminal::new().expect("memory");
     terminal.begin(Operation::Send(&command)).expect("begun");
-    let due = terminal.tpdu().expect("a TPDU");
+    let due = terminal.tpdu().expect("memory").expect("a TPDU");
     assert_eq!((&due.bytes, due.most), (&command, 0));
     terminal.answered(&[0x90, 0x00]).expect("a status");
     terminal.begin(Operation::Get(0xDF01)).expect("begun");
     for tpdu in 0..64 {
-        assert_eq!(terminal.tpdu().expect("a TPDU").most, 256);
+        assert_eq!(terminal.tpdu().expect("memory").expect("a TPDU").most, 256);
         let status = [if tpdu < 63 { 0x61 } else { 0x90 }, 0x00];
         let answer = [&bytes(256, 256 * tpdu)[..], &status].concat();
         assert_eq!(answer.len(), ANSWER_LIMIT);
@@ -248,7 +248,7 @@ fn plans_of_many_letters_are_carried_out() {
     session.listen().expect("somebody listens");
     session.plan("nnnnnnnnn", 256).expect("nine letters");
     session.plan(&"n".repeat(300), 1).expect("300 letters");
-    session.select(&aid(7, 16)).expect("an answer");
+    let _ = session.select(&aid(7, 16)).expect("an answer");
     let line = session.heard().expect("all");
     let nulls = line.iter().filter(|(_, byte)| *byte == 0x60).count();
     assert_eq!(nulls, 309);

@@ -125,13 +125,13 @@ fn a_session_gives_back_what_it_took() {
     let _heap = heap();
     let card = builder().and_then(CardBuilder::finish).expect("a card");
     let mut session = Session::start(card).expect("a session");
-    session.select(&AID).expect("an answer");
+    assert_eq!(session.select(&AID).expect("an answer").status, 0x9000);
     let with_session = taken();
     let card = session.end().expect("the card");
     assert!(0 < taken() && taken() < with_session);
     let mut session = Session::start(card).expect("a session");
     session.plan("nona", 256).expect("a plan");
-    session.select(&AID).expect("an answer");
+    assert_eq!(session.select(&AID).expect("an answer").status, 0x9000);
     drop(session);
     assert_eq!(taken(), 0);
 }
@@ -264,7 +264,7 @@ fn characters_that_were_lost_are_told() {
     let _heap = heap();
     let card = builder().and_then(CardBuilder::finish).expect("a card");
     let mut session = Session::start(card).expect("a session");
-    session.get(0x5F20).expect("room for a response");
+    let _ = session.get(0x5F20).expect("room for a response");
     session.listen().expect("somebody listens");
     let mut lost = 0;
     for number in 1..20 {

@@ -61,12 +61,27 @@ fn gives_up(end: &mut T1, cause: Cause, outcome: Outcome) {
     let words = match outcome {
         Outcome::NotCarriedOut => "the card has not carried out the command",
         Outcome::Unknown => "the card may have carried out the command",
-        Outcome::InPart => "the card has carried out the command",
+        _ => "the card has carried out the command",
     };
     assert!(fault.to_string().ends_with(words));
     end.reset().expect("a handle");
     assert_eq!(end.fault(), None);
     assert_eq!(end.block_into(&mut room), Ok(None));
+}
+
+#[test]
+fn a_block_needs_its_room() {
+    let mut end = end(32);
+    end.begin(GET).expect("memory");
+    let mut room = [0xEE; BLOCK_LIMIT + 9];
+    assert_eq!(end.block_into(&mut room[..4]), Err(Error::Buffer));
+    assert_eq!(room, [0xEE; BLOCK_LIMIT + 9]);
+    let sent = end
+        .block_into(&mut room[..5])
+        .expect("room")
+        .expect("a block");
+    assert_eq!(room[..sent.count], *b"\x00\xC1\x01\xFE\x3E");
+    assert_eq!(end.block_into(&mut room), Ok(Some(sent)));
 }
 
 #[test]

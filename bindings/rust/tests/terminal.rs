@@ -1,7 +1,8 @@
 //! Tests a terminal with a card, over transports of whole TPDUs and of commands.
 
+use galliumtoad::{whole_commands, By, DataSent, Exchange, Level, Turn};
 use galliumtoad::{Card, CardBuilder, Error, Operation, RunError, Status, Terminal, Transport};
-use galliumtoad::{DataSent, Exchange, Level, Turn, ANSWER_LIMIT, APDU_LIMIT};
+use galliumtoad::{ANSWER_LIMIT, APDU_LIMIT, TPDU_LIMIT};
 use std::convert::Infallible;
 use std::error::Error as _;
 use std::io;
@@ -34,7 +35,7 @@ impl Transport for Reader {
     fn transmit(&mut self, sent: &[u8], answer: &mut [u8]) -> Result<usize, Error> {
         let came = match self.level {
             Level::Tpdu => self.card.tpdu(sent)?,
-            Level::Apdu => self.card.apdu(sent)?,
+            _ => self.card.apdu(sent)?,
         };
         answer[..came.len()].copy_from_slice(&came);
         self.seen.push((sent.to_vec(), came.clone()));
@@ -161,12 +162,12 @@ fn commands_pass_by_hand() {
         assert_eq!((due.count, due.most), (13, 256));
         let response = card.apdu(&room[..due.count]).expect("a response");
         terminal.responded(&response).expect("taken");
-        assert_eq!(terminal.next(), Err(Error::State));
-        assert!(terminal.tpdu().is_none());
+        assert_eq!(terminal.turn(), Err(Error::State));
+        assert_eq!(terminal.tpdu(), Err(Error::State));
     }
     assert_eq!(terminal.answer().expect("an answer").status, 0x9000);
     terminal.begin(Operation::Get(0x5F20)).expect("begun");
-    assert_eq!(terminal.next(), Ok(Turn::Sends(0x00)));
+    assert_eq!(terminal.turn(), Ok(Turn::Sends(0x00)));
     assert_eq!(terminal.apdu_into(&mut room), Err(Error::State));
 }
 
@@ -266,7 +267,7 @@ fn a_transport_that_fails_is_told_and_nothing_is_sent_again() {
     assert!(found.source().is_none());
     assert!(matches!(found, RunError::Transport(it) if it.kind() == io::ErrorKind::BrokenPipe));
     assert_eq!(times, 1);
-    assert!(terminal.answer().is_none());
+    assert_eq!(terminal.answer(), Err(Error::State));
     let mut reader = self::reader();
     let answer = terminal.run(&mut reader, Operation::Select(&AID));
     assert_eq!(answer.expect("an answer").status, 0x9000);
@@ -308,7 +309,7 @@ fn what_is_no_operation_is_not_begun() {
         .expect_err("a fault");
     assert!(matches!(found, RunError::Terminal(Error::State)));
     assert_eq!(
-        terminal.tpdu().expect("due").bytes,
+        terminal.tpdu().expect("memory").expect("due").bytes,
         [0x00, 0xCA, 0x5F, 0x20, 0x00]
     );
     assert_eq!(times, 0);
@@ -338,6 +339,98 @@ fn transports_may_be_of_any_kind() {
     assert_eq!(found, Err(RunError::Transport(0x80100010)));
 }
 
+/// Runs a select over a transport that this function owns. Returns its level.
+fn owned<T: Transport>(mut transport: T) -> Level
+where
+    T::Error: std::fmt::Debug,
+{
+    let mut terminal = Terminal::new().expect("memory");
+    let answer = terminal.run(&mut transport, Operation::Select(&AID));
+    assert_eq!(answer.expect("an answer").status, 0x9000);
+    transport.level()
+}
+
+/// References and boxes go by one wrapper, at the level of what they point to.
+#[test]
+fn pointers_to_transports_are_transports() {
+    for level in [Level::Tpdu, Level::Apdu] {
+        let mut reader = reader_at(level);
+        assert_eq!(owned(By(&mut reader)), level);
+        let by_trait: &mut dyn Transport<Error = Error> = &mut reader;
+        assert_eq!(owned(By(by_trait)), level);
+        let le = usize::from(level == Level::Apdu);
+        assert_eq!(reader.seen[0].0.len(), 12 + le);
+        let boxed: Box<dyn Transport<Error = Error>> = Box::new(reader);
+        assert_eq!(owned(By(boxed)), level);
+    }
+    let mut card = card();
+    assert_eq!(
+        owned(|tpdu: &[u8], answer: &mut [u8]| card.tpdu_into(tpdu, answer)),
+        Level::Tpdu
+    );
+}
+
+/// A card is a transport of TPDUs, under its plans.
+#[test]
+fn a_card_is_a_transport() {
+    let mut card = card();
+    card.plan("", 5).expect("a plan");
+    assert_eq!(owned(By(&mut card)), Level::Tpdu);
+    assert_eq!(card.selected(), Some(AID.to_vec()));
+    let mut terminal = Terminal::new().expect("memory");
+    let answer = terminal
+        .run(&mut card, Operation::Get(0x50))
+        .expect("an answer");
+    assert_eq!(answer.data, b"\x50\x04VISA");
+    let mut room = [0; 2];
+    assert_eq!(card.transmit(&[0x00, 0xCA, 0x00, 0x50], &mut room), Ok(2));
+    assert_eq!(room, [0x6C, 0x06]);
+    assert_eq!(card.transmit(&[0x00], &mut room), Err(Error::NoTpdu));
+}
+
+/// A closure for whole commands, with an error type of its own: the select has its Le.
+#[test]
+fn closures_carry_whole_commands() {
+    let mut card = card();
+    let mut seen = Vec::new();
+    let commands = whole_commands(|command, answer| {
+        seen.push(command.to_vec());
+        card.apdu_into(command, answer)
+    });
+    assert_eq!(owned(commands), Level::Apdu);
+    assert_eq!(
+        seen,
+        [b"\x00\xA4\x04\x00\x07\xA0\x00\x00\x00\x03\x10\x10\x00"]
+    );
+    let mut gone = whole_commands(|_, _| Err("gone"));
+    let mut terminal = Terminal::new().expect("memory");
+    let found = terminal.run(&mut gone, Operation::Get(0x50));
+    assert_eq!(found, Err(RunError::Transport("gone")));
+}
+
+/// Buffers of another length than the limits: too short is an error, and longer is not.
+#[test]
+fn buffers_may_be_of_any_length() {
+    let mut terminal = Terminal::new().expect("memory");
+    terminal.begin(Operation::Select(&AID)).expect("begun");
+    let mut room = [0xEE; TPDU_LIMIT + 9];
+    assert_eq!(terminal.tpdu_into(&mut room[..11]), Err(Error::Buffer));
+    assert_eq!(terminal.apdu_into(&mut room[..12]), Err(Error::Buffer));
+    assert_eq!(room, [0xEE; TPDU_LIMIT + 9]);
+    let due = terminal
+        .tpdu_into(&mut room[..12])
+        .expect("room")
+        .expect("due");
+    assert_eq!((due.count, due.most), (12, 0));
+    let due = terminal.apdu_into(&mut room).expect("room").expect("due");
+    assert_eq!((due.count, due.most), (13, 256));
+    assert_eq!(
+        terminal.apdu().expect("memory").expect("due").bytes,
+        room[..13]
+    );
+    assert_eq!(terminal.apdu().expect("memory").expect("due").most, 256);
+}
+
 #[test]
 fn a_panic_in_a_transport_leaves_the_terminal_reset() {
     let mut terminal = Terminal::new().expect("memory");
@@ -354,8 +447,8 @@ fn a_panic_in_a_transport_leaves_the_terminal_reset() {
     let run = AssertUnwindSafe(|| terminal.run(&mut reader, put).is_ok());
     assert!(catch_unwind(run).is_err());
     assert_eq!(times, 2);
-    assert_eq!(terminal.next(), Err(Error::State));
-    assert!(terminal.tpdu().is_none());
+    assert_eq!(terminal.turn(), Err(Error::State));
+    assert_eq!(terminal.tpdu(), Ok(None));
     let answer = terminal.run(&mut reader_of(&[0x6A, 0x82]), Operation::Get(0x50));
     assert_eq!(answer.expect("an answer").status, 0x6A82);
 }
@@ -432,22 +525,30 @@ fn answers_take_what_they_need() {
     let copied = terminal.answer_into(&mut []).expect("no data");
     assert_eq!((copied.status, copied.count), (Status(0x6982), 0));
     terminal.begin(Operation::Put(0x50, b"")).expect("begun");
-    assert_eq!(terminal.tpdu().expect("due").bytes.capacity(), 4);
+    assert_eq!(
+        terminal
+            .tpdu()
+            .expect("memory")
+            .expect("due")
+            .bytes
+            .capacity(),
+        4
+    );
     let mut room = [0xEE; 260];
-    let due = terminal.tpdu_into(&mut room).expect("due");
+    let due = terminal.tpdu_into(&mut room).expect("room").expect("due");
     assert_eq!((due.count, due.most), (4, 0));
     assert_eq!(room[..5], [0x00, 0xDA, 0x00, 0x50, 0xEE]);
     terminal.answered(&[0x90, 0x00]).expect("an answer");
-    assert_eq!(terminal.tpdu_into(&mut room), None);
+    assert_eq!(terminal.tpdu_into(&mut room), Ok(None));
     let card = reader.card.tpdu(&[0x00, 0xCA, 0x5F, 0x20, 0x06]);
-    assert_eq!(card.expect("an answer").capacity(), 8);
+    assert_eq!(card.expect("an answer").capacity(), ANSWER_LIMIT);
 }
 
 /// Passes characters between terminal and card until the operation ends. Returns the terminal's.
 fn passed(terminal: &mut Terminal, card: &mut Card) -> Vec<u8> {
     let mut sent = Vec::new();
     loop {
-        match terminal.next().expect("no fault") {
+        match terminal.turn().expect("no fault") {
             Turn::Sends(byte) => {
                 sent.push(byte);
                 card.take(byte).expect("the card listens");
@@ -475,8 +576,8 @@ fn characters_pass_by_hand() {
     assert_eq!(terminal.answer().expect("an answer").status, 0x9000);
     terminal.begin(Operation::Get(0x5F20)).expect("begun");
     assert_eq!(terminal.take(0xCA), Err(Error::NotListening));
-    assert_eq!(terminal.next(), Ok(Turn::Sends(0x00)));
-    assert!(terminal.tpdu().is_none());
+    assert_eq!(terminal.turn(), Ok(Turn::Sends(0x00)));
+    assert_eq!(terminal.tpdu(), Ok(None));
     assert_eq!(terminal.answered(&[0x90, 0x00]), Err(Error::NotDue));
     card.take(0x00).expect("the card listens");
     passed(&mut terminal, &mut card);
@@ -491,13 +592,13 @@ fn characters_pass_by_hand() {
 fn a_terminal_at_rest_has_no_turn() {
     let mut terminal = Terminal::new().expect("memory");
     for _ in 0..2 {
-        assert_eq!(terminal.next(), Err(Error::State));
+        assert_eq!(terminal.turn(), Err(Error::State));
         assert_eq!(terminal.take(0x90), Err(Error::AfterEnd));
         assert_eq!(terminal.answered(&[0x90, 0x00]), Err(Error::NotDue));
-        assert!(terminal.tpdu().is_none());
-        assert!(terminal.answer().is_none());
+        assert_eq!(terminal.tpdu(), Ok(None));
+        assert_eq!(terminal.answer(), Err(Error::State));
         terminal.begin(Operation::Get(0x5F20)).expect("begun");
-        assert_eq!(terminal.next(), Ok(Turn::Sends(0x00)));
+        assert_eq!(terminal.turn(), Ok(Turn::Sends(0x00)));
         terminal.reset().expect("it drops what is under way");
     }
 }
@@ -543,7 +644,7 @@ fn an_answer_is_one_object_or_none() {
 fn played(terminal: &mut Terminal, came: &[&[u8]]) -> usize {
     let mut sent = 0;
     for characters in came {
-        while let Turn::Sends(_) = terminal.next().expect("a turn") {
+        while let Turn::Sends(_) = terminal.turn().expect("a turn") {
             sent += 1;
         }
         for character in *characters {
@@ -625,9 +726,8 @@ fn data_of_whole_tpdus_and_commands() {
     for level in [Level::Tpdu, Level::Apdu] {
         let mut terminal = Terminal::new().expect("memory");
         let put = Operation::Put(0x5F20, b"ANN");
-        terminal
-            .run(&mut reader_at(level), Operation::Select(&AID))
-            .expect("selected");
+        let selected = terminal.run(&mut reader_at(level), Operation::Select(&AID));
+        assert_eq!(selected.expect("an answer").status, 0x9000);
         assert_eq!(terminal.data_sent(), Some(DataSent::NotKnown));
         terminal.begin(put).expect("begun");
         assert_eq!(terminal.data_sent(), Some(DataSent::NotAll));

@@ -25,7 +25,7 @@ fn each_character_is_passed_by_another_thread() {
     // the terminal's characters, the procedure byte and the status
     for _ in 0..15 {
         ends = elsewhere(ends, |(mut card, mut exchange)| {
-            match exchange.next().expect("a turn") {
+            match exchange.turn().expect("a turn") {
                 Turn::Sends(byte) => card.take(byte).expect("a card that listens"),
                 _ => match card.turn().expect("a turn") {
                     Turn::Sends(byte) => exchange.take(byte).expect("a character"),
@@ -36,7 +36,7 @@ fn each_character_is_passed_by_another_thread() {
         });
     }
     let (card, mut exchange) = ends;
-    assert_eq!(exchange.next(), Ok(Turn::Done));
+    assert_eq!(exchange.turn(), Ok(Turn::Done));
     assert_eq!(exchange.answer().expect("an answer").status, 0x610B);
     let mut session = elsewhere(card, |card| Session::start(card).expect("a session"));
     assert_eq!(session.select(&AID).expect("an answer").status, 0x9000);
@@ -49,7 +49,7 @@ fn an_operation_goes_on_in_another_thread() {
     let mut terminal = Terminal::new().expect("memory");
     terminal.begin(Operation::Select(&AID)).expect("memory");
     let answer = elsewhere((terminal, card()), |(mut terminal, mut card)| {
-        while let Some(tpdu) = terminal.tpdu() {
+        while let Some(tpdu) = terminal.tpdu().expect("memory") {
             let came = card.tpdu(&tpdu.bytes).expect("an answer");
             terminal.answered(&came).expect("a status");
         }
@@ -63,7 +63,7 @@ fn threads_have_values_of_their_own_at_once() {
     let rounds = || {
         (0..200).all(|_| {
             let mut session = Session::start(card()).expect("a session");
-            session.select(&AID).expect("an answer");
+            let _ = session.select(&AID).expect("an answer");
             session.put(0x5F20, b"ANN").expect("an answer").is_ok()
         })
     };

@@ -2,9 +2,7 @@
 //! that threads may share.
 
 use galliumtoad::{find, Atr, CardBuilder, Error, Exchange, Objects, Operation, Pps, Session};
-use galliumtoad::{
-    Answer, Card, CardT1, Entry, Level, RunError, Status, Stop, Terminal, Tpdu, Turn, T1,
-};
+use galliumtoad::{Answer, Entry, Level, Pdu, Refused, RunError, Status, Stop, Terminal, Turn};
 use std::collections::HashSet;
 use std::error::Error as Cause;
 use std::fmt;
@@ -22,7 +20,7 @@ fn session() -> Session {
     builder.locked(0x50, b"").expect("an object");
     let card = builder.finish().expect("a card");
     let mut session = Session::start(card).expect("a session");
-    session.select(&AID).expect("an answer");
+    assert_eq!(session.select(&AID).expect("an answer").status, 0x9000);
     session
 }
 
@@ -36,6 +34,46 @@ fn statuses_have_two_bytes() {
     assert_eq!(status.to_string(), "6C1A");
     assert_eq!(Status(0x0007).to_string(), "0007");
     assert_eq!(format!("{status:?}"), "Status(6C1A)");
+}
+
+#[test]
+fn statuses_are_numbers() {
+    let status: Status = 0x6C1A.into();
+    assert_eq!(status, Status(0x6C1A));
+    assert!(status == 0x6C1A && Status(0x9000) == 0x9000);
+    let mut sorted = [Status(0x9000), Status(0x6100), Status(0x6A82)];
+    sorted.sort();
+    assert_eq!(sorted, [0x6100, 0x6A82, 0x9000]);
+    assert_eq!(
+        format!("{status:X} {0:04X} {0:#X}", Status(0x62)),
+        "6C1A 0062 0x62"
+    );
+}
+
+/// A status as an error, in a chain of `?`.
+#[test]
+fn refusals_are_errors() {
+    fn locked(session: &mut Session) -> Result<(), Box<dyn Cause>> {
+        session.put(0x5F20, b"")?.ok()?;
+        session.put(0x50, b"A")?.ok()?;
+        panic!("the object is locked")
+    }
+    let fault = locked(&mut session()).expect_err("6982");
+    assert_eq!(fault.to_string(), "6982: security status not satisfied");
+    assert!(fault.source().is_none());
+    let refused = fault.downcast_ref::<Refused>().expect("a status");
+    assert_eq!(refused.status, 0x6982);
+    for word in 0..=0xFFFF {
+        let wanted = if word == 0x9000 { Ok(()) } else { Err(word) };
+        assert_eq!(Status(word).ok().map_err(|it| it.status.0), wanted);
+    }
+    let mut session = session();
+    let answer = session.get(0x5F20).expect("an answer");
+    assert_eq!(answer.clone().ok(), Ok(answer));
+    let part = session
+        .send(&[0x00, 0xCA, 0x5F, 0x20, 0x02])
+        .expect("an answer");
+    assert_eq!(part.ok().map_err(|it| it.status.0), Err(0x6104));
 }
 
 #[test]
@@ -137,13 +175,19 @@ fn debug_shows_no_secret() {
     hides(&session, "Session(");
     let objects = Objects::over(&answer.data).expect("objects");
     hides(&objects, "Objects(1 left)");
+    hides(&objects.iter(), "Copied");
     hides(&objects.last(), "Some(Object(5F20, 6 bytes))");
     let mut terminal = Terminal::new().expect("memory");
     terminal.begin(put).expect("begun");
     hides(&terminal, "Terminal(");
-    let tpdu = terminal.tpdu().expect("due");
+    terminal.reset().expect("a reset");
+    let passing = terminal.begin_guarded(put).expect("begun");
+    hides(&passing, "InProgress(");
+    drop(passing);
+    terminal.begin(put).expect("begun");
+    let tpdu = terminal.tpdu().expect("memory").expect("due");
     assert_eq!(tpdu.bytes[5..], SECRET);
-    hides(&tpdu, "Tpdu(8 bytes, 0 back)");
+    hides(&tpdu, "Pdu(8 bytes, 0 back)");
     hides(&Turn::Sends(SECRET[0]), "Sends(_)");
     assert_eq!(
         format!("{:?} {:?}", Turn::Listens, Turn::Done),
@@ -252,24 +296,56 @@ fn values_are_sorted_into_sets() {
     assert_eq!(counted([atr(b"\x3B\x00"), atr(b"\x3F\x00")]), 2);
 }
 
+/// Only one of these two impls fits a type that is not `Sync`. Of any other, `_` is ambiguous.
+trait IsShared<Which> {
+    fn look() {}
+}
+impl<T: ?Sized> IsShared<()> for T {}
+impl<T: ?Sized + Sync> IsShared<bool> for T {}
+
+/// Types that may go to another thread and can't be shared, and their names.
+macro_rules! handles {
+    ($($name:ident $(<$of:ty>)?),*) => {{
+        fn goes<T: Send>() {}
+        $(goes::<galliumtoad::$name $(<$of>)?>();)*
+        $(<galliumtoad::$name $(<$of>)? as IsShared<_>>::look();)*
+        [$(stringify!($name)),*]
+    }};
+}
+
 /// The crate's page lists which types may go to another thread, or be shared.
 #[test]
 fn handles_may_go_to_another_thread_and_other_values_be_shared() {
-    fn goes<T: Send>() {}
+    let names = handles!(
+        Terminal,
+        InProgress,
+        Exchange,
+        CardBuilder,
+        Card,
+        Session,
+        T1,
+        CardT1,
+        T1Line<u8>
+    );
+    let page = include_str!("../README.md");
+    let told = page.split("## Threads").nth(1).expect("a section");
+    let told = told
+        .split("are `Send` and not `Sync`")
+        .next()
+        .expect("a list");
+    let told: Vec<&str> = told.split('`').skip(1).step_by(2).collect();
+    assert_eq!(told, names);
     fn is_shared<T: Send + Sync>() {}
-    goes::<Terminal>();
-    goes::<T1>();
-    goes::<CardT1>();
-    goes::<Exchange>();
-    goes::<Session>();
-    goes::<Card>();
-    goes::<CardBuilder>();
     is_shared::<Answer>();
     is_shared::<Entry>();
-    is_shared::<Tpdu>();
+    is_shared::<Pdu>();
     is_shared::<Level>();
     is_shared::<Atr<'_>>();
     is_shared::<Objects<'_>>();
     is_shared::<Operation<'_>>();
     is_shared::<RunError<Error>>();
+    is_shared::<Refused>();
+    is_shared::<galliumtoad::Waits>();
+    is_shared::<galliumtoad::WholeCommands<u8>>();
+    is_shared::<galliumtoad::By<u8>>();
 }

@@ -20,7 +20,7 @@ fn a_reader_carries_an_exchange() {
     command.push(0x00);
     let mut exchange = Exchange::start(&command).expect("a command");
     let mut seen = Vec::new();
-    while let Some(tpdu) = exchange.tpdu() {
+    while let Some(tpdu) = exchange.tpdu().expect("memory") {
         let answer = card.tpdu(&tpdu.bytes).expect("an answer");
         exchange.answered(&answer).expect("to go on");
         seen.push((tpdu.bytes.clone(), tpdu.most, answer));
@@ -51,13 +51,13 @@ fn answers_that_are_refused_change_nothing() {
         assert_eq!(exchange.answered(answer), Err(fault));
         assert_eq!(exchange.tpdu(), due);
     }
-    assert_eq!(exchange.next(), Ok(Turn::Sends(0x00)));
-    assert_eq!(exchange.tpdu(), None);
+    assert_eq!(exchange.turn(), Ok(Turn::Sends(0x00)));
+    assert_eq!(exchange.tpdu(), Ok(None));
     assert_eq!(exchange.answered(b"\x90\x00"), Err(Error::NotDue));
     let mut exchange = Exchange::start(SELECT).expect("a command");
     assert_eq!(exchange.answered(b"\x6F\x90\x00"), Err(Error::NotAsked));
     assert_eq!(exchange.answered(b"\x61\x0B"), Ok(()));
-    assert_eq!(exchange.next(), Ok(Turn::Done));
+    assert_eq!(exchange.turn(), Ok(Turn::Done));
 }
 
 #[test]
@@ -107,7 +107,7 @@ fn a_reader_carries_an_exchange_by_commands() {
     let command = [SELECT, b"\x00"].concat();
     let mut exchange = Exchange::start(&command).expect("a command");
     assert_eq!(due(&exchange), Some((command.clone(), 256)));
-    assert!(exchange.tpdu().is_some());
+    assert!(matches!(exchange.tpdu(), Ok(Some(_))));
     let response = card.apdu(&command).expect("a response");
     let information = b"\x6F\x09\x84\x07\xA0\x00\x00\x00\x03\x10\x10";
     assert_eq!(response, [information.as_slice(), b"\x90\x00"].concat());
@@ -133,17 +133,18 @@ fn a_reader_carries_an_exchange_by_commands() {
     assert_eq!(exchange.responded(b"\x61\x02"), Ok(()));
     assert_eq!(exchange.responded(b"\x61\x02"), Err(Error::Stalled));
     assert_eq!(due(&exchange), None);
-    assert!(exchange.answer().is_none());
+    assert_eq!(exchange.answer(), Err(Error::State));
 }
 
 #[test]
 fn the_first_answer_sets_the_level() {
     let mut exchange = Exchange::start(GET).expect("a command");
     assert_eq!(exchange.responded(b"\x61\x02"), Ok(()));
-    assert_eq!(exchange.tpdu(), None);
-    assert_eq!(exchange.tpdu_into(&mut [0; TPDU_LIMIT]), None);
+    assert_eq!(exchange.tpdu(), Err(Error::State));
+    let copied = exchange.tpdu_into(&mut [0; TPDU_LIMIT]);
+    assert_eq!(copied, Err(Error::State));
     assert_eq!(exchange.answered(b"\x90\x00"), Err(Error::State));
-    assert_eq!(exchange.next(), Err(Error::State));
+    assert_eq!(exchange.turn(), Err(Error::State));
     assert_eq!(due(&exchange), Some((b"\x00\xC0\x00\x00\x02".to_vec(), 2)));
     let mut exchange = Exchange::start(GET).expect("a command");
     assert_eq!(exchange.answered(b"\x6C\x02"), Ok(()));
@@ -151,7 +152,7 @@ fn the_first_answer_sets_the_level() {
     assert_eq!(exchange.apdu_into(&mut room), Err(Error::State));
     assert_eq!(room, [0xEE; APDU_LIMIT]);
     assert_eq!(exchange.responded(b"\x90\x00"), Err(Error::State));
-    assert!(exchange.tpdu().is_some());
+    assert!(matches!(exchange.tpdu(), Ok(Some(_))));
 }
 
 /// A card refuses bytes that are not a short command, and commands that are not agreed. It stays as

@@ -4,8 +4,8 @@
 //! Each call runs on its own stack, in which the test then looks for the secret.
 #![cfg(not(feature = "own-memory"))]
 
-use galliumtoad::{find, head, Card, CardBuilder, Exchange, Objects, ObjectsError, Operation};
-use galliumtoad::{Session, Terminal, Turn, TPDU_LIMIT};
+use galliumtoad::{encode, find, head, Card, CardBuilder, Error, Exchange, Objects, ObjectsError};
+use galliumtoad::{Operation, RunError, Session, Terminal, Turn, TPDU_LIMIT};
 use std::alloc::{GlobalAlloc, Layout, System};
 use std::cell::Cell;
 use std::ffi::c_void;
@@ -45,13 +45,16 @@ thread_local! {
     static TAKEN: Cell<isize> = const { Cell::new(0) };
     /// Blocks of this size or more are refused.
     static MOST: Cell<usize> = const { Cell::new(usize::MAX) };
+    /// After this number of blocks the next is refused.
+    static LEFT: Cell<usize> = const { Cell::new(usize::MAX) };
 }
 
 struct Looking;
 
 unsafe impl GlobalAlloc for Looking {
     unsafe fn alloc(&self, layout: Layout) -> *mut u8 {
-        if layout.size() >= MOST.with(Cell::get) {
+        let left = LEFT.with(|it| it.replace(it.get().wrapping_sub(1)));
+        if layout.size() >= MOST.with(Cell::get) || left == 0 {
             return null_mut();
         }
         TAKEN.with(|it| it.set(it.get() + layout.size() as isize));
@@ -291,18 +294,17 @@ fn an_exchange_leaves_nothing() {
     assert_eq!(left(|| drop(start(&PUT).tpdu().clone())), NOTHING);
     assert_eq!(
         left(|| {
-            let mut room = Box::new([0; TPDU_LIMIT]);
-            assert_eq!(start(&PUT).tpdu_into(&mut room).expect("due").count, 21);
-            assert!(has_secret(&*room));
-            room.fill(0);
-            seen(&*room);
+            let mut room = vec![0; TPDU_LIMIT];
+            let due = start(&PUT).tpdu_into(&mut room).expect("room");
+            assert_eq!(due.expect("due").count, 21);
+            own(room, true);
         }),
         NOTHING
     );
     assert_eq!(
         left(|| {
             let mut exchange = start(&PUT);
-            while let Ok(Turn::Sends(_)) = exchange.next() {}
+            while let Ok(Turn::Sends(_)) = exchange.turn() {}
             exchange.take(0xDA).expect("a procedure byte");
             let mut room = vec![0; 30];
             assert_eq!(exchange.send_bytes(&mut room).expect("data").count, 16);
@@ -325,7 +327,7 @@ fn an_exchange_leaves_nothing() {
     assert_eq!(
         left(|| {
             let mut exchange = start(&GET);
-            while let Ok(Turn::Sends(_)) = exchange.next() {}
+            while let Ok(Turn::Sends(_)) = exchange.turn() {}
             exchange.take(0xCA).expect("a procedure byte");
             exchange.receive_bytes(&FOUND_OBJECT).expect("an answer");
         }),
@@ -345,7 +347,7 @@ fn what_a_terminal_keeps_is_wiped() {
             for value in [&secret, b"JOE".as_slice(), &[0; 40], &secret, b"ANN"] {
                 let put = Operation::Put(0x5F20, value);
                 terminal.begin(put).expect("begun");
-                drop(terminal.tpdu().expect("due"));
+                drop(terminal.tpdu().expect("memory").expect("due"));
                 terminal.answered(&[0x90, 0x00]).expect("an answer");
             }
             terminal
@@ -367,7 +369,7 @@ fn a_transport_leaves_nothing() {
             let mut reader = |tpdu: &[u8], answer: &mut [u8]| card.tpdu_into(tpdu, answer);
             let mut terminal = Terminal::new().expect("a terminal");
             let mut run = |operation| terminal.run(&mut reader, operation).expect("an answer");
-            run(Operation::Select(&AID));
+            assert!(run(Operation::Select(&AID)).status.is_ok());
             for _ in 0..10 {
                 assert!(run(Operation::Put(0x5F20, &SECRET)).status.is_ok());
             }
@@ -416,7 +418,7 @@ fn a_session_leaves_nothing() {
         left(|| {
             let mut session = Session::start(card()).expect("a session");
             session.listen().expect("somebody listens");
-            session.select(&AID).expect("an answer");
+            assert_eq!(session.select(&AID).expect("an answer").status, 0x9000);
             assert!(session.put(0x5F20, &SECRET).expect("an answer").is_ok());
             let mut heard = session.heard().expect("memory");
             assert_eq!(heard.len(), 8 + 16);
@@ -475,4 +477,107 @@ fn a_list_without_memory_is_refused() {
     assert_eq!(fits, Ok(20_000));
     assert_eq!(Objects::over(&list).map(|it| it.count()), Ok(30_000));
     assert_eq!(TAKEN.with(Cell::get), before);
+}
+
+/// Runs `run` while no block of this size or more is to be had.
+fn without<T>(size: usize, run: impl FnOnce() -> T) -> T {
+    MOST.with(|it| it.set(size));
+    let made = run();
+    MOST.with(|it| it.set(usize::MAX));
+    made
+}
+
+/// Runs `run` while there is this number of blocks, and no further one.
+fn with_blocks<T>(count: usize, run: impl FnOnce() -> T) -> T {
+    LEFT.with(|it| it.set(count));
+    let made = run();
+    LEFT.with(|it| it.set(usize::MAX));
+    made
+}
+
+/// An answer without memory for its data is an error that says so, and stays: the operation was
+/// carried out.
+#[test]
+fn an_answer_without_memory_stays() {
+    let _one = one();
+    let object = [b"\x5F\x20\x82\x01\x2C", &[0x41; 300][..]].concat();
+    let mut card = card();
+    let mut reader = |tpdu: &[u8], answer: &mut [u8]| card.tpdu_into(tpdu, answer);
+    let mut terminal = Terminal::new().expect("memory");
+    for operation in [
+        Operation::Select(&AID),
+        Operation::Put(0x5F20, &object[5..]),
+    ] {
+        let answer = terminal.run(&mut reader, operation);
+        assert_eq!(answer.expect("an answer").status, 0x9000);
+    }
+    let get = Operation::Get(0x5F20);
+    let found = without(305, || terminal.run(&mut reader, get));
+    assert_eq!(found, Err(RunError::Terminal(Error::Buffer)));
+    assert_eq!(without(305, || terminal.answer()), Err(Error::Buffer));
+    assert_eq!(terminal.answer().expect("the answer").data, object);
+    // the smallest block that is refused is one of 305 bytes
+    let found = without(306, || terminal.run(&mut reader, get));
+    assert_eq!(found.expect("an answer").data, object);
+    let mut exchange = Exchange::start(&[0x00, 0xCA, 0x5F, 0x20, 0x00]).expect("memory");
+    exchange
+        .answered(&[&object[..256], b"\x61\x31"].concat())
+        .expect("taken");
+    exchange
+        .answered(&[&object[256..], b"\x90\x00"].concat())
+        .expect("taken");
+    assert_eq!(without(305, || exchange.answer()), Err(Error::Buffer));
+    assert_eq!(exchange.answer().expect("the answer").data, object);
+    let mut session = Session::start(card).expect("a session");
+    session.listen().expect("somebody listens");
+    assert_eq!(session.select(&AID).expect("an answer").status, 0x9000);
+    // the room of the record of characters is taken by the first of these
+    for _ in 0..2 {
+        assert_eq!(session.get(0x5F20).expect("an answer").data, object);
+    }
+    let get = [0x00, 0xCA, 0x5F, 0x20, 0x00];
+    assert_eq!(without(305, || session.get(0x5F20)), Err(Error::Buffer));
+    assert_eq!(session.answer().expect("the answer").data, object);
+    assert_eq!(without(305, || session.send(&get)), Err(Error::Buffer));
+    assert_eq!(session.answer().expect("the answer").data, object);
+    // memory ran out while that one was noted
+    assert_eq!(session.heard(), Err(Error::Memory));
+    assert_eq!(session.get(0x5F20).expect("an answer").data, object);
+    // GET DATA, 256 bytes and 6131, GET RESPONSE, 49 bytes and 9000: two bytes of memory for each
+    assert_eq!(without(642, || session.heard()), Err(Error::Buffer));
+    assert_eq!(with_blocks(1, || session.heard()), Err(Error::Buffer));
+    assert_eq!(
+        session.heard().expect("memory").len(),
+        5 + 1 + 256 + 2 + 5 + 1 + 49 + 2
+    );
+}
+
+/// What takes memory before anything is sent or done changes nothing without it.
+#[test]
+fn without_memory_nothing_is_done() {
+    let _one = one();
+    let exchange = Exchange::start(&PUT).expect("memory");
+    assert_eq!(without(1, || exchange.tpdu()), Err(Error::Memory));
+    assert_eq!(exchange.tpdu().expect("memory").expect("due").bytes, PUT);
+    assert_eq!(without(1, || exchange.apdu()), Err(Error::Memory));
+    assert_eq!(exchange.apdu().expect("memory").expect("due").bytes, PUT);
+    let mut card = card();
+    for ask in [Card::tpdu, Card::apdu] {
+        assert_eq!(without(258, || ask(&mut card, &SELECT)), Err(Error::Memory));
+        assert_eq!(card.selected(), None);
+        assert_eq!(ask(&mut card, &SELECT), Ok(vec![0x61, 0x0B]));
+        card.reset().expect("a reset");
+    }
+    let value = [0x41; 300];
+    let found = without(303, || encode(0x5F20, &[&value]).map(|it| it.len()));
+    assert_eq!(found, Err(ObjectsError::Memory));
+    assert_eq!(encode(0x5F20, &[&value]).map(|it| it.len()), Ok(305));
+    let list = Objects::over(b"\x70\x02\x50\x00").expect("objects").next();
+    let children = list.expect("one");
+    for blocks in [0, 1] {
+        let found = with_blocks(blocks, || children.children().map(|it| it.count()));
+        assert_eq!(found, Err(ObjectsError::Memory));
+    }
+    let found = with_blocks(2, || children.children().map(|it| it.count()));
+    assert_eq!(found, Ok(1));
 }

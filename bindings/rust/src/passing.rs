@@ -1,0 +1,197 @@
+//! The calls that an exchange and an operation of a terminal share: characters, buffers, whole
+//! TPDUs and whole commands, and then the answer.
+
+use crate::buffers::{self, ReceiveError, Sent};
+use crate::error::{done, Error};
+use crate::exchange::{self, Answer, Copied, Exchange, Turn};
+use crate::raw;
+use crate::terminal::Terminal;
+use crate::whole::{self, Due, Pdu};
+
+/// Adds these calls to an end, each over a function of the archive for its kind of handle.
+macro_rules! passes {
+    ($end:ident {
+        turn: $turn:ident, take: $take:ident, send_bytes: $send_bytes:ident,
+        receive_bytes: $receive_bytes:ident, tpdu: $tpdu:ident, answered: $answered:ident,
+        apdu: $apdu:ident, responded: $responded:ident, answer: $answer:ident,
+    }) => {
+        impl $end {
+            /// Returns what the terminal does now. A character that it returns counts as sent: the
+            /// next call returns the next one. Any other result changes nothing.
+            ///
+            /// # Errors
+            ///
+            /// - [`Error::State`]: it goes by whole commands, see [`apdu`](Self::apdu), or a
+            ///   terminal has begun no operation.
+            /// - [`Error::Failed`]: it has failed for good.
+            #[inline]
+            pub fn turn(&mut self) -> Result<Turn, Error> {
+                exchange::turn(&self.0, raw::$turn)
+            }
+
+            /// Takes a character of the card. If it completes a status, the next TPDU begins, or it
+            /// has ended.
+            ///
+            /// # Errors
+            ///
+            /// - [`Error::BadProcedure`], [`Error::TooLong`], [`Error::Stalled`]: with this
+            ///   character it has failed for good. Reset the card.
+            /// - [`Error::NotListening`]: it has characters to send. Nothing has changed.
+            /// - [`Error::AfterEnd`]: it has ended or failed, or a terminal has begun no operation.
+            ///   Nothing has changed.
+            /// - [`Error::State`]: it goes by whole commands. Nothing has changed.
+            #[inline]
+            pub fn take(&mut self, byte: u8) -> Result<(), Error> {
+                // SAFETY: a handle of this end's kind.
+                done(unsafe { raw::$take(self.0.at(), byte) })
+            }
+
+            /// Hands out what the terminal sends now, as [`turn`](Self::turn) one at a time, up to
+            /// the end of `room`. An empty `room` gives [`Stop::Full`](crate::Stop::Full), also if
+            /// it has ended or failed.
+            ///
+            /// # Errors
+            ///
+            /// As [`turn`](Self::turn). Nothing is handed out.
+            #[inline]
+            pub fn send_bytes(&mut self, room: &mut [u8]) -> Result<Sent, Error> {
+                buffers::send(&self.0, raw::$send_bytes, room)
+            }
+
+            /// Takes characters of the card, as [`take`](Self::take) one at a time, up to the first
+            /// fault.
+            ///
+            /// # Errors
+            ///
+            /// - [`ReceiveError`]: the first fault. Its state is that of [`take`](Self::take).
+            #[inline]
+            pub fn receive_bytes(&mut self, bytes: &[u8]) -> Result<(), ReceiveError> {
+                buffers::receive(&self.0, raw::$receive_bytes, bytes)
+            }
+
+            /// Returns the next whole TPDU, for a reader that carries whole TPDUs. `None` if one of
+            /// its characters was sent, if it has ended or failed, or if a terminal has begun no
+            /// operation.
+            ///
+            /// # Errors
+            ///
+            /// - [`Error::State`]: it goes by whole commands. Nothing has changed.
+            /// - [`Error::Memory`]: it ran out. Nothing has changed.
+            pub fn tpdu(&self) -> Result<Option<Pdu>, Error> {
+                whole::pdu(&self.0, raw::$tpdu)
+            }
+
+            /// As [`tpdu`](Self::tpdu), with the bytes at the front of `room`, and without memory.
+            ///
+            /// # Errors
+            ///
+            /// - [`Error::State`]: it goes by whole commands. Nothing has changed.
+            /// - [`Error::Buffer`]: `room` is too short. [`TPDU_LIMIT`](crate::TPDU_LIMIT) bytes
+            ///   are always enough.
+            pub fn tpdu_into(&self, room: &mut [u8]) -> Result<Option<Due>, Error> {
+                whole::due_into(&self.0, raw::$tpdu, room)
+            }
+
+            /// Takes the answer to the TPDU of [`tpdu`](Self::tpdu): data, and then SW1 SW2. It
+            /// continues as after the characters of any TPDU that brings these: another TPDU
+            /// follows, or it has ended.
+            ///
+            /// # Errors
+            ///
+            /// After all but the last two nothing has changed.
+            ///
+            /// - [`Error::State`]: it goes by whole commands.
+            /// - [`Error::NoStatus`]: the bytes don't end in a status word.
+            /// - [`Error::NotDue`]: [`tpdu`](Self::tpdu) returns `None`.
+            /// - [`Error::NotAsked`], [`Error::TooMany`]: more data came back than may.
+            /// - [`Error::TooLong`], [`Error::Stalled`]: it has failed for good. Reset the card.
+            pub fn answered(&mut self, answer: &[u8]) -> Result<(), Error> {
+                // SAFETY: a handle of this end's kind; a slice with its length.
+                done(unsafe { raw::$answered(self.0.at(), answer.as_ptr(), answer.len()) })
+            }
+
+            /// Returns the command to send now, for a reader that carries whole commands: see
+            /// [`Level::Apdu`](crate::Level::Apdu). `None` if it has ended or failed.
+            ///
+            /// The first character sent, or the first answer that is taken or fails it, sets the
+            /// level, for each operation anew. From then on calls of the other level are
+            /// [`Error::State`], and nothing changes.
+            ///
+            /// # Errors
+            ///
+            /// - [`Error::State`]: it goes by characters and TPDUs, or a terminal has begun no
+            ///   operation. Nothing has changed.
+            /// - [`Error::Memory`]: it ran out, also for this level, which takes its memory by the
+            ///   first of these calls. Nothing has changed.
+            pub fn apdu(&self) -> Result<Option<Pdu>, Error> {
+                whole::pdu(&self.0, raw::$apdu)
+            }
+
+            /// As [`apdu`](Self::apdu), with the bytes at the front of `room`.
+            ///
+            /// # Errors
+            ///
+            /// - [`Error::Buffer`]: `room` is too short. [`APDU_LIMIT`](crate::APDU_LIMIT) bytes
+            ///   are always enough.
+            /// - Any other: as [`apdu`](Self::apdu).
+            pub fn apdu_into(&self, room: &mut [u8]) -> Result<Option<Due>, Error> {
+                whole::due_into(&self.0, raw::$apdu, room)
+            }
+
+            /// Takes the response to the command of [`apdu`](Self::apdu): data, and then SW1 SW2.
+            /// Another command follows, or it has ended.
+            ///
+            /// # Errors
+            ///
+            /// - [`Error::State`], [`Error::Memory`]: as [`apdu`](Self::apdu).
+            /// - [`Error::NotDue`]: [`apdu`](Self::apdu) returns `None`. Nothing has changed.
+            /// - Any other: as [`answered`](Self::answered).
+            pub fn responded(&mut self, response: &[u8]) -> Result<(), Error> {
+                // SAFETY: a handle of this end's kind; a slice with its length.
+                done(unsafe { raw::$responded(self.0.at(), response.as_ptr(), response.len()) })
+            }
+
+            /// Returns the answer, the status and the data of the last command. Each further call
+            /// gives the same.
+            ///
+            /// # Errors
+            ///
+            /// - [`Error::State`]: it is in progress or has failed, or a terminal has begun no
+            ///   operation.
+            /// - [`Error::Buffer`]: there is no memory for the data. The answer stays.
+            pub fn answer(&self) -> Result<Answer, Error> {
+                exchange::answer(&self.0, raw::$answer)
+            }
+
+            /// As [`answer`](Self::answer), with the data at the front of `room`. This takes no
+            /// memory, and the data are in the caller's buffer alone.
+            ///
+            /// # Errors
+            ///
+            /// - [`Error::State`]: as [`answer`](Self::answer). `room` is unchanged.
+            /// - [`Error::Buffer`]: `room` is too short, and unchanged;
+            ///   [`RESPONSE_LIMIT`](crate::RESPONSE_LIMIT) bytes are always enough.
+            pub fn answer_into(&self, room: &mut [u8]) -> Result<Copied, Error> {
+                exchange::answer_into(&self.0, raw::$answer, room)
+            }
+        }
+    };
+}
+
+passes! { Exchange {
+    turn: galliumtoad_exchange_next, take: galliumtoad_exchange_take,
+    send_bytes: galliumtoad_exchange_send_bytes,
+    receive_bytes: galliumtoad_exchange_receive_bytes,
+    tpdu: galliumtoad_exchange_tpdu, answered: galliumtoad_exchange_answered,
+    apdu: galliumtoad_exchange_apdu, responded: galliumtoad_exchange_responded,
+    answer: galliumtoad_exchange_answer,
+} }
+
+passes! { Terminal {
+    turn: galliumtoad_terminal_next, take: galliumtoad_terminal_take,
+    send_bytes: galliumtoad_terminal_send_bytes,
+    receive_bytes: galliumtoad_terminal_receive_bytes,
+    tpdu: galliumtoad_terminal_tpdu, answered: galliumtoad_terminal_answered,
+    apdu: galliumtoad_terminal_apdu, responded: galliumtoad_terminal_responded,
+    answer: galliumtoad_terminal_answer,
+} }

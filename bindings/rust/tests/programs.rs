@@ -1,0 +1,165 @@
+//! Tests whole programs: one without `std`, and those that the compiler has to refuse.
+#![cfg(not(feature = "own-memory"))]
+
+use std::path::{Path, PathBuf};
+use std::process::{Command, Output};
+
+/// Compiles a program that uses this crate, with these features. Returns its path, and the output.
+fn compiled(name: &str, source: &str, features: &str) -> (PathBuf, Output) {
+    let folder = Path::new(env!("CARGO_TARGET_TMPDIR"))
+        .join("programs")
+        .join(name);
+    std::fs::create_dir_all(folder.join("src")).expect("a folder");
+    // another version of cargo may have written it
+    let _ = std::fs::remove_file(folder.join("Cargo.lock"));
+    let manifest = format!(
+        "[package]\nname = \"{name}\"\nversion = \"0.1.0\"\nedition = \"2021\"\n[workspace]\n\
+         [profile.dev]\npanic = \"abort\"\n[dependencies]\n\
+         galliumtoad = {{ path = {:?}, default-features = false, features = [{features}] }}\n",
+        env!("CARGO_MANIFEST_DIR")
+    );
+    std::fs::write(folder.join("Cargo.toml"), manifest).expect("written");
+    std::fs::write(folder.join("src/main.rs"), source).expect("written");
+    let target = folder.join("target");
+    let done = Command::new(env!("CARGO"))
+        .args(["build", "--offline", "--quiet", "--target-dir"])
+        .arg(&target)
+        .current_dir(&folder)
+        .output()
+        .expect("cargo runs");
+    (target.join("debug").join(name), done)
+}
+
+/// The program has no `std`: it brings what `std` would, and two of each would not link.
+const BARE: &str = r#"
+#![no_std]
+#![no_main]
+
+use core::alloc::{GlobalAlloc, Layout};
+use galliumtoad::{By, CardBuilder, Operation, Terminal};
+
+#[link(name = "c")]
+extern "C" {
+    fn aligned_alloc(align: usize, size: usize) -> *mut u8;
+    fn free(block: *mut u8);
+    fn abort() -> !;
+}
+
+struct Heap;
+
+unsafe impl GlobalAlloc for Heap {
+    unsafe fn alloc(&self, layout: Layout) -> *mut u8 {
+        aligned_alloc(layout.align(), layout.size())
+    }
+    unsafe fn dealloc(&self, block: *mut u8, _: Layout) {
+        free(block)
+    }
+}
+
+#[global_allocator]
+static HEAP: Heap = Heap;
+
+#[panic_handler]
+fn panicked(_: &core::panic::PanicInfo<'_>) -> ! {
+    unsafe { abort() }
+}
+
+// the compiler's own `alloc` names it, for panics that unwind
+#[no_mangle]
+pub extern "C" fn rust_eh_personality() {}
+
+#[no_mangle]
+pub extern "C" fn main() -> i32 {
+    let aid = [0xA0, 0x00, 0x00, 0x00, 0x03, 0x10, 0x10];
+    let mut builder = CardBuilder::new().unwrap();
+    builder.app(&aid).unwrap();
+    builder.locked(0x5F20, b"JOE").unwrap();
+    let mut card = builder.finish().unwrap();
+    let mut terminal = Terminal::new().unwrap();
+    terminal.run(&mut By(&mut card), Operation::Select(&aid)).unwrap().status.ok().unwrap();
+    let refused = terminal.run(&mut card, Operation::Put(0x5F20, b"")).unwrap().ok().unwrap_err();
+    let name = terminal.run(&mut card, Operation::Get(0x5F20)).unwrap().ok().unwrap();
+    let told = refused.status.text() == "security status not satisfied";
+    if told && name.object(0x5F20).unwrap().value == b"JOE" { 42 } else { 1 }
+}
+"#;
+
+/// The minor number of the compiler's version.
+fn compiler() -> u32 {
+    let rustc = std::env::var_os("RUSTC").unwrap_or_else(|| "rustc".into());
+    let done = Command::new(rustc)
+        .arg("--version")
+        .output()
+        .expect("rustc runs");
+    let says = String::from_utf8(done.stdout).expect("text");
+    says.split('.')
+        .nth(1)
+        .and_then(|it| it.parse().ok())
+        .expect("a version")
+}
+
+#[test]
+fn a_program_without_std_links_and_runs() {
+    let (program, done) = compiled("bare", BARE, "");
+    let says = String::from_utf8_lossy(&done.stderr).into_owned();
+    // before 1.68 each such program needs a handler that only a nightly compiler allows
+    if says.contains("`#[alloc_error_handler]` function required") {
+        return assert!(compiler() < 68, "{says}");
+    }
+    assert!(done.status.success(), "{says}");
+    let status = Command::new(program).status().expect("it runs");
+    assert_eq!(status.code(), Some(42));
+}
+
+/// A use of the crate, what the compiler says of it, and how many matches it finds incomplete.
+const REFUSED: [(&str, &str, usize); 6] = [
+    (
+        "fn f(mut s: Session) { s.get(0x50).unwrap(); }",
+        "the card may have refused",
+        0,
+    ),
+    (
+        "fn f(mut s: Session) { s.put(0x50, &[]).unwrap(); }",
+        "the card may have refused",
+        0,
+    ),
+    (
+        "fn f(t: &mut Terminal) { t.begin_guarded(Operation::Get(0x50)).unwrap(); }",
+        "a drop resets the terminal",
+        0,
+    ),
+    (
+        "fn f(e: Edc) { match e { Edc::Lrc | Edc::Crc => {} } }",
+        "`_` not covered",
+        1,
+    ),
+    (
+        "fn f(l: Level) { match l { Level::Tpdu | Level::Apdu => {} } }",
+        "`_` not covered",
+        1,
+    ),
+    (
+        "fn f(o: Outcome) { use Outcome::*; match o { NotCarriedOut | Unknown | InPart => {} } }
+         fn g(o: Operation<'_>) {
+             use Operation::*;
+             match o { Select(_) | Get(_) | Put(..) | Send(_) => {} }
+         }",
+        "`_` not covered",
+        2,
+    ),
+];
+
+/// Answers and statuses are looked at, and enums may grow.
+#[test]
+fn the_compiler_refuses_what_the_crate_does_not_allow() {
+    for (source, wanted, incomplete) in REFUSED {
+        let source = format!(
+            "#![deny(unused_must_use)]\n#![allow(unused_imports, dead_code)]\n\
+             use galliumtoad::*;\n{source}\nfn main() {{}}"
+        );
+        let (_, done) = compiled("refused", &source, "\"std\"");
+        let says = String::from_utf8_lossy(&done.stderr).into_owned();
+        assert!(!done.status.success() && says.contains(wanted), "{says}");
+        assert_eq!(says.matches("error[E0004]").count(), incomplete, "{says}");
+    }
+}

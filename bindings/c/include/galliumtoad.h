@@ -723,8 +723,8 @@ GT_INLINE int32_t gt_pass_(int32_t (*carry_out)(gt_card *, const uint8_t *, size
 
 /* Lists all objects of all levels of a list, in the order of their first bytes: a template comes
  * before the objects in it. `count` gets their number. With room 0 the call only checks and counts,
- * and returns GT_OK; `objects` may then be NULL. `count` and `place` may not. The call takes some
- * KB of stack for 16 levels.
+ * and returns GT_OK; `objects` may then be NULL. `count` and `place` may not. The call takes up
+ * to 2.3 KB of stack, for 16 levels.
  *
  * - GT_OK: all of them are in `objects`, from its front, or room is 0. `count` is set here too.
  * - GT_BUFFER: there are more than `room`; `count` is their number, and the first `room` of them

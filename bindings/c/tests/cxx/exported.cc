@@ -13,6 +13,11 @@ extern "C" const void *own(size_t at) {
     std::vector<galliumtoad::T1> ends(3);
     galliumtoad::Aid aid;
     bool is;
+    cards.resize(4);
+    sessions.resize(4);
+    terminals.resize(4);
+    exchanges.resize(4);
+    ends.resize(4);
     cards[0] = std::move(cards[1]);
     if (failed(cards[2].selected(aid)) || failed(sessions[0].idle(is))
         || failed(terminals[0].create()) || failed(exchanges[0].start(aid))

@@ -38,19 +38,17 @@ enum class Code : int32_t {
     LengthCut = GT_LENGTH_CUT, LengthForm = GT_LENGTH_FORM, ValueCut = GT_VALUE_CUT,
     TooDeep = GT_TOO_DEEP, TooShort = GT_TOO_SHORT, BadLength = GT_BAD_LENGTH,
     InvalidIns = GT_INVALID_INS, NotDue = GT_NOT_DUE, NoStatus = GT_NO_STATUS,
-    NotAsked = GT_NOT_ASKED, TooMany = GT_TOO_MANY, NoTpdu = GT_NO_TPDU,
-    WantsData = GT_WANTS_DATA, SendsData = GT_SENDS_DATA, AtrNoTs = GT_ATR_NO_TS,
-    AtrCut = GT_ATR_CUT, AtrTooLong = GT_ATR_TOO_LONG, AtrOrder = GT_ATR_ORDER,
-    AtrSurplus = GT_ATR_SURPLUS, AtrCheckMissing = GT_ATR_CHECK_MISSING,
-    AtrCheckNotDue = GT_ATR_CHECK_NOT_DUE, AtrCheckWrong = GT_ATR_CHECK_WRONG,
-    PpsNoPpss = GT_PPS_NO_PPSS, PpsCut = GT_PPS_CUT, PpsReserved = GT_PPS_RESERVED,
-    PpsSurplus = GT_PPS_SURPLUS, PpsCheckWrong = GT_PPS_CHECK_WRONG,
+    NotAsked = GT_NOT_ASKED, TooMany = GT_TOO_MANY, NoTpdu = GT_NO_TPDU, WantsData = GT_WANTS_DATA,
+    SendsData = GT_SENDS_DATA, AtrNoTs = GT_ATR_NO_TS, AtrCut = GT_ATR_CUT,
+    AtrTooLong = GT_ATR_TOO_LONG, AtrOrder = GT_ATR_ORDER, AtrSurplus = GT_ATR_SURPLUS,
+    AtrCheckMissing = GT_ATR_CHECK_MISSING, AtrCheckNotDue = GT_ATR_CHECK_NOT_DUE,
+    AtrCheckWrong = GT_ATR_CHECK_WRONG, PpsNoPpss = GT_PPS_NO_PPSS, PpsCut = GT_PPS_CUT,
+    PpsReserved = GT_PPS_RESERVED, PpsSurplus = GT_PPS_SURPLUS, PpsCheckWrong = GT_PPS_CHECK_WRONG,
     TriesSpent = GT_TRIES_SPENT, ExtensionsSpent = GT_EXTENSIONS_SPENT, Aborted = GT_ABORTED
 };
 enum class Edc : uint8_t { Lrc = GT_LRC, Crc = GT_CRC };
-enum class Outcome : int32_t {
-    NotCarriedOut = GT_NOT_CARRIED_OUT, Unknown = GT_UNKNOWN, InPart = GT_IN_PART
-};
+enum class Outcome : int32_t
+{ NotCarriedOut = GT_NOT_CARRIED_OUT, Unknown = GT_UNKNOWN, InPart = GT_IN_PART };
 
 #ifdef __cpp_lib_span
 template <class T> using Span = std::span<T>;

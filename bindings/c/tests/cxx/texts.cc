@@ -21,6 +21,11 @@ static void of_texts() {
     CHECK(galliumtoad::failed(Code::Ok), 0);
     CHECK(galliumtoad::failed(Code::AllSent), 0);
     CHECK(galliumtoad::failed(Code::Null), 1);
+    CHECK(Edc::Lrc, GT_LRC);
+    CHECK(Edc::Crc, GT_CRC);
+    CHECK(Outcome::NotCarriedOut, GT_NOT_CARRIED_OUT);
+    CHECK(Outcome::Unknown, GT_UNKNOWN);
+    CHECK(Outcome::InPart, GT_IN_PART);
     CHECK(version(), GT_VERSION);
     CHECK(version_fits(), 1);
 }

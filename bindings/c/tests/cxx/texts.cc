@@ -130,7 +130,7 @@ static void of_tpdus() {
     uint8_t data[GT_ANSWER_LIMIT];
     size_t most, n;
     uint16_t status = 0;
-    while (terminals[0].tpdu(tpdu, most) == Code::Ok) {
+    for (int i = 0; i < 5 && terminals[0].tpdu(tpdu, most) == Code::Ok; i++) {
         CHECK(cards[0].tpdu(tpdu, data, n), GT_OK);
         CHECK(terminals[0].answered({ data, n }), GT_OK);
     }

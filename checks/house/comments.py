@@ -6,7 +6,7 @@ import io
 import re
 import tokenize
 
-C_LIKE = (".rt", ".rs", ".c", ".h")
+C_LIKE = (".rt", ".rs", ".c", ".h", ".hpp", ".cc", ".cs", ".go")
 LEXED = re.compile(
     r"""(?P<line>//[^\n]*)
     | (?P<block>/\*.*?\*/)

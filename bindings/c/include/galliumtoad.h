@@ -68,12 +68,18 @@ extern "C" {
 #define GT_INIT { 0 }
 #endif
 
-/* The functions are inline. If GT_EXTERN is defined before the header is included, they are
- * `extern`: one source file of the shared library exports them so, for other languages. */
+/* In C the functions are `static inline`. In C++ they are `inline`, one of each in a program, and
+ * hidden: a shared object exports none. If GT_EXTERN is defined before the header is included, they
+ * are `extern`: one source file of the shared library exports them so, for other languages. */
+#ifdef __cplusplus
+#define GT_INLINE inline __attribute__((visibility("hidden")))
+#else
+#define GT_INLINE static inline
+#endif
 #ifdef GT_EXTERN
 #define GT_FUNCTION extern
 #else
-#define GT_FUNCTION static inline
+#define GT_FUNCTION GT_INLINE
 #endif
 
 /* For a function whose result the caller must check. */
@@ -257,8 +263,7 @@ GT_FUNCTION const char *gt_text(int32_t code) {
  *
  * The rows repeat `crates/apdu_core/src/meaning.rt`, so that no archive holds them. The command
  * `checks/bindings/statuses --write` writes them. */
-static inline const char *gt_meaning_(uint8_t cla, uint8_t ins, uint16_t status,
-                                      unsigned *number) {
+GT_INLINE const char *gt_meaning_(uint8_t cla, uint8_t ins, uint16_t status, unsigned *number) {
     static const struct { char of; uint16_t first, last; const char *words; } rows[] = {
     { 'S', 0x9100, 0x91FF, "normal processing: a command of the card waits, of XX bytes" },
     { 'S', 0x9200, 0x920F, "normal processing, with X retries of an update" },
@@ -354,7 +359,7 @@ static inline const char *gt_meaning_(uint8_t cla, uint8_t ins, uint16_t status,
     while (status < rows[i].first || status > rows[i].last || (rows[i].of == 'S' && cla != 0xA0) ||
            (rows[i].of == 'T' && !tries))
         i++;
-    *number = (unsigned)(status - rows[i].first);
+    *number = 0u + status - rows[i].first;
     return rows[i].words;
 }
 
@@ -384,7 +389,7 @@ GT_FUNCTION size_t gt_status_words(uint8_t cla, uint8_t ins, uint16_t status, ch
         if (*text != 'X')
             part[--at] = *text;
         else if (text[1] != 'X') /* the number's last digit */
-            do part[--at] = (char)('0' + number % 10);
+            do part[--at] = "0123456789"[number % 10];
             while ((number /= 10) > 0);
         for (; at < sizeof part; at++, len++)
             if (len + 1 < room) words[len] = part[at];
@@ -420,7 +425,7 @@ enum {
 /* One object of a list. A tag is the number that its one to three bytes make: 0x50, 0x5F20,
  * 0x9F8101; "%02X" prints it so. Sizes and places count bytes, places from 0 for the first byte of
  * the list. */
-typedef struct {
+typedef struct gt_object {
     uint32_t tag;
     uint8_t level;          /* from 1 to GT_LEVELS_LIMIT */
     uint8_t constructed;    /* 1 if the value is a list of objects, else 0 */
@@ -431,7 +436,7 @@ typedef struct {
 enum { GT_TERMINAL = 0, GT_CARD = 1 };
 
 /* A character that passed over the line. */
-typedef struct {
+typedef struct gt_character {
     uint8_t from;           /* GT_TERMINAL or GT_CARD */
     uint8_t byte;
 } gt_character;
@@ -460,7 +465,7 @@ enum {
 /* What an answer to reset says of T=1, by the first TA, TB and TC for T=1 from TA3, TB3 and TC3 on.
  * For a missing one the standard's default holds: IFSC 32, BWI 4, CWI 13, LRC (ISO/IEC 7816-3,
  * clause 11). */
-typedef struct {
+typedef struct gt_atr_t1 {
     uint8_t ifsc;               /* IFSC, 1 to 254: the most bytes in the field of a block to the
                                  * card; 0: reserved */
     uint8_t edc;                /* the error detection code, by the number of its bytes: GT_LRC
@@ -479,7 +484,7 @@ typedef struct {
 
 /* What an answer to reset says, by its characters. For a missing one the standard's default holds
  * (ISO/IEC 7816-3, 8.2 and 8.3). A reserved code gives 0. */
-typedef struct {
+typedef struct gt_atr {
     size_t length;              /* the number of its bytes, TS and TCK included: 2 to
                                  * GT_ATR_LIMIT */
     size_t historical;          /* the place of the first historical byte, from 0 for TS */
@@ -565,11 +570,11 @@ typedef struct {
  *                 S(RESYNCH) and gt_card_reset drop all three
  * - a session     those of its card; the last answer and, if somebody listens, its characters,
  *                 until the next operation is carried out, or gt_session_end */
-typedef struct { bool live; void *held; } gt_exchange;
-typedef struct { bool live; void *held; } gt_terminal;
-typedef struct { bool live; void *held; } gt_t1;
-typedef struct { bool live; void *held; } gt_card;
-typedef struct { bool live; void *held; } gt_session;
+typedef struct gt_exchange { bool live; void *held; } gt_exchange;
+typedef struct gt_terminal { bool live; void *held; } gt_terminal;
+typedef struct gt_t1 { bool live; void *held; } gt_t1;
+typedef struct gt_card { bool live; void *held; } gt_card;
+typedef struct gt_session { bool live; void *held; } gt_session;
 
 /* ---- The archive's functions -----------------------------------------------------------------
  *
@@ -687,17 +692,17 @@ int32_t galliumtoad_session_end(gt_session *s, gt_card *c);
 void galliumtoad_session_free(gt_session *s);
 
 /* Only for the functions below. A pointer to bytes: for NULL one to a byte that can be read. */
-static inline const uint8_t *gt_bytes_(const uint8_t *bytes) {
+GT_INLINE const uint8_t *gt_bytes_(const uint8_t *bytes) {
     static const uint8_t none[1] = { 0 };
     return bytes ? bytes : none;
 }
 
 /* Only for the functions below. A card carries out a copy of these bytes, which is wiped. Longer
  * input is cut to one byte more than the longest command: no command and no TPDU, as before. */
-static inline int32_t gt_pass_(int32_t (*carry_out)(gt_card *, const uint8_t *, size_t, uint8_t *,
-                                                    size_t, size_t *),
-                               gt_card *c, const uint8_t *bytes, size_t n, uint8_t *answer,
-                               size_t room, size_t *len) {
+GT_INLINE int32_t gt_pass_(int32_t (*carry_out)(gt_card *, const uint8_t *, size_t, uint8_t *,
+                                                size_t, size_t *),
+                           gt_card *c, const uint8_t *bytes, size_t n, uint8_t *answer,
+                           size_t room, size_t *len) {
     uint8_t copy[GT_APDU_LIMIT + 1] = { 0 }, none = 0;
     volatile uint8_t *wiped = copy;
     int32_t code;
@@ -720,8 +725,8 @@ static inline int32_t gt_pass_(int32_t (*carry_out)(gt_card *, const uint8_t *, 
 
 /* Lists all objects of all levels of a list, in the order of their first bytes: a template comes
  * before the objects in it. `count` gets their number. With room 0 the call only checks and counts,
- * and returns GT_OK; `objects` may then be NULL. `count` and `place` may not. The call takes some
- * KB of stack for 16 levels.
+ * and returns GT_OK; `objects` may then be NULL. `count` and `place` may not. The call takes up
+ * to 2.3 KB of stack, for 16 levels.
  *
  * - GT_OK: all of them are in `objects`, from its front, or room is 0. `count` is set here too.
  * - GT_BUFFER: there are more than `room`; `count` is their number, and the first `room` of them

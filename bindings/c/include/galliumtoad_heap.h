@@ -32,7 +32,7 @@
 extern "C" {
 #endif
 
-typedef struct {
+typedef struct gt_taken {
     bool some;
     void *at;
 } gt_taken;

@@ -153,7 +153,7 @@ static void copies_from(copying *call, const char *name, size_t most, const uint
     CHECK_BYTES(seen + copied, nothing, sizeof nothing - copied);
 }
 
-static void copies(copying *call, const char *name, size_t most) {
+static inline void copies(copying *call, const char *name, size_t most) {
     const size_t sizes[] = { 0, 1, 5, most, most + 1, most + 2, 500 };
     static uint8_t bytes[500], other[7];
     size_t i, at;
@@ -167,6 +167,7 @@ static void copies(copying *call, const char *name, size_t most) {
 
 #include "forwards.h"
 
+#ifndef STAND_INS_ALONE
 /* A version fits if its major and minor numbers are those of the header. */
 static void of_versions(void) {
     const uint32_t others[] = { 0, 0xFF, 0x000100, 0x0001FF, 0x000300, 0x010200, 0x010000,
@@ -191,3 +192,4 @@ int main(void) {
     CHECK_BYTES(places, untouched, sizeof places);
     return check_result("forwards");
 }
+#endif

@@ -14,7 +14,7 @@ HEADER = r"\nGT_(?:FUNCTION|MUST_CHECK) (\w+|const char \*)\s?gt_(\w+)\(([^)]*)\
 ALONE = {"text", "status_text", "status_words", "is_object", "version_fits", "version"}
 # One buffer may be input and output of these, so they pass on a copy of at most these sizes.
 COPIES = {"card_tpdu": "GT_TPDU_LIMIT", "card_apdu": "GT_APDU_LIMIT"}
-HANDLE = r"typedef struct \{ bool live; void \*held; \} (gt_\w+);"
+HANDLE = r"typedef struct gt_\w+ \{ bool live; void \*held; \} (gt_\w+);"
 # A narrower type, or the place of another parameter, would change these numbers.
 MOST = {"uint8_t": 0xF0, "uint16_t": 0xFED0, "uint32_t": 0xFEDCBA90, "size_t": 2**64 - 16}
 # Values of a flag, and lengths of a text.
@@ -135,6 +135,7 @@ def main(path):
         header = re.sub(r"/\*.*?\*/", "", file.read(), flags=re.S)
     archive = {name: each for _, name, each in declared(header, ARCHIVE)}
     print(*(stand_in(*it) for it in declared(header, ARCHIVE) if it[1] not in ALONE), sep="\n")
+    print("#ifndef STAND_INS_ALONE")
     print("static void of_each_function(void) {")
     forgotten = set(archive)
     for back, name, parameters in declared(header, HEADER):
@@ -146,6 +147,7 @@ def main(path):
         elif name not in ALONE:
             print(*Function(name, parameters, archive).rows(), sep="\n")
     print("}")
+    print("#endif")
     if forgotten:
         sys.exit(f"nothing hands on to {sorted(forgotten)}")
 

@@ -1,0 +1,310 @@
+/* galliumtoad.hpp: the functions of galliumtoad.h for C++17 and later. That header is the
+ * reference: a call here is the function of its name there (`create` is gt_.._new).
+ *
+ * - A handle is empty at first. It moves, can't be copied, and its destructor frees what it holds.
+ * - `Bytes` is input and `Room` is for output. They are std::span in C++20, and in C++17 a type
+ *   with its constructors. Arrays, std::array and std::vector convert to both, `Buffer` to `Bytes`.
+ * - A call sets its references if the function of C sets what its pointers point to.
+ * - Nothing throws, and -fno-exceptions and -fno-rtti are possible.
+ * - All calls are inline and hidden: a shared object exports none of them. */
+#ifndef GALLIUMTOAD_HPP
+#define GALLIUMTOAD_HPP
+
+#include "galliumtoad.h"
+
+#include <iterator>
+#include <type_traits>
+#include <utility>
+#if __has_include(<span>)
+#include <span>
+#endif
+
+#define GT_HIDDEN __attribute__((visibility("hidden")))
+#define GT_ASK [[nodiscard]] inline GT_HIDDEN
+#define GT_CODE GT_ASK Code
+
+namespace galliumtoad {
+
+/* The codes of galliumtoad.h. */
+enum class Code : int32_t {
+    Ok = GT_OK, Sends = GT_SENDS, Done = GT_DONE, AllSent = GT_ALL_SENT,
+    NotAllSent = GT_NOT_ALL_SENT, SentUnknown = GT_SENT_UNKNOWN, Null = GT_NULL, Empty = GT_EMPTY,
+    State = GT_STATE, Memory = GT_MEMORY, Argument = GT_ARGUMENT, Buffer = GT_BUFFER,
+    Busy = GT_BUSY, NotFound = GT_NOT_FOUND, Failed = GT_FAILED, Plans = GT_PLANS,
+    AppTwice = GT_APP_TWICE, TooManyApps = GT_TOO_MANY_APPS, NoApp = GT_NO_APP,
+    ValueTooLong = GT_VALUE_TOO_LONG, NotObjects = GT_NOT_OBJECTS, TableFull = GT_TABLE_FULL,
+    NotListening = GT_NOT_LISTENING, BadProcedure = GT_BAD_PROCEDURE, TooLong = GT_TOO_LONG,
+    Stalled = GT_STALLED, AfterEnd = GT_AFTER_END, TagCut = GT_TAG_CUT, TagForm = GT_TAG_FORM,
+    LengthCut = GT_LENGTH_CUT, LengthForm = GT_LENGTH_FORM, ValueCut = GT_VALUE_CUT,
+    TooDeep = GT_TOO_DEEP, TooShort = GT_TOO_SHORT, BadLength = GT_BAD_LENGTH,
+    InvalidIns = GT_INVALID_INS, NotDue = GT_NOT_DUE, NoStatus = GT_NO_STATUS,
+    NotAsked = GT_NOT_ASKED, TooMany = GT_TOO_MANY, NoTpdu = GT_NO_TPDU, WantsData = GT_WANTS_DATA,
+    SendsData = GT_SENDS_DATA, AtrNoTs = GT_ATR_NO_TS, AtrCut = GT_ATR_CUT,
+    AtrTooLong = GT_ATR_TOO_LONG, AtrOrder = GT_ATR_ORDER, AtrSurplus = GT_ATR_SURPLUS,
+    AtrCheckMissing = GT_ATR_CHECK_MISSING, AtrCheckNotDue = GT_ATR_CHECK_NOT_DUE,
+    AtrCheckWrong = GT_ATR_CHECK_WRONG, PpsNoPpss = GT_PPS_NO_PPSS, PpsCut = GT_PPS_CUT,
+    PpsReserved = GT_PPS_RESERVED, PpsSurplus = GT_PPS_SURPLUS, PpsCheckWrong = GT_PPS_CHECK_WRONG,
+    TriesSpent = GT_TRIES_SPENT, ExtensionsSpent = GT_EXTENSIONS_SPENT, Aborted = GT_ABORTED
+};
+enum class Edc : uint8_t { Lrc = GT_LRC, Crc = GT_CRC };
+enum class Outcome : int32_t
+{ NotCarriedOut = GT_NOT_CARRIED_OUT, Unknown = GT_UNKNOWN, InPart = GT_IN_PART };
+
+#ifdef __cpp_lib_span
+template <class T> using Span = std::span<T>;
+#else
+template <class T> class Span {
+public:
+    constexpr Span() noexcept = default;
+    constexpr Span(T *first, size_t count) noexcept : first_(first), count_(count) {}
+    template <class From, class = std::enable_if_t<std::is_convertible_v<
+        std::remove_pointer_t<decltype(std::data(std::declval<From &>()))> (*)[], T (*)[]>>>
+    constexpr Span(From &&from) noexcept : Span(std::data(from), std::size(from)) {}
+    constexpr T *data() const noexcept { return first_; }
+    constexpr size_t size() const noexcept { return count_; }
+
+private:
+    T *first_ = nullptr;
+    size_t count_ = 0;
+};
+#endif
+using Bytes = Span<const uint8_t>;
+using Room = Span<uint8_t>;
+
+/* Output of at most `Most` bytes, and their number. */
+template <size_t Most> struct Buffer {
+    uint8_t bytes[Most] = {};
+    size_t count = 0;
+    constexpr operator Bytes() const noexcept { return {bytes, count}; }
+};
+using Tpdu = Buffer<GT_TPDU_LIMIT>;
+using Apdu = Buffer<GT_APDU_LIMIT>;
+using Aid = Buffer<GT_AID_LIMIT>;
+using Pps = Buffer<GT_PPS_LIMIT>;
+using Head = Buffer<6>;
+
+/* A data object of a card, and the number of bytes of its value. */
+struct Entry { uint32_t tag = 0; int32_t locked = 0; size_t count = 0; };
+
+/* Sets `is` to whether a code is 1, if it is no fault. */
+GT_CODE whether(int32_t code, bool &is) noexcept {
+    is = code < 0 ? is : code == 1;
+    return Code(code < 0 ? code : GT_OK);
+}
+
+GT_ASK constexpr bool failed(Code code) noexcept { return int32_t(code) < 0; }
+GT_ASK const char *text(Code code) noexcept { return gt_text(int32_t(code)); }
+GT_ASK const char *status_text(uint16_t status) noexcept { return gt_status_text(status); }
+inline GT_HIDDEN size_t status_words(uint8_t cla, uint8_t ins, uint16_t status,
+                                     Span<char> words) noexcept
+{ return gt_status_words(cla, ins, status, words.data(), words.size()); }
+GT_ASK uint32_t version() noexcept { return gt_version(); }
+GT_ASK bool version_fits() noexcept { return gt_version_fits() == 1; }
+GT_CODE objects(Bytes list, Span<gt_object> to, size_t &count, size_t &place) noexcept
+{ return Code(gt_objects(list.data(), list.size(), to.data(), to.size(), &count, &place)); }
+GT_CODE find(Bytes list, Span<const uint32_t> path, gt_object &it, size_t &place) noexcept
+{ return Code(gt_find(list.data(), list.size(), path.data(), path.size(), &it, &place)); }
+GT_ASK bool is_object(Bytes it, uint32_t tag) noexcept
+{ return gt_is_object(it.data(), it.size(), tag) == 1; }
+GT_CODE head(uint32_t tag, uint16_t length, Head &to) noexcept
+{ return Code(gt_head(tag, length, to.bytes, &to.count)); }
+GT_CODE atr_read(Bytes bytes, gt_atr &atr, size_t &place) noexcept
+{ return Code(gt_atr_read(bytes.data(), bytes.size(), &atr, &place)); }
+GT_CODE pps_request(Pps &to, uint8_t t, uint16_t pps1 = GT_ABSENT, uint16_t pps2 = GT_ABSENT,
+                    uint16_t pps3 = GT_ABSENT) noexcept
+{ return Code(gt_pps_request(t, pps1, pps2, pps3, to.bytes, &to.count)); }
+GT_CODE pps_agreed(Bytes request, Bytes response, bool &is) noexcept
+{ return whether(gt_pps_agreed(request.data(), request.size(), response.data(), response.size()),
+                 is); }
+
+inline GT_HIDDEN void drop(gt_exchange *it) noexcept { gt_exchange_free(it); }
+inline GT_HIDDEN void drop(gt_terminal *it) noexcept { gt_terminal_free(it); }
+inline GT_HIDDEN void drop(gt_t1 *it) noexcept { gt_t1_free(it); }
+inline GT_HIDDEN void drop(gt_card *it) noexcept { gt_card_free(it); }
+inline GT_HIDDEN void drop(gt_session *it) noexcept { gt_session_free(it); }
+
+/* Owns a handle of C. */
+template <class Held> class Handle {
+public:
+    GT_HIDDEN Handle() noexcept = default;
+    GT_HIDDEN Handle(Handle &&other) noexcept : held(std::exchange(other.held, Held{})) {}
+    GT_HIDDEN Handle &operator=(Handle &&other) noexcept {
+        const Held taken = std::exchange(other.held, Held{});
+        free();
+        held = taken;
+        return *this;
+    }
+    GT_HIDDEN ~Handle() { free(); }
+    GT_HIDDEN void free() noexcept { drop(&held); }
+    GT_ASK Held *handle() noexcept { return &held; }
+
+protected:
+    Held held = GT_INIT;
+};
+/* A class that left these out would export its own. */
+#define GT_MOVES(Name) \
+    GT_HIDDEN Name() noexcept = default; \
+    GT_HIDDEN Name(Name &&) noexcept = default; \
+    GT_HIDDEN Name &operator=(Name &&) noexcept = default; \
+    GT_HIDDEN ~Name() = default
+
+class Exchange : public Handle<gt_exchange> {
+public:
+    GT_MOVES(Exchange);
+    GT_CODE start(Bytes command) noexcept
+    { return Code(gt_exchange_start(&held, command.data(), command.size())); }
+    GT_CODE start_within(Bytes command, size_t limit) noexcept
+    { return Code(gt_exchange_start_within(&held, command.data(), command.size(), limit)); }
+    GT_CODE next(uint8_t &byte) noexcept { return Code(gt_exchange_next(&held, &byte)); }
+    GT_CODE take(uint8_t byte) noexcept { return Code(gt_exchange_take(&held, byte)); }
+    GT_CODE send_bytes(Room to, size_t &n) noexcept
+    { return Code(gt_exchange_send_bytes(&held, to.data(), to.size(), &n)); }
+    GT_CODE receive_bytes(Bytes it, size_t &n) noexcept
+    { return Code(gt_exchange_receive_bytes(&held, it.data(), it.size(), &n)); }
+    GT_CODE tpdu(Tpdu &to, size_t &most) noexcept
+    { return Code(gt_exchange_tpdu(&held, to.bytes, &to.count, &most)); }
+    GT_CODE answered(Bytes it) noexcept
+    { return Code(gt_exchange_answered(&held, it.data(), it.size())); }
+    GT_CODE apdu(Apdu &to, size_t &most) noexcept
+    { return Code(gt_exchange_apdu(&held, to.bytes, &to.count, &most)); }
+    GT_CODE responded(Bytes it) noexcept
+    { return Code(gt_exchange_responded(&held, it.data(), it.size())); }
+    GT_CODE answer(uint16_t &status, Room to, size_t &n) noexcept
+    { return Code(gt_exchange_answer(&held, &status, to.data(), to.size(), &n)); }
+    GT_CODE data_sent() noexcept { return Code(gt_exchange_data_sent(&held)); }
+};
+
+class Terminal : public Handle<gt_terminal> {
+public:
+    GT_MOVES(Terminal);
+    GT_CODE create() noexcept { return Code(gt_terminal_new(&held)); }
+    GT_CODE create_within(size_t limit) noexcept
+    { return Code(gt_terminal_new_within(&held, limit)); }
+    GT_HIDDEN Code reset() noexcept { return Code(gt_terminal_reset(&held)); }
+    GT_CODE select(Bytes aid) noexcept
+    { return Code(gt_terminal_select(&held, aid.data(), aid.size())); }
+    GT_CODE get(uint32_t tag) noexcept { return Code(gt_terminal_get(&held, tag)); }
+    GT_CODE put(uint32_t tag, Bytes value) noexcept
+    { return Code(gt_terminal_put(&held, tag, value.data(), value.size())); }
+    GT_CODE send(Bytes command) noexcept
+    { return Code(gt_terminal_send(&held, command.data(), command.size())); }
+    GT_CODE next(uint8_t &byte) noexcept { return Code(gt_terminal_next(&held, &byte)); }
+    GT_CODE take(uint8_t byte) noexcept { return Code(gt_terminal_take(&held, byte)); }
+    GT_CODE send_bytes(Room to, size_t &n) noexcept
+    { return Code(gt_terminal_send_bytes(&held, to.data(), to.size(), &n)); }
+    GT_CODE receive_bytes(Bytes it, size_t &n) noexcept
+    { return Code(gt_terminal_receive_bytes(&held, it.data(), it.size(), &n)); }
+    GT_CODE tpdu(Tpdu &to, size_t &most) noexcept
+    { return Code(gt_terminal_tpdu(&held, to.bytes, &to.count, &most)); }
+    GT_CODE answered(Bytes it) noexcept
+    { return Code(gt_terminal_answered(&held, it.data(), it.size())); }
+    GT_CODE apdu(Apdu &to, size_t &most) noexcept
+    { return Code(gt_terminal_apdu(&held, to.bytes, &to.count, &most)); }
+    GT_CODE responded(Bytes it) noexcept
+    { return Code(gt_terminal_responded(&held, it.data(), it.size())); }
+    GT_CODE answer(uint16_t &status, Room to, size_t &n) noexcept
+    { return Code(gt_terminal_answer(&held, &status, to.data(), to.size(), &n)); }
+    GT_CODE data_sent() noexcept { return Code(gt_terminal_data_sent(&held)); }
+};
+
+class T1 : public Handle<gt_t1> {
+public:
+    GT_MOVES(T1);
+    GT_CODE create(Edc edc, uint8_t ifsc, uint8_t tries = GT_T1_TRIES,
+                   uint16_t extensions = GT_T1_EXTENSIONS, size_t limit = GT_ANSWER_LIMIT) noexcept
+    { return Code(gt_t1_new(&held, uint8_t(edc), ifsc, tries, extensions, limit)); }
+    GT_CODE begin(Bytes apdu) noexcept
+    { return Code(gt_t1_begin(&held, apdu.data(), apdu.size())); }
+    GT_CODE send_bytes(Room to, size_t &n, uint8_t &waits) noexcept
+    { return Code(gt_t1_send_bytes(&held, to.data(), to.size(), &n, &waits)); }
+    GT_CODE receive_bytes(Bytes it, size_t &n) noexcept
+    { return Code(gt_t1_receive_bytes(&held, it.data(), it.size(), &n)); }
+    GT_CODE missed() noexcept { return Code(gt_t1_missed(&held)); }
+    GT_CODE response(Room to, size_t &n) noexcept
+    { return Code(gt_t1_response(&held, to.data(), to.size(), &n)); }
+    GT_CODE fault(Code &cause, Outcome &outcome) noexcept {
+        int32_t why = int32_t(cause), known = int32_t(outcome);
+        const Code code{gt_t1_fault(&held, &why, &known)};
+        cause = Code(why);
+        outcome = Outcome(known);
+        return code;
+    }
+    GT_HIDDEN Code reset() noexcept { return Code(gt_t1_reset(&held)); }
+};
+
+class Card : public Handle<gt_card> {
+public:
+    GT_MOVES(Card);
+    GT_CODE create() noexcept { return Code(gt_card_new(&held)); }
+    GT_CODE app(Bytes aid) noexcept { return Code(gt_card_app(&held, aid.data(), aid.size())); }
+    GT_CODE object(uint32_t tag, Bytes value, bool locked = false) noexcept
+    { return Code(gt_card_object(&held, tag, value.data(), value.size(), locked)); }
+    GT_CODE finish() noexcept { return Code(gt_card_finish(&held)); }
+    GT_CODE take(uint8_t byte) noexcept { return Code(gt_card_take(&held, byte)); }
+    GT_CODE turn(uint8_t &byte) noexcept { return Code(gt_card_turn(&held, &byte)); }
+    GT_CODE send_bytes(Room to, size_t &n) noexcept
+    { return Code(gt_card_send_bytes(&held, to.data(), to.size(), &n)); }
+    GT_CODE receive_bytes(Bytes it, size_t &n) noexcept
+    { return Code(gt_card_receive_bytes(&held, it.data(), it.size(), &n)); }
+    GT_HIDDEN Code reset() noexcept { return Code(gt_card_reset(&held)); }
+    GT_CODE tpdu(Bytes it, Room to, size_t &n) noexcept
+    { return Code(gt_card_tpdu(&held, it.data(), it.size(), to.data(), to.size(), &n)); }
+    GT_CODE apdu(Bytes it, Room to, size_t &n) noexcept
+    { return Code(gt_card_apdu(&held, it.data(), it.size(), to.data(), to.size(), &n)); }
+    GT_CODE t1_begin() noexcept { return Code(gt_card_t1_begin(&held)); }
+    GT_CODE t1_send_bytes(Room to, size_t &n) noexcept
+    { return Code(gt_card_t1_send_bytes(&held, to.data(), to.size(), &n)); }
+    GT_CODE t1_receive_bytes(Bytes it, size_t &n) noexcept
+    { return Code(gt_card_t1_receive_bytes(&held, it.data(), it.size(), &n)); }
+    GT_CODE t1_missed() noexcept { return Code(gt_card_t1_missed(&held)); }
+    GT_CODE plan(const char *steps, uint16_t cut = 256) noexcept
+    { return Code(gt_card_plan(&held, steps, cut)); }
+    GT_CODE selected(Aid &to) noexcept
+    { return Code(gt_card_selected(&held, to.bytes, &to.count)); }
+    GT_CODE app_at(size_t app, Aid &to) noexcept
+    { return Code(gt_card_app_at(&held, app, to.bytes, &to.count)); }
+    GT_CODE entry_at(size_t app, size_t at, Entry &it, Room to) noexcept
+    { return Code(gt_card_entry_at(&held, app, at, &it.tag, &it.locked, to.data(), to.size(),
+                                   &it.count)); }
+};
+
+class Session : public Handle<gt_session> {
+public:
+    GT_MOVES(Session);
+    GT_CODE start(Card &card) noexcept { return Code(gt_session_start(&held, card.handle())); }
+    GT_CODE idle(bool &is) noexcept { return whether(gt_session_idle(&held), is); }
+    GT_CODE plan(const char *steps, uint16_t cut = 256) noexcept
+    { return Code(gt_session_plan(&held, steps, cut)); }
+    GT_CODE select(Bytes aid, uint16_t &status, Room to, size_t &n) noexcept
+    { return Code(gt_session_select(&held, aid.data(), aid.size(), &status, to.data(), to.size(),
+                                    &n)); }
+    GT_CODE get(uint32_t tag, uint16_t &status, Room to, size_t &n) noexcept
+    { return Code(gt_session_get(&held, tag, &status, to.data(), to.size(), &n)); }
+    GT_CODE put(uint32_t tag, Bytes value, uint16_t &status) noexcept
+    { return Code(gt_session_put(&held, tag, value.data(), value.size(), &status)); }
+    GT_CODE send(Bytes it, uint16_t &status, Room to, size_t &n) noexcept
+    { return Code(gt_session_send(&held, it.data(), it.size(), &status, to.data(), to.size(),
+                                  &n)); }
+    GT_CODE answer(uint16_t &status, Room to, size_t &n) noexcept
+    { return Code(gt_session_answer(&held, &status, to.data(), to.size(), &n)); }
+    GT_CODE listen() noexcept { return Code(gt_session_listen(&held)); }
+    GT_CODE heard(Span<gt_character> to, size_t &n) noexcept
+    { return Code(gt_session_heard(&held, to.data(), to.size(), &n)); }
+    GT_HIDDEN Code reset() noexcept { return Code(gt_session_reset(&held)); }
+    GT_CODE selected(Aid &to) noexcept
+    { return Code(gt_session_selected(&held, to.bytes, &to.count)); }
+    GT_CODE app_at(size_t app, Aid &to) noexcept
+    { return Code(gt_session_app_at(&held, app, to.bytes, &to.count)); }
+    GT_CODE entry_at(size_t app, size_t at, Entry &it, Room to) noexcept
+    { return Code(gt_session_entry_at(&held, app, at, &it.tag, &it.locked, to.data(), to.size(),
+                                      &it.count)); }
+    GT_CODE end(Card &card) noexcept { return Code(gt_session_end(&held, card.handle())); }
+};
+
+} // namespace galliumtoad
+
+#undef GT_ASK
+#undef GT_CODE
+#undef GT_HIDDEN
+#undef GT_MOVES
+#endif

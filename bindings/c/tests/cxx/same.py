@@ -1,0 +1,52 @@
+#!/usr/bin/env python3
+"""same.py INCLUDE: compares galliumtoad.hpp with galliumtoad.h, both in the folder INCLUDE.
+
+Each function of the header is called in one place. If C warns of an ignored result, so does C++.
+The codes have the same names, but `NotFound` for GT_NOT_FOUND. The last line is 'N passed, N
+failed'."""
+
+import re
+import sys
+from pathlib import Path
+
+MOST_LINES = 350
+FUNCTION = r"\nGT_(FUNCTION|MUST_CHECK) (?:\w+|const char \*)\s?(gt_\w+)\("
+
+
+def declarations(text):
+    """The name of each function of C that a declaration of C++ calls, with that declaration."""
+    text = re.sub(r"/\*.*?\*/|^#.*?(?<!\\)$", "", text, flags=re.S | re.M)
+    begins = re.compile(r"^ *(?:GT_|inline |template )", re.M)
+    at = [it.start() for it in begins.finditer(text)] + [len(text)]
+    for start, end in zip(at, at[1:]):
+        for name in re.findall(r"\b(gt_\w+)\(", text[start:end]):
+            yield name, text[start:end]
+
+
+def main(folder):
+    header = (Path(folder) / "galliumtoad.h").read_text(encoding="utf-8")
+    other = (Path(folder) / "galliumtoad.hpp").read_text(encoding="utf-8")
+    kinds = {name: kind for kind, name in re.findall(FUNCTION, header)}
+    found = list(declarations(other))
+    wrong = [f"{name} is called {[it for it, _ in found].count(name)} times" for name in kinds
+             if [it for it, _ in found].count(name) != 1]
+    for name, declared in found:
+        must = "GT_CODE" in declared or "GT_ASK" in declared
+        if must < (kinds.get(name) == "MUST_CHECK"):
+            wrong.append(f"{name}: nobody has to look at its result")
+        if must and name.endswith(("_reset", "_words")):
+            wrong.append(f"{name}: its result has to be looked at")
+    listed = header[header.index("enum {\n    GT_OK"):]
+    names = re.findall(r"\bGT_(\w+) =", listed[: listed.index("};")])
+    camel = [("".join(it.title() for it in name.split("_")), name) for name in names]
+    body = re.search(r"enum class Code : int32_t \{(.*?)\};", other, re.S)[1]
+    if re.findall(r"(\w+) = GT_(\w+)", body) != camel:
+        wrong.append("the codes differ")
+    if other.count("\n") > MOST_LINES:
+        wrong.append(f"{other.count(chr(10))} lines, and {MOST_LINES} are the most")
+    print(*(f"FAILED: {it}" for it in wrong), sep="\n", end="\n" * bool(wrong))
+    print(f"{len(kinds) + len(camel)} passed, {len(wrong)} failed")
+    return 1 if wrong or len(kinds) < 80 else 0
+
+
+sys.exit(main(sys.argv[1]))

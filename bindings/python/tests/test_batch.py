@@ -2,7 +2,6 @@
 random, have a full disk or a cut journal, run twice at once, or meet cards of another profile."""
 
 import fcntl
-import hashlib
 import json
 import os
 import random
@@ -10,34 +9,17 @@ import signal
 import subprocess
 import sys
 import time
-from pathlib import Path
 
 import pytest
 from galliumtoad import Card, Select, Terminal
-from galliumtoad.journal import Journal
-from galliumtoad.script import Script
+from galliumtoad.batch.script import Script
+from room import AID, FULL, HERE, SCRIPT, STANDIN, Room, ended, listed, told
 
-HERE = Path(__file__).resolve().parent
-STANDIN = HERE / "standin"
 sys.path.append(str(HERE.parents[2] / "checks/program"))
 import operations  # noqa: E402
 
-AID = bytes.fromhex("A0000000031010")
-CARDS = int(os.environ.get("CARDS", 300))
+CARDS = int(os.environ.get("CARDS", 500))
 KILLS = int(os.environ.get("KILLS", 20))
-SCRIPT = """# a person's card
-select A0000000031010
-put 5F20 @{name}
-put 9F36 {code}
-put 50 41*300
-"""
-
-# The program, in a process whose files have at most this number of bytes.
-FULL = """import resource, runpy, signal
-resource.setrlimit(resource.RLIMIT_FSIZE, ({0}, {0}))
-signal.signal(signal.SIGXFSZ, signal.SIG_IGN)
-runpy.run_module("galliumtoad.batch", run_name="__main__", alter_sys=True)
-"""
 
 # Holds the journal's lock for a while, and then takes the first row.
 HOLDS = """import fcntl, os, time
@@ -45,96 +27,19 @@ file = os.open("journal", os.O_RDWR | os.O_APPEND)
 fcntl.lockf(file, fcntl.LOCK_EX, 1, 0)
 print(flush=True)
 time.sleep(0.5)
-os.write(file, b"begin 1 other\\n")
+os.write(file, b"begin 1 2026-01-01T00:00:00+00:00 00 other\\n")
 """
-
-
-def ended(run, seconds=100):
-    """Waits for the end of a run, and returns its output. Kills a run that does not end, with its
-    readers."""
-    try:
-        return run.communicate(timeout=seconds)
-    except subprocess.TimeoutExpired:
-        os.killpg(run.pid, signal.SIGKILL)
-        raise
-
-
-class Room:
-    """A folder with readers, a table and a script."""
-
-    def __init__(self, path, rows, readers=1):
-        self.path = path
-        (path / "cards").mkdir()
-        # two runs of these tests at the same time have different readers
-        self.names = [f"Slot{at}-{os.getpid()}" for at in range(readers)]
-        for name in self.names:
-            (path / name).mkdir()
-            (path / name / "card").write_text("0")
-        lines = [f"PERSON {at},{at:08X}" for at in range(1, rows + 1)]
-        self.write("rows.csv", "\n".join(["name,code", *lines]) + "\n")
-        self.write("script", SCRIPT)
-        self.readers = [f"--reader=Slot{at}" for at in range(readers)]
-        paths = [str(STANDIN), *filter(None, [os.environ.get("PYTHONPATH")])]
-        self.environment = dict(os.environ, STANDIN=str(path), PYTHONPATH=":".join(paths))
-
-    def write(self, name, text):
-        (self.path / name).write_text(text)
-
-    def words(self, *words):
-        program = [sys.executable, "-m", "galliumtoad.batch", "script", "--rows=rows.csv"]
-        return [*program, "--journal=journal", *(words or self.readers)]
-
-    def start(self, *words):
-        return self.start_program(self.words(*words))
-
-    def start_program(self, program):
-        pipes = {"stdout": subprocess.PIPE, "stderr": subprocess.PIPE, "text": True}
-        return subprocess.Popen(
-            program, cwd=self.path, env=self.environment, start_new_session=True, **pipes
-        )
-
-    def run(self, *words):
-        run = self.start(*words)
-        out, error = ended(run)
-        return run.returncode, out, error
-
-    def journal(self):
-        return (self.path / "journal").read_text().splitlines()
-
-    def to_decide(self):
-        """The rows that the program lists, each with its word."""
-        return listed(self.run("--status")[1])
-
-    def decide(self):
-        """Decides each undecided row by the contents of its cards."""
-        for row in self.to_decide():
-            whole, _ = self.cards_of(row)
-            assert whole in (0, 1)
-            self.run(f"--{'done' if whole else 'again'}={row}")
-
-    def cards_of(self, row):
-        """Counts the cards with all values of a row, and those with some of them."""
-        held = [json.loads(it.read_text()) for it in self.path.glob("cards/*") if it.suffix == ""]
-        whole = {"24352": f"PERSON {row}".encode().hex(), "40758": f"{row:08x}", "80": "41" * 300}
-        mine = [it for it in held if it.get("24352") == whole["24352"]]
-        return sum(whole.items() <= it.items() for it in mine), len(mine)
-
-
-def listed(out):
-    """The rows to decide in a run's summary."""
-    words = [line.split() for line in out.splitlines() if line.startswith("row ")]
-    return {int(it[1]): it[2].rstrip(":") for it in words}
 
 
 def test_each_row_goes_to_one_card(tmp_path):
     room = Room(tmp_path, 60, readers=2)
-    status, out, error = room.run("--id=9F7F", *room.readers)
+    status, out, error = room.run("--id=9F7F")
     while status == 1:
         assert error == ""
         # cards were removed after the first put had begun
         assert set(listed(out).values()) <= {"unsure", "failed"} and listed(out)
         room.decide()
-        status, out, error = room.run("--id=9F7F", *room.readers)
+        status, out, error = room.run(go=False)
     assert (status, error) == (0, "")
     assert out.splitlines()[-1] == "60 of 60 rows done, 0 to decide"
     assert [room.cards_of(row)[0] for row in range(1, 61)] == [1] * 60
@@ -143,10 +48,11 @@ def test_each_row_goes_to_one_card(tmp_path):
 
 
 def test_a_row_is_on_disk_before_its_cards_first_byte(tmp_path, monkeypatch):
-    monkeypatch.syspath_prepend(str(STANDIN))
-    monkeypatch.setenv("STANDIN", str(tmp_path))
     room = Room(tmp_path, 1)
-    from galliumtoad import batch, journal
+    from galliumtoad.batch import journal
+
+    monkeypatch.setenv("STANDIN", str(tmp_path))
+    monkeypatch.syspath_prepend(str(STANDIN))
     from smartcard.pcsc.PCSCCardConnection import PCSCCardConnection as Connection
 
     steps, sync, transmit = [], os.fsync, Connection.transmit
@@ -156,45 +62,54 @@ def test_a_row_is_on_disk_before_its_cards_first_byte(tmp_path, monkeypatch):
     monkeypatch.setattr(
         Connection, "transmit", lambda it, sent: (steps.append("card"), transmit(it, sent))[1]
     )
-    monkeypatch.chdir(tmp_path)
-    given = batch.parsed(["script", "--rows=rows.csv", "--journal=journal"])
-    batch.serve(batch.Batch(given), room.names[0])
+    assert room.run()[0] == 0
     # the heading, the folder and the row
     assert steps[:3] == ["on disk"] * 3 and set(steps[3:-1]) == {"card"}
     assert steps[-1] == "on disk"
 
 
-def test_no_other_program_has_the_card_and_it_is_reset_at_the_end(tmp_path, monkeypatch):
-    monkeypatch.syspath_prepend(str(STANDIN))
+def test_an_identifier_is_on_disk_before_a_card_changes(tmp_path, monkeypatch):
+    room = Room(tmp_path, 1)
     monkeypatch.setenv("STANDIN", str(tmp_path))
+    monkeypatch.syspath_prepend(str(STANDIN))
+    from smartcard.pcsc.PCSCCardConnection import PCSCCardConnection as Connection
+
+    lines, transmit = [], Connection.transmit
+
+    def noted(it, sent):
+        if sent[1] == 0xDA and not lines:
+            lines.extend(room.events())
+        return transmit(it, sent)
+
+    monkeypatch.setattr(Connection, "transmit", noted)
+    assert room.run("--id=9F7F")[0] == 0
+    assert lines == ["begin 1", "card 1"]
+
+
+def test_no_other_program_has_the_card_and_it_is_reset_at_the_end(tmp_path, monkeypatch):
     room, asked = Room(tmp_path, 1), []
-    from galliumtoad import batch
+    monkeypatch.setenv("STANDIN", str(tmp_path))
+    monkeypatch.syspath_prepend(str(STANDIN))
     from smartcard import scard
     from smartcard.pcsc.PCSCCardConnection import PCSCCardConnection as Connection
 
     connect = Connection.connect
     monkeypatch.setattr(Connection, "connect", lambda it, *how: (asked.append(how), connect(it))[1])
-    monkeypatch.chdir(tmp_path)
-    given = batch.parsed(["script", "--rows=rows.csv", "--journal=journal"])
-    batch.serve(batch.Batch(given), room.names[0])
+    assert room.run()[0] == 0
     assert asked == [(None, scard.SCARD_SHARE_EXCLUSIVE, scard.SCARD_RESET_CARD)]
 
 
-def outcome_of(tmp_path, monkeypatch, script, reader):
-    """How the first row ends, and why, if a reader carries out this script."""
-    monkeypatch.syspath_prepend(str(STANDIN))
-    monkeypatch.setenv("STANDIN", str(tmp_path))
-    room = Room(tmp_path, 1)
-    from galliumtoad import batch
+def outcome_of(script, reader, row=None):
+    """How a row ends, and why, if a reader carries out this script."""
+    from galliumtoad.batch.dialogue import Recorder, carry_out
 
-    room.write("script", script)
-    monkeypatch.chdir(tmp_path)
-    given = batch.parsed(["script", "--rows=rows.csv", "--journal=journal"])
-    return batch.carry_out(batch.Batch(given), None, 1, reader)
+    row = row or {"name": "PERSON 1", "code": "00000001"}
+    made = Script("script", script, [*row])
+    return tuple(carry_out(made, made.operations(row), Recorder(reader)))
 
 
 @pytest.mark.parametrize(("tag", "outcome"), [("5F20", "done"), ("50", "failed")])
-def test_a_get_returns_its_object(tmp_path, monkeypatch, tag, outcome):
+def test_a_get_returns_its_object(tag, outcome):
     script = f"select A0000000031010\nput 5F20 @{{name}}\nget {tag}\n"
     card = Card({AID: {0x50: b"VISA"}})
 
@@ -203,21 +118,23 @@ def test_a_get_returns_its_object(tmp_path, monkeypatch, tag, outcome):
         answer = card.tpdu(tpdu)
         return answer[2:] if answer.startswith(b"\x50\x04") else answer
 
-    why = "" if outcome == "done" else f"line 3: the answer is not the object {tag}"
-    assert outcome_of(tmp_path, monkeypatch, script, reader) == (outcome, why)
+    why = "" if outcome == "done" else f"get {tag} was answered 9000, but not with this object"
+    assert outcome_of(script, reader) == (outcome, why)
 
 
-@pytest.mark.parametrize("operation", ["send 00DA00500141", "put 50 41"])
-def test_what_may_write_keeps_its_row(tmp_path, monkeypatch, operation):
+@pytest.mark.parametrize(
+    ("operation", "shown"), [("send 00DA00500141", "send"), ("put 50 41", "put 50")]
+)
+def test_what_may_write_keeps_its_row(operation, shown):
     """A card that refused a put or a send may hold a part of the row."""
     card = Card({AID: {0x50: b"VISA"}}, locked=[(AID, 0x50)])
     script = f"select A0000000031010\n{operation}\n"
-    why = "line 2: 6982 security status not satisfied"
-    assert outcome_of(tmp_path, monkeypatch, script, card.tpdu) == ("failed", why)
+    why = f"{shown} was answered 6982 security status not satisfied"
+    assert outcome_of(script, card.tpdu) == ("failed", why)
 
 
 @pytest.mark.parametrize("answer", [b"", b"\x90", b"\x41\x41\x90\x00"])
-def test_an_answer_that_does_not_fit_leaves_its_row_unsure(tmp_path, monkeypatch, answer):
+def test_an_answer_that_does_not_fit_leaves_its_row_unsure(answer):
     """The card may have carried out the put."""
     card = Card({AID: {}})
 
@@ -226,36 +143,69 @@ def test_an_answer_that_does_not_fit_leaves_its_row_unsure(tmp_path, monkeypatch
         return answer if tpdu[1] == 0xDA else card.tpdu(tpdu)
 
     script = "select A0000000031010\nput 50 41\n"
-    assert outcome_of(tmp_path, monkeypatch, script, reader)[0] == "unsure"
+    assert outcome_of(script, reader)[0] == "unsure"
 
 
-def test_the_longest_value(tmp_path, monkeypatch):
+def test_the_longest_value():
     card = Card({AID: {}})
     script = "select A0000000031010\nput 50 41*8192\n"
-    assert outcome_of(tmp_path, monkeypatch, script, card.tpdu) == ("done", "")
+    assert outcome_of(script, card.tpdu) == ("done", "")
     assert [len(it.value) for it in card.entries(AID)] == [8192]
 
 
 def test_a_row_in_progress_is_not_to_be_decided(tmp_path):
     room = Room(tmp_path, 2)
-    room.run("--status")
-    journal = Journal(str(tmp_path / "journal"), room.journal()[0], 2)
-    assert journal.take("Slot0") == 1
+    room.is_apart = True
+    room.create()
+    journal = room.opened(2)
+    assert journal.reserve() == 1
+    journal.begin(1, journal_check(room, 1), "Slot0")
     assert room.to_decide() == {}
-    journal.note(1, "card", "00")
-    assert room.to_decide() == {}
-    assert room.run("--again=1")[2] == "galliumtoad.batch: row 1 is not to be decided\n"
-    os.close(journal._file)
+    journal.identify(1, "00")
+    assert room.to_decide() == {} and journal.undecided() == {}
+    for word in ("done", "again"):
+        wanted = "galliumtoad.batch: row 1 is in progress\n"
+        assert room.run(f"--{word}=1")[2] == wanted
+        with pytest.raises(ValueError, match="row 1 is in progress"):
+            journal.decide(1, word)
+    journal._opened.close()
     assert room.to_decide() == {1: "unsure"}
+
+
+def journal_check(room, row):
+    """The sum of a row in a journal that `create` has made."""
+    from galliumtoad.batch.script import check_of
+
+    script = Script("script", (room.path / "script").read_text(), ["name", "code"])
+    made = script.operations({"name": f"PERSON {row}", "code": f"{row:08X}"})
+    return check_of(made, bytes(16))
 
 
 def test_a_row_is_taken_after_whoever_has_the_journal(tmp_path):
     room = Room(tmp_path, 2)
-    room.run("--status")
+    room.create()
     other = room.start_program([sys.executable, "-c", HOLDS])
     assert other.stdout.readline() == "\n"
-    assert Journal(str(tmp_path / "journal"), room.journal()[0], 2).take("Slot0") == 2
+    assert room.opened(2).reserve() == 2
     assert other.wait() == 0
+
+
+def test_threads_and_processes_reserve_different_rows(tmp_path):
+    room = Room(tmp_path, 4)
+    room.create()
+    one = room.opened(4)
+    assert [one.reserve(), one.reserve()] == [1, 2]
+    asks = "from galliumtoad.batch.journal import Journal\n"
+    asks += "print(Journal('journal', 'rows.csv', 4).reserve())"
+    assert ended(room.start_program([sys.executable, "-c", asks]))[0] == "3\n"
+    one.release(1)
+    assert [one.reserve(), one.reserve(), one.reserve(), one.reserve()] == [1, 3, 4, None]
+    assert one.reserve(2) is None
+    one.begin(2, "00", "Slot0")
+    one.note(2, "done", "")
+    assert one.reserve(2) is None
+    one.decide(2, "again")
+    assert one.reserve(2) == 2
 
 
 def begun(room):
@@ -270,8 +220,8 @@ def test_two_runs_at_one_reader(tmp_path):
     first = room.start()
     begun(room)
     out, error = room.run()[1:]
-    assert error == f"{room.names[0]}: another run serves this reader\n"
-    assert out.endswith(" of 3 rows done, 0 to decide\n") and "row" not in out.split(" of 3 ")[0]
+    assert error == "" and f"{room.names[0]}: set aside: another run serves this reader\n" in out
+    assert out.endswith(" of 3 rows done, 0 to decide\n") and ": row " not in out
     assert ended(first)[0].endswith("3 of 3 rows done, 0 to decide\n")
 
 
@@ -291,7 +241,7 @@ def test_each_card_that_does_not_answer_is_named(tmp_path):
     room = Room(tmp_path, 2)
     room.environment["MUTE"] = "0 2 3"
     name, mute = room.names[0], "the card does not answer to reset"
-    assert room.run()[1].splitlines() == [
+    assert told(room.run()[1]) == [
         f"{name}: {mute}",
         f"{name}: row 1 done",
         f"{name}: {mute}",
@@ -301,63 +251,73 @@ def test_each_card_that_does_not_answer_is_named(tmp_path):
     ]
 
 
-def test_readers_end_with_their_program(tmp_path):
-    room = Room(tmp_path, 40)
-    room.environment["SLOW"] = "0.02"
-    run = room.start()
-    begun(room)
-    run.kill()
-    # the output ends after the last of them
-    ended(run)
-    words = [it.split()[0] for it in room.journal()[1:]]
-    assert 0 < words.count("begin") < 40 and words[-1] in ("done", "unused", "unsure")
-
-
 def test_a_journal_that_was_cut(tmp_path):
     room, file = Room(tmp_path, 3), tmp_path / "journal"
     assert room.run()[0] == 0
     whole = file.read_bytes()
-    heading, *lines = whole.decode().splitlines()
-    assert [it.split()[0] for it in lines] == ["begin", "done"] * 3
-    for kept in range(len(whole)):
+    heading, *lines = whole.splitlines(keepends=True)
+    assert [it.split()[0] for it in lines] == [b"begin", b"done"] * 3
+    for kept in range(len(heading), len(whole)):
         file.write_bytes(whole[:kept])
         count = whole[:kept].count(b"\n")
         undecided = {} if count < 2 or count % 2 else {count // 2: "unsure"}
-        assert Journal(str(file), heading, 3).undecided() == undecided
-        # a cut line is removed, and a missing heading is written again
-        assert file.read_bytes() == b"".join(whole.splitlines(keepends=True)[: max(count, 1)])
+        found = room.opened(3).undecided()
+        assert {row: it.state for row, it in found.items()} == undecided
+        # a cut line is removed
+        assert file.read_bytes() == heading + b"".join(lines[: count - 1])
     file.write_bytes(whole[:-1])
     assert room.to_decide() == {3: "unsure"}
     room.decide()
-    assert room.run()[0] == 0
+    assert room.run(go=False)[0] == 0
+
+
+def test_a_journal_whose_heading_was_cut(tmp_path):
+    """It has no row, so --new begins it again."""
+    room, file = Room(tmp_path, 1), tmp_path / "journal"
+    room.create()
+    whole = file.read_bytes()
+    for kept in range(len(whole)):
+        file.write_bytes(whole[:kept])
+        with pytest.raises(ValueError, match="journal is not a journal"):
+            room.opened(1)
+        assert file.read_bytes() == whole[:kept]
+        room.create()
+        assert file.read_bytes() == whole
+    # the one that was cut is longer
+    file.write_bytes(b"# galliumtoad.batch " + b"a" * 500)
+    room.create()
+    assert file.read_bytes() == whole
+    with pytest.raises(ValueError, match="journal exists"):
+        room.create()
 
 
 def test_a_full_disk(tmp_path):
     room = Room(tmp_path, 5)
-    for size in range(150, 250, 9):
+    stopped = 0
+    for size in range(110, 900, 97):
         (tmp_path / "journal").unlink(missing_ok=True)
         for card in tmp_path.glob("cards/*"):
             card.unlink()
         program = room.words()
         program[1:3] = ["-c", FULL.format(size)]
-        run = subprocess.run(
-            program, cwd=tmp_path, env=room.environment, text=True, capture_output=True
-        )
+        out, error = ended(run := room.start_program(program))
         if run.returncode == 0:
             continue
+        stopped += 1
         full = ("[Errno 27] File too large", "no space is left for the journal")
-        assert run.stderr in [f"{room.names[0]}: {it}\n" for it in full]
+        names = ("galliumtoad.batch", room.names[0])
+        assert error in [f"{name}: {it}\n" for it in full for name in names], error
         for row in range(1, 6):
-            begun = f"begin {row} {room.names[0]}" in room.journal()
-            assert begun or room.cards_of(row) == (0, 0)
+            assert f"begin {row}" in room.events() or room.cards_of(row) == (0, 0)
+    assert stopped > 3
 
 
 def test_a_card_of_another_profile_takes_no_row(tmp_path):
     room = Room(tmp_path, 1)
     (tmp_path / room.names[0] / "card").write_text("5")
     status, out, _ = room.run()
-    assert status == 0 and out.splitlines() == [
-        f"{room.names[0]}: row 1 unused: line 2: 6A82 file or application not found",
+    assert status == 0 and told(out) == [
+        f"{room.names[0]}: row 1 unused: select was answered 6A82 file or application not found",
         f"{room.names[0]}: row 1 done",
         "1 of 1 rows done, 0 to decide",
     ]
@@ -366,25 +326,31 @@ def test_a_card_of_another_profile_takes_no_row(tmp_path):
 def test_a_card_without_an_identifier_takes_no_row(tmp_path):
     room = Room(tmp_path, 1)
     (tmp_path / room.names[0] / "card").write_text("17")
-    assert room.run("--id=9F7F")[1].splitlines()[:2] == [
-        f"{room.names[0]}: row 1 unused: no 9F7F: 6A88 referenced data not found",
-        f"{room.names[0]}: row 1 done",
+    why = "its reading was answered 6A88 referenced data not found"
+    name, card = room.names[0], f"{room.names[0]}-18".encode().hex().upper()
+    assert told(room.run("--id=9F7F")[1])[:2] == [
+        f"{name}: row 1 unused: the card has no identifier 9F7F: {why}",
+        f"{name}: row 1 done, card {card}",
     ]
 
 
-def test_the_card_of_a_crashed_run_is_passed_over(tmp_path):
+def test_the_card_of_a_crashed_run_waits(tmp_path):
     room = Room(tmp_path, 2)
-    room.run("--status")
-    journal = Journal(str(tmp_path / "journal"), room.journal()[0], 2)
-    assert journal.take("Slot0") == 1
-    os.close(journal._file)
-    assert room.run()[1].splitlines() == [
-        f"{room.names[0]}: remove the card that is in it",
-        f"{room.names[0]}: row 2 done",
-        "row 1 unsure: decide by --done 1 or --again 1",
-        "1 of 2 rows done, 1 to decide",
+    room.create()
+    journal = room.opened(2)
+    assert journal.reserve() == 1
+    journal.begin(1, journal_check(room, 1), "Slot0")
+    journal._opened.close()
+    name, out = room.names[0], room.run(go=False)[1]
+    assert out.startswith("continuing: 0 of 2 rows done, 1 unsure\n")
+    assert told(out)[:2] == [
+        f"{name}: a card lies in it: remove and insert it, or press Enter to write it",
+        f"{name}: row 2 done",
     ]
-    assert [it.name for it in tmp_path.glob("cards/*")] == [f"{room.names[0]}-1"]
+    assert told(out)[2].startswith("row 1 unsure: a card without an id, Slot0, 20")
+    assert told(out)[2].endswith(": the run ended before the row did")
+    assert told(out)[3:] == ["1 of 2 rows done, 1 to decide"]
+    assert [*room.held()] == [f"{name}-1"]
 
 
 def test_a_card_that_stays_in_takes_one_row(tmp_path):
@@ -407,65 +373,24 @@ def test_a_card_that_stores_another_byte_has_failed(tmp_path):
     room = Room(tmp_path, 1)
     (tmp_path / room.names[0] / "card").write_text("11")
     status, out, _ = room.run()
-    assert status == 1 and out.splitlines() == [
-        f"{room.names[0]}: row 1 failed: line 5: 50 was not stored as sent",
-        "row 1 failed: decide by --done 1 or --again 1",
-        "0 of 1 rows done, 1 to decide",
-    ]
+    why = "put 50 was answered 9000, and read back another value"
+    assert status == 1 and told(out)[0] == f"{room.names[0]}: row 1 failed: {why}"
+    assert told(out)[1].startswith("row 1 failed: a card without an id, ")
+    assert told(out)[1].endswith(f": {why}") and told(out)[2:] == ["0 of 1 rows done, 1 to decide"]
     assert room.run("--again=1")[1] == "0 of 1 rows done, 0 to decide\n"
-    assert room.run()[1].endswith(f"{room.names[0]}: row 1 done\n1 of 1 rows done, 0 to decide\n")
-
-
-@pytest.mark.parametrize(
-    ("script", "rows", "words", "text"),
-    [
-        ("put 5F20 @{age}\n", None, (), "script:1: the table has no column `age`"),
-        ("take 5F20\n", None, (), "script:1: `take` with 1 words"),
-        ("get 5F20 41\n", None, (), "script:1: `get` with 2 words"),
-        ("select A0\n", None, (), "script:1: no `select` for row 1: bad argument"),
-        ("\nput 5F20 {name}\n", None, (), "script:2: no `put` for row 1"),
-        ("put 5F20 41*16321\n", None, (), "script:1: no `put` for row 1"),
-        ("put 5F20 @{name}.jpg\n", None, (), "script:1: no `put` for row 1: No such file or dir"),
-        ("send 00\n", None, (), "script:1: no `send` for row 1: command too short"),
-        ("put 50 @{name}\nput 50 {code}*0\n", None, (), "script:2: no `put` for row 1"),
-        ("put 50 41*-5\n", None, (), "script:1: no `put` for row 1"),
-        ("put 0x50 41\n", None, (), "script:1: no `put` for row 1"),
-        ("# get 50\n\n", None, (), "script has no operation"),
-        (None, "name,code\nA,00\nB,\n", (), "script:4: no `put` for row 2"),
-        (None, "name,code\nA,00\n" + "\xe9,01\n", (), "script:3: no `put` for row 2"),
-        (None, "name,code,name\nA,00,B\n", (), "script:3: the table has 2 columns `name`"),
-        (None, "name,code\n", (), "rows.csv has no row"),
-        (None, "", (), "script:3: the table has no column `name`"),
-        (None, 'name,code\nA,00\n"B"C,00\n', (), "rows.csv:3: ',' expected after '\"'"),
-        (None, "name,code\nA,00\nB,0\n", (), "script:4: no `put` for row 2"),
-        (None, "name,code\nA\n", (), "rows.csv: row 1 has too many columns, or too few"),
-        (None, "name,code\nA,00,1\n", (), "rows.csv: row 1 has too many columns, or too few"),
-        (None, None, ("--reader=X",), "`X` names 0 readers"),
-        (None, None, ("--reader=Slot",), "`Slot` names 2 readers"),
-        (None, None, ("--id=9F7F",), "name one of 2 readers"),
-        (None, None, ("--done=1",), "row 1 is not to be decided"),
-        (None, None, ("--again=9",), "row 9 is not to be decided"),
-    ],
-)
-def test_bad_input_is_named_before_any_card(tmp_path, script, rows, words, text):
-    room = Room(tmp_path, 2, readers=2)
-    room.write("script", script or SCRIPT)
-    if rows is not None:
-        (tmp_path / "rows.csv").write_text(rows, encoding="latin-1")
-    status, out, error = room.run(*words)
-    assert status == 2 and error.startswith(f"galliumtoad.batch: {text}"), error
-    assert out == "" and not list(tmp_path.glob("cards/*")) and "PERSON" not in error
+    last = [f"{room.names[0]}: row 1 done", "1 of 1 rows done, 0 to decide"]
+    assert told(room.run()[1])[-2:] == last
 
 
 @pytest.mark.parametrize(("line", "sent", "reason"), operations.rows())
 def test_a_line_is_read_as_by_card_trace(line, sent, reason):
     if reason:
         with pytest.raises(ValueError):
-            Script("script", f"{line}\n", []).operations(1, {})
+            Script("script", f"{line}\n", []).operations({})
         return
     card, terminal, tpdus = Card({AID: {}}), Terminal(), []
     terminal.run(card.tpdu, Select(AID))
-    made = Script("script", f"# 1\n{line}\n", []).operations(1, {})
+    made = Script("script", f"# 1\n{line}\n", []).operations({})
     terminal.run(lambda it: (tpdus.append(bytes(it)), card.tpdu(it))[1], made[2])
     assert sent in (None, b"".join(tpdus).hex().upper())
 
@@ -480,86 +405,89 @@ def test_columns_take_only_what_words_take(tmp_path):
     """A cell is no more than a script's own word, and is not filled again."""
     script = Script("script", "select {a}\nget {t}\nput {t} {v}\nput 50 @{v}\n", [*"atv"])
     row = {"a": "A000000003", "t": "5F20", "v": "41*3"}
-    made = script.operations(1, row)
+    made = script.operations(row)
     assert [made[2].tag, made[3].value, made[4].value] == [0x5F20, b"AAA", b"41*3"]
-    assert script.operations(1, {**row, "v": "-"})[3].value == b""
+    assert script.operations({**row, "v": "-"})[3].value == b""
     for bad in ({"a": "A000000003*1"}, {"t": "-"}, {"t": "50*1"}, {"v": "{t}"}, {"v": "4142*3"}):
         with pytest.raises(ValueError):
-            script.operations(1, {**row, **bad})
+            script.operations({**row, **bad})
     (tmp_path / "long").write_bytes(b"A" * 16321)
     for value in (f"@{tmp_path}/long", "@{v}"):
         with pytest.raises(ValueError):
-            Script("script", f"put 50 {value}", ["v"]).operations(1, {"v": "A" * 16321})
-
-
-@pytest.mark.parametrize("word", ["5F", "XYZ", "12345678", "-1"])
-def test_an_identifier_is_a_tag(tmp_path, word):
-    status, _, error = Room(tmp_path, 1).run(f"--id={word}")
-    assert status == 2
-    assert error.endswith(f"galliumtoad.batch: error: argument --id: invalid tag value: '{word}'\n")
-
-
-def test_a_journal_of_another_table_is_refused(tmp_path):
-    room = Room(tmp_path, 1)
-    assert room.run()[0] == 0
-    room.write("script", SCRIPT + "get 50\n")
-    assert room.run()[2].endswith("journal is the journal of another table or script\n")
+            Script("script", f"put 50 {value}", ["v"]).operations({"v": "A" * 16321})
 
 
 def test_a_table_may_be_a_pipe(tmp_path):
     room = Room(tmp_path, 1)
     text = (tmp_path / "rows.csv").read_text()
     how = {"cwd": tmp_path, "env": room.environment, "text": True, "capture_output": True}
-    program = room.words("--rows=/dev/stdin", *room.readers)
+    program = room.words("--rows=/dev/stdin")
     assert subprocess.run(program, input=text, **how).returncode == 0
-    sums = (hashlib.sha256(it.encode()).hexdigest() for it in (text, SCRIPT))
-    assert room.journal()[0] == "# rows {} script {}".format(*sums)
+    program.remove("--new")
+    assert subprocess.run(program, input=text, **how).returncode == 0
     run = subprocess.run(program, input=text.replace("1", "2"), **how)
-    assert run.stderr == "galliumtoad.batch: journal is the journal of another table or script\n"
+    assert run.stderr.endswith(": row 1 has begun with other cells or another script\n")
 
 
-def test_only_its_owner_reads_a_journal(tmp_path):
+def test_only_its_owner_reads_a_journal_and_dialogues(tmp_path):
     room = Room(tmp_path, 1)
-    room.run("--status")
+    room.put_in(room.names[0], 7)
+    room.run("--stop-after=1")
     assert (tmp_path / "journal").stat().st_mode & 0o777 == 0o600
+    assert (tmp_path / "journal.cards").stat().st_mode & 0o777 == 0o700
+    assert (tmp_path / "journal.cards/1.trace").stat().st_mode & 0o777 == 0o600
 
 
-def test_another_file_is_no_journal_and_stays(tmp_path):
+@pytest.mark.parametrize(
+    "text",
+    [b"name,code\nA,00", b"\xff\xfe", b"# rows of another table", b"# rows\n"]
+    + [b"# galliumtoad.batch part 1/1\n", b"# galliumtoad.batcH part", b"a" * 70000],
+)
+def test_another_file_is_no_journal_and_stays(tmp_path, text):
     room = Room(tmp_path, 1)
-    for text in (b"name,code\nA,00", b"\xff\xfe", b"# rows of another table", b"# rows\n"):
-        (tmp_path / "journal").write_bytes(text)
-        status, _, error = room.run()
-        assert status == 2
-        assert error.endswith("journal is the journal of another table or script\n")
-        assert (tmp_path / "journal").read_bytes() == text
+    (tmp_path / "journal").write_bytes(text)
+    assert room.run() == (2, "", "galliumtoad.batch: journal is not a journal\n")
+    status, _, error = room.run("--new")
+    wanted = "galliumtoad.batch: journal exists: without --new the batch continues\n"
+    assert (status, error) == (2, wanted)
+    assert (tmp_path / "journal").read_bytes() == text
 
 
 def test_a_journal_that_can_not_be_written_is_named(tmp_path):
     room = Room(tmp_path, 1)
     (tmp_path / "journal").mkdir()
-    assert room.run() == (2, "", "galliumtoad.batch: [Errno 21] Is a directory: 'journal'\n")
-    (tmp_path / "journal").rmdir()
-    (tmp_path / "journal").symlink_to("/dev/full")
-    assert room.run() == (2, "", "galliumtoad.batch: [Errno 28] No space left on device\n")
-    assert not list(tmp_path.glob("cards/*"))
+    wanted = "galliumtoad.batch: [Errno 21] Is a directory: 'journal'\n"
+    assert room.run() == (2, "", wanted) and room.run("--new") == (2, "", wanted)
+    assert not room.held()
 
 
-@pytest.mark.parametrize("line", ["d\0ne 1", "done", "done x", "done 0", "done 3", "done -1", ""])
+@pytest.mark.parametrize(
+    "line",
+    ["d\0ne 1 T", "done T", "done x T", "done 0 T", "done 3 T", "done -1 T", "", "done 2 T"]
+    + ["begin 2", "begin 2 2026-01-01 00 A", "begin 2 noon 00 A"]
+    + ["begin 2 2026-01-01T00:00:00 00 A"],
+)
 def test_a_damaged_journal_is_refused(tmp_path, line):
-    room = Room(tmp_path, 2)
-    room.run("--status")
-    whole = (tmp_path / "journal").read_text() + f"done 2\n{line}\ndone 1"
+    room, time = Room(tmp_path, 2), "2026-01-01T00:00:00+00:00"
+    room.create()
+    check = journal_check(room, 1)
+    whole = (tmp_path / "journal").read_text() + f"begin 1 {time} {check} A\n"
+    (tmp_path / "journal").write_text(whole)
+    assert room.to_decide() == {1: "unsure"}
+    whole += line.replace("T", time) + f"\ndone 1 {time}"
     (tmp_path / "journal").write_text(whole)
     status, out, error = room.run()
-    assert status == 2 and out == "" and "journal is damaged: no line of a journal: " in error
+    assert status == 2 and out == ""
+    assert "journal is damaged: no line of a journal, or no row of the table: " in error
     assert (tmp_path / "journal").read_text() == whole
 
 
 def test_a_row_is_decided_under_one_lock(tmp_path, monkeypatch):
     room = Room(tmp_path, 1)
-    room.run("--status")
-    journal = Journal(str(tmp_path / "journal"), room.journal()[0], 1)
-    journal.take("Slot0")
+    room.create()
+    journal = room.opened(1)
+    journal.reserve()
+    journal.begin(1, "00", "Slot0")
     journal.note(1, "unsure", "")
     steps, lockf, pwrite = [], fcntl.lockf, os.pwrite
     monkeypatch.setattr(fcntl, "lockf", lambda *it: (steps.append(it[1:]), lockf(*it))[1])
@@ -594,47 +522,61 @@ def test_a_file_that_went_away_takes_no_row(tmp_path):
     photo = tmp_path / "PERSON 1.jpg"
     photo.write_bytes(b"1")
     room.environment["SLOW"] = "0.5"
-    (tmp_path / room.names[0] / "card").write_text("5")
+    room.put_in(room.names[0], 5)
     run = room.start()
     begun(room)
     photo.unlink()
-    told = run.stdout.readline(), run.stdout.readline()
-    run.kill()
+    while "unused" not in room.journal()[-1] or len(room.journal()) < 5:
+        time.sleep(0.01)
+    os.kill(run.pid, signal.SIGKILL)
     ended(run)
-    assert told[1] == (
-        f"{room.names[0]}: row 1 unused: script:2: no `put` for row 1: No such file or directory\n"
-    )
+    why = "column 'name': no file: No such file or directory"
+    assert room.journal()[4].split(" ", 3)[3] == why
 
 
-def test_an_interrupted_run_lists_its_row(tmp_path):
-    room = Room(tmp_path, 3)
-    room.environment["SLOW"] = "0.2"
-    # a shell's background job ignores the signal, and the run would inherit that
+def interruptible(room, *words):
+    """Starts a run. A shell's background job ignores Ctrl-C, and the run would inherit that."""
     before = signal.signal(signal.SIGINT, signal.default_int_handler)
-    run = room.start()
+    run = room.start(*words)
     signal.signal(signal.SIGINT, before)
+    return run
+
+
+def test_an_interrupted_run_ends_the_card_in_progress(tmp_path):
+    room = Room(tmp_path, 3)
+    room.environment["SLOW"] = "0.1"
+    run = interruptible(room)
     begun(room)
+    os.kill(run.pid, signal.SIGINT)
+    out, error = ended(run)
+    assert (run.returncode, error) == (1, "")
+    assert told(out) == [
+        "stops after the cards in progress; Ctrl-C again stops at once",
+        f"{room.names[0]}: row 1 done",
+        "1 of 3 rows done, 0 to decide",
+    ]
+
+
+def test_a_run_that_is_interrupted_twice_lists_its_row(tmp_path):
+    room = Room(tmp_path, 3)
+    room.environment["SLOW"] = "0.5"
+    run = interruptible(room)
+    begun(room)
+    os.kill(run.pid, signal.SIGINT)
+    assert "stops after" in [run.stdout.readline() for _ in range(3)][2]
     os.kill(run.pid, signal.SIGINT)
     out, error = ended(run)
     assert (run.returncode, error) == (1, "")
     assert listed(out) == {1: "unsure"}
     assert out.endswith("0 of 3 rows done, 1 to decide\n")
-
-
-def test_a_reader_that_goes_away_is_named(tmp_path):
-    room = Room(tmp_path, 3)
-    room.environment["SLOW"] = "0.1"
-    run = room.start()
-    begun(room)
-    (tmp_path / "gone").touch()
-    out, error = ended(run)
-    assert error == f"{room.names[0]}: error 9\n" and run.returncode == 1
+    assert room.to_decide() == {1: "unsure"}
 
 
 def test_without_a_pcscd_no_reader_is_chosen(tmp_path):
     room = Room(tmp_path, 1)
     (tmp_path / "gone").touch()
     assert room.run() == (2, "", "galliumtoad.batch: error 9\n")
+    assert not (tmp_path / "journal").exists()
 
 
 def test_a_missing_file_is_named(tmp_path):
@@ -645,12 +587,13 @@ def test_a_missing_file_is_named(tmp_path):
 
 def test_two_runs_at_once(tmp_path):
     room = Room(tmp_path, 60, readers=2)
+    room.create()
     runs = [room.start(it) for it in room.readers]
     for run in runs:
         assert ended(run)[1] == ""
     while room.run("--status")[0] == 1:
         room.decide()
-        room.run()
+        room.run(go=False)
     assert [room.cards_of(row)[0] for row in range(1, 61)] == [1] * 60
 
 
@@ -660,9 +603,10 @@ def test_killed_at_random(tmp_path):
     room.environment["SLOW"] = "0.015"
     out = ""
     while not out.endswith(f"{CARDS} of {CARDS} rows done, 0 to decide\n"):
-        run = room.start()
+        # the card that lies in a reader may have a row
+        run = room.start(go=False)
         if kills < KILLS:
-            time.sleep(at_random.uniform(0.15, 0.6))
+            time.sleep(at_random.uniform(0.3, 0.9))
             os.killpg(run.pid, signal.SIGKILL)
             kills += 1
         out = ended(run, 600)[0]

@@ -18,7 +18,7 @@ from galliumtoad import Get, Select, Terminal
 
 MODULES = [it.name for it in pkgutil.iter_modules(galliumtoad.__path__) if it.name[0] != "_"]
 # Modules that no caller needs to know.
-WITHOUT = ("handle", "journal", "script")
+WITHOUT = ("handle",)
 TOP = Path(__file__).resolve().parent.parent
 EXAMPLES = TOP / "examples"
 STANDIN = Path(__file__).resolve().parent / "standin"
@@ -74,6 +74,15 @@ def talk(line, *operations):
     return answers
 
 
+def test_a_batch(tmp_path):
+    program = [sys.executable, "-m", "galliumtoad.batch", EXAMPLES / "people.script", "--check"]
+    program += ["--new", "--rows", EXAMPLES / "people.csv", "--journal", tmp_path / "journal"]
+    paths = [str(STANDIN), *filter(None, [os.environ.get("PYTHONPATH")])]
+    environment = dict(os.environ, STANDIN=str(tmp_path), PYTHONPATH=":".join(paths))
+    done = subprocess.run(program, capture_output=True, text=True, env=environment)
+    assert (done.stdout, done.stderr) == ("3 rows, and no mistake\n", "")
+
+
 def test_a_card_behind_a_pseudo_terminal():
     """Each opening is a reset: nothing is selected, and nothing of an earlier talk is left."""
     select, get = Select(bytes.fromhex("A0000000031010")), Get(0x5F20)
@@ -106,6 +115,16 @@ def code(file):
 
 
 def test_the_package_stays_small():
-    """Its files, without tests and examples."""
-    files = [*TOP.glob("*.py"), *TOP.glob("src/**/*.py")]
-    assert 500 < sum(len(code(it)) for it in files) <= 802
+    """Its files, without tests, examples and the batch."""
+    files = [*TOP.glob("*.py"), *TOP.glob("src/galliumtoad/*.py")]
+    assert 300 < sum(len(code(it)) for it in files) <= 506
+
+
+def test_the_batch_stays_small():
+    """Its modules, and each of their functions."""
+    files = [*TOP.glob("src/galliumtoad/batch/*.py")]
+    assert 500 < sum(len(code(it)) for it in files) <= 1100
+    for file in files:
+        for it in ast.walk(ast.parse(file.read_text())):
+            if isinstance(it, ast.FunctionDef):
+                assert it.end_lineno - it.lineno + 1 < 40, f"{file}: {it.name}"

@@ -1,7 +1,7 @@
 """Tests batches of cards over a private pcscd whose readers change the cards. Runs are killed at
-random, have a full disk or a cut journal, or run twice at once. Some cards are removed in the
-middle, or have another profile. The contents of the removed cards decide the result, not the
-journal.
+random, have a full disk or a cut journal, or run twice at once. Some cards are pulled at one of
+their commands, are inserted again later, or have another profile. The contents of the removed cards
+decide the result, not the journal.
 
 The environment may set READER_CARDS, READER_KILLS and READERS, the numbers of each."""
 
@@ -16,13 +16,13 @@ from collections import Counter
 from pathlib import Path
 
 import pytest
-from test_batch import FULL, Room
+from room import FULL, Room
 
 HERE = Path(__file__).resolve().parent
 C = HERE.parents[1] / "c"
-CARDS = int(os.environ.get("READER_CARDS", 24))
-KILLS = int(os.environ.get("READER_KILLS", 3))
-READERS = int(os.environ.get("READERS", 2))
+CARDS = int(os.environ.get("READER_CARDS", 500))
+KILLS = int(os.environ.get("READER_KILLS", 20))
+READERS = int(os.environ.get("READERS", 4))
 # pcscd has its socket at a fixed place. In a private mount namespace that is a folder of the test.
 PRIVATE = ["sh", "-c", 'mkdir -p /run/pcscd && mount --bind "$0" /run/pcscd && exec "$@"']
 
@@ -69,7 +69,7 @@ class Desk(Room):
 
     def __init__(self, path, rows, readers):
         super().__init__(path, rows, 0)
-        self.rows, made, kept = rows, compiled(path), path / "kept"
+        self.rows, made, kept, self.is_apart = rows, compiled(path), path / "kept", True
         kept.touch()
         (path / "run").mkdir()
         self.names = [f"Slot{at} of {os.getpid()} {at:02X} 00" for at in range(readers)]
@@ -117,30 +117,35 @@ class Desk(Room):
         assert self.feeder.stdout.readline() == "\n"
 
     def close(self):
-        """Stops all programs. Returns the number of cards."""
-        count = self.feeder.communicate()[0] if self.feeder.returncode is None else 0
+        """Stops all programs. Returns the numbers of cards, of those pulled, and of those inserted
+        again."""
+        counts = self.feeder.communicate()[0] if self.feeder.returncode is None else ""
         self.pcscd.terminate()
         self.pcscd.wait()
-        return int(count)
+        return [int(it) for it in counts.split()]
 
     def held(self):
-        """Counts the cards with all values of a row, and those with some of them."""
-        whole, some = Counter(), Counter()
-        for line in (self.path / "kept").read_text().splitlines():
+        """Counts the cards with all values of a row, and those with some of them. A card that was
+        inserted again counts as it is now. No card has values of two rows."""
+        whole, some, cards = Counter(), Counter(), {}
+        for at, line in enumerate((self.path / "kept").read_text().splitlines()):
             values = dict(it.split("=") for it in line.split()[1:])
-            name = bytes.fromhex(values.get("5F20", "")).decode()
+            cards[values.get("9F7F", at)] = values
+        for values in cards.values():
+            name, code = bytes.fromhex(values.get("5F20", "")).decode(), values.get("9F36")
             if name:
                 row = int(name.removeprefix("PERSON "))
                 some[row] += 1
-                whole[row] += (values.get("9F36"), values.get("50")) == (f"{row:08X}", "41" * 300)
+                whole[row] += (code, values.get("50")) == (f"{row:08X}", "41" * 300)
+                assert code in (None, f"{row:08X}"), values
         return whole, some
 
     def wait_for_rows(self, runs, part, at_random):
         """Waits until these runs have done a random part of the rows that are left, at most
         `part`."""
         left = self.rows - sum(it.startswith("done ") for it in self.journal())
-        # a row has two lines in the journal
-        size = len(f"begin {left} {self.names[0]}\ndone {left}\n")
+        lines = [it for it in self.journal()[-30:] if it.split()[0] in ("begin", "card", "done")]
+        size = 3 * sum(len(it) + 1 for it in lines) / max(len(lines), 1)
         file = self.path / "journal"
         end = file.stat().st_size + at_random.random() * part * left * size
         while file.stat().st_size < end and any(it.poll() is None for it in runs):
@@ -165,29 +170,15 @@ class Desk(Room):
         if lines and last.split()[0] in ("done", "failed", "unused", "unsure"):
             text = "".join(lines)
         else:
-            last = "begin 1 Slot0"
+            last = "begin 1 2026-01-01"
         (self.path / "journal").write_text(text + last[: at_random.randrange(1, len(last))])
 
     def start_full(self, room):
         """Starts a run whose files may grow by `room` bytes."""
         size = (self.path / "journal").stat().st_size + room
-        program = self.words()
+        program = self.words(go=False)
         program[1:3] = ["-c", FULL.format(size)]
         return self.start_program(program)
-
-
-def kill(run, at_random):
-    """Kills all processes of a run, or one reader's, or the first process."""
-    how = at_random.choice(["all", "all", "one", "first"])
-    children = Path(f"/proc/{run.pid}/task/{run.pid}/children")
-    of_readers = children.read_text().split() if children.exists() else []
-    if how == "one" and of_readers:
-        os.kill(int(at_random.choice(of_readers)), signal.SIGKILL)
-        time.sleep(at_random.uniform(0, 0.5))
-    if how == "first":
-        run.kill()
-    elif run.poll() is None:
-        os.killpg(run.pid, signal.SIGKILL)
 
 
 @pytest.fixture
@@ -201,25 +192,26 @@ def desk(tmp_path):
 def test_over_a_pcscd(desk):
     at_random, kills = random.Random(11), 0
     counts, begun = Counter(), time.monotonic()
-    desk.run("--status")
+    desk.create(0x9F7F)
     last = f"{CARDS} of {CARDS} rows done, 0 to decide\n"
     outs, status = [], ""
     while status != last:
         kind = at_random.choice(["one"] * 8 + ["full", "two", "same"]) if kills < KILLS else "one"
         counts[kind] += 1
         if kind == "full":
-            runs = [desk.start_full(at_random.randrange(1, 400))]
+            runs = [desk.start_full(at_random.randrange(1, 1200))]
         elif kind == "two":
-            runs = [desk.start(*desk.readers[::2]), desk.start(*desk.readers[1::2])]
+            runs = [desk.start(*it, go=False) for it in (desk.readers[::2], desk.readers[1::2])]
         else:
-            runs = [desk.start() for _ in range(2 if kind == "same" else 1)]
+            runs = [desk.start(go=False) for _ in range(2 if kind == "same" else 1)]
         if kills < KILLS:
             desk.wait_for_rows(runs, 2 / (KILLS - kills + 1), at_random)
             kills += any(it.poll() is None for it in runs)
             for run in runs:
-                kill(run, at_random)
+                if run.poll() is None:
+                    os.killpg(run.pid, signal.SIGKILL)
         for run in runs:
-            out, error = run.communicate(timeout=1200)
+            out, error = run.communicate(timeout=3000)
             outs += [*out.splitlines(), *error.splitlines()]
         if kills < KILLS and at_random.random() < 0.25:
             desk.cut(at_random)
@@ -229,14 +221,17 @@ def test_over_a_pcscd(desk):
             status = desk.run("--status")[1]
             print(f"{time.monotonic() - begun:6.0f} s, {kills} kills: {status}", end="", flush=True)
     desk.change()
-    cards = desk.close()
+    cards, pulled, again = desk.close()
     whole, some = desk.held()
-    print(f"{cards} cards; {sum(some.values())} hold a name, {sum(whole.values())} a whole row")
+    refused = sum(" has row " in it for it in outs)
+    print(f"{cards} cards, {pulled} pulled, {again} inserted again, {refused} times refused")
+    print(f"{sum(some.values())} hold a name, {sum(whole.values())} a whole row")
     print(dict(counts), dict(Counter(kind_of(it) for it in outs)))
     assert whole == Counter(range(1, CARDS + 1)) and kills == KILLS
+    assert pulled > CARDS // 100 and again > CARDS // 100 and refused > 0
 
 
 def kind_of(line):
     """The form of a line of output, without the parts that differ between cards."""
-    words = line.split(": ", 1)[-1].split()
-    return " ".join(it for it in words if not it.isdigit())
+    words = line.split(": ", 1)[-1].replace(",", "").split()
+    return " ".join(it for it in words if not any(sign.isdigit() for sign in it))

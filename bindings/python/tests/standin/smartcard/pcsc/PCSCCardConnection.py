@@ -11,8 +11,11 @@ class PCSCCardConnection:
     def connect(self, protocol=None, mode=None, disposition=None):
         if "SWAPS" in os.environ and smartcard.number_in(self.reader) % 2 == 0:
             smartcard.put_in(self.reader, smartcard.number_in(self.reader) + 1)
-        if str(smartcard.number_in(self.reader)) in os.environ.get("MUTE", "").split():
+        number = smartcard.number_in(self.reader)
+        if {str(number), f"{self.reader}-{number}"} & {*os.environ.get("MUTE", "").split()}:
             raise SmartcardException("the card does not answer to reset")
+        if (smartcard.ROOM / self.reader / "out").exists():
+            raise SmartcardException("there is no card")
         self.inside = smartcard.InReader(self.reader)
 
     def getProtocol(self):
@@ -26,6 +29,6 @@ class PCSCCardConnection:
         return answer[:-2], answer[-2], answer[-1]
 
     def disconnect(self):
-        is_in = smartcard.number_in(self.reader) == self.inside.number
+        is_in = smartcard.place_of(self.reader) == self.inside.place
         if is_in and "STAYS" not in os.environ:
-            smartcard.put_in(self.reader, self.inside.number + 1)
+            smartcard.change(self.reader, self.inside.number)

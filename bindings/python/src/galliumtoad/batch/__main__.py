@@ -1,0 +1,7 @@
+"""Runs the program."""
+
+import sys
+
+from .program import main
+
+sys.exit(main())

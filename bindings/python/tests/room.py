@@ -1,0 +1,188 @@
+"""A room for tests of batches: readers of the stand-in for pyscard, a table, a script, and runs of
+the program."""
+
+import contextlib
+import io
+import json
+import os
+import re
+import signal
+import subprocess
+import sys
+from pathlib import Path
+
+HERE = Path(__file__).resolve().parent
+STANDIN = HERE / "standin"
+AID = bytes.fromhex("A0000000031010")
+SCRIPT = """# a person's card
+select A0000000031010
+put 5F20 @{name}
+put 9F36 {code}
+put 50 41*300
+"""
+
+# The program, in a process whose files have at most this number of bytes.
+FULL = """import resource, runpy, signal
+resource.setrlimit(resource.RLIMIT_FSIZE, ({0}, {0}))
+signal.signal(signal.SIGXFSZ, signal.SIG_IGN)
+runpy.run_module("galliumtoad.batch", run_name="__main__", alter_sys=True)
+"""
+
+
+def ended(run, seconds=100):
+    """Waits for the end of a run, and returns its output. Kills a run that does not end."""
+    try:
+        return run.communicate(timeout=seconds)
+    except subprocess.TimeoutExpired:
+        os.killpg(run.pid, signal.SIGKILL)
+        raise
+
+
+def listed(out):
+    """The rows to decide in a run's summary."""
+    words = [line.split() for line in out.splitlines() if line.startswith("row ")]
+    return {int(it[1]): it[2].rstrip(":") for it in words}
+
+
+def told(out):
+    """The lines of a run without times, those of its start, and those about a missing card."""
+    drop = ("starting", "continuing", "without --id", "  --look")
+    lines = [re.sub(r", \d+\.\d s\b", "", it) for it in out.splitlines() if not it.startswith(drop)]
+    return [it for it in lines if ": insert a card for row" not in it]
+
+
+class Room:
+    """A folder with readers, a table and a script. A run creates the journal if it is missing, and
+    writes the cards that lie in the readers."""
+
+    def __init__(self, path, rows, readers=1):
+        self.path, self.is_apart = path, False
+        (path / "cards").mkdir()
+        # two runs of these tests at the same time have different readers
+        self.names = [f"Slot{at}-{os.getpid()}" for at in range(readers)]
+        for name in self.names:
+            self.add_reader(name)
+        lines = [f"PERSON {at},{at:08X}" for at in range(1, rows + 1)]
+        self.write("rows.csv", "\n".join(["name,code", *lines]) + "\n")
+        self.write("script", SCRIPT)
+        self.readers = [f"--reader=Slot{at}" for at in range(readers)]
+        paths = [str(STANDIN), *filter(None, [os.environ.get("PYTHONPATH")])]
+        self.environment = dict(os.environ, STANDIN=str(path), PYTHONPATH=":".join(paths))
+
+    def add_reader(self, name):
+        (self.path / name).mkdir(exist_ok=True)
+        self.put_in(name, "0")
+
+    def put_in(self, name, card):
+        """Puts a card of this number into a reader."""
+        (self.path / name / "card").write_text(str(card))
+
+    def write(self, name, text):
+        (self.path / name).write_text(text)
+
+    def words(self, *words, go=True):
+        """The words of a run. Words of the program alone go to all readers."""
+        program = [sys.executable, "-m", "galliumtoad.batch", "script", "--rows=rows.csv"]
+        names = [it.partition("=")[0] for it in words]
+        if "--journal" not in names:
+            program += ["--journal=journal"]
+        is_run = not {"--status", "--done", "--again", "--look", "--check"} & {*names}
+        is_own = "--journal" not in names and "--new" not in names
+        if is_run and is_own and not (self.path / "journal").exists():
+            program += ["--new"]
+        if is_run and "--reader" not in names:
+            program += self.readers
+        return [*program, *(["--go"] if go and is_run else []), *words]
+
+    def start(self, *words, go=True):
+        return self.start_program(self.words(*words, go=go))
+
+    def start_program(self, program):
+        pipes = {"stdout": subprocess.PIPE, "stderr": subprocess.PIPE, "text": True}
+        pipes["stdin"] = subprocess.DEVNULL
+        return subprocess.Popen(
+            program, cwd=self.path, env=self.environment, start_new_session=True, **pipes
+        )
+
+    def run(self, *words, go=True):
+        """Runs the program, in this process unless `is_apart` is set. Returns its status, output
+        and errors."""
+        program = self.words(*words, go=go)
+        if not self.is_apart:
+            return main_of(self, program[3:])
+        run = self.start_program(program)
+        out, error = ended(run)
+        return run.returncode, out, error
+
+    def create(self, *words):
+        """Creates the journal, without a run."""
+        from galliumtoad.batch.journal import Heading, Part, create, place_of
+
+        table = place_of(str(self.path / "rows.csv"))
+        create(str(self.path / "journal"), Heading(Part(), *(words or (None,)), bytes(16), table))
+
+    def opened(self, rows):
+        """The journal, in this process."""
+        from galliumtoad.batch.journal import Journal
+
+        return Journal(str(self.path / "journal"), str(self.path / "rows.csv"), rows)
+
+    def journal(self):
+        return (self.path / "journal").read_text().splitlines()
+
+    def events(self):
+        """The first two words of each line of the journal."""
+        return [" ".join(it.split()[:2]) for it in self.journal()[1:]]
+
+    def to_decide(self):
+        """The rows that the program lists, each with its word."""
+        return listed(self.run("--status")[1])
+
+    def decide(self):
+        """Decides each undecided row by the contents of its cards."""
+        for row in self.to_decide():
+            whole, _ = self.cards_of(row)
+            assert whole in (0, 1)
+            self.run(f"--{'done' if whole else 'again'}={row}")
+
+    def held(self):
+        """The contents of each card, by the name of its file."""
+        files = [it for it in self.path.glob("cards/*") if it.suffix == ""]
+        return {it.name: json.loads(it.read_text()) for it in files}
+
+    def cards_of(self, row):
+        """Counts the cards with all values of a row, and those with some of them."""
+        whole = {"24352": f"PERSON {row}".encode().hex(), "40758": f"{row:08x}", "80": "41" * 300}
+        mine = [it for it in self.held().values() if it.get("24352") == whole["24352"]]
+        return sum(whole.items() <= it.items() for it in mine), len(mine)
+
+
+def too_long(*_):
+    raise TimeoutError("the run does not end")
+
+
+def main_of(room, words):
+    """Runs the program in this process. Raises `TimeoutError` if it does not end in a minute."""
+    if str(STANDIN) not in sys.path:
+        sys.path.insert(0, str(STANDIN))
+    before, folder = dict(os.environ), os.getcwd()
+    out, error = io.StringIO(), io.StringIO()
+    try:
+        os.environ.update(room.environment)
+        os.chdir(room.path)
+        import smartcard
+        from galliumtoad.batch import main
+
+        smartcard.begin(room.path)
+        signal.signal(signal.SIGALRM, too_long)
+        signal.alarm(60)
+        with contextlib.redirect_stdout(out), contextlib.redirect_stderr(error):
+            status = main(words)
+    except SystemExit as end:
+        status = end.code
+    finally:
+        signal.alarm(0)
+        os.chdir(folder)
+        os.environ.clear()
+        os.environ.update(before)
+    return status, out.getvalue(), error.getvalue()

@@ -1,0 +1,251 @@
+"""Tests that a batch gives each row to one card, and each card one row: cards that are inserted
+again, cards that lie in a reader, journals with a wrong name, and corrected cells."""
+
+import pytest
+from galliumtoad.batch.journal import Part
+from room import Room, ended, listed
+
+NOT_TOLD = "without --id it can't tell cards apart: a card inserted twice gets two rows\n"
+
+
+def id_of(room, number, reader=0):
+    return f"{room.names[reader]}-{number}".encode().hex().upper()
+
+
+def same_card(room, times, number=0):
+    """Has the reader show one card several times, and then other cards."""
+    room.environment["AGAIN"] = f"{number}*{times}"
+
+
+def test_a_card_that_is_inserted_three_times_has_one_row(tmp_path):
+    room = Room(tmp_path, 3)
+    same_card(room, 3)
+    status, out, _ = room.run("--id=9F7F")
+    said = f"row 2 unused, {{}} s: card {id_of(room, 0)} has row 1, which is done\n"
+    assert status == 0 and out.count("has row 1, which is done") == 2, out
+    assert said.format("0.0") in out.replace("0.1", "0.0")
+    assert [room.cards_of(row) for row in (1, 2, 3)] == [(1, 1)] * 3
+    assert len(room.held()) == 3
+
+
+@pytest.mark.parametrize(("number", "state"), [(11, "failed"), (7, "unsure")])
+def test_a_card_whose_row_is_not_done_is_refused_too(tmp_path, number, state):
+    room = Room(tmp_path, 2)
+    room.put_in(room.names[0], number)
+    same_card(room, 2, number)
+    out = room.run("--id=9F7F", "--stop-after=9")[1]
+    assert f"card {id_of(room, number)} has row 1, which is {state}" in out
+    assert listed(out) == {1: state}
+
+
+def test_a_card_is_refused_before_it_changes(tmp_path):
+    """The card holds its first row still, and the journal has no second card line."""
+    room = Room(tmp_path, 2)
+    same_card(room, 2)
+    room.run("--id=9F7F")
+    events = room.events()
+    assert events[:5] == ["begin 1", "card 1", "done 1", "begin 2", "unused 2"]
+    assert room.held()[f"{room.names[0]}-0"]["24352"] == b"PERSON 1".hex()
+
+
+def test_again_writes_a_row_once_more_to_its_card(tmp_path):
+    room = Room(tmp_path, 3)
+    assert room.run("--id=9F7F")[0] == 0
+    room.write("rows.csv", (tmp_path / "rows.csv").read_text().replace("PERSON 3", "PERSON 9"))
+    assert room.run("--again=3")[2].endswith("row 3 has begun with other cells or another script\n")
+    room.write("rows.csv", (tmp_path / "rows.csv").read_text().replace("PERSON 9", "PERSON 3"))
+    assert room.run("--again=1", "--again=3")[:2] == (1, "1 of 3 rows done, 0 to decide\n")
+    # the card of row 3 comes first: it gets its own row, not the first one
+    room.put_in(room.names[0], 2)
+    status, out, _ = room.run()
+    assert status == 0
+    assert f"row 3 done, card {id_of(room, 2)}" in out
+    assert room.events()[-8:] == [
+        *("begin 1", "unused 1", "begin 3", "card 3", "done 3"),
+        *("begin 1", "card 1", "done 1"),
+    ]
+    assert room.held()[f"{room.names[0]}-2"]["24352"] == b"PERSON 3".hex()
+
+
+def test_without_an_identifier_the_program_says_so_at_its_start(tmp_path):
+    room = Room(tmp_path, 1)
+    assert room.run()[1].startswith("starting: 0 of 1 rows done\n" + NOT_TOLD)
+    (tmp_path / "journal").unlink()
+    assert "tell cards apart" not in room.run("--id=9F7F")[1]
+
+
+def test_a_journal_keeps_its_identifier(tmp_path):
+    """A run that lacks --id compares cards still."""
+    room = Room(tmp_path, 2)
+    room.put_in(room.names[0], 7)
+    assert room.run("--id=9F7F", "--stop-after=1")[0] == 1
+    room.put_in(room.names[0], 7)
+    assert f"card {id_of(room, 7)} has row 1, which is unsure" in room.run()[1]
+    assert room.run("--id=50")[2] == "galliumtoad.batch: journal was created with --id 9F7F\n"
+
+
+def test_a_card_that_lies_in_the_reader_waits(tmp_path):
+    room = Room(tmp_path, 1)
+    status, out, _ = room.run(go=False)
+    waits = "a card lies in it: remove and insert it, or press Enter to write it"
+    assert status == 0 and f"{room.names[0]}: {waits}\n" in out
+    assert [*room.held()] == [f"{room.names[0]}-1"]
+
+
+def test_go_writes_the_card_that_lies_in_the_reader(tmp_path):
+    room = Room(tmp_path, 1)
+    status, out, _ = room.run("--go")
+    assert status == 0 and "a card lies in it" not in out
+    assert [*room.held()] == [f"{room.names[0]}-0"]
+
+
+def test_a_mistyped_journal_does_not_begin_again(tmp_path):
+    room = Room(tmp_path, 2)
+    assert room.run()[0] == 0
+    for words in (("--go",), ("--status",), ("--check",), ("--done=1",), ("--look=1",)):
+        status, out, error = room.run("--journal=jurnal", *words, *room.readers)
+        wanted = "galliumtoad.batch: there is no journal jurnal: --new creates it\n"
+        assert (status, out, error) == (2, "", wanted)
+    assert not (tmp_path / "jurnal").exists() and len(room.held()) == 2
+
+
+def test_new_refuses_a_journal_that_exists(tmp_path):
+    room = Room(tmp_path, 2)
+    assert room.run()[0] == 0
+    before = (tmp_path / "journal").read_bytes()
+    for words in ((), ("--check",)):
+        status, _, error = room.run("--new", *room.readers, *words)
+        assert (status, error) == (
+            2, "galliumtoad.batch: journal exists: without --new the batch continues\n"
+        )
+    assert (tmp_path / "journal").read_bytes() == before
+
+
+def test_a_second_journal_in_the_folder_is_refused(tmp_path):
+    room = Room(tmp_path, 2)
+    assert room.run()[0] == 0
+    (tmp_path / "there").mkdir()
+    for other in ("second", "there/second"):
+        status, out, error = room.run(f"--journal={other}", "--new", *room.readers)
+        wanted = f"galliumtoad.batch: rows.csv has another journal, {tmp_path}/journal\n"
+        assert (status, out, error) == (2, "", wanted)
+        assert not (tmp_path / other).exists()
+    assert len(room.held()) == 2
+
+
+def test_a_table_names_a_journal_elsewhere(tmp_path):
+    room = Room(tmp_path, 1)
+    for name in ("one", "two"):
+        (tmp_path / name).mkdir()
+    assert room.run("--journal=one/journal", "--new", *room.readers)[0] == 0
+    link = tmp_path / "rows.csv.1-of-1.journal"
+    assert link.is_symlink() and link.resolve() == tmp_path / "one/journal"
+    second = ("--journal=two/journal", "--new", *room.readers)
+    wanted = f"galliumtoad.batch: rows.csv has another journal, {tmp_path}/one/journal\n"
+    assert room.run(*second) == (2, "", wanted)
+    # a journal that was thrown away on purpose
+    (tmp_path / "one/journal").unlink()
+    assert room.run(*second)[0] == 0 and link.resolve() == tmp_path / "two/journal"
+
+
+def test_a_second_journal_beside_the_first_is_refused(tmp_path):
+    """The table's folder could not be written, so no link is there."""
+    room = Room(tmp_path, 1)
+    (tmp_path / "one").mkdir()
+    assert room.run("--journal=one/journal", "--new", *room.readers)[0] == 0
+    (tmp_path / "rows.csv.1-of-1.journal").unlink()
+    wanted = f"galliumtoad.batch: rows.csv has another journal, {tmp_path}/one/journal\n"
+    assert room.run("--journal=one/second", "--new", *room.readers) == (2, "", wanted)
+
+
+def test_parts_meet_where_they_share_a_row():
+    parts = [Part(at, of) for of in range(1, 7) for at in range(1, of + 1)]
+    rows = {it: set(range(it.at, 61, it.of)) for it in parts}
+    for one in parts:
+        assert [one.meets(it) for it in parts] == [bool(rows[one] & rows[it]) for it in parts]
+
+
+def test_a_row_that_is_done_is_not_done_again(tmp_path):
+    room = Room(tmp_path, 1)
+    assert room.run()[0] == 0
+    before = room.journal()
+    assert room.run("--done=1") == (2, "", "galliumtoad.batch: row 1 is done\n")
+    assert room.journal() == before
+
+
+def test_a_copy_of_a_journal_is_refused(tmp_path):
+    room = Room(tmp_path, 1)
+    assert room.run()[0] == 0
+    (tmp_path / "copy").write_bytes((tmp_path / "journal").read_bytes())
+    status, _, error = room.run("--journal=copy", *room.readers)
+    assert status == 2 and error.endswith(f"rows.csv has another journal, {tmp_path}/journal\n")
+
+
+def test_a_journal_of_another_table_is_refused(tmp_path):
+    room = Room(tmp_path, 1)
+    assert room.run()[0] == 0
+    room.write("other.csv", (tmp_path / "rows.csv").read_text())
+    status, _, error = room.run("--rows=other.csv", *room.readers)
+    wanted = f"galliumtoad.batch: journal is the journal of the table {tmp_path}/rows.csv\n"
+    assert (status, error) == (2, wanted)
+
+
+def test_a_folder_that_moves_keeps_its_journal(tmp_path):
+    (tmp_path / "before").mkdir()
+    room = Room(tmp_path / "before", 1)
+    assert room.run()[0] == 0
+    (tmp_path / "before").rename(tmp_path / "after")
+    room.path = tmp_path / "after"
+    assert room.run("--status")[:2] == (0, "1 of 1 rows done, 0 to decide\n")
+
+
+def test_a_cell_of_a_row_that_has_not_begun_may_change(tmp_path):
+    room, table = Room(tmp_path, 3), tmp_path / "rows.csv"
+    room.put_in(room.names[0], 7)
+    room.run("--stop-after=1")
+    text = table.read_text().replace("PERSON 3", "PERSON X") + "PERSON 4,00000004\n"
+    table.write_text(text)
+    assert room.run("--done=1")[1] == "1 of 4 rows done, 0 to decide\n"
+    assert room.run()[0] == 0
+    assert b"PERSON X".hex() in {it["24352"] for it in room.held().values()}
+    for old, new in (("PERSON 1", "PERSON Y"), ("00000001", "00000011")):
+        table.write_text(text.replace(old, new))
+        status, out, error = room.run("--status")
+        wanted = "galliumtoad.batch: journal: row 1 has begun with other cells or another script\n"
+        assert (status, out, error) == (2, "", wanted)
+
+
+def test_a_row_to_write_again_may_change(tmp_path):
+    room = Room(tmp_path, 1)
+    assert room.run("--id=9F7F")[0] == 0 and room.run("--again=1")[0] == 1
+    room.write("rows.csv", "name,code\nPERSON 9,00000009\n")
+    assert room.run()[0] == 0 and room.cards_of(9) == (1, 1)
+
+
+def test_a_script_of_rows_that_have_begun_stays(tmp_path):
+    room = Room(tmp_path, 2)
+    room.put_in(room.names[0], 7)
+    room.run("--stop-after=1")
+    script = (tmp_path / "script").read_text()
+    room.write("script", "# a word more\n" + script)
+    assert room.run("--status")[0] == 1
+    room.write("script", script + "get 50\n")
+    assert "row 1 has begun with other cells" in room.run("--status")[2]
+
+
+def test_rows_may_not_go_away(tmp_path):
+    room = Room(tmp_path, 2)
+    assert room.run()[0] == 0
+    room.write("rows.csv", "name,code\nPERSON 1,00000001\n")
+    assert "journal is damaged: no line of a journal, or no row of the table: begin 2" in (
+        room.run("--status")[2]
+    )
+
+
+def test_a_row_in_progress_is_not_to_be_decided(tmp_path):
+    room = Room(tmp_path, 2)
+    room.create()
+    journal = room.opened(2)
+    assert journal.reserve() == 1
+    other = room.start_program(room.words("--status"))
+    assert ended(other)[0] == "0 of 2 rows done, 0 to decide\n"

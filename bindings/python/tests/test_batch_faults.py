@@ -1,0 +1,231 @@
+"""Tests batches whose cards are pulled at each of their commands, whose readers come and go or
+fail, and whose machine loses its power."""
+
+import os
+import random
+import signal
+import subprocess
+import threading
+import time
+
+import pytest
+from galliumtoad import Card, Select, Terminal
+from galliumtoad.batch.dialogue import Recorder, carry_out, compared
+from galliumtoad.batch.script import Script
+from room import AID, HERE, SCRIPT, Room, ended, told
+
+ROW = {"name": "PERSON 1", "code": "00000001"}
+VALUES = {0x5F20: b"PERSON 1", 0x9F36: bytes.fromhex("00000001"), 0x50: b"A" * 300}
+LOSSES = 3 if int(os.environ.get("CARDS", 500)) < 100 else 8
+
+
+class Pulled:
+    """A transport to a card that is pulled at a command, before or after the card carries it out.
+    `sent` counts the commands."""
+
+    def __init__(self, card, at, is_carried_out):
+        self.card, self.at, self.is_carried_out, self.sent = card, at, is_carried_out, 0
+
+    def __call__(self, tpdu):
+        self.sent += 1
+        if self.sent == self.at and not self.is_carried_out:
+            raise ConnectionError("the card was removed")
+        answer = self.card.tpdu(tpdu)
+        if self.sent == self.at:
+            raise ConnectionError("the card was removed")
+        return answer
+
+
+def commands_of(script):
+    """The number of commands that a whole row takes."""
+    reader = Pulled(Card({AID: {}}), 0, False)
+    assert carry_out(script, script.operations(ROW), Recorder(reader)) == ("done", "")
+    return reader.sent
+
+
+def test_a_card_is_pulled_at_each_command():
+    script = Script("script", SCRIPT, [*ROW])
+    made, count = script.operations(ROW), commands_of(script)
+    words = []
+    for at in range(1, count + 1):
+        for is_carried_out in (False, True):
+            card = Card({AID: {}})
+            outcome = carry_out(script, made, Recorder(Pulled(card, at, is_carried_out)))
+            held = {it.tag: it.value for it in card.entries(AID)}
+            is_written = at >= 3  # a select, its response, and the first put
+            assert outcome == ("unsure" if is_written else "unused", "the card was removed")
+            same = sum(held.get(tag) == value for tag, value in VALUES.items())
+            with Terminal() as reset:
+                reset.run(card.tpdu, Select(AID))
+            wanted = {0: "untouched", 3: "done"}.get(same, f"partly: {same} of 3 objects")
+            assert compared(made, card.tpdu) == wanted
+            words.append(wanted)
+    assert set(words) == {"untouched", "done", "partly: 1 of 3 objects", "partly: 2 of 3 objects"}
+
+
+def test_a_run_whose_cards_are_pulled(tmp_path):
+    """Each card is pulled one command later than the one before; --look finds what it holds."""
+    room = Room(tmp_path, 18)
+    room.environment["PULLED"] = "yes"
+    for _ in range(30):
+        out = room.run("--id=9F7F", go=False)[1]
+        if "18 of 18 rows done" in out:
+            break
+        room.decide()
+    assert out.endswith("18 of 18 rows done, 0 to decide\n")
+    assert [room.cards_of(row)[0] for row in range(1, 19)] == [1] * 18
+    assert any("unsure" in it for it in room.events())
+
+
+def test_a_reader_that_fails_five_cards_is_set_aside(tmp_path):
+    room = Room(tmp_path, 4, readers=2)
+    room.environment["MUTE"] = " ".join(f"{room.names[0]}-{at}" for at in range(20))
+    room.environment["SLOW"] = "0.03"
+    status, out, error = room.run()
+    mute = f"{room.names[0]}: the card does not answer to reset"
+    aside = f"{room.names[0]}: set aside: 5 cards in a row failed"
+    assert (status, error) == (0, "")
+    assert [it for it in told(out) if it.startswith(room.names[0])] == [mute] * 5 + [aside]
+
+
+def test_a_run_ends_when_all_readers_are_set_aside(tmp_path):
+    room = Room(tmp_path, 1)
+    room.environment["MUTE"] = " ".join(map(str, range(4))) + " 5 6 7 8 9"
+    status, out, _ = room.run()
+    mute = f"{room.names[0]}: the card does not answer to reset"
+    # a card that is done begins the count again
+    assert status == 0 and told(out) == [mute] * 4 + [
+        f"{room.names[0]}: row 1 done", "1 of 1 rows done, 0 to decide"
+    ]
+    (tmp_path / "other").mkdir()
+    room = Room(tmp_path / "other", 1)
+    room.environment["MUTE"] = "0 1 2 3 4 5 6"
+    status, out, _ = room.run()
+    assert status == 1 and told(out)[-2:] == [
+        f"{room.names[0]}: set aside: 5 cards in a row failed", "0 of 1 rows done, 0 to decide"
+    ]
+
+
+def test_a_run_stops_after_failures(tmp_path):
+    room = Room(tmp_path, 9)
+    room.environment["WORN"] = "yes"
+    status, out, _ = room.run("--stop-after=3")
+    assert status == 1 and told(out)[3] == "stopped: 3 rows failed"
+    assert told(out)[-1] == "0 of 9 rows done, 3 to decide" and "begin 4" not in room.events()
+
+
+def test_a_reader_that_comes_and_goes(tmp_path):
+    room = Room(tmp_path, 6, readers=2)
+    room.environment["SLOW"] = "0.05"
+    run = room.start()
+    while not (tmp_path / "journal").exists() or "done" not in (tmp_path / "journal").read_text():
+        time.sleep(0.01)
+    for name in room.names:
+        (tmp_path / name / "away").touch()
+    killer = threading.Timer(60, run.kill)
+    killer.start()
+    gone = {f"{it}: the reader is gone: unplugged" for it in room.names}
+    while gone and (line := run.stdout.readline()):
+        gone.discard(line.rstrip())
+    killer.cancel()
+    assert not gone and run.poll() is None
+    # the second reader does not come back
+    (tmp_path / room.names[0] / "away").unlink()
+    out, error = ended(run)
+    assert error == "" and f"{room.names[1]}: row" not in out and out.count(" done") >= 2
+    assert out.endswith(" to decide\n") and len(set(room.events()) & {"begin 5", "begin 6"}) == 2
+    (tmp_path / room.names[1] / "away").unlink()
+    while room.run("--status")[0] == 1:
+        room.decide()
+        room.run(go=False)
+    assert [room.cards_of(row)[0] for row in range(1, 7)] == [1] * 6
+
+
+def test_a_pcscd_that_goes_away_is_waited_for(tmp_path):
+    room = Room(tmp_path, 3)
+    room.environment["SLOW"] = "0.05"
+    run = room.start()
+    while not (tmp_path / "journal").exists() or "done" not in (tmp_path / "journal").read_text():
+        time.sleep(0.01)
+    (tmp_path / "gone").touch()
+    killer = threading.Timer(60, run.kill)
+    killer.start()
+    while (line := run.stdout.readline()) and "the reader is gone: error 9" not in line:
+        pass
+    killer.cancel()
+    (tmp_path / "gone").unlink()
+    out, error = ended(run)
+    assert (run.returncode, error) == (0, "") and out.endswith("3 of 3 rows done, 0 to decide\n")
+
+
+def parts(room, count=2):
+    """Gives each part of the table a journal and a reader, one after another."""
+    for at in range(1, count + 1):
+        words = [f"--part={at}/{count}", f"--journal=j{at}", "--new", room.readers[at - 1]]
+        assert room.run(*words, "--id=9F7F")[0] == 0
+    return [f"--journal=j{at}" for at in range(1, count + 1)]
+
+
+def test_machines_share_a_table(tmp_path):
+    room = Room(tmp_path, 7, readers=3)
+    journals = parts(room, 3)
+    assert [room.cards_of(row) for row in range(1, 8)] == [(1, 1)] * 7
+    begun = [(tmp_path / f"j{at}").read_text().split("begin ")[1:] for at in (1, 2, 3)]
+    assert [[int(it.split()[0]) for it in rows] for rows in begun] == [[1, 4, 7], [2, 5], [3, 6]]
+    assert room.run("--status", *journals) == (0, "7 of 7 rows done, 0 to decide\n", "")
+    assert room.run("--status", *journals[:2])[1] == "5 of 5 rows done, 0 to decide\n"
+    status, _, error = room.run("--journal=j4", "--new", "--part=3/6", *room.readers)
+    assert status == 2 and error.endswith(f"rows.csv has another journal, {tmp_path}/j3\n")
+
+
+@pytest.mark.parametrize("what", ["row", "card"])
+def test_what_two_journals_have_is_an_error(tmp_path, what):
+    room = Room(tmp_path, 4, readers=2)
+    journals = parts(room)
+    one, two = ((tmp_path / f"j{at}").read_text() for at in (1, 2))
+    if what == "row":
+        (tmp_path / "j2").write_text(one)
+        wanted = "row 1 is in j1 and in j2"
+    else:
+        card, mine = ([it for it in text.splitlines() if "card" in it][0] for text in (one, two))
+        (tmp_path / "j2").write_text(two.replace(mine.split()[-1], card.split()[-1]))
+        wanted = f"card {card.split()[-1]} is in j1 and in j2"
+    for words in ((), ("--report=all.html",)):
+        status, out, error = room.run("--status", *journals, *words)
+        assert (status, out, error) == (2, "", f"galliumtoad.batch: {wanted}\n")
+    assert not (tmp_path / "all.html").exists()
+
+
+def lose_power(room, disk):
+    """Drops what was not on the disk for sure."""
+    kept = disk / "journal"
+    if kept.exists() and (disk / "journal.named").exists():
+        (room.path / "journal").write_bytes(kept.read_bytes())
+    else:
+        (room.path / "journal").unlink(missing_ok=True)
+
+
+def test_no_row_is_on_two_cards_after_a_power_loss(tmp_path):
+    (tmp_path / "room").mkdir()
+    (tmp_path / "disk").mkdir()
+    room, at_random, out = Room(tmp_path / "room", 40, readers=2), random.Random(3), ""
+    library = tmp_path / "on_disk.so"
+    warnings = ["-Wall", "-Wextra", "-Werror", "-shared", "-fPIC", "-o", library]
+    subprocess.run(["cc", *warnings, HERE / "power/on_disk.c"], check=True)
+    room.environment.update(LD_PRELOAD=str(library), ON_DISK=str(tmp_path / "disk"), SLOW="0.01")
+    for _ in range(LOSSES):
+        run = room.start("--id=9F7F", go=False)
+        before = -1
+        while before < 0 or len(room.events()) < before + at_random.randrange(1, 12):
+            time.sleep(0.002)
+            if (room.path / "journal").exists() and before < 0 and room.journal():
+                before = len(room.events())
+            assert run.poll() is None or "40 of 40" in run.stdout.read()
+        os.killpg(run.pid, signal.SIGKILL)
+        ended(run)
+        lose_power(room, tmp_path / "disk")
+        room.decide()
+    while not out.endswith("40 of 40 rows done, 0 to decide\n"):
+        out = room.run("--id=9F7F", go=False)[1]
+        room.decide()
+    assert [room.cards_of(row)[0] for row in range(1, 41)] == [1] * 40

@@ -1,0 +1,275 @@
+"""Tests that a batch names each mistake before the first card: a table of mistakes, each with the
+line that is printed. No line shows a value of the table."""
+
+import pytest
+from room import SCRIPT, Room, main_of
+
+HEX = "select A0000000031010\nput 9F36 {code}\n"
+AID, TAG = "select {code}\n", "put {code} 41\n"
+SEND, FILE = "send {code}\n", "put 50 @{name}.jpg\n"
+LIMIT = "16,321 bytes, more than the 16,320 of a value"
+
+# What is wrong, the script, the table, more words, and the line that is printed after the program's
+# name. A script or table of None is right. `S` stands for `there are: 'Slot0..', 'Slot1..'`.
+MISTAKES = [
+    # cells
+    ("odd digits", HEX, "name,code\nA,12345\n", "",
+     "rows.csv line 2, column 'code': 5 digits, an odd number"),
+    ("odd digits in the last line", None, "name,code\nA,00\nB,01\nC,012\n", "",
+     "rows.csv line 4, column 'code': 3 digits, an odd number"),
+    ("a space in digits", HEX, "name,code\nA,12 34\n", "",
+     "rows.csv line 2, column 'code': a space, as character 3"),
+    ("a space before digits", HEX, "name,code\nA, 1234\n", "",
+     "rows.csv line 2, column 'code': a space, as character 1"),
+    ("0x", HEX, "name,code\nA,0x1234\n", "",
+     "rows.csv line 2, column 'code': 0x before the digits"),
+    ("a letter", HEX, "name,code\nA,12O4\n", "",
+     "rows.csv line 2, column 'code': no hexadecimal digit, as character 3"),
+    ("a dash inside", HEX, "name,code\nA,12-4\n", "",
+     "rows.csv line 2, column 'code': no hexadecimal digit, as character 3"),
+    ("not UTF-8 in digits", HEX, b"name,code\nA,12\xe9\n", "",
+     "rows.csv line 2, column 'code': not UTF-8"),
+    ("not UTF-8 in a text", None, b"name,code\nA,00\n\xe9,01\n", "",
+     "rows.csv line 3, column 'name': not UTF-8"),
+    ("NUL in a text", None, "name,code\nA\0B,00\n", "",
+     "rows.csv line 2, column 'name': a NUL character"),
+    ("NUL in digits", HEX, "name,code\nA,00\0\n", "",
+     "rows.csv line 2, column 'code': a NUL character"),
+    ("empty digits", None, "name,code\nA,00\nB,\n", "",
+     "rows.csv line 3, column 'code': empty, and the script needs a value"),
+    ("an empty text", None, "name,code\nA,00\n,01\n", "", "rows.csv line 3, column 'name': empty"),
+    ("a long text", None, f"name,code\n{'A' * 16321},00\n", "",
+     f"rows.csv line 2, column 'name': {LIMIT}"),
+    ("a long text of two bytes a letter", None, f"name,code\n{chr(0xe9) * 8161},00\n", "",
+     "rows.csv line 2, column 'name': 16,322 bytes, more than the 16,320 of a value"),
+    ("long digits", HEX, f"name,code\nA,{'41' * 16321}\n", "",
+     f"rows.csv line 2, column 'code': {LIMIT}"),
+    ("a long repeated byte", HEX, "name,code\nA,41*16321\n", "",
+     f"rows.csv line 2, column 'code': {LIMIT}"),
+    ("a byte repeated 0 times", HEX, "name,code\nA,41*0\n", "",
+     "rows.csv line 2, column 'code': no hexadecimal digit, as character 3"),
+    ("a short identifier", AID, "code\nA0000000\n", "",
+     "rows.csv line 2, column 'code': 4 bytes, but an identifier has 5 to 16"),
+    ("a long identifier", AID, f"code\n{'A0' * 17}\n", "",
+     "rows.csv line 2, column 'code': 17 bytes, but an identifier has 5 to 16"),
+    ("a tag with 00", TAG, "code\n005F20\n", "",
+     "rows.csv line 2, column 'code': a tag has no 00 in front"),
+    ("a tag of four bytes", TAG, "code\n5F202020\n", "",
+     "rows.csv line 2, column 'code': not a tag that a command can name"),
+    ("half a tag", TAG, "code\n5F\n", "",
+     "rows.csv line 2, column 'code': not a tag that a command can name"),
+    ("a short command", SEND, "code\n00CA\n", "",
+     "rows.csv line 2, column 'code': command too short"),
+    ("a command of INS 6X", SEND, "code\n00600000\n", "",
+     "rows.csv line 2, column 'code': invalid INS"),
+    ("a missing file", FILE, "name,code\nA,00\n", "",
+     "rows.csv line 2, column 'name': no file: No such file or directory"),
+    ("two columns in a word", "put 50 {name}{code}\n", "name,code\n12,34\n56,7\n", "",
+     "rows.csv line 3, column 'code': 1 digit, an odd number"),
+    ("two columns in a tag", "put {name}{code} 41\n", "name,code\n5F,20\n00,50\n", "",
+     "rows.csv line 3, columns 'name', 'code': a tag has no 00 in front"),
+    # rows
+    ("a row twice", None, "name,code\nA,00\nB,01\nA,00\n", "",
+     "rows.csv line 4: the same row as line 2"),
+    ("an identifier twice", None, "id,name,code\n1,A,00\n1,B,01\n", "",
+     "rows.csv line 3, column 'id': the same as in line 2"),
+    ("an identifier twice, in capitals", None, "ID,name,code\n1,A,00\n2,B,01\n1,C,02\n", "",
+     "rows.csv line 4, column 'ID': the same as in line 2"),
+    ("too few cells", None, "name,code\nA\n", "", "rows.csv line 2: 1 cell, but 2 columns"),
+    ("too many cells", None, "name,code\nA,00,1\n", "", "rows.csv line 2: 3 cells, but 2 columns"),
+    ("a line after a cell of two lines", None, 'name,code\n"A\nB",00\n\nC\n', "",
+     "rows.csv line 5: 1 cell, but 2 columns"),
+    ("a cell of two lines before an odd number", None, 'name,code\nA,00\n"B\nB",0\n', "",
+     "rows.csv line 3, column 'code': 1 digit, an odd number"),
+    ("a quote that ends early", None, 'name,code\nA,00\n"B"C,00\n', "",
+     "rows.csv line 3: ',' expected after '\"'"),
+    ("a quote without an end", None, 'name,code\nA,00\n"B,00\n', "",
+     "rows.csv line 3: unexpected end of data"),
+    ("no row", None, "name,code\n", "", "rows.csv has no row"),
+    ("nothing", None, "", "", "rows.csv has no row"),
+    ("UTF-16", None, "name,code\nA,00\n".encode("utf-16"), "",
+     "rows.csv is in UTF-16: save it in UTF-8"),
+    ("semicolons and an odd number", None, "name;code\nA;0\n", "",
+     "rows.csv line 2, column 'code': 1 digit, an odd number"),
+    ("tabs and an odd number", None, "name\tcode\nA\t0\n", "",
+     "rows.csv line 2, column 'code': 1 digit, an odd number"),
+    # columns
+    ("a column that is missing", "put 5F20 @{age}\n", None, "",
+     "script:1: no column 'age': the table has 'name', 'code'"),
+    ("a column in capitals", "put 5F20 @{Name}\n", None, "",
+     "script:1: no column 'Name': the table has 'name', 'code'"),
+    ("a column twice", None, "name,code,name\nA,00,B\n", "",
+     "script:3: 2 columns 'name': the table has 'name', 'code', 'name'"),
+    ("other signs in between", "put 50 @{name}\n", "name|code\nA|00\n", "",
+     "script:1: no column 'name': the table has 'name|code'"),
+    # the script
+    ("an unknown operation", "take 5F20\n", None, "",
+     "script:1: `take` is no operation: it is one of select, send, get, put"),
+    ("a word too many", "get 5F20 41\n", None, "", "script:1: `get` has 2 words, not 1"),
+    ("a word too few", "\nput 5F20\n", None, "", "script:2: `put` has 1 word, not 2"),
+    ("a short identifier in the script", "select A0\n", None, "",
+     "script:1: `select`: identifier: 1 byte, but an identifier has 5 to 16"),
+    ("odd digits in the script", "put 50 4\n", None, "",
+     "script:1: `put`: value: 1 digit, an odd number"),
+    ("a tag with 0x", "put 0x50 41\n", None, "", "script:1: `put`: tag: 0x before the digits"),
+    ("a long value in the script", "put 50 41*16321\n", None, "",
+     f"script:1: `put`: value: {LIMIT}"),
+    ("a short command in the script", "send 00\n", None, "",
+     "script:1: `send`: command: command too short"),
+    ("a missing file in the script", "put 50 @photo\n", None, "",
+     "script:1: `put`: value: no file: No such file or directory"),
+    ("no operation", "# get 50\n\n", None, "", "script has no operation"),
+    # readers
+    ("a reader that is missing", None, None, "--reader=Gemalto", "'Gemalto' names 0 readers; S"),
+    ("a name of two readers", None, None, "--reader=Slot", "'Slot' names 2 readers; S"),
+    ("no reader named", None, None, "--id=9F7F", "name one with --reader; S"),
+    # the journal
+    ("a journal that is missing", None, None, "--journal=x --reader=Slot0",
+     "there is no journal x: --new creates it"),
+    ("a row that has not begun", None, None, "--journal=made --done=1", "row 1 has not begun"),
+    ("a row beyond the table", None, None, "--journal=made --again=9", "row 9 has not begun"),
+    ("a row to look at that has not begun", None, None, "--journal=made --look=1 --reader=Slot0",
+     "row 1 has not begun"),
+    ("another part", None, None, "--journal=made --part=2/5 --reader=Slot0",
+     "made is the journal of part 1/1"),
+    ("another identifier", None, None, "--journal=made --id=50 --reader=Slot0",
+     "made was created without --id"),
+]  # fmt: skip
+
+
+def room_of(path, script, rows):
+    room = Room(path, 2, readers=2)
+    room.write("script", script or SCRIPT)
+    if rows is not None:
+        (path / "rows.csv").write_bytes(rows if isinstance(rows, bytes) else rows.encode())
+    return room
+
+
+def words_of(room, words):
+    names = words.split()
+    if "made" in words:
+        room.create()
+        (room.path / "journal").rename(room.path / "made")
+    given = "--reader" in words or words == "--id=9F7F"
+    is_decision = "--done" in words or "--again" in words
+    return names if given or is_decision else [*room.readers, *names]
+
+
+def test_there_are_sixty_of_them():
+    assert len({it[0] for it in MISTAKES}) == len(MISTAKES) >= 60
+
+
+@pytest.mark.parametrize("mistake", MISTAKES, ids=[it[0] for it in MISTAKES])
+def test_a_mistake_is_named_before_any_card(tmp_path, mistake):
+    _, script, rows, words, line = mistake
+    room = room_of(tmp_path, script, rows)
+    program = room.words(*words_of(room, words))
+    if words == "--id=9F7F":
+        program = [it for it in program if not it.startswith("--reader")]
+    status, out, error = main_of(room, program[3:])
+    line = line.replace("; S", f"; there are: '{room.names[0]}', '{room.names[1]}'")
+    assert (status, out, error) == (2, "", f"galliumtoad.batch: {line}\n")
+    assert not room.held() and not (tmp_path / "journal").exists()
+
+
+@pytest.mark.parametrize("mistake", [it for it in MISTAKES if "made" not in it[3]][::7])
+def test_check_names_the_same_mistakes_and_stops(tmp_path, mistake):
+    _, script, rows, words, line = mistake
+    room = room_of(tmp_path, script, rows)
+    how = ["--check", "--new", *words.split()]
+    how += [] if "--reader" in words else room.readers
+    status, out, error = room.run(*how)
+    line = line.replace("; S", f"; there are: '{room.names[0]}', '{room.names[1]}'")
+    assert (status, out, error) == (2, "", f"galliumtoad.batch: {line}\n")
+
+
+def test_check_finds_no_mistake_and_writes_nothing(tmp_path):
+    room = Room(tmp_path, 2)
+    before = sorted(it.name for it in tmp_path.iterdir())
+    for words in (room.readers, ()):
+        wanted = (0, "2 rows, and no mistake\n", "")
+        assert room.run("--check", "--new", *words) == wanted
+    assert sorted(it.name for it in tmp_path.iterdir()) == before and not room.held()
+    room.create()
+    assert room.run("--check") == (0, "2 rows, and no mistake\n", "")
+
+
+def test_all_mistakes_are_named_at_once_up_to_twenty(tmp_path):
+    room = Room(tmp_path, 2)
+    room.write("rows.csv", "name,code\n" + "".join(f"A{at},{at:03X}\n" for at in range(25)))
+    lines = room.run("--check", "--new")[2].splitlines()
+    where = "galliumtoad.batch: rows.csv line"
+    digits = "column 'code': 3 digits, an odd number"
+    assert lines[:20] == [f"{where} {at}, {digits}" for at in range(2, 22)]
+    assert lines[20:] == ["galliumtoad.batch: and 5 more mistakes"]
+
+
+def test_all_mistakes_of_a_row_are_named(tmp_path):
+    room = room_of(tmp_path, None, "name,code\nA\0,1\nA\0,2\n")
+    where = [f"galliumtoad.batch: rows.csv line {at}, column" for at in (2, 3)]
+    assert room.run("--check", "--new")[2].splitlines() == [
+        line for it in where
+        for line in (f"{it} 'name': a NUL character", f"{it} 'code': 1 digit, an odd number")
+    ]  # fmt: skip
+
+
+@pytest.mark.parametrize("rows", ["name,code\nA,00\nA,00\n", "id,name,code\n1,A,00\n1,B,00\n",
+                                  "name,code\n,00\n"])  # fmt: skip
+def test_duplicates_and_empty_texts_may_be_allowed(tmp_path, rows):
+    room = room_of(tmp_path, None, rows)
+    assert room.run("--check", "--new")[0] == 2
+    assert room.run("--check", "--new", "--allow-duplicates")[0] == 0
+
+
+@pytest.mark.parametrize("between", [",", ";", "\t"])
+def test_the_first_line_tells_what_is_between_cells(tmp_path, between):
+    room = Room(tmp_path, 2)
+    text = (tmp_path / "rows.csv").read_text().replace(",", between)
+    room.write("rows.csv", text.replace("PERSON 2", '"PERSON 2"'))
+    assert room.run()[0] == 0
+    assert [room.cards_of(row) for row in (1, 2)] == [(1, 1)] * 2
+
+
+def test_no_reader_at_all(tmp_path):
+    room = Room(tmp_path, 1, readers=0)
+    wanted = "galliumtoad.batch: 'X' names 0 readers; there is no reader\n"
+    assert room.run("--reader=X")[2] == wanted
+    wanted = "galliumtoad.batch: name one with --reader; there is no reader\n"
+    assert room.run("--id=50")[2] == wanted
+
+
+def test_without_pyscard_one_line_names_the_package(tmp_path):
+    room = Room(tmp_path, 1)
+    room.is_apart = True
+    (tmp_path / "smartcard").mkdir()
+    (tmp_path / "smartcard/__init__.py").write_text("raise ModuleNotFoundError(name='smartcard')")
+    room.environment["PYTHONPATH"] = f"{tmp_path}:{room.environment['PYTHONPATH']}"
+    line = "pyscard is missing: install the package python3-pyscard, or pyscard with pip"
+    assert room.run() == (2, "", f"galliumtoad.batch: {line}\n")
+    assert not (tmp_path / "journal").exists()
+    room.create()
+    assert room.run("--status")[:2] == (1, "0 of 1 rows done, 0 to decide\n")
+
+
+@pytest.mark.parametrize(("words", "line"), [
+    (["--id=5F"], "argument --id: invalid tag value: '5F'"),
+    (["--id=XYZ"], "argument --id: invalid tag value: 'XYZ'"),
+    (["--id=12345678"], "argument --id: invalid tag value: '12345678'"),
+    (["--part=3/2"], "argument --part: invalid part value: '3/2'"),
+    (["--part=0/2"], "argument --part: invalid part value: '0/2'"),
+    (["--part=2"], "argument --part: invalid part value: '2'"),
+    (["--stop-after=0"], "argument --stop-after: invalid count value: '0'"),
+    (["--journal=a", "--journal=b"], "several journals go with --status alone"),
+    (["--new", "--done=1"], "a new journal has no row: --new goes with a run or --check"),
+    (["--new", "--status"], "a new journal has no row: --new goes with a run or --check"),
+    (["--report=rows.txt"], "a report ends in .html or .csv"),
+    (["--report=rows.csv"], "the report would replace what the batch reads"),
+    (["--report=here/../rows.csv"], "the report would replace what the batch reads"),
+])  # fmt: skip
+def test_a_word_that_does_not_fit_is_named(tmp_path, words, line):
+    room = Room(tmp_path, 1)
+    (tmp_path / "here").mkdir()
+    status, out, error = room.run(*words)
+    assert (status, out) == (2, "")
+    assert error.splitlines()[-1] == f"galliumtoad.batch: error: {line}"
+    assert (tmp_path / "rows.csv").read_text().startswith("name,code\n")

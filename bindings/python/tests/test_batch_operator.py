@@ -1,0 +1,396 @@
+"""Tests what an operator sees of a batch: lines, a bar, dialogues without values, reports, and what
+a card in doubt holds."""
+
+import csv
+import os
+import pty
+import re
+import select
+import subprocess
+import time
+from datetime import datetime, timezone
+from html.parser import HTMLParser
+
+import pytest
+from galliumtoad import Card
+from galliumtoad.batch.dialogue import Recorder, carry_out, compared
+from galliumtoad.batch.script import Script
+from room import AID, SCRIPT, Room, ended, listed, told
+
+TIME = r"\d{4}-\d\d-\d\dT\d\d:\d\d:\d\d\.\d{3}[+-]\d\d:\d\d"
+
+
+def id_of(room, number):
+    return f"{room.names[0]}-{number}".encode().hex().upper()
+
+
+def test_lines_of_a_run(tmp_path):
+    room = Room(tmp_path, 2)
+    out = room.run("--id=9F7F", go=False)[1].splitlines()
+    name = room.names[0]
+    assert out[0] == "starting: 0 of 2 rows done"
+    assert out[2] == f"{name}: insert a card for row 1"
+    done = rf"{name}: row (\d) done, card {id_of(room, 1)[:-2]}..(, \d+\.\d s)"
+    assert [re.fullmatch(done, it)[1] for it in out if " done, card" in it] == ["1", "2"]
+
+
+def test_a_run_tells_where_it_continues(tmp_path):
+    room = Room(tmp_path, 4)
+    room.put_in(room.names[0], 7)
+    room.run("--stop-after=1", "--id=9F7F")
+    room.put_in(room.names[0], 11)
+    room.run("--stop-after=1")
+    room.put_in(room.names[0], 2)
+    out = room.run()[1]
+    assert out.startswith("continuing: 0 of 4 rows done, 1 failed, 1 unsure\n")
+    assert out.endswith("2 of 4 rows done, 2 to decide\n")
+
+
+def test_a_row_in_doubt_is_shown_with_its_card(tmp_path):
+    room = Room(tmp_path, 1)
+    room.put_in(room.names[0], 7)
+    room.run("--stop-after=1", "--id=9F7F")
+    lines = room.run("--status")[1].splitlines()
+    when = r"\d{4}-\d\d-\d\d \d\d:\d\d:\d\d"
+    about = rf"row 1 unsure: card {id_of(room, 7)}, {room.names[0]}, {when}: the card was removed"
+    assert re.fullmatch(about, lines[0])
+    assert lines[1] == "  --look 1 compares that card; then --done 1 or --again 1"
+
+
+def test_each_line_of_a_journal_has_its_time(tmp_path):
+    room, begun = Room(tmp_path, 1), datetime.now(timezone.utc)
+    room.run("--id=9F7F")
+    times = [re.fullmatch(TIME, it.split()[2])[0] for it in room.journal()[1:]]
+    found = [datetime.fromisoformat(it) for it in times]
+    assert len(found) == 3 and found == sorted(found)
+    assert begun.replace(microsecond=0) <= found[0] and found[-1] <= datetime.now(timezone.utc)
+
+
+class Terminal:
+    """A run on a terminal."""
+
+    def __init__(self, room, *words):
+        self.ours, theirs = pty.openpty()
+        how = {"cwd": room.path, "env": room.environment}
+        # the terminal of the run's own session
+        program = ["setsid", "-c", "-w", *room.words(*words, go=False)]
+        ends = {"stdin": theirs, "stdout": theirs, "stderr": theirs}
+        self.run, self.text = subprocess.Popen(program, **ends, **how), ""
+        os.close(theirs)
+
+    def read(self, until=None, seconds=60):
+        """Reads until a text comes, or to the end."""
+        end = time.monotonic() + seconds
+        while until is None or until not in self.text:
+            assert time.monotonic() < end, self.text
+            if select.select([self.ours], [], [], 0.1)[0]:
+                try:
+                    self.text += os.read(self.ours, 65536).decode()
+                except OSError:
+                    break
+        return self.text
+
+
+def test_enter_writes_the_card_that_lies_in_the_reader(tmp_path):
+    room = Room(tmp_path, 2)
+    room.environment["LIES"] = "yes"
+    terminal = Terminal(room)
+    terminal.read("or press Enter to write it")
+    time.sleep(0.8)
+    assert not room.held() and terminal.run.poll() is None
+    os.write(terminal.ours, b"\n")
+    assert "2 of 2 rows done" in terminal.read("to decide")
+    assert terminal.run.wait(60) == 0
+    assert sorted(room.held()) == [f"{room.names[0]}-0", f"{room.names[0]}-1"]
+
+
+def test_enter_does_not_write_a_card_that_was_written(tmp_path):
+    room = Room(tmp_path, 2)
+    room.environment.update(LIES="yes", STAYS="yes")
+    terminal = Terminal(room)
+    terminal.read("or press Enter to write it")
+    os.write(terminal.ours, b"\n")
+    terminal.read("row 1 done")
+    for _ in range(3):
+        os.write(terminal.ours, b"\n")
+        time.sleep(0.3)
+    assert room.events() == ["begin 1", "done 1"]
+    terminal.run.kill()
+
+
+def test_a_bar_on_a_terminal(tmp_path):
+    room = Room(tmp_path, 4)
+    room.environment["SLOW"] = "0.08"
+    text = Terminal(room).read("to decide")
+    bar = r"\r\x1b\[K\[([#-]{20})\] (\d) of 4 rows, (\d+) a minute(, \d+ min left)?"
+    bars = re.findall(bar, text)
+    assert ("-" * 20, "0", "0", "") in bars
+    assert any(bar == "#" * (int(done) * 5) + "-" * (20 - int(done) * 5) and left
+               for bar, done, _, left in bars if done != "0")
+    assert all(len(set(bar)) == 1 or int(done) for bar, done, _, _ in bars)
+    # no line is a mixture
+    for line in text.replace("\r\n", "\n").split("\n"):
+        assert "rows, " not in line.split("\x1b[K")[-1] or line.split("\x1b[K")[-1][0] == "["
+    assert "\x1b" not in room.run("--status")[1]
+
+
+SECRET = "select A0000000031010\nput 5F20 @{name}\nput {tag} {code}\nsend {apdu}\nput 50 41*300\n"
+
+
+def test_a_dialogue_is_kept_without_a_value(tmp_path):
+    """Each operation of the script is refused in turn, and the card returns what it got."""
+    room = Room(tmp_path, 1)
+    room.write("script", SECRET)
+    text = "name,tag,code,apdu\nJANE DOE,9F36,C0DE77,00DA5F2403C1C2C3\n"
+    room.write("rows.csv", text)
+    room.environment["WORN"] = "yes"
+    room.run("--stop-after=1", "--id=9F7F")
+    file = tmp_path / "journal.cards/1.trace"
+    kept = file.read_text()
+    assert [it.name for it in file.parent.iterdir()] == ["1.trace"]
+    lines = kept.splitlines()
+    why = "put 50 was answered 9000, and read back another value"
+    first = rf"# row 1, card {id_of(room, 0)}, {room.names[0]}, failed, 20[-0-9T:+]+: {why}"
+    assert re.fullmatch(first, lines[0])
+    operations = ("1: select", "2: put 5F20", "3: put {tag}", "4: send", "5: put 50")
+    named = [f"# line {it}" for it in operations]
+    assert [it for it in lines[1:] if it[0] == "#"] == named
+    shown = kept.upper().split("\n", 1)[1]
+    for cell in text.splitlines()[1].split(","):
+        for form in (cell.encode().hex().upper(), cell.upper()):
+            assert form not in shown, cell
+    assert "5F24" not in shown and "C1C2" not in shown and "DEADBEEF" not in shown
+    # headers of literal words, lengths and statuses are there
+    assert "> 00A4040007 ** 7 bytes" in lines and "> 00DA5F2008 ** 8 bytes" in lines
+    assert "> ** 8 bytes" in lines and "> 10DA0050FF ** 255 bytes" in lines
+    for line in lines[1:]:
+        assert re.fullmatch(
+            r"#.*|[<>] (\*\* \d+ bytes|[0-9A-F]{4}|[0-9A-F]{10})( \*\* \d+ bytes)?", line
+        ), line
+
+
+def test_a_second_dialogue_follows_the_first(tmp_path):
+    room = Room(tmp_path, 1)
+    room.environment["WORN"] = "yes"
+    for _ in range(2):
+        room.run("--stop-after=1")
+        room.run("--again=1")
+    text = (tmp_path / "journal.cards/1.trace").read_text()
+    assert text.count("# row 1, card unknown, ") == 2
+
+
+def test_a_dialogue_that_can_not_be_kept_is_named(tmp_path):
+    room = Room(tmp_path, 1)
+    room.environment["WORN"] = "yes"
+    (tmp_path / "journal.cards").write_text("")
+    out = room.run("--stop-after=1")[1]
+    assert "the dialogue of row 1 is lost: File exists" in out and listed(out) == {1: "failed"}
+
+
+class Page(HTMLParser):
+    """The cells of a page, and the tags that are open at its end."""
+
+    def __init__(self, text):
+        super().__init__()
+        self.rows, self.open, self.points = [], [], ""
+        self.feed(text)
+        self.close()
+
+    def handle_starttag(self, tag, attributes):
+        if tag == "tr":
+            self.rows.append([])
+        if tag in ("td", "th"):
+            self.rows[-1].append("")
+        if tag == "polyline":
+            self.points = dict(attributes)["points"]
+        elif tag != "meta":
+            self.open.append(tag)
+
+    def handle_startendtag(self, tag, attributes):
+        if tag == "polyline":
+            self.points = dict(attributes)["points"]
+
+    def handle_endtag(self, tag):
+        assert self.open.pop() == tag
+
+    def handle_data(self, data):
+        if self.open and self.open[-1] in ("td", "th"):
+            self.rows[-1][-1] += data
+
+
+def test_reports(tmp_path):
+    room = Room(tmp_path, 4)
+    room.put_in(room.names[0], 10)
+    status, out, _ = room.run("--id=9F7F", "--report=day.html")
+    assert status == 1 and listed(out) == {2: "failed"}
+    assert room.run("--status", "--report=day.csv")[0] == 1
+    text, page = (tmp_path / "day.html").read_text(), Page((tmp_path / "day.html").read_text())
+    with open(tmp_path / "day.csv", newline="") as file:
+        rows = list(csv.reader(file))
+    assert rows == page.rows and page.open == []
+    assert rows[0] == ["row", "id", "reader", "time", "seconds", "outcome", "reason"]
+    why = "put 50 was answered 9000, and read back another value"
+    numbers = (10, 11, 12, 13)
+    for row, (number, found) in enumerate(zip(numbers, rows[1:]), 1):
+        ended = ["failed", why] if number == 11 else ["done", ""]
+        assert found[:3] == [str(row), id_of(room, number), room.names[0]] and found[5:] == ended
+        assert re.fullmatch(r"\d+\.\d", found[4]) and datetime.fromisoformat(found[3])
+    assert "<p>3 of 4 rows done, 1 failed, 0 unsure</p>" in text and "(median)" in text
+    assert "PERSON" not in text and b"PERSON".hex().upper() not in text.upper()
+    points = [tuple(map(float, it.split(","))) for it in page.points.split()]
+    assert len(points) == 3 and points == sorted(points, key=lambda it: (it[0], -it[1]))
+    assert points[0] == (0.0, 100.0) and points[-1] == (600.0, 0.0)
+
+
+def test_a_report_shows_signs_as_they_are(tmp_path):
+    room = Room(tmp_path, 1, readers=0)
+    name = f"<b>&R {os.getpid()}"
+    room.add_reader(name)
+    room.run("--reader=<b>", "--report=day.html")
+    assert Page((tmp_path / "day.html").read_text()).rows[1][2] == name
+
+
+def test_a_report_is_whole_at_each_moment(tmp_path):
+    room = Room(tmp_path, 12)
+    room.environment["SLOW"] = "0.03"
+    run, seen, is_over = room.start("--report=day.html"), set(), False
+    while not is_over:
+        time.sleep(0.02)
+        is_over = run.poll() is not None
+        if (tmp_path / "day.html").exists():
+            text = (tmp_path / "day.html").read_text()
+            assert text.startswith("<!DOCTYPE html>") and text.endswith("</html>\n")
+            assert Page(text).open == []
+            seen.add(len(Page(text).rows))
+    ended(run)
+    assert len(seen) > 2 and max(seen) == 13
+
+
+def test_a_report_that_can_not_be_written_is_named_before_any_card(tmp_path):
+    room = Room(tmp_path, 2)
+    wanted = "galliumtoad.batch: [Errno 2] No such file or directory: 'nowhere/day.html.new'\n"
+    assert room.run("--report=nowhere/day.html") == (2, "", wanted) and not room.held()
+
+
+def test_a_report_that_is_lost_stops_no_card(tmp_path):
+    room = Room(tmp_path, 4)
+    room.environment["SLOW"] = "0.05"
+    (tmp_path / "here").mkdir()
+    run = room.start("--report=here/day.html")
+    while not (tmp_path / "journal").exists() or len(room.journal()) < 2:
+        time.sleep(0.01)
+    (tmp_path / "here").rename(tmp_path / "there")
+    out, error = ended(run)
+    why = "[Errno 2] No such file or directory: 'here/day.html.new'"
+    assert f"no report: {why}\n" in out and out.count(" done, ") == 4
+    assert (run.returncode, error) == (2, f"galliumtoad.batch: {why}\n")
+
+
+def card_of(values):
+    return Card({AID: {tag: value for tag, value in values.items()}})
+
+
+def look(values, script=SCRIPT):
+    made = Script("script", script, ["name", "code"])
+    operations = made.operations({"name": "JANE", "code": "0077"})
+    card = card_of(values)
+    before = {it.tag: it.value for it in card.entries(AID)}
+    found = compared(operations, card.tpdu)
+    assert {it.tag: it.value for it in card.entries(AID)} == before
+    return found
+
+
+ALL = {0x5F20: b"JANE", 0x9F36: b"\0\x77", 0x50: b"A" * 300}
+
+
+@pytest.mark.parametrize(("values", "script", "word"), [
+    (ALL, SCRIPT, "done"),
+    ({}, SCRIPT, "untouched"),
+    ({0x5F20: b"JANE"}, SCRIPT, "partly: 1 of 3 objects"),
+    ({**ALL, 0x50: b"A" * 299}, SCRIPT, "partly: 2 of 3 objects"),
+    ({0x50: b"VISA"}, SCRIPT, "untouched, if 1 other value is its own"),
+    ({0x50: b"VISA", 0x5F20: b"JOE"}, SCRIPT, "untouched, if 2 other values are its own"),
+    (ALL, SCRIPT + "send 00CA005000\n", "partly: 3 of 3 objects, and 1 send can't be read back"),
+    ({}, SCRIPT + "send 00CA005000\n" * 2,
+     "partly: 0 of 3 objects, and 2 sends can't be read back"),
+    (ALL, "select A0000000031010\nget 5F20\n", "unknown: the script stores nothing"),
+    # the last value of a tag counts, and an object of each application
+    (ALL, SCRIPT + "put 50 42\n", "partly: 2 of 3 objects"),
+    (ALL, SCRIPT + "select A0000000031011\nput 50 41*300\n", "partly: 3 of 4 objects"),
+])  # fmt: skip
+def test_a_card_is_compared_with_a_row(values, script, word):
+    assert look(values, script) == word
+
+
+def test_look_finds_what_a_card_holds(tmp_path):
+    room = Room(tmp_path, 2)
+    room.put_in(room.names[0], 11)
+    room.run("--stop-after=1", "--id=9F7F")
+    words = ("--look=1", *room.readers)
+    room.environment["LIES"] = "yes"
+    room.put_in(room.names[0], 11)
+    before = room.journal()
+    card = f"card {id_of(room, 11)}"
+    assert room.run(*words) == (1, f"row 1, {card}: partly: 2 of 3 objects\n", "")
+    room.put_in(room.names[0], 3)
+    wanted = f"this is card {id_of(room, 3)}, but row 1 is on {card}"
+    assert room.run(*words) == (2, "", f"galliumtoad.batch: {wanted}\n")
+    room.put_in(room.names[0], 5)
+    where = f"galliumtoad.batch: {room.names[0]}"
+    assert room.run(*words)[2].startswith(f"{where}: the card has no identifier 9F7F: ")
+    assert room.run("--look=2", *room.readers)[2] == "galliumtoad.batch: row 2 has not begun\n"
+    assert room.journal() == before
+
+
+def test_look_finds_a_whole_row_and_waits_for_its_card(tmp_path):
+    room = Room(tmp_path, 1)
+    assert room.run()[0] == 0
+    room.environment["LIES"] = "yes"
+    room.put_in(room.names[0], 0)
+    (tmp_path / room.names[0] / "out").touch()
+    run = room.start("--look=1", *room.readers)
+    assert run.stdout.readline() == f"{room.names[0]}: insert the card of row 1\n"
+    (tmp_path / room.names[0] / "out").unlink()
+    assert ended(run) == ("row 1, the card: done\n", "") and run.returncode == 0
+    room.put_in(room.names[0], 1)
+    assert room.run("--look=1", *room.readers)[1] == "row 1, the card: untouched\n"
+    room.add_reader("Slot9")
+    wanted = "galliumtoad.batch: --look needs one reader\n"
+    assert room.run("--look=1", "--reader=Slot9", *room.readers)[2] == wanted
+
+
+def reason_of(script, answer):
+    """How a row ends whose card answers each read back in this way."""
+    row, card = {"name": "JANE", "code": "5F20"}, Card({AID: {}})
+    made = Script("script", script, [*row])
+
+    def reader(tpdu):
+        return answer if tpdu[1] == 0xCA else card.tpdu(tpdu)
+
+    return carry_out(made, made.operations(row), Recorder(reader))
+
+
+@pytest.mark.parametrize(("answer", "reason"), [
+    ("9000", "put 5F20 was answered 9000, and read back nothing"),
+    ("6A88", "put 5F20 was answered 9000, and its reading was answered 6A88 "
+     "referenced data not found"),
+    ("5F20014A9000", "put 5F20 was answered 9000, and read back another value"),
+    ("500441414141" + "9000", "put 5F20 was answered 9000, and read back nothing"),
+])  # fmt: skip
+def test_reasons_are_sentences(answer, reason):
+    script = "select A0000000031010\nput 5F20 @{name}\n"
+    assert reason_of(script, bytes.fromhex(answer)) == ("failed", reason)
+
+
+def test_a_reason_shows_no_cell(tmp_path):
+    script = "select A0000000031010\nput {code} @{name}\n"
+    wanted = ("failed", "put {code} was answered 9000, and read back nothing")
+    assert reason_of(script, b"\x90\x00") == wanted
+    room = Room(tmp_path, 1)
+    room.write("script", "select A0000000031010\nput {code} @{name}\n")
+    room.write("rows.csv", "name,code\nJANE,9F21\n")
+    room.put_in(room.names[0], 7)
+    room.environment["PULLED"] = "yes"
+    out = told(room.run("--stop-after=1")[1])
+    text = "\n".join([*out, *room.journal()])
+    assert "unsure" in text and "JANE" not in text and "9F21" not in text

@@ -94,18 +94,18 @@ pub extern "C" fn galliumtoad_t1_damaged(alloc: Global, t1: &mut T1Handle) -> i3
     with(alloc, t1, |side| misses(side, true))
 }
 
-fn misses(side: &mut T1Side, is_damaged: bool) -> i32
-    ensures { Misses (if is_damaged then reason.Edc else reason.Other) side.old result side.new }
+fn misses(held: &mut T1Side, is_damaged: bool) -> i32
+    ensures { Misses (if is_damaged then reason.Edc else reason.Other) held.old result held.new }
 {
-    if side.end.has_stopped() {
+    if held.end.has_stopped() {
         return code::STATE;
     }
     if is_damaged {
-        side.end.damaged();
+        held.end.damaged();
     } else {
-        side.end.timed_out();
+        held.end.timed_out();
     }
-    side.block.clear();
+    held.block.clear();
     code::OK
 }
 

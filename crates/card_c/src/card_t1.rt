@@ -158,12 +158,12 @@ fn misses(side: &mut CardSide, is_damaged: bool) -> i32
     let CardSide::AtT1(at) = side else {
         return code::STATE;
     };
-    let reply = if is_damaged {
+    let answer = if is_damaged {
         at.end.damaged()
     } else {
         at.end.invalid()
     };
-    at.reply = Some(reply);
+    at.reply = Some(answer);
     at.block.clear();
     code::SENDS
 }

@@ -1,6 +1,9 @@
 pub mod HostLemmas
 pub mod HostTook
 pub mod DataRunLemmas
+pub mod DataTakingLemmas
+pub mod PlaceLemmas
+pub mod CardSendingLemmas
 pub mod PlanLemmas
 pub mod CardLemmas
 pub mod HistoryLemmas

@@ -1,11 +1,13 @@
 -- What an answer that is prepared does.
-use Rattle.std.proofs.Common.{◌≡◌, ◌∙◌, ◌≤◌, ◌⊎◌, inl, inr, ℕ, List, [], length, take, drop, Option, Some, None, Bool, true, false, refl, sym, ap, subst, arith, eq-eqb}
+use Rattle.std.proofs.Common.{◌≡◌, ◌∙◌, ◌+◌, ◌-◌, ◌<◌, ◌≤◌, min, ◌⊎◌, inl, inr, ℕ, List, [], length, take, drop, Option, Some, None, Bool, true, false, refl, sym, ap, subst, arith, eq-eqb, length-take, length-drop}
 use Rattle.std.proofs.lemmas.Bool.{and_from, eqb-true}
+use Rattle.std.proofs.lemmas.List.{drop-drop, drop-take, take-take, take_rest}
 use Rattle.std.specs.Prelude.{if◌then◌else◌, ◌==◌, ◌&&◌, SomeIff}
 use Rattle.apdu_core.specs.declared.header.Header.{Header}
 use Rattle.apdu_core.specs.StatusWord.{StatusWord, count}
 use Rattle.t0_core.specs.Meaning.{Ask, Tpdu, Decides, refused, taken_with, answered_with, IsSending}
 use Rattle.t0_core.specs.CardContract.{Judges, IsRefusal, Permits}
+use Rattle.t0_core.specs.DataRun.{IsRunAt}
 use Rattle.t0_core.specs.declared.tpdu_card.Verdict.{Verdict}
 use Rattle.t0_core.specs.declared.tpdu_card.Verdict.TheVariants.{Refuse, Receive, Send}
 use Rattle.command_card.specs.declared.ready.Waiting.{Waiting}
@@ -31,6 +33,38 @@ made_is o P parts value made is =
 
 pub refusal_is : (v : Verdict) (status : StatusWord) → v ≡ Refuse status → IsRefusal v
 refusal_is v status is = subst IsRefusal (sym is) tt
+
+-- the bytes from an index on, in the buffer that contains them from `from` on
+pub run_is : (xs buffer : List ℕ) (from n k at m : ℕ) → xs ≡ buffer → k ≡ n
+    → at < length (take n (drop from buffer))
+    → m ≡ min (k - at) (length (take (length xs - (from + at)) (drop (from + at) xs)))
+    → IsRunAt (take n (drop from buffer)) at
+    (take m (take (length xs - (from + at)) (drop (from + at) xs)))
+run_is xs buffer from n k at m same counts within m_is =
+    let all : List ℕ = take n (drop from buffer) in
+    let rest : List ℕ = drop (from + at) buffer in
+    let is : take (length xs - (from + at)) (drop (from + at) xs) ≡ rest =
+    take_rest xs (from + at) ∙ ap (λ ys. drop (from + at) ys) same in
+    let m_small : m ≡ min (n - at) (length rest) =
+    m_is ∙ ap (λ ys. min (k - at) (length ys)) is ∙ ap (λ j. min (j - at) (length rest)) counts in
+    let n_is : n ≡ at + (n - at) = omega (arith, within, length-take n (drop from buffer)) in
+    let left : drop at all ≡ take (n - at) rest =
+    ap (λ j. drop at (take j (drop from buffer))) n_is ∙ drop-take at (n - at) (drop from buffer)
+    ∙ ap (λ ys. take (n - at) ys) (drop-drop at from buffer) in
+    let long : length (take m rest) ≡ m = omega (arith, length-take m rest, m_small) in
+    subst (λ run. IsRunAt all at run) (ap (λ ys. take m ys) (sym is)) (
+      omega (
+        arith,
+        within,
+        long,
+        m_small,
+        length-take n (drop from buffer),
+        length-drop from buffer,
+        length-drop (from + at) buffer,
+      ),
+      sym (ap (λ j. take j (drop at all)) long ∙ ap (λ ys. take m ys) left
+          ∙ take-take m (n - at) rest (omega (arith, m_small))),
+    )
 
 module _ {S : Type 0} (takes : S → Header → Bool) (Act : S → Did → S → Type 0) where
   -- data that were taken are an answer

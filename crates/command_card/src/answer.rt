@@ -6,10 +6,11 @@ ghost use Rattle.apdu_core.specs.HeaderBytes.{ins_is_valid};
 ghost use Rattle.apdu_core.specs.StatusWord.{IsStatusWord, count};
 ghost use Rattle.t0_core.specs.Meaning.{IsReceiving, Decides, taken_with};
 ghost use Rattle.t0_core.specs.CardContract.{IsRefusal, Judges};
+ghost use Rattle.t0_core.specs.DataRun.{IsRunAt};
 ghost use Rattle.command_card.specs.Carrying.{Makes, asking};
 ghost use Rattle.command_card.specs.State.{Hand, For_repeat, same_header, pending_for, announcing, fetch_left, handed, refusing};
 ghost use Rattle.command_card.specs.Meaning.{Does};
-ghost use Rattle.command_card.specs.View.{left_of, state_of, state_after, ask_of, prepared_of, bytes_of, sends, IsReady, IsEnded, Prepares, MaySend, WaitsFor, LeavesFor};
+ghost use Rattle.command_card.specs.View.{left_of, state_of, state_after, ask_of, prepared_of, buffer_of, bytes_of, sends, IsReady, IsEnded, Prepares, MaySend, WaitsFor, LeavesFor};
 
 use crate::application::{Application, GET_RESPONSE, RESPONSE_LIMIT};
 use crate::ready::{Ending, Ready, Waiting};
@@ -266,6 +267,14 @@ pub(crate) fn took<A: Application>(
     (announcing(left, status, cut), Ready::Leaves { ending })
 }
 
+/// The buffer that an answer is in.
+#[inline(always)]
+fn buffer<'a>(kept: &'a Vec<u8>, fresh: &'a Vec<u8>, is_fresh: bool) -> &'a Vec<u8>
+    ensures { result.now.items ≡ buffer_of is_fresh kept.now.items fresh.now.items }
+{
+    if is_fresh { fresh } else { kept }
+}
+
 /// The byte to send at this index.
 #[inline(always)]
 pub(crate) fn sent_byte(kept: &Vec<u8>, fresh: &Vec<u8>, ready: &Ready, at: u16) -> u8
@@ -274,12 +283,33 @@ pub(crate) fn sent_byte(kept: &Vec<u8>, fresh: &Vec<u8>, ready: &Ready, at: u16)
 {
     match ready {
         Ready::Sends { from, ending, .. } => {
-            let place = *from + at as usize;
-            if ending.fresh {
-                fresh[place]
-            } else {
-                kept[place]
-            }
+            buffer(kept, fresh, ending.fresh)[*from + at as usize]
+        }
+        _ => unreachable!(),
+    }
+}
+
+/// The bytes to send from this index on.
+#[inline(always)]
+pub(crate) fn sent_run<'a>(
+    kept: &'a Vec<u8>,
+    fresh: &'a Vec<u8>,
+    ready: &Ready,
+    at: u16,
+) -> &'a [u8]
+    requires { at < length (bytes_of kept.now.items fresh.now.items ready.now) }
+    ensures { IsRunAt (bytes_of kept.now.items fresh.now.items ready.now) at result.now }
+{
+    match ready {
+        Ready::Sends {
+            from,
+            p3,
+            ending,
+            ..
+        } => {
+            let left = &buffer(kept, fresh, ending.fresh)[*from + at as usize..];
+            let most = count(*p3) as usize - at as usize;
+            &left[..most.min(left.len())]
         }
         _ => unreachable!(),
     }

@@ -1,11 +1,11 @@
 //! The card that speaks T=0 for an application.
-use crate::answer::{all_sent, judged, sent_byte, take_effect, took, wipe};
+use crate::answer::{all_sent, judged, sent_byte, sent_run, take_effect, took, wipe};
 use crate::application::Application;
 use crate::ready::{Ready, Waiting};
 use apdu_core::{Header, Status};
 use std::alloc::Global;
 use std::marker::Model;
-use t0_core::{TpduCard, Verdict};
+use t0_core::{DataRun, TpduCard, Verdict};
 
 /// A card over an application (ISO/IEC 7816-3, 10.3 and 12.2). It carries out each command once, at
 /// the header or after the data, and keeps the rest of a response.
@@ -125,6 +125,11 @@ impl<A: Application> TpduCard for CommandCard<A> {
     #[inline(always)]
     fn byte(&self, at: u16) -> u8 {
         sent_byte(&self.kept, &self.fresh, &self.ready, at)
+    }
+
+    #[inline(always)]
+    fn run(&self, at: u16) -> DataRun<'_> {
+        DataRun::Lent(sent_run(&self.kept, &self.fresh, &self.ready, at))
     }
 
     fn end_of_sending(&mut self) -> Status {

@@ -51,10 +51,10 @@
 /* The version of this header, and of the library with it. Before 1.0 another minor number may have
  * other functions. */
 #define GT_VERSION_MAJOR 0
-#define GT_VERSION_MINOR 2
+#define GT_VERSION_MINOR 3
 #define GT_VERSION_PATCH 0
 
-/* The same as one number: 0x000200 is 0.2.0. */
+/* The same as one number: 0x000300 is 0.3.0. */
 #define GT_VERSION (GT_VERSION_MAJOR * 0x10000u + GT_VERSION_MINOR * 0x100u + GT_VERSION_PATCH)
 
 #include <stddef.h>

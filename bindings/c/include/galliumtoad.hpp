@@ -220,6 +220,7 @@ public:
     GT_CODE receive_bytes(Bytes it, size_t &n) noexcept
     { return Code(gt_t1_receive_bytes(&held, it.data(), it.size(), &n)); }
     GT_CODE missed() noexcept { return Code(gt_t1_missed(&held)); }
+    GT_CODE damaged() noexcept { return Code(gt_t1_damaged(&held)); }
     GT_CODE response(Room to, size_t &n) noexcept
     { return Code(gt_t1_response(&held, to.data(), to.size(), &n)); }
     GT_CODE fault(Code &cause, Outcome &outcome) noexcept {
@@ -257,6 +258,7 @@ public:
     GT_CODE t1_receive_bytes(Bytes it, size_t &n) noexcept
     { return Code(gt_card_t1_receive_bytes(&held, it.data(), it.size(), &n)); }
     GT_CODE t1_missed() noexcept { return Code(gt_card_t1_missed(&held)); }
+    GT_CODE t1_damaged() noexcept { return Code(gt_card_t1_damaged(&held)); }
     GT_CODE plan(const char *steps, uint16_t cut = 256) noexcept
     { return Code(gt_card_plan(&held, steps, cut)); }
     GT_CODE selected(Aid &to) noexcept

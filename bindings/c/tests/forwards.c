@@ -170,10 +170,10 @@ static inline void copies(copying *call, const char *name, size_t most) {
 #ifndef STAND_INS_ALONE
 /* A version fits if its major and minor numbers are those of the header. */
 static void of_versions(void) {
-    const uint32_t others[] = { 0, 0xFF, 0x000100, 0x0001FF, 0x000300, 0x010200, 0x010000,
-                                0x020001, 0xFF0200, 0x00FF00, 0x1000200, UINT32_MAX };
+    const uint32_t others[] = { 0, 0xFF, 0x000200, 0x0002FF, 0x000400, 0x010300, 0x010000,
+                                0x020001, 0xFF0300, 0x00FF00, 0x1000200, UINT32_MAX };
     size_t i;
-    for (library = 0x000200; library < 0x000300; library++) {
+    for (library = 0x000300; library < 0x000400; library++) {
         CHECK(gt_version(), library);
         CHECK(gt_version_fits(), 1);
     }

@@ -100,7 +100,7 @@ static void numbers(void) {
     CHECK(GT_HISTORY_RESERVED, 4);
     CHECK(GT_HISTORY_OWN, 5);
     CHECK(GT_ABSENT, 256);
-    CHECK(GT_VERSION, 0x000200);
+    CHECK(GT_VERSION, 0x000300);
 }
 
 /* The offset of each field, which the archive relies on. */

@@ -4,7 +4,7 @@
 #include "check.h"
 
 int main(void) {
-    CHECK(gt_version(), 0x000200);
+    CHECK(gt_version(), 0x000300);
     CHECK(gt_version() >> 16, GT_VERSION_MAJOR);
     CHECK(gt_version() >> 8 & 0xFF, GT_VERSION_MINOR);
     CHECK(gt_version() & 0xFF, GT_VERSION_PATCH);

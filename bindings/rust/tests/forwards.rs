@@ -21,7 +21,7 @@ thread_local! {
 }
 
 /// The archive's version if a test sets no other: that of the crate.
-const OWN: i32 = 0x000200;
+const OWN: i32 = 0x000300;
 
 /// Sets the archive's version in another process (`a_library_of_another_version_is_refused`).
 const TELLS: &str = "GALLIUMTOAD_TELLS_VERSION";
@@ -148,12 +148,12 @@ fn of_pps() {
 #[test]
 fn of_versions() {
     for (number, parts, fits) in [
-        (0x000200, (0, 2, 0), true),
-        (0x0002FF, (0, 2, 255), true),
-        (0x000100, (0, 1, 0), false),
-        (0x000300, (0, 3, 0), false),
+        (0x000300, (0, 3, 0), true),
+        (0x0003FF, (0, 3, 255), true),
+        (0x000200, (0, 2, 0), false),
+        (0x000400, (0, 4, 0), false),
         (0x000000, (0, 0, 0), false),
-        (0x010200, (1, 2, 0), false),
+        (0x010300, (1, 3, 0), false),
         (0x020001, (2, 0, 1), false),
     ] {
         VERSION.with(|it| it.set(number));

@@ -50,8 +50,8 @@ static void of_no_handle() {
     HANDS(pps_request(request, 1), "pps_request", 1, 256, 256, 256, P(request.bytes), GT_PPS_LIMIT,
           P(&request.count));
     ASKS(pps_agreed(in, second, is), is, "pps_agreed", IN, P(more), 29);
-    library = 0x000200;
-    CHECK(version(), 0x000200);
+    library = 0x000300;
+    CHECK(version(), 0x000300);
     CHECK(version_fits(), 1);
     library = 0x000900;
     CHECK(version(), 0x000900);
@@ -127,6 +127,7 @@ static void of_t1() {
     HANDS(t.send_bytes(to, n, waits), "t1_send_bytes", P(t.handle()), TO, P(&n), P(&waits));
     HANDS(t.receive_bytes(in, n), "t1_receive_bytes", P(t.handle()), IN, P(&n));
     HANDS(t.missed(), "t1_missed", P(t.handle()));
+    HANDS(t.damaged(), "t1_damaged", P(t.handle()));
     HANDS(t.response(to, n), "t1_response", P(t.handle()), TO, P(&n));
     HANDS(t.fault(cause, outcome), "t1_fault", P(t.handle()), ANY, ANY);
     // a stand-in sets nothing
@@ -161,6 +162,7 @@ static void of_card() {
     HANDS(c.t1_send_bytes(to, n), "card_t1_send_bytes", P(c.handle()), TO, P(&n));
     HANDS(c.t1_receive_bytes(in, n), "card_t1_receive_bytes", P(c.handle()), IN, P(&n));
     HANDS(c.t1_missed(), "card_t1_missed", P(c.handle()));
+    HANDS(c.t1_damaged(), "card_t1_damaged", P(c.handle()));
     HANDS(c.plan(text(3), 7), "card_plan", P(c.handle()), P(text(3)), 3, 7);
     HANDS(c.plan(text(3)), "card_plan", P(c.handle()), P(text(3)), 3, 256);
     HANDS(c.selected(aid), "card_selected", P(c.handle()), P(aid.bytes), 16, P(&aid.count));

@@ -3,6 +3,7 @@
 import copy
 import multiprocessing
 import pickle
+import signal
 from concurrent.futures import ProcessPoolExecutor
 
 import pytest
@@ -30,6 +31,8 @@ from galliumtoad.errors import checked
 
 AID = bytes.fromhex("A0000000031010")
 SECONDS = 60
+# A worker that hangs ends by itself, and with it the test.
+LIMITED = {"initializer": signal.alarm, "initargs": [2 * SECONDS]}
 PICKLED = [lambda it, n=n: pickle.loads(pickle.dumps(it, n)) for n in range(6)]
 WAYS = [copy.copy, copy.deepcopy, *PICKLED]
 
@@ -106,14 +109,14 @@ def expect(results):
 
 
 def test_an_executor_hands_exceptions_on():
-    with ProcessPoolExecutor(1) as pool:
+    with ProcessPoolExecutor(1, **LIMITED) as pool:
         futures = [pool.submit(function, word) for function, word, *_ in CASES]
         expect([lambda it=it: it.result(SECONDS) for it in futures])
         assert pool.submit(objects, b"").result(SECONDS) == []
 
 
 def test_a_pool_hands_exceptions_on():
-    with multiprocessing.Pool(1) as pool:
+    with multiprocessing.Pool(1, **LIMITED) as pool:
         results = [pool.apply_async(function, [word]) for function, word, *_ in CASES]
         expect([lambda it=it: it.get(SECONDS) for it in results])
         assert pool.apply(objects, [b""]) == []

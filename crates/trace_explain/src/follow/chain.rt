@@ -7,6 +7,9 @@ use std::alloc::{AllocError, Global};
 /// A value of this size or more is not shown whole (profile): no hostile trace fills memory.
 pub const VALUE_LIMIT: usize = 65_536;
 
+/// How many dropped chains are known (profile).
+const DROPPED: usize = 16;
+
 /// Bit 5 of CLA: more commands of the chain follow.
 const MORE: u8 = 0x10;
 
@@ -17,8 +20,10 @@ const PROPRIETARY: u8 = 0x80;
 #[derive(Drop)]
 pub struct PendingChain {
     pending: Option<Header>,
-    /// The last chain that was dropped, unless a command like its last piece followed.
-    dropped: Option<Header>,
+    /// Dropped chains, each until a command like its last piece follows.
+    dropped: [Option<Header>; DROPPED],
+    /// Whether another chain was dropped, so that any last piece may be its own.
+    has_forgotten: bool,
     pieces: u64,
     /// Whether, as far as known, all pieces and all bytes of each were received.
     pub is_whole: bool,
@@ -31,7 +36,8 @@ impl PendingChain {
     pub fn new(alloc: Global) -> PendingChain {
         PendingChain {
             pending: None,
-            dropped: None,
+            dropped: [None; DROPPED],
+            has_forgotten: false,
             pieces: 0,
             is_whole: true,
             value: Vec::new(alloc),
@@ -45,11 +51,33 @@ impl PendingChain {
 
     /// Drops the chain.
     pub fn drop_all(&mut self) {
-        self.dropped = self.pending.or(self.dropped);
+        if let Some(last) = self.pending {
+            self.note_dropped(last);
+        }
         self.pending = None;
         self.pieces = 0;
         self.is_whole = true;
         self.value.clear();
+    }
+
+    /// Notes a chain that was dropped, by the header of its last piece.
+    fn note_dropped(&mut self, last: Header) {
+        for slot in &mut self.dropped {
+            if slot.is_none() || *slot == Some(last) {
+                *slot = Some(last);
+                return;
+            }
+        }
+        self.has_forgotten = true;
+    }
+
+    /// Notes that a command like the last piece of a dropped chain follows.
+    fn forget(&mut self, last: Header) {
+        for slot in &mut self.dropped {
+            if *slot == Some(last) {
+                *slot = None;
+            }
+        }
     }
 
     /// Notes that characters were missed, so pieces may be missing.
@@ -65,7 +93,9 @@ impl PendingChain {
     /// Whether the data of a command with this header may be a part of a value: of the pending
     /// chain, or of one that was dropped.
     pub fn is_part(&self, header: Header) -> bool {
-        self.continues_with(header) || self.dropped == Some(as_last(header))
+        self.continues_with(header)
+            || self.has_forgotten
+            || self.dropped.contains(&Some(as_last(header)))
     }
 
     /// Returns which piece a command with this header is, if it continues the chain or begins one.
@@ -97,9 +127,7 @@ impl PendingChain {
         if !continues {
             self.drop_all();
         }
-        if self.dropped == Some(header) {
-            self.dropped = None;
-        }
+        self.forget(header);
         if !continues && !has_more(header) {
             return Ok(());
         }

@@ -410,7 +410,7 @@ impl Teller {
     fn tell_pair(&mut self, tpdu: &Tpdu, is_answered: bool) -> Result<(), AllocError> {
         self.tell_one(tpdu)?;
         if !is_answered {
-            self.story.lose_some();
+            self.lose_some();
         }
         Ok(())
     }

@@ -1,6 +1,7 @@
 pub mod HostLemmas
 pub mod HostTook
 pub mod DataRunLemmas
+pub mod DataTakingLemmas
 pub mod PlanLemmas
 pub mod CardLemmas
 pub mod HistoryLemmas

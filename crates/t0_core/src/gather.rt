@@ -1,5 +1,5 @@
 //! The buffer for the data that a terminal receives.
-ghost use Rattle.std.specs.Prelude.{◌≡◌, ℕ, ◌<◌, ◌≤◌, [], ◌∷◌, ◌++◌, length, IfOk, ◌==◌, ◌+◌, nat_le, false};
+ghost use Rattle.std.specs.Prelude.{◌≡◌, ℕ, ◌<◌, ◌≤◌, [], ◌∷◌, ◌++◌, length, take, ◌⊎◌, IfOk, ◌==◌, ◌+◌, nat_le, false};
 
 use std::alloc::{AllocError, Allocator, Global};
 use std::marker::Model;
@@ -99,6 +99,24 @@ impl<A: Allocator> Gather<A> {
         if self.bytes.extend_from_slice(bytes).is_err() {
             unreachable!()
         }
+    }
+
+    /// Appends the first bytes, at most `most` and as many as there is room for. Returns how many.
+    #[inline(always)]
+    pub(crate) fn extend_up_to(&mut self, bytes: &[u8], most: usize) -> usize
+        ensures fits { result ≤ length bytes.now }
+        ensures within { result ≤ most }
+        ensures room { length self.old.bytes + result ≤ self.old.limit }
+        ensures all { (result ≡ length bytes.now) ⊎ (result ≡ most)
+            ⊎ (length self.old.bytes + result ≡ self.old.limit) }
+        ensures gathered { self.new ≡ record {
+          bytes = self.old.bytes ++ take result bytes.now;
+          limit = self.old.limit;
+        } }
+    {
+        let count = bytes.len().min(most).min(self.limit - self.bytes.len());
+        self.extend(&bytes[..count]);
+        count
     }
 
     /// Appends a byte, which must fit.

@@ -11,7 +11,7 @@ ghost use Rattle.t0_core.specs.HostSide.{IsInRange, IsStage, data_sent, turn_of,
 ghost use Rattle.t0_core.specs.HostView.{host_of, direction_of, content_of};
 ghost use Rattle.t0_core.specs.HostMark.{HasOnly, with_data};
 ghost use Rattle.t0_core.specs.TpduBytes.{asked_by, asked_of, due_by};
-ghost use Rattle.t0_core.specs.Buffers.{HandsOut, IsDataTurn};
+ghost use Rattle.t0_core.specs.Buffers.{HandsOut, IsDataTurn, IsDataTaken, Steps, Taker, TakesNoData};
 ghost use Rattle.t0_core.specs.HostAnswer.{is_start, may_come, excess, answer_fault, after_answer_fault, Gives};
 
 use crate::answer_fault::AnswerFault;
@@ -213,6 +213,20 @@ impl<'a> HostEnd<'a> {
         ensures keeps { IsRequest self.new }
     {
         data_bytes_at(&self.request, &mut self.stage, bytes)
+    }
+
+    /// Takes the card's data characters at the front of `bytes` in one run, like `take` one at a
+    /// time, as many as are expected and `gather` has room for. Returns how many.
+    #[inline(always)]
+    pub fn take_data_bytes<A: Allocator>(&mut self, bytes: &[u8], gather: &mut Gather<A>) -> usize
+        ensures taken { Steps IsDataTaken (record { host = self.old; room = gather.old })
+            (take result bytes.now) (record { host = self.new; room = gather.new }) }
+        ensures fits { result ≤ length bytes.now }
+        ensures all { (result ≡ length bytes.now)
+            ⊎ TakesNoData (record { host = self.new; room = gather.new }) }
+        ensures keeps { IsRequest self.new }
+    {
+        take_run_at(&self.request, &mut self.stage, bytes, gather)
     }
 
     /// The status, if the TPDU has ended; `None` before SW2 and after a failure.
@@ -665,6 +679,38 @@ fn after_procedure_byte(request: &Request, moved: u16, byte: u8) -> Result<HostS
             sent: sent_by_now(&request.transfer, request.p3, moved),
         }),
         _ => Err(LineFault::BadProcedure(byte)),
+    }
+}
+
+/// Takes the data characters of the card that an end at this stage expects, in one run, as many as
+/// the buffer has room for.
+#[inline(always)]
+fn take_run_at<A: Allocator>(
+    request: &Request,
+    stage: &mut HostStage,
+    bytes: &[u8],
+    gather: &mut Gather<A>,
+) -> usize
+    requires { IsInRange (host_of request.now stage.old) }
+    ensures taken { Steps IsDataTaken
+        (record { host = host_of request.now stage.old; room = gather.old })
+        (take result bytes.now) (record { host = host_of request.now stage.new; room = gather.new }) }
+    ensures fits { result ≤ length bytes.now }
+    ensures all { (result ≡ length bytes.now)
+        ⊎ TakesNoData (record { host = host_of request.now stage.new; room = gather.new }) }
+    ensures range { IsInRange (host_of request.now stage.new) }
+{
+    match stage {
+        HostStage::Moving { moved, until } => match request.transfer {
+            Transfer::Asking => {
+                let (place, end) = (*moved, *until);
+                let count = gather.extend_up_to(bytes, (end - place) as usize);
+                *stage = stage_moving(place + count as u16, end);
+                count
+            }
+            Transfer::Sending(_) => 0,
+        },
+        _ => 0,
     }
 }
 

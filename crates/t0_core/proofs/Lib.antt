@@ -2,6 +2,8 @@ pub mod HostLemmas
 pub mod HostTook
 pub mod DataRunLemmas
 pub mod DataTakingLemmas
+pub mod PlaceLemmas
+pub mod CardSendingLemmas
 pub mod PlanLemmas
 pub mod CardLemmas
 pub mod HistoryLemmas

@@ -1,9 +1,9 @@
 -- A whole TPDU, character by character, at a card's end.
-use Rattle.std.proofs.Common.{◌≡◌, ℕ, ◌+◌, ◌<◌, ◌≤◌, ◌⊎◌, lit<, List, [], ◌∷◌, ◌++◌, length, take, refl, sym, subst, ◌∙◌, ap, arith, inl, inr, true, false, Bool, nat_lt, if◌then◌else◌, Option, Some, None, Result, Ok, length-append, append-nil, append_assoc}
+use Rattle.std.proofs.Common.{◌≡◌, ℕ, zero, suc, ◌==◌, ◌+◌, ◌<◌, ◌≤◌, ◌⊎◌, lit<, List, [], ◌∷◌, ◌++◌, length, take, refl, sym, subst, ◌∙◌, ap, arith, inl, inr, true, false, Bool, nat_lt, if◌then◌else◌, Option, Some, None, Result, Ok, length-append, append-nil, append_assoc}
 use Rattle.std.specs.List.{slice_get, flat_map}
 use Rattle.std.specs.Result.{OnOk}
 use Rattle.std.specs.Option.{MatchOption, SomeIff}
-use Rattle.std.proofs.lemmas.Bool.{ltb-true, ltb-false, eqb-true}
+use Rattle.std.proofs.lemmas.Bool.{ltb-true, ltb-false, eqb-true, eq-eqb}
 use Rattle.std.proofs.lemmas.List.{take_more, take_all}
 use Rattle.std.proofs.lemmas.Option.{get_or_from_slice_get, slice_get_within}
 use Rattle.std.proofs.Math.Seq.{take-nil}
@@ -35,6 +35,9 @@ use Rattle.t0_core.proofs.HistoryLemmas.{whole_more}
 use Rattle.t0_core.specs.CardView.{KeepsDirection}
 use Rattle.t0_core.proofs.CardLemmas.{direction_in, suits_itself, stays_permitted}
 use Rattle.t0_core.proofs.PlanLemmas.{nulls_move_nothing}
+use Rattle.t0_core.proofs.PlaceLemmas.{card_is_due, same_card_place}
+use Rattle.t0_core.specs.Buffers as buffers
+use Rattle.t0_core.specs.CardSending.{IsHandedOut}
 
 -- ---- data and directions
 
@@ -163,16 +166,6 @@ all_moved false d m u is e = ltb-false m u is
 
 same_place : (m n : ℕ) → next.OfTerminal m ≡ next.OfTerminal n → m ≡ n
 same_place m n e = cc
-
-same_card_place : (m n : ℕ) → next.OfCard m ≡ next.OfCard n → m ≡ n
-same_card_place m n e = cc
-
-card_is_due : (v : Bool) (d : Direction) (m u n : ℕ) → nat_lt m u ≡ v
-    → (if v then data_awaited d m else next.Procedure) ≡ next.OfCard n
-    → (m < u) × (d ≡ FromCard) × (m ≡ n)
-card_is_due true ToCard m u n is e = absurd (cc)
-card_is_due true FromCard m u n is e = (ltb-true m u is, refl, same_card_place m n e)
-card_is_due false d m u n is e = absurd (cc)
 
 terminal_due : (v : Bool) (d : Direction) (m u n : ℕ) → nat_lt m u ≡ v
     → (if v then data_awaited d m else next.Procedure) ≡ next.OfTerminal n
@@ -429,6 +422,63 @@ passes_data card first plan asked before got old new place byte on is fits falls
     further card first plan asked before got (byte ∷ []) old new byte b on at
     (λ later goes. grows_sending asked b byte later (is_of_body asked on.front b at on.is_of) due
     from (omega (arith, place_is, fits)) goes) falls keeps steps
+
+-- a run of them
+rest_passes : {C : Type 0} (card : Ghosts C) (first : card.State) (plan : Course) (asked : Asked)
+    (before got run : List ℕ) (old new : EndOf C)
+    → IsAnswering card first plan asked before got old
+    → ((place : ℕ) → awaited_in old.stage ≡ next.OfCard place
+    → place + length run ≤ asked.may_come)
+    → buffers.Steps (IsHandedOut card) old run new
+    → IsAnswering card first plan asked before (got ++ run) new
+    × (still_to_go new.stage plan ≤ still_to_go old.stage plan)
+rest_passes {C = C} card first plan asked before got [] old new on fits same =
+    let P : EndOf C → List ℕ → Type 0 = λ e bs. IsAnswering card first plan asked before bs e
+    × (still_to_go e.stage plan ≤ still_to_go old.stage plan) in
+    subst (λ e. P e (got ++ [])) (sym same)
+    (subst (λ bs. P old bs) (sym (append-nil got)) (on, omega arith))
+rest_passes {C = C} card first plan asked before got (b ∷ run) old new on fits (mid, sent, more) =
+    let room = fits sent.place sent.awaited in
+    let one = passes_data card first plan asked before got old mid sent.place b on sent.awaited
+    (omega (arith, room)) (inr (sent.falls plan)) sent.keeps
+    (λ cut at stands. sent.advances cut plan at stands) in
+    let rest = rest_passes card first plan asked before (got ++ b ∷ []) run mid new one.0
+    (λ place is. omega (arith, sent.later place is, room)) more in (
+      subst (λ bs. IsAnswering card first plan asked before bs new) (append_assoc got (b ∷ []) run)
+          rest.0,
+      omega (arith, one.1, rest.1),
+    )
+
+pub passes_run : {C : Type 0} (card : Ghosts C) (first : card.State) (plan : Course)
+    (asked : Asked) (before got run : List ℕ) (old new : EndOf C) (place : ℕ)
+    → IsAnswering card first plan asked before got old → awaited_in old.stage ≡ next.OfCard place
+    → 0 < length run → place + length run ≤ asked.may_come
+    → buffers.Steps (IsHandedOut card) old run new
+    → GoesFurther card first plan asked before (got ++ run) old new
+passes_run card first plan asked before got [] old new place on is some fits steps =
+    absurd (omega (arith, some))
+passes_run {C = C} card first plan asked before got (b ∷ run) old new place on is some fits
+    (mid, sent, more) =
+    let same : sent.place ≡ place = same_card_place sent.place place (sym sent.awaited ∙ is) in
+    let one = passes_data card first plan asked before got old mid sent.place b on sent.awaited
+    (omega (arith, same, fits)) (inr (sent.falls plan)) sent.keeps
+    (λ cut at stands. sent.advances cut plan at stands) in
+    let rest = rest_passes card first plan asked before (got ++ b ∷ []) run mid new one.0
+    (λ other at. omega (arith, sent.later other at, same, fits)) more in (
+      subst (λ bs. IsAnswering card first plan asked before bs new) (append_assoc got (b ∷ []) run)
+          rest.0,
+      omega (arith, one.1, rest.1),
+    )
+
+-- a run that there is room for has a byte
+pub some_taken : (n len most got limit : ℕ) → 0 < len → 0 < most → (got == limit) ≡ false
+    → (n ≡ len) ⊎ (n ≡ most) ⊎ (got + n ≡ limit) → 0 < n
+some_taken n len most got limit some room spare (inl all) = omega (arith, some, all)
+some_taken n len most got limit some room spare (inr (inl whole)) = omega (arith, room, whole)
+some_taken zero len most got limit some room spare (inr (inr full)) =
+    let is = eq-eqb got limit (omega (arith, full)) in
+    let no : true ≡ false = sym is ∙ spare in absurd (cc)
+some_taken (suc n) len most got limit some room spare (inr (inr full)) = omega arith
 
 -- SW2
 pub passes_second : {C : Type 0} (card : Ghosts C) (first : card.State) (plan : Course)

@@ -50,6 +50,17 @@ takes_plan (Refusing header p3 status done) = false
 takes_plan (Serving s came) = false
 takes_plan (Ending status) = false
 
+abbrev pub left_to_send : Direction → ℕ → ℕ → ℕ
+left_to_send ToCard moved until = 0
+left_to_send FromCard moved until = until - moved
+
+-- how many data characters the card sends next, before a procedure byte or SW1
+abbrev pub due_in : Stage → ℕ
+due_in (Taking_header bytes) = 0
+due_in (Refusing header p3 status done) = 0
+due_in (Serving s came) = left_to_send s.direction s.moved s.until
+due_in (Ending status) = 0
+
 abbrev pub one_moved : Service → Service
 one_moved s = record {
   header = s.header;

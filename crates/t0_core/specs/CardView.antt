@@ -1,5 +1,5 @@
 -- How contracts see the fields of a card's end.
-use Rattle.std.specs.Prelude.{◌≡◌, ℕ, ◌+◌, ◌-◌, ◌<◌, ◌≤◌, ◌⊎◌, List, [], ◌∷◌, ◌++◌, length, take, drop, replicate, true, Option, Some, None}
+use Rattle.std.specs.Prelude.{◌≡◌, ℕ, ◌+◌, ◌-◌, ◌<◌, ◌≤◌, min, ◌⊎◌, List, [], ◌∷◌, ◌++◌, length, take, drop, replicate, true, Option, Some, None}
 use Rattle.apdu_core.specs.HeaderBytes.{ins_is_valid}
 use Rattle.apdu_core.specs.StatusWord.{StatusWord, IsStatusWord, count}
 use Rattle.t0_core.specs.declared.card_end.Phase.{Phase}
@@ -14,7 +14,7 @@ use Rattle.t0_core.specs.Dialogue.{moves}
 use Rattle.t0_core.specs.Plan.{segments_of}
 use Rattle.t0_core.specs.Meaning.{Tpdu, Prepared, IsReceiving, IsSending, Decides, taken_with, answered_with}
 use Rattle.t0_core.specs.CardContract.{IsDecided}
-use Rattle.t0_core.specs.CardSide.{Stage, Taking_header, Refusing, Serving, Ending, Starts, one_moved, whole_of}
+use Rattle.t0_core.specs.CardSide.{Stage, Taking_header, Refusing, Serving, Ending, Starts, left_to_send, one_moved, whole_of}
 
 abbrev pub stage_of : Phase → List ℕ → Stage
 stage_of (phase.Opening bytes taken) came = Taking_header (take taken bytes)
@@ -102,6 +102,21 @@ IsAfter (phase.SecondStatus status) new = ⊥
 -- n more data characters have moved
 abbrev pub so_many_moved : Service → ℕ → Service
 so_many_moved s n = record s { moved = s.moved + n }
+
+-- the phase after this number of data characters of the card, or all that it sends next
+abbrev pub skipped : Phase → ℕ → Phase
+skipped (phase.Opening bytes taken) n = phase.Opening bytes taken
+skipped (phase.Refused header p3 status done) n = phase.Refused header p3 status done
+skipped (phase.Accepted s) n =
+    phase.Accepted (so_many_moved s (min n (left_to_send s.direction s.moved s.until)))
+skipped (phase.SecondStatus status) n = phase.SecondStatus status
+
+-- the data moved so far are no more than the procedure bytes move
+abbrev pub IsBegun : Phase → Type 0
+IsBegun (phase.Opening bytes taken) = Unit {0}
+IsBegun (phase.Refused header p3 status done) = Unit {0}
+IsBegun (phase.Accepted s) = s.moved ≤ s.until
+IsBegun (phase.SecondStatus status) = Unit {0}
 
 -- The terminal sent these data characters in one run: none, or some of those that were expected.
 abbrev pub IsRun : Phase → List ℕ → List ℕ → Phase → List ℕ → Type 0

@@ -31,6 +31,8 @@ pub mod TpduBytes
 pub mod CardTpdu
 pub mod Answering
 pub mod CardTaking
+pub mod DataRun
+pub mod CardSending
 pub mod FaultText
 pub mod TapSide
 pub mod TapView

@@ -1,10 +1,10 @@
 //! The card's end of the line, which answers TPDUs character by character.
-ghost use Rattle.std.specs.Prelude.{◌≡◌, ℕ, ◌+◌, ◌≤◌, ◌<◌, ◌++◌, List, [], ◌∷◌, length, replicate, take, true, is_ok, OnOk, OnErr, IsOk, if◌then◌else◌, slice_index, ◌==◌, IfOk, ◌↔◌, ◌⊎◌, false};
+ghost use Rattle.std.specs.Prelude.{◌≡◌, ℕ, ◌+◌, ◌≤◌, ◌<◌, ◌++◌, List, [], ◌∷◌, length, replicate, take, true, is_ok, OnOk, OnErr, IsOk, if◌then◌else◌, slice_index, ◌==◌, IfOk, ◌↔◌, ◌⊎◌, false, MatchOption};
 ghost use Rattle.apdu_core.specs.declared.header.Header.{Header};
 ghost use Rattle.apdu_core.specs.HeaderBytes.{header_bytes, ins_is_valid};
 ghost use Rattle.t0_core.specs.declared.service.Service.{Service};
-ghost use Rattle.t0_core.specs.CardView.{Fits, IsForgotten, IsHeld, IsJudged, IsRun, IsVerdict, IsAfter, KeepsDirection, Refuses, stage_of};
-ghost use Rattle.t0_core.specs.CardSide.{StandsAt, Advances, GoesByCount, IsOnPlan, SuitsFront, IsPermitted, begins_with, listens, with_character, Taking_header, Serving, takes_plan, still_to_go};
+ghost use Rattle.t0_core.specs.CardView.{Fits, IsBegun, IsForgotten, IsHeld, IsJudged, IsRun, IsVerdict, IsAfter, KeepsDirection, Refuses, skipped, stage_of};
+ghost use Rattle.t0_core.specs.CardSide.{StandsAt, Advances, GoesByCount, IsOnPlan, SuitsFront, IsPermitted, begins_with, due_in, listens, with_character, Taking_header, Serving, takes_plan, still_to_go};
 ghost use Rattle.t0_core.specs.History.{Event, Passed, Reset};
 ghost use Rattle.t0_core.specs.CardHistory.{Leads, LeadsUnder, IsTakenLast};
 ghost use Rattle.t0_core.specs.Plan.{Course, IsCut, advanced, plan_kept};
@@ -12,9 +12,12 @@ ghost use Rattle.t0_core.specs.declared.direction.Direction.{Direction};
 ghost use Rattle.t0_core.specs.Front.{Front, In_body, header_only};
 ghost use Rattle.t0_core.specs.Buffers.{Steps};
 ghost use Rattle.t0_core.specs.CardTaking.{IsTaken};
+ghost use Rattle.t0_core.specs.CardSending.{AreDue, IsHandedOut};
+ghost use Rattle.t0_core.specs.DataRun.{bytes_of};
 
 mod tpdu;
 
+use crate::data_run::DataRun;
 use crate::direction::Direction;
 use crate::plan::{Plans, Step, next_step};
 use crate::service::{Service, serve};
@@ -299,6 +302,26 @@ impl<C: TpduCard> CardEnd<C> {
         forget_data(&self.phase, &mut self.came);
         Turn::Sends(byte)
     }
+
+    /// The data characters that the card sends next, or the first of them, in one run. `None` if it
+    /// sends none next. `skip_data` counts them as sent.
+    #[inline(always)]
+    pub fn data_due(&self) -> Option<DataRun<'_>>
+        ensures { MatchOption result (due_in self.now.stage ≡ 0)
+            (λ run. AreDue C.TpduCard self.now (bytes_of run)) }
+    {
+        run_due(&self.card, &self.phase)
+    }
+
+    /// Counts the first `count` characters of `data_due` as sent, as `turn` does for each. If `count`
+    /// is more than the card sends next, it counts all of these.
+    #[inline(always)]
+    pub fn skip_data(&mut self, count: usize)
+        ensures { (run : List ℕ) → AreDue C.TpduCard self.old run → count ≤ length run →
+            Steps (IsHandedOut C.TpduCard) self.old (take count run) self.new }
+    {
+        skip_in(&mut self.phase, count);
+    }
 }
 
 /// The start of a TPDU: no character of a header yet.
@@ -389,6 +412,35 @@ fn take_run(phase: &mut Phase, bytes: &[u8], came: &mut [u8; 255]) -> usize
     match phase {
         Phase::Accepted { service } => service.take_run(bytes, came),
         Phase::Opening { .. } | Phase::Refused { .. } | Phase::SecondStatus { .. } => 0,
+    }
+}
+
+/// The data characters that the card sends next, in one run.
+#[inline(always)]
+fn run_due<'a, C: TpduCard>(card: &'a C, phase: &Phase) -> Option<DataRun<'a>>
+    requires { Fits (C.prepared card.now) phase.now }
+    ensures { (came : List ℕ) → MatchOption result (due_in (stage_of phase.now came) ≡ 0)
+        (λ run. AreDue C.TpduCard (record { card = card.now; stage = stage_of phase.now came })
+        (bytes_of run)) }
+{
+    let Phase::Accepted { service } = phase else {
+        return None;
+    };
+    let due = service.due();
+    if due == 0 {
+        return None;
+    }
+    Some(card.run(service.moved() as u16).up_to(due))
+}
+
+/// Counts data characters of the card, at most as many as it sends next.
+#[inline(always)]
+fn skip_in(phase: &mut Phase, count: usize)
+    requires { IsBegun phase.old }
+    ensures { phase.new ≡ skipped phase.old count }
+{
+    if let Phase::Accepted { service } = phase {
+        service.skip(count);
     }
 }
 

@@ -27,6 +27,7 @@
 
 mod answer_fault;
 mod card_end;
+mod data_run;
 mod data_sent;
 mod direction;
 mod end;
@@ -51,6 +52,7 @@ mod whole_tpdu;
 
 pub use answer_fault::AnswerFault;
 pub use card_end::{CardEnd, NotListening, Turn};
+pub use data_run::DataRun;
 pub use data_sent::DataSent;
 pub use direction::Direction;
 pub use end::End;

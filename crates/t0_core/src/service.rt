@@ -1,10 +1,10 @@
 //! Moves the data of a TPDU at a card's end.
-ghost use Rattle.std.specs.Prelude.{◌≡◌, ℕ, ◌+◌, ◌-◌, ◌<◌, ◌≤◌, ◌⊎◌, ◌++◌, List, [], length, take, drop, false, MatchOption, nat_lt, ◌&&◌};
+ghost use Rattle.std.specs.Prelude.{◌≡◌, ℕ, ◌+◌, ◌-◌, ◌<◌, ◌≤◌, ◌⊎◌, ◌++◌, List, [], length, min, take, drop, false, MatchOption, nat_lt, ◌&&◌};
 ghost use Rattle.t0_core.specs.declared.plan.Step.{Step};
 ghost use Rattle.t0_core.specs.declared.direction.Direction.TheVariants.{ToCard};
 ghost use Rattle.t0_core.specs.CardContract.{IsDecided};
-ghost use Rattle.t0_core.specs.CardView.{Fits, IsInService, IsNext, IsReadyFor, GivesStatus, KeepsDirection, phase_after, stage_of};
-ghost use Rattle.t0_core.specs.CardSide.{comes_from_terminal, Advances, GoesByCount, IsServed, Serving, listens, one_moved, still_to_go, whole_of};
+ghost use Rattle.t0_core.specs.CardView.{Fits, IsInService, IsNext, IsReadyFor, GivesStatus, KeepsDirection, phase_after, so_many_moved, stage_of};
+ghost use Rattle.t0_core.specs.CardSide.{comes_from_terminal, Advances, GoesByCount, IsServed, Serving, left_to_send, listens, one_moved, still_to_go, whole_of};
 ghost use Rattle.t0_core.specs.Answering.{awaited_in};
 ghost use Rattle.t0_core.specs.Dialogue as dialogue;
 ghost use Rattle.t0_core.specs.Dialogue.{Body};
@@ -119,6 +119,28 @@ impl Service {
         came[place..place + count].copy_from_slice(&bytes[..count]);
         self.moved += count as u32;
         count
+    }
+
+    /// How many data characters the card sends next.
+    #[inline(always)]
+    pub(crate) fn due(&self) -> usize
+        requires { self.now.moved ≤ self.now.until }
+        ensures { result ≡ left_to_send self.now.direction self.now.moved self.now.until }
+    {
+        match self.direction {
+            Direction::ToCard => 0,
+            Direction::FromCard => (self.until - self.moved) as usize,
+        }
+    }
+
+    /// Counts data characters of the card, at most as many as it sends next.
+    #[inline(always)]
+    pub(crate) fn skip(&mut self, count: usize)
+        requires { self.old.moved ≤ self.old.until }
+        ensures { self.new ≡ so_many_moved self.old
+            (min count (left_to_send self.old.direction self.old.moved self.old.until)) }
+    {
+        self.moved += count.min(self.due()) as u32;
     }
 
     /// Returns the next procedure byte, once those so far have moved their data. `None`, with no

@@ -4,8 +4,10 @@ ghost use Rattle.apdu_core.specs.declared.header.Header.{Header};
 ghost use Rattle.apdu_core.specs.HeaderBytes.{ins_is_valid};
 ghost use Rattle.apdu_core.specs.StatusWord.{count};
 ghost use Rattle.t0_core.specs.Meaning.{Tpdu, Ask, Prepared, Nothing, Decided, IsReceiving, IsSending, Decides, taken_with, answered_with};
+ghost use Rattle.t0_core.specs.DataRun.{bytes_of, IsRunAt};
 ghost use Rattle.t0_core.specs.CardContract.{IsRefusal, Permits, IsDecided, Judges};
 
+use crate::data_run::DataRun;
 use apdu_core::{Header, Status};
 
 /// How a card judges a header.
@@ -22,7 +24,7 @@ pub enum Verdict {
 /// A card as its end of the line sees it: command TPDUs, not characters (ISO/IEC 7816-3, 10.3.1).
 ///
 /// The end calls `header` for each header. After `Receive` it calls `data`. After `Send` it calls
-/// `byte` for each place and then `end_of_sending`. In each case it calls `answered` once SW2 is
+/// `byte` for each place, or `run` for several, and then `end_of_sending`. In each case it calls `answered` once SW2 is
 /// sent. Only `answered` and `reset` change the card's state.
 pub trait TpduCard {
     /// The type of the card's states.
@@ -71,6 +73,16 @@ pub trait TpduCard {
     fn byte(&self, at: u16) -> u8
         requires { IsSending (prepared self.now) (λ ask bytes. at < length bytes) }
         ensures { IsSending (prepared self.now) (λ ask bytes. slice_get bytes at ≡ Some result) };
+
+    /// Returns bytes to send from index `at` on, below `count(P3)`: at least one. It may be called
+    /// after the verdict `Send`. A card that lends those in its memory makes long data fast.
+    fn run(&self, at: u16) -> DataRun<'_>
+        requires { IsSending (prepared self.now) (λ ask bytes. at < length bytes) }
+        ensures { IsSending (prepared self.now) (λ ask bytes.
+            IsRunAt bytes at (bytes_of result)) }
+    {
+        DataRun::One([self.byte(at)])
+    }
 
     /// Returns the status to send after all data characters. It may be called once, after the
     /// verdict `Send`.

@@ -196,8 +196,12 @@ impl<C: TpduCard> CardEnd<C> {
                 if gather.is_full() {
                     return Err(TpduFault::TooLong);
                 }
-                let byte = self.hand_on(plans);
-                gather.push(byte);
+                let Some(run) = self.data_due() else {
+                    unreachable!()
+                };
+                let most = u32::from(tpdu.may_come) - place;
+                let count = gather.extend_up_to(run.bytes(), most as usize);
+                self.skip_data(count);
                 Ok(None)
             }
             Awaited::Procedure => {

@@ -22,10 +22,10 @@ use crate::select_command::find;
 use crate::sent_response::sent;
 use crate::verdict::judged;
 use crate::view::View;
-use apdu_core::{Chain, Header, Status};
+use apdu_core::{Chain, Header, Status, count};
 use std::alloc::{Allocator, Global};
 use std::marker::Model;
-use t0_core::{TpduCard, Verdict};
+use t0_core::{DataRun, TpduCard, Verdict};
 use tlv_core::ObjectTag;
 
 /// A card of data objects: applications with their data objects, the selected application, and a
@@ -183,6 +183,17 @@ impl<A: Allocator + Copy> TpduCard for ObjectCard<A> {
     fn byte(&self, at: u16) -> u8 {
         match &self.ready {
             Ready::Sends { response, .. } => response.byte(&self.applications, self.selected, at),
+            _ => unreachable!(),
+        }
+    }
+
+    #[inline(always)]
+    fn run(&self, at: u16) -> DataRun<'_> {
+        match &self.ready {
+            Ready::Sends { response, p3, .. } => {
+                let most = usize::from(count(*p3) - at);
+                DataRun::Lent(response.run(&self.applications, self.selected, at, most))
+            }
             _ => unreachable!(),
         }
     }

@@ -2,6 +2,7 @@
 ghost use Rattle.std.specs.Prelude.{◌≡◌, ◌+◌, ◌<◌, ◌≤◌, ◌++◌, length, take, slice_get, Some, None, IfSome};
 ghost use Rattle.object_card.specs.OneStep.{control_information};
 ghost use Rattle.object_card.specs.CardFields.{IsResponse, IsWhole, entries_at, left_of, value_at};
+ghost use Rattle.t0_core.specs.DataRun.{IsRunAt};
 
 use crate::aid::Aid;
 use crate::application::Application;
@@ -109,6 +110,33 @@ impl Response {
         }
     }
 
+    /// The bytes from index `at` on of those left, to the end of the front or of the value: at least
+    /// one, and at most `most`.
+    #[inline(always)]
+    pub(crate) fn run<'a, A: Allocator>(
+        &'a self,
+        applications: &'a [Application<A>],
+        selected: Option<usize>,
+        at: u16,
+        most: usize,
+    ) -> &'a [u8]
+        requires selected { IfSome selected (λ place. place < length applications.now) }
+        requires response { IsResponse (entries_at applications.now selected) self.now }
+        requires within { at < length (left_of (entries_at applications.now selected) self.now) }
+        requires most { 0 < most }
+        ensures run { IsRunAt (left_of (entries_at applications.now selected) self.now) at
+            result.now }
+        ensures most { length result.now ≤ most }
+    {
+        let value = self.value(applications, selected);
+        let place = self.sent + at as usize;
+        if place < self.len {
+            first(&self.front[place..self.len], most)
+        } else {
+            first(&value[place - self.len..], most)
+        }
+    }
+
     /// The value that follows the front.
     #[inline(always)]
     fn value<'a, A: Allocator>(
@@ -126,4 +154,12 @@ impl Response {
             _ => &[],
         }
     }
+}
+
+/// The first of some bytes, at most `most`.
+#[inline(always)]
+fn first(bytes: &[u8], most: usize) -> &[u8]
+    ensures { result.now ≡ take most bytes.now }
+{
+    &bytes[..most.min(bytes.len())]
 }

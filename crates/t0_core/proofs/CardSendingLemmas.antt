@@ -191,7 +191,7 @@ module _ {C : Type 0} (card : Ghosts C) (e : C) where
       subst (λ (p : Phase). Steps (IsHandedOut card) seen (take n run) (end_at e (stage_of p came)))
       (sym next_is)
       (subst (λ (x : EndOf C). Steps (IsHandedOut card) x (take n run)
-          (end_at e (stage_of (skipped phase n) came))) is
+      (end_at e (stage_of (skipped phase n) came))) is
       (due_steps phase came run n fits
       (subst (λ (x : EndOf C). AreDue card x run) (sym is) due) le))
 

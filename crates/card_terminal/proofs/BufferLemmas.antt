@@ -11,6 +11,13 @@ module _ {State : Type 0} (Step : State → ℕ → State → Type 0) where
   one_more (c ∷ bs) s last next b steps step =
       (steps.0, steps.1, one_more bs steps.0 last next b steps.2 step)
 
+  -- more steps
+  pub steps_on : (xs bs : List ℕ) (s mid last : State) → Steps Step s xs mid
+      → Steps Step mid bs last → Steps Step s (xs ++ bs) last
+  steps_on [] bs s mid last same steps = subst (λ x. Steps Step x bs last) same steps
+  steps_on (x ∷ xs) bs s mid last first steps =
+      (first.0, first.1, steps_on xs bs first.0 mid last first.2 steps)
+
   -- a byte written at an index leaves those after it unchanged
   pub rest_stays : (before after : List ℕ) (at b : ℕ) → drop at after ≡ drop at before
       → drop (at + 1) (set after at b) ≡ drop (at + 1) before

@@ -1,5 +1,6 @@
 -- A character that passes from one end to the other moves both to the same front.
 use Rattle.std.proofs.Common.{◌≡◌, ℕ, ◌+◌, ◌-◌, ◌*◌, ◌<◌, ◌≤◌, List, [], ◌∷◌, ◌++◌, length, drop, refl, sym, subst, ◌∙◌, ap, arith, inl, inr, ◌⊎◌, lit<, true, false, Bool, Option, Some, None, Result, Ok, Err, length-append, if◌then◌else◌}
+use Rattle.std.proofs.Math.Nat.{le_refl}
 use Rattle.std.specs.Result.{OnOk}
 use Rattle.std.specs.List.{flat_map}
 use Rattle.apdu_core.specs.declared.header.Header.{Header}
@@ -9,7 +10,7 @@ use Rattle.t0_core.specs.declared.end.End.TheVariants.{Terminal, Card}
 use Rattle.t0_core.specs.declared.host_end.HostTurn.{HostTurn}
 use Rattle.t0_core.specs.declared.host_end.HostTurn.TheVariants.{Sends, Listens, Done, Failed}
 use Rattle.t0_core.specs.declared.line_fault.LineFault.{LineFault}
-use Rattle.t0_core.specs.declared.line_fault.LineFault.TheVariants.{TooLong, Stalled}
+use Rattle.t0_core.specs.declared.line_fault.LineFault.TheVariants.{AfterEnd, TooLong, Stalled}
 use Rattle.t0_core.specs.declared.direction.Direction.{Direction}
 use Rattle.t0_core.specs.declared.direction.Direction.TheVariants.{ToCard, FromCard}
 use Rattle.t0_core.specs.declared.tpdu_card.TpduCard.{Ghosts}
@@ -25,6 +26,9 @@ use Rattle.t0_core.specs.HostSide.{Hosting, HostStandsAt, turn_of, fault_of}
 use Rattle.t0_core.specs.HostLaws.{opened, going, unbroken, too_long}
 use Rattle.t0_core.specs.CardSide.{Stage, EndOf, Taking_header, Serving, StandsAt, Advances, IsOnPlan, IsPermitted, PermitsData, SuitsFront, begins_with, listens, takes_plan, with_character, still_to_go}
 use Rattle.t0_core.specs.CardHistory.{under_way}
+use Rattle.t0_core.specs.CardSending.{IsHandedOut}
+use Rattle.t0_core.specs.Buffers.{Steps}
+use Rattle.card_terminal.specs.ExchangeSteps.{TakesOne}
 use Rattle.t0_core.specs.CardLaws.{begun, answers_on, taken_stays}
 use Rattle.card_terminal.specs.Line as on_line
 use Rattle.t0_core.specs.FrontLaws.{goes_on}
@@ -38,7 +42,7 @@ use Rattle.object_card.specs.OneStep.{Reply}
 use Rattle.object_card.specs.Agreed.{IsAgreed}
 use Rattle.card_terminal.specs.ExchangeSide.{ExchangeOf, HostAsks, HostSends, HostOpensBy, IsOpenedAs, UnderWay, IsOver, IsBounded, Stall, Continues, so_far, ended_with, exchange_turn, response_limit}
 use Rattle.card_terminal.specs.Conversing.{Point, point, next_plan, HaveGone, HasStalled, HasOverflown, IsCaused, here, steps_in, is_done, most_tpdus}
-use Rattle.card_terminal.specs.Line.{Line, Start, line, point_of, Begins, left, IsAtPlan, StandsUnder, IsGoing, IsDone, IsOneOf, HasPassed}
+use Rattle.card_terminal.specs.Line.{Line, Start, line, HearsOne, point_of, Begins, left, IsAtPlan, StandsUnder, IsGoing, IsDone, IsOneOf, HasPassed}
 use Rattle.card_terminal.proofs.GoneLemmas.{none_gone, one_gone, gone_both}
 use Rattle.card_terminal.proofs.UnitLemmas.{unit_ends, unit_goes_on, unit_dialogues}
 use Rattle.card_terminal.proofs.EndLemmas.{asked_card}
@@ -693,6 +697,73 @@ has_overflown card s l new front byte fault under goes stands same is faults hea
       hears = hears_on under.between l.hearing new.hearing _ _ (Card, byte) under.hears hears
           (goes_on under.front front (Card, byte) under.terminal.is_front goes).1;
     }
+
+-- ---- a run of the card's data
+
+no_plan_due : (v : Bool) → v ≡ false → v ≡ true → ⊥
+no_plan_due v is takes = absurd (cc)
+
+-- a data character passes
+data_passed : {C : Type 0} (card : Ghosts C) (s : Start card.State) (l : Line C)
+    (ex : ExchangeOf) (end : EndOf C) (hearing : Hearing) (byte : ℕ) → IsOneOf card s l
+    → TakesOne l.exchange byte ex → IsHandedOut card l.end byte end
+    → HearsOne l.hearing byte hearing
+    → (left (line ex end l.cursor hearing) < left l)
+    × IsOneOf card s (line ex end l.cursor hearing)
+data_passed card s l ex end hearing byte (inr over) takes sends hears =
+    let no : Ok tt ≡ Err AfterEnd = takes.after_end (inr (
+      over.status,
+      over_turn s.command l.exchange over.units over.status over.terminal,
+    )) in
+    absurd (cc)
+data_passed card s l ex end hearing byte (inl under) takes sends hears =
+    let new = line ex end l.cursor hearing in
+    let never = no_plan_due (takes_plan l.end.stage) sends.begun in
+    let has = has_plan card under.before under.front l l.cursor sends.silent under.stands
+    (rw sends.begun refl) (λ takes. absurd (never takes)) in
+    elim (turned card s l end l.cursor byte under has
+    (λ h p3 is. absurd (never (ap takes_plan is)))
+    (λ cut front takes stands. sends.advances cut (plan_kept l.cursor) front stands)) [
+      | inl goes ↦
+          let taken = takes.goes_on s.command under.units under.tried under.front goes.0
+          under.terminal goes.1 in (
+            card_falls card s.command l new under.units under.tried under.before under.front
+                goes.0 byte under.terminal taken has (inr (sends.falls (plan_kept l.cursor)))
+                goes.1 goes.2.0,
+            inl (passed card s l new (Card, byte) goes.0 under goes.1 taken takes.limit goes.2
+                goes.3 hears),
+          )
+      | inr ends ↦
+          let taken = takes.ends s.command under.units under.tried under.front ends.0
+          under.terminal ends.1 in
+          let gone = gone_more card s l new ends.0 byte under ends.1 ends.2 ends.3 ends.4 has
+          hears in (
+            end_falls s.command l new under.units under.tried under.before under.front ends.0
+                under.terminal taken takes.bounds has ends.5,
+            continues card s new under.units under.tried ends.0 under.agreed ends.5
+                (takes.limit ∙ under.room) gone taken,
+          )
+    ]
+
+-- and so do many
+pub run_passed : {C : Type 0} (card : Ghosts C) (s : Start card.State) (run : List ℕ)
+    (l : Line C) (ex : ExchangeOf) (end : EndOf C) (hearing : Hearing) → IsOneOf card s l
+    → Steps TakesOne l.exchange run ex → Steps (IsHandedOut card) l.end run end
+    → Steps HearsOne l.hearing run hearing
+    → (left (line ex end l.cursor hearing) ≤ left l)
+    × IsOneOf card s (line ex end l.cursor hearing)
+run_passed {C = C} card s [] l ex end hearing on takes sends hears =
+    let P : ExchangeOf → EndOf C → Hearing → Type 0 = λ x e h.
+    (left (line x e l.cursor h) ≤ left l) × IsOneOf card s (line x e l.cursor h) in
+    subst (λ x. P x end hearing) (sym takes)
+    (subst (λ e. P l.exchange e hearing) (sym sends)
+    (subst (λ h. P l.exchange l.end h) (sym hears) (le_refl (left l), on)))
+run_passed card s (b ∷ run) l ex end hearing on (ex1, take, takes) (end1, send, sends)
+    (hearing1, hear, hears) =
+    let one = data_passed card s l ex1 end1 hearing1 b on take send hear in
+    let rest = run_passed card s run (line ex1 end1 l.cursor hearing1) ex end hearing one.1 takes
+    sends hears in
+    (omega (arith, one.0, rest.0), rest.1)
 
 -- ---- in the terms of the code
 

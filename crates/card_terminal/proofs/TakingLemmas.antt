@@ -1,5 +1,7 @@
 -- Characters of a buffer that an exchange takes one after another.
-use Rattle.std.proofs.Common.{◌≡◌, ℕ, ◌+◌, ◌<◌, ◌≤◌, List, [], ◌∷◌, ◌++◌, ◌⊎◌, inl, inr, Option, Some, None, true, false, length, take, get_or, refl, sym, ap, subst, ◌∙◌, arith}
+use Rattle.std.proofs.Common.{◌≡◌, ℕ, ◌+◌, ◌<◌, ◌≤◌, List, [], ◌∷◌, ◌++◌, ◌⊎◌, inl, inr, Option, Some, None, true, false, length, take, get_or, refl, sym, ap, subst, ◌∙◌, arith, Bool, drop, append_assoc, length-append}
+use Rattle.std.proofs.Math.Seq.{take-add}
+use Rattle.std.specs.List.{flat_map}
 use Rattle.std.specs.Prelude.{Result, Ok, Err}
 use Rattle.apdu_core.specs.CommandBytes.{Command}
 use Rattle.t0_core.specs.declared.end.End.TheVariants.{Card}
@@ -8,15 +10,23 @@ use Rattle.t0_core.specs.declared.line_fault.LineFault.{LineFault}
 use Rattle.t0_core.specs.declared.line_fault.LineFault.TheVariants.{AfterEnd, TooLong, Stalled}
 use Rattle.t0_core.specs.Dialogue.{Dialogue}
 use Rattle.t0_core.specs.Front.{Front, GoesOn, Ends, brought}
-use Rattle.t0_core.specs.HostSide.{fault_of}
+use Rattle.t0_core.specs.Meaning.{received}
+use Rattle.t0_core.specs.Room.{Room}
+use Rattle.t0_core.specs.HostSide.{Hosting, fault_of, data_sent}
+use Rattle.t0_core.specs.HostLaws.{after_done}
+use Rattle.t0_core.specs.DataSent.{both, IsKnown}
+use Rattle.t0_core.specs.DataSentLaws.{takes_known, takes_same}
 use Rattle.card_terminal.specs.declared.attempt.Attempt.{Attempt}
+use Rattle.card_terminal.specs.declared.wanted.Wanted.{Wanted}
 use Rattle.card_terminal.specs.Gathered.{UnitOf}
 use Rattle.t0_core.specs.HostMark.{HasOnly}
-use Rattle.t0_core.specs.Buffers.{Steps}
+use Rattle.t0_core.specs.Buffers.{Steps, IsDataTaken, Taker}
 use Rattle.card_terminal.specs.Buffers.{IsTakingAll}
-use Rattle.card_terminal.proofs.BufferLemmas.{one_taken}
-use Rattle.card_terminal.specs.ExchangeSide.{ExchangeOf, UnderWay, IsKept, IsBounded, Continues, Stall, GoesByCharacters, ended_with, exchange_turn, exchange_sent, is_final}
-use Rattle.card_terminal.specs.ExchangeSteps.{IsTaking}
+use Rattle.card_terminal.proofs.BufferLemmas.{one_taken, steps_on}
+use Rattle.card_terminal.specs.ExchangeSide.{ExchangeOf, UnderWay, IsKept, IsBounded, Continues, Stall, GoesByCharacters, so_far, ended_with, exchange_turn, exchange_sent, is_final}
+use Rattle.card_terminal.specs.OwnedExchange.{of_parts}
+use Rattle.card_terminal.proofs.ExchangeLemmas.{goes_further}
+use Rattle.card_terminal.specs.ExchangeSteps.{IsTaking, TakesOne}
 use Rattle.card_terminal.proofs.OwnedLemmas.{bounded}
 use Rattle.card_terminal.proofs.ComesToLemmas.{at_end_fault, none_at_end, take_leads, stall_leads, fault_leads}
 
@@ -134,10 +144,6 @@ module _ (ex new : ExchangeOf) (byte : ℕ) (kept : IsKept ex) (bounds : IsBound
 
 -- ---- the characters of a buffer
 
--- a character that is taken without a fault
-abbrev pub TakesOne : ExchangeOf → ℕ → ExchangeOf → Type 0
-TakesOne s b t = IsTaking s b (Ok tt) t
-
 -- since it began, an exchange has taken `at` characters of the buffer
 pub record HasTaken (old now : ExchangeOf) (bytes : List ℕ) (at : ℕ) : Type 0 where
   pub kept : IsKept now
@@ -152,6 +158,108 @@ none_yet old bytes kept = record {
   steps = refl;
   only = λ content only. only;
 }
+
+-- a run of the card's data is one character after another
+module _ (attempt : Attempt) (wanted : Wanted) (stalled : Bool) where
+  abbrev exchange_of : Taker → ExchangeOf
+  exchange_of t = of_parts t.host t.room attempt wanted stalled
+
+  longer : (old new : Taker) (byte : ℕ) → IsDataTaken old byte new
+      → length new.room.bytes ≡ length old.room.bytes + 1
+  longer old new byte is = ap (λ (r : Room). length r.bytes) is.room
+      ∙ length-append old.room.bytes (byte ∷ [])
+
+  data_kept : (old new : Taker) (byte : ℕ) → IsKept (exchange_of old)
+      → IsDataTaken old byte new → IsKept (exchange_of new)
+  data_kept old new byte kept is = record {
+    counted = record {
+      valid = kept.counted.valid;
+      begun = omega (arith, kept.counted.begun, longer old new byte is);
+      number = kept.counted.number;
+    };
+    room = omega (arith, kept.room, ap (λ (r : Room). r.limit) is.room);
+    fits = is.fits;
+    stalled_at_end = λ stall.
+        let done = kept.stalled_at_end stall in
+        let no : None ≡ Some AfterEnd =
+        sym is.fault ∙ after_done old.host old.room byte done.0 done.1 in absurd (cc);
+  }
+
+  data_taken : (old new : Taker) (byte : ℕ) → IsKept (exchange_of old)
+      → IsDataTaken old byte new → IsTaking (exchange_of old) byte (Ok tt) (exchange_of new)
+  data_taken old new byte kept is =
+      let more = longer old new byte is in
+      takes (exchange_of old) (exchange_of new) byte kept
+      (more_bounded (exchange_of old) (exchange_of new) kept refl
+      (ap (λ (r : Room). r.limit) is.room) (omega (arith, more)) is.fits)
+      (ap (λ (r : Room). r.limit) is.room) (sym is.fault)
+      (λ command units first front new' seen goes.
+      let on = is.goes_on front new' seen.stands goes in
+      goes_further command (exchange_of old) new.host new.room units first front new'
+      (Card, byte)
+      (record {
+        header = ap (λ (h : Hosting). h.header) is.host;
+        p3 = ap (λ (h : Hosting). h.p3) is.host;
+        direction = ap (λ (h : Hosting). h.direction) is.host;
+        content = ap (λ (h : Hosting). h.content) is.host;
+      }) is.keeps seen goes on.0
+      (ap (λ (r : Room). r.bytes) is.room ∙ ap (λ bs. bs ++ byte ∷ []) seen.gathered
+      ∙ append_assoc (flat_map received (so_far units first)) (brought front) (byte ∷ [])
+      ∙ ap (λ bs. flat_map received (so_far units first) ++ bs) (sym on.1)))
+      (λ command units first front d seen ends. absurd (is.stays front d seen.stands ends))
+      (λ command units first front seen. inl (is.came front seen.stands))
+      (λ known. (
+        known.0,
+        subst (λ (h : Hosting). IsKnown (data_sent h)) (sym is.host)
+            (takes_known old.host byte known.1),
+      ))
+      (ap (both attempt.sent) (takes_same old.host new.host old.room byte is.host is.fault))
+
+  pub run_kept : (bytes : List ℕ) (old new : Taker) → IsKept (exchange_of old)
+      → Steps IsDataTaken old bytes new → IsKept (exchange_of new)
+  run_kept [] old new kept same = subst (λ (t : Taker). IsKept (exchange_of t)) (sym same) kept
+  run_kept (b ∷ bytes) old new kept (next, is, rest) =
+      run_kept bytes next new (data_kept old next b kept is) rest
+
+  pub run_steps : (bytes : List ℕ) (old new : Taker) → IsKept (exchange_of old)
+      → Steps IsDataTaken old bytes new
+      → Steps TakesOne (exchange_of old) bytes (exchange_of new)
+  run_steps [] old new kept same = ap exchange_of same
+  run_steps (b ∷ bytes) old new kept (next, is, rest) = (
+    exchange_of next,
+    data_taken old next b kept is,
+    run_steps bytes next new (data_kept old next b kept is) rest,
+  )
+
+  pub run_limit : (bytes : List ℕ) (old new : Taker) → Steps IsDataTaken old bytes new
+      → new.room.limit ≡ old.room.limit
+  run_limit [] old new same = ap (λ (t : Taker). t.room.limit) same
+  run_limit (b ∷ bytes) old new (next, is, rest) =
+      run_limit bytes next new rest ∙ ap (λ (r : Room). r.limit) is.room
+
+  pub run_only : (bytes : List ℕ) (old new : Taker) (content : List ℕ)
+      → Steps IsDataTaken old bytes new → HasOnly content old.host → HasOnly content new.host
+  run_only [] old new content same only =
+      subst (λ (t : Taker). HasOnly content t.host) (sym same) only
+  run_only (b ∷ bytes) old new content (next, is, rest) only =
+      run_only bytes next new content rest
+      (subst (λ (h : Hosting). HasOnly content h) (sym is.host) only)
+
+  -- the run is the next of the buffer
+  pub run_taken : (old : ExchangeOf) (now next : Taker) (bytes : List ℕ) (at n : ℕ)
+      → HasTaken old (exchange_of now) bytes at
+      → Steps IsDataTaken now (take n (drop at bytes)) next
+      → HasTaken old (exchange_of next) bytes (at + n)
+  run_taken old now next bytes at n taken run = record {
+    kept = run_kept (take n (drop at bytes)) now next taken.kept run;
+    limit = run_limit (take n (drop at bytes)) now next run ∙ taken.limit;
+    steps = subst (λ bs. Steps TakesOne old bs (exchange_of next)) (sym (take-add at n bytes))
+        (steps_on TakesOne (take at bytes) (take n (drop at bytes)) old (exchange_of now)
+        (exchange_of next) taken.steps
+        (run_steps (take n (drop at bytes)) now next taken.kept run));
+    only = λ content only. run_only (take n (drop at bytes)) now next content run
+        (taken.only content only);
+  }
 
 -- one more character
 pub taken_on : (old now next : ExchangeOf) (bytes : List ℕ) (at : ℕ)

@@ -1,5 +1,5 @@
 -- What each call does to an exchange, for `Exchange`, `OwnedExchange` and what is built on them.
-use Rattle.std.specs.Prelude.{◌≡◌, ◌<◌, ◌≤◌, ◌+◌, ℕ, List, [], ◌∷◌, ◌++◌, length, Option, Some, None, true, false, ◌⊎◌, Result, MatchResult, OnOk, OnErr, IfErr, IsErrOf, IfSome}
+use Rattle.std.specs.Prelude.{◌≡◌, ◌<◌, ◌≤◌, ◌+◌, ℕ, List, [], ◌∷◌, ◌++◌, length, Option, Some, None, true, false, ◌⊎◌, Result, Ok, MatchResult, OnOk, OnErr, IfErr, IsErrOf, IfSome}
 use Rattle.apdu_core.specs.StatusWord.{StatusWord}
 use Rattle.apdu_core.specs.CommandBytes.{Command}
 use Rattle.t0_core.specs.declared.end.End.TheVariants.{Terminal, Card}
@@ -78,6 +78,10 @@ pub record IsTaking (old : ExchangeOf) (byte : ℕ) (result : Result (Unit {0}) 
   pub led : (c : Command) (came : List Character) → ComesTo c came old
       → MatchResult result (λ _. ComesTo c (came ++ (Card, byte) ∷ []) new)
       (λ fault. is_final fault ≡ true → ComesTo c (came ++ (Card, byte) ∷ []) new)
+
+-- it takes the character
+abbrev pub TakesOne : ExchangeOf → ℕ → ExchangeOf → Type 0
+TakesOne old byte new = IsTaking old byte (Ok tt) new
 
 -- The exchange takes the answer to a whole TPDU, or it is a fault. Which data left in it is not
 -- known. After any dialogue with this

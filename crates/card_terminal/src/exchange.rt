@@ -1,5 +1,5 @@
 //! The terminal's side of one command: its TPDUs in turn, and the data that they bring.
-ghost use Rattle.std.specs.Prelude.{◌≡◌, ◌≤◌, ℕ, ◌↔◌, List, [], Option, Some, None, true, false, IfOk, IsSome, IfSome};
+ghost use Rattle.std.specs.Prelude.{◌≡◌, ◌≤◌, ℕ, ◌↔◌, List, [], length, take, Option, Some, None, true, false, IfOk, IsSome, IfSome};
 ghost use Rattle.std.specs.Option.{option_map};
 ghost use Rattle.apdu_core.specs.declared.header.Header.{Header};
 ghost use Rattle.apdu_core.specs.StatusWord.{StatusWord};
@@ -8,6 +8,7 @@ ghost use Rattle.apdu_core.specs.CommandBytes.{HasSizes};
 ghost use Rattle.t0_core.specs.Front.{fresh};
 ghost use Rattle.t0_core.specs.HostSide.{HostStandsAt, IsRequest};
 ghost use Rattle.t0_core.specs.HostMark.{HasOnly};
+ghost use Rattle.t0_core.specs.Buffers.{Steps};
 ghost use Rattle.t0_core.specs.TpduBytes.{asked_of, due_by};
 ghost use Rattle.card_terminal.specs.ExchangeSide.{GoesByCharacters, HostOpensBy, asks_card, response_limit};
 
@@ -82,7 +83,7 @@ impl<'a, A: Allocator> Exchange<'a, A> {
     ghost use Rattle.t0_core.specs.Front.{Front, GoesOn};
     ghost use Rattle.t0_core.specs.HostSide.{data_due};
     ghost use Rattle.card_terminal.specs.Buffers.{IsHandingOut, IsTakingAll};
-    ghost use Rattle.card_terminal.specs.ExchangeSteps.{IsTurn, IsTaking, IsAnswering, IsLimited};
+    ghost use Rattle.card_terminal.specs.ExchangeSteps.{IsTurn, IsTaking, TakesOne, IsAnswering, IsLimited};
     ghost use Rattle.card_terminal.specs.Gathered.{UnitOf, Gathers};
     ghost use Rattle.card_terminal.specs.ExchangeHistory.{ComesTo, unit_characters};
     ghost use Rattle.card_terminal.specs.SentData.{TellsSent};
@@ -254,6 +255,16 @@ impl<'a, A: Allocator> Exchange<'a, A> {
             &mut self.stalled,
             byte,
         )
+    }
+
+    /// Takes the card's data characters at the front of `bytes` in one run, as `take` one at a
+    /// time, as many as are expected and as there is room for. Returns how many.
+    #[inline(always)]
+    pub(crate) fn take_data(&mut self, bytes: &[u8]) -> usize
+        ensures taken { Steps TakesOne self.old (take result bytes.now) self.new }
+        ensures fits { result ≤ length bytes.now }
+    {
+        self.end.take_data_bytes(bytes, &mut self.gather)
     }
 
     /// Writes the next characters to `bytes`, as `next` one at a time, until the terminal has none

@@ -5,10 +5,11 @@ ghost use Rattle.t0_core.specs.CardHistory.{Leads, LeadsUnder};
 ghost use Rattle.t0_core.specs.CardSide.{Taking_header};
 ghost use Rattle.t0_core.specs.Plan.{Course, Cursor};
 ghost use Rattle.t0_core.specs.Watch.{Hearing};
+ghost use Rattle.t0_core.specs.Buffers.{Steps};
 ghost use Rattle.object_card.specs.Agreed.{IsAgreed};
 ghost use Rattle.card_terminal.specs.ExchangeSide.{IsBounded, exchange_turn};
 ghost use Rattle.card_terminal.specs.Conversing.{point, IsCaused};
-ghost use Rattle.card_terminal.specs.Line.{Start, line, Begins, IsGoing, IsOneOf, Keeps, Passes, Converses};
+ghost use Rattle.card_terminal.specs.Line.{Start, line, HearsOne, Begins, IsGoing, IsOneOf, Keeps, Passes, Converses};
 
 mod run;
 
@@ -167,9 +168,40 @@ fn pass_data<A: Allocator, C: TpduCard, W: Watch>(
     }
 }
 
+/// Lets the watch hear data characters of the card.
+#[inline(always)]
+fn hear<W: Watch>(watch: &mut W, bytes: &[u8])
+    ensures { Steps HearsOne (W.hearing watch.old) bytes.now (W.hearing watch.new) }
+{
+    for at in 0..bytes.len() {
+        watch.seen(End::Card, bytes[at]);
+    }
+}
+
+/// Passes the data that the card sends now to the terminal and to the watch, as far as they lie in
+/// a row and the terminal has room. For speed, and as `pass_data` after a character of the card.
+#[inline(always)]
+fn pass_run<A: Allocator, C: TpduCard, W: Watch>(
+    exchange: &mut Exchange<'_, A>,
+    end: &mut CardEnd<C>,
+    watch: &mut W,
+)
+    ensures { (cursor : Cursor) →
+        Keeps C.TpduCard (line exchange.old end.old cursor (W.hearing watch.old))
+        (line exchange.new end.new cursor (W.hearing watch.new)) }
+{
+    let Some(run) = end.data_due() else {
+        return;
+    };
+    let bytes = run.bytes();
+    let count = exchange.take_data(bytes);
+    hear(watch, &bytes[..count]);
+    end.skip_data(count);
+}
+
 /// Passes the next character from one end to the other, and to the watch. After a character of the
-/// card it also passes the data that the terminal then sends. Returns false if the exchange has
-/// ended and there was no character.
+/// card it also passes the data that either end then sends. Returns false if the exchange has ended
+/// and there was no character.
 #[inline(always)]
 fn pass_characters<A: Allocator, B: Allocator, C: TpduCard, W: Watch>(
     exchange: &mut Exchange<'_, A>,
@@ -191,6 +223,7 @@ fn pass_characters<A: Allocator, B: Allocator, C: TpduCard, W: Watch>(
         HostTurn::Listens => {
             pass_from_card(exchange, end, plans, watch)?;
             pass_data(exchange, end, watch);
+            pass_run(exchange, end, watch);
             Ok(true)
         }
         HostTurn::Done(_) => Ok(false),

@@ -1,7 +1,7 @@
 -- A card with nothing selected, pending or prepared, and what a card sends.
 use Rattle.std.proofs.Common.{◌≡◌, ℕ, zero, suc, ◌<◌, ◌≤◌, ◌-◌, List, [], ◌∷◌, arith, length, take, length-take, Option, Some, None, refl, sym, subst}
 use Rattle.std.specs.Prelude.{slice_get}
-use Rattle.std.proofs.Math.Nat.{min-le_left, min-le_right}
+use Rattle.std.proofs.Math.Nat.{min-le_left}
 use Rattle.apdu_core.specs.declared.header.Header.{Header}
 use Rattle.apdu_core.specs.StatusWord.{count}
 use Rattle.t0_core.specs.Meaning.{IsSending}
@@ -87,29 +87,3 @@ sends_run held selected chain response r put h p3 cut sent at run is runs fits =
     subst Runs (sym is) (λ within. run-within left run (count p3) at
     (omega (arith, fits, within, length-take (count p3) left, min-le_left (count p3) (length left)))
     runs)
-
--- the place is among the data to send, of the response and of those that P3 states
-pub is_among : (held : List ApplicationView) (selected : Option ℕ) (chain : ChainState)
-    (response : Option Response) (r : Ready)
-    (put : Option NewValue) (h : Header) (p3 cut : ℕ) (sent : Response) (at : ℕ)
-    → r ≡ ready.Sends h p3 cut sent
-    → IsSending (prepared_of held selected chain response r put) (λ ask bytes. at < length bytes)
-    → (at < count p3) × (at < length (left_of (entries_at held selected) sent))
-is_among held selected chain response r put h p3 cut sent at is =
-    let left : List ℕ = left_of (entries_at held selected) sent in
-    let Within : Ready → Type 0 = λ x. IsSending (prepared_of held selected chain response x put)
-    (λ ask bytes. at < length bytes) → (at < count p3) × (at < length left) in
-    subst Within (sym is) (λ within. (
-      omega (
-        arith,
-        within,
-        length-take (count p3) left,
-        min-le_left (count p3) (length left),
-      ),
-      omega (
-        arith,
-        within,
-        length-take (count p3) left,
-        min-le_right (count p3) (length left),
-      ),
-    ))

@@ -1,5 +1,5 @@
 -- Instructions and their INS; each INS moves data in one direction only.
-use Rattle.std.proofs.Common.{◌≡◌, ◌∙◌, ℕ, Some, refl, sym, ap}
+use Rattle.std.proofs.Common.{◌≡◌, ◌∙◌, Some, refl, sym, ap}
 use Rattle.std.proofs.lemmas.Bool.{true≢false}
 use Rattle.apdu_core.specs.declared.header.Header.{Header}
 use Rattle.object_card.specs.declared.instructions.Instruction.{Instruction}

@@ -110,8 +110,8 @@ impl Response {
         }
     }
 
-    /// The bytes from index `at` on of those left, to the end of the front or of the value: at least
-    /// one, and at most `most`.
+    /// The bytes from index `at` on of those left, to the end of the front or of the value: at
+    /// least one, and at most `most`.
     #[inline(always)]
     pub(crate) fn run<'a, A: Allocator>(
         &'a self,

@@ -1,5 +1,5 @@
 -- A card's end sends a run of data characters, which is one turn for each.
-use Rattle.std.proofs.Common.{◌≡◌, ℕ, zero, suc, ◌+◌, ◌-◌, ◌<◌, ◌≤◌, List, [], ◌∷◌, ◌++◌, length, take, drop, take-take, refl, sym, subst, ap, ◌∙◌, arith, inl, Bool, true, false, ◌&&◌, nat_lt, Some, add-zero}
+use Rattle.std.proofs.Common.{◌≡◌, ℕ, zero, suc, ◌+◌, ◌-◌, ◌<◌, ◌≤◌, List, [], ◌∷◌, length, take, drop, take-take, refl, sym, subst, ap, ◌∙◌, arith, inl, Bool, false, ◌&&◌, nat_lt, Some, add-zero}
 use Rattle.std.specs.Prelude.{min}
 use Rattle.std.specs.List.{slice_get}
 use Rattle.std.proofs.lemmas.Bool.{lt-ltb}
@@ -10,17 +10,14 @@ use Rattle.t0_core.specs.declared.card_end.Phase.{Phase}
 use Rattle.t0_core.specs.declared.card_end.Phase.TheVariants.{Opening, Refused, Accepted, SecondStatus}
 use Rattle.t0_core.specs.declared.direction.Direction.{Direction}
 use Rattle.t0_core.specs.declared.direction.Direction.TheVariants.{ToCard, FromCard}
-use Rattle.t0_core.specs.declared.end.End.TheVariants.{Card}
 use Rattle.t0_core.specs.declared.service.Service.{Service}
 use Rattle.t0_core.specs.Meaning.{Prepared, Nothing, Receiving, Sending, Decided, IsSending}
 use Rattle.t0_core.specs.Plan.{Course, Cursor, plain}
 use Rattle.t0_core.specs.Front.{Front, In_header, In_body, After_first}
-use Rattle.t0_core.specs.CardSide.{EndOf, Stage, Taking_header, Refusing, Serving, Ending, StandsAt, due_in, Advances, comes_from_terminal, listens, left_to_send, one_moved, whole_of}
-use Rattle.t0_core.specs.CardView.{Fits, IsBegun, IsForgotten, IsInService, skipped, so_many_moved, stage_of}
+use Rattle.t0_core.specs.CardSide.{EndOf, Stage, Taking_header, Refusing, Serving, Ending, StandsAt, Advances, comes_from_terminal, listens, left_to_send, one_moved, whole_of}
+use Rattle.t0_core.specs.CardView.{Fits, IsBegun, IsForgotten, skipped, so_many_moved, stage_of}
 use Rattle.t0_core.specs.CardSending.{AreDue, IsHandedOut}
 use Rattle.t0_core.specs.DataRun.{IsRunAt}
-use Rattle.t0_core.specs.declared.card_end.tpdu.Awaited.TheVariants as next
-use Rattle.t0_core.specs.Answering.{awaited_in, data_awaited}
 use Rattle.t0_core.specs.Buffers.{Steps}
 use Rattle.t0_core.proofs.CardLemmas.{sends_data}
 use Rattle.t0_core.proofs.CardTakingLemmas.{end_at}
@@ -238,19 +235,7 @@ begun_phase prepared (Refused header p3 status done) fits = tt
 begun_phase prepared (SecondStatus status) fits = tt
 begun_phase prepared (Accepted s) fits = fits.begun
 
--- ---- what is due
-
--- a card's end that awaits a data character of the card has some to send
-pub none_due : (stage : Stage) (place : ℕ) → awaited_in stage ≡ next.OfCard place
-    → due_in stage ≡ 0 → ⊥
-none_due (Taking_header bytes) place is none = absurd (cc)
-none_due (Refusing header p3 status done) place is none = absurd (cc)
-none_due (Ending status) place is none = absurd (cc)
-none_due (Serving s came) place is none =
-    let due = card_is_due (nat_lt s.moved s.until) s.direction s.moved s.until place refl is in
-    let left : s.until - s.moved ≡ 0 =
-    ap (λ d. left_to_send d s.moved s.until) (sym due.1) ∙ none in
-    omega (arith, due.0, left)
+-- ---- a run has a byte
 
 is_some : {State : Type 0} (prepared : Prepared State) (m : ℕ) (run : List ℕ)
     → IsSending prepared (λ ask bytes. IsRunAt bytes m run) → 0 < length run
@@ -266,7 +251,6 @@ some_at card e (Taking_header bytes) run due = absurd due
 some_at card e (Refusing header p3 status done) run due = absurd due
 some_at card e (Ending status) run due = absurd due
 
--- a run has a byte
 pub some_due : {C : Type 0} (card : Ghosts C) (e : EndOf C) (run : List ℕ) → AreDue card e run
     → 0 < length run
 some_due card e run due = some_at card e.card e.stage run due

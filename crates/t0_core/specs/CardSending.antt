@@ -15,8 +15,8 @@ use Rattle.t0_core.specs.declared.card_end.tpdu.Awaited.TheVariants as next
 use Rattle.t0_core.specs.Answering.{awaited_in}
 use Rattle.t0_core.specs.DataRun.{IsRunAt}
 
--- The end sends the character, the data at this place of the TPDU. It takes no plan with it. The dialogue continues. What
--- led to the end before leads, with this character, to the end after.
+-- The end sends the character, the data at this place of the TPDU. It takes no plan with it. The
+-- dialogue continues. What led to the end before leads, with this character, to the end after.
 pub record IsHandedOut {C : Type 0} (card : Ghosts C) (old : EndOf C) (byte : ℕ) (new : EndOf C)
     : Type 0 where
   pub place : ℕ

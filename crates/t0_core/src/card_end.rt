@@ -313,8 +313,8 @@ impl<C: TpduCard> CardEnd<C> {
         run_due(&self.card, &self.phase)
     }
 
-    /// Counts the first `count` characters of `data_due` as sent, as `turn` does for each. If `count`
-    /// is more than the card sends next, it counts all of these.
+    /// Counts the first `count` characters of `data_due` as sent, as `turn` does for each. If
+    /// `count` is more than the card sends next, it counts all of these.
     #[inline(always)]
     pub fn skip_data(&mut self, count: usize)
         ensures { (run : List ℕ) → AreDue C.TpduCard self.old run → count ≤ length run →

@@ -694,7 +694,8 @@ fn take_run_at<A: Allocator>(
     requires { IsInRange (host_of request.now stage.old) }
     ensures taken { Steps IsDataTaken
         (record { host = host_of request.now stage.old; room = gather.old })
-        (take result bytes.now) (record { host = host_of request.now stage.new; room = gather.new }) }
+        (take result bytes.now)
+        (record { host = host_of request.now stage.new; room = gather.new }) }
     ensures fits { result ≤ length bytes.now }
     ensures all { (result ≡ length bytes.now)
         ⊎ TakesNoData (record { host = host_of request.now stage.new; room = gather.new }) }

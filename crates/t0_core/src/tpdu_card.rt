@@ -24,8 +24,8 @@ pub enum Verdict {
 /// A card as its end of the line sees it: command TPDUs, not characters (ISO/IEC 7816-3, 10.3.1).
 ///
 /// The end calls `header` for each header. After `Receive` it calls `data`. After `Send` it calls
-/// `byte` for each place, or `run` for several, and then `end_of_sending`. In each case it calls `answered` once SW2 is
-/// sent. Only `answered` and `reset` change the card's state.
+/// `byte` for each place, or `run` for several, and then `end_of_sending`. In each case it calls
+/// `answered` once SW2 is sent. Only `answered` and `reset` change the card's state.
 pub trait TpduCard {
     /// The type of the card's states.
     ghost State: { Type 0 };

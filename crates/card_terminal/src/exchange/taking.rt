@@ -54,8 +54,8 @@ pub(crate) fn taken_by<A: Allocator>(
     }
 }
 
-/// Takes the characters of a buffer. The parameters are the fields of an exchange, and the clauses
-/// are those of `Exchange::take_bytes`.
+/// Takes the characters of a buffer, data in runs. The parameters are the fields of an exchange,
+/// and the clauses are those of `Exchange::take_bytes`.
 #[inline(always)]
 pub(crate) fn all_taken_by<A: Allocator>(
     end: &mut HostEnd<'_>,
@@ -73,13 +73,19 @@ pub(crate) fn all_taken_by<A: Allocator>(
     ensures limit { gather.new.limit ≡ gather.old.limit }
     ensures data { (content : List ℕ) → HasOnly content end.old → HasOnly content end.new }
 {
-    for (at, byte) in bytes.iter().enumerate() {
-        if let Err(fault) = taken_by(end, gather, attempt, wanted, stalled, *byte) {
+    // Data can only be first, and after a procedure byte.
+    let mut at = end.take_data_bytes(bytes, gather);
+
+    // For the proof: the label names the loop's goals.
+    'rest: while at < bytes.len() {
+        if let Err(fault) = taken_by(end, gather, attempt, wanted, stalled, bytes[at]) {
             return Taken {
                 count: at,
                 outcome: Err(fault),
             };
         }
+        at += 1;
+        at += end.take_data_bytes(&bytes[at..], gather);
     }
     Taken {
         count: bytes.len(),

@@ -72,9 +72,16 @@ returns-in_ok-pass_from_card-in-Listens g c = λ s began.
     let same = c.in-Listens.ensures.turn.stays listening_sends_nothing in
     let passed = c.in_ok-pass_from_card-in-Listens.ensures s (on_too g.C.TpduCard s l _ same began)
     in
-    let more = c.pass_data.ensures c.pass_from_card.new.plans s passed.1 in (
-      omega (arith, ap (λ e. left (line e l.end l.cursor l.hearing)) same, passed.0, more.0),
-      more.1,
+    let more = c.pass_data.ensures c.pass_from_card.new.plans s passed.1 in
+    let run = c.pass_run.ensures c.pass_from_card.new.plans s more.1 in (
+      omega (
+        arith,
+        ap (λ e. left (line e l.end l.cursor l.hearing)) same,
+        passed.0,
+        more.0,
+        run.0,
+      ),
+      run.1,
     )
 
 pub returns-in-Done : goal.returns-in-Done

@@ -1,4 +1,4 @@
-use Rattle.std.proofs.Common.{◌≡◌, ◌<◌, ◌≤◌, ◌-◌, List, ℕ, length, subst, sym, ◌∙◌, ap, arith}
+use Rattle.std.proofs.Common.{◌<◌, ◌≤◌, ◌-◌, List, ℕ, length, subst, sym, arith}
 use Rattle.std.specs.Prelude.{IfSome}
 use Rattle.apdu_core.specs.StatusWord.{count}
 use Rattle.t0_core.specs.Meaning.{IsSending}

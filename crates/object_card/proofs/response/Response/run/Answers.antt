@@ -1,4 +1,4 @@
-use Rattle.std.proofs.Common.{◌≡◌, ℕ, List, arith, subst, sym, take, drop, length, ◌++◌, ◌≤◌, ◌+◌, ◌-◌}
+use Rattle.std.proofs.Common.{ℕ, List, arith, subst, sym, take, drop, length, ◌++◌, ◌≤◌, ◌+◌, ◌-◌}
 use Rattle.std.proofs.lemmas.List.{take_rest}
 use Rattle.t0_core.specs.DataRun.{IsRunAt}
 use Rattle.object_card.specs.CardFields.{entries_at, left_of}

@@ -235,6 +235,7 @@ def test_readers_with_long_names(tmp_path):
         (reader / "card").write_text("0")
     status, out, error = room.run("--reader= 00 00", "--reader= 01 00")
     assert (status, error) == (0, "") and out.endswith("6 of 6 rows done, 0 to decide\n")
+    assert "set aside" not in out
 
 
 def test_each_card_that_does_not_answer_is_named(tmp_path):

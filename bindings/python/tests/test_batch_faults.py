@@ -88,22 +88,27 @@ def test_a_reader_that_fails_five_cards_is_set_aside(tmp_path):
     assert [it for it in told(out) if it.startswith(room.names[0])] == [mute] * 5 + [aside]
 
 
-def test_a_run_ends_when_all_readers_are_set_aside(tmp_path):
-    room = Room(tmp_path, 1)
-    room.environment["MUTE"] = " ".join(map(str, range(4))) + " 5 6 7 8 9"
+def test_a_card_that_is_done_begins_the_count_again(tmp_path):
+    room = Room(tmp_path, 2)
+    room.environment["MUTE"] = "0 1 2 3 6 7 8"
     status, out, _ = room.run()
-    mute = f"{room.names[0]}: the card does not answer to reset"
-    # a card that is done begins the count again
-    assert status == 0 and told(out) == [mute] * 4 + [
-        f"{room.names[0]}: row 1 done", "1 of 1 rows done, 0 to decide"
-    ]
-    (tmp_path / "other").mkdir()
-    room = Room(tmp_path / "other", 1)
-    room.environment["MUTE"] = "0 1 2 3 4 5 6"
+    name = room.names[0]
+    mute = f"{name}: the card does not answer to reset"
+    other = f"{name}: row 2 unused: select was answered 6A82 file or application not found"
+    assert status == 0 and told(out)[:-1] == [
+        *[mute] * 4, f"{name}: row 1 done", other, *[mute] * 3, f"{name}: row 2 done"
+    ]  # fmt: skip
+
+
+@pytest.mark.parametrize(("variable", "value"), [("MUTE", "0 1 2 3 4 5 6"), ("WORN", "yes")])
+def test_a_run_ends_when_all_readers_are_set_aside(tmp_path, variable, value):
+    room = Room(tmp_path, 9)
+    room.environment[variable] = value
     status, out, _ = room.run()
-    assert status == 1 and told(out)[-2:] == [
-        f"{room.names[0]}: set aside: 5 cards in a row failed", "0 of 1 rows done, 0 to decide"
-    ]
+    aside = f"{room.names[0]}: set aside: 5 cards in a row failed"
+    assert status == 1 and told(out)[5] == aside
+    failed = 0 if variable == "MUTE" else 5
+    assert told(out)[-1] == f"0 of 9 rows done, {failed} to decide"
 
 
 def test_a_run_stops_after_failures(tmp_path):

@@ -128,9 +128,10 @@ def test_a_bar_on_a_terminal(tmp_path):
     assert any(bar == "#" * (int(done) * 5) + "-" * (20 - int(done) * 5) and left
                for bar, done, _, left in bars if done != "0")
     assert all(len(set(bar)) == 1 or int(done) for bar, done, _, _ in bars)
-    # no line is a mixture
-    for line in text.replace("\r\n", "\n").split("\n"):
-        assert "rows, " not in line.split("\x1b[K")[-1] or line.split("\x1b[K")[-1][0] == "["
+    # no line is a mixture: the bar is wiped first
+    lines = [it.split("\x1b[K")[-1] for it in text.replace("\r\n", "\n").split("\n")]
+    named = [it for it in lines if room.names[0] in it]
+    assert len(named) > 4 and all(it.startswith(room.names[0]) for it in named)
     assert "\x1b" not in room.run("--status")[1]
 
 
@@ -350,6 +351,7 @@ def test_look_finds_a_whole_row_and_waits_for_its_card(tmp_path):
     (tmp_path / room.names[0] / "out").touch()
     run = room.start("--look=1", *room.readers)
     assert run.stdout.readline() == f"{room.names[0]}: insert the card of row 1\n"
+    time.sleep(0.5)
     (tmp_path / room.names[0] / "out").unlink()
     assert ended(run) == ("row 1, the card: done\n", "") and run.returncode == 0
     room.put_in(room.names[0], 1)

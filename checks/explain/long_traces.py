@@ -21,6 +21,8 @@ def traces():
     yield behind_notes()
     yield passed_over(250)
     yield alike()
+    yield dropped_chains(16, "50 3132")
+    yield dropped_chains(17, "**")
 
 
 def at_limits():
@@ -91,6 +93,20 @@ def passed_over(count):
     wanted += [f"#2 GET DATA of 5F20  (line {count + 3})"]
     told = error(2, 1, PROCEDURE_DUE).replace("\n", " (protocol errors: 1)\n")
     return "many lines passed over", ["--resume"], given, wanted, told
+
+
+def dropped_chains(count, shown):
+    """Resets drop so many chains, and a command follows that is the last piece of none of them."""
+    given, wanted = [], []
+    for at in range(count):
+        given += [f"> 10DA00{0x40 + at:02X}025A04", "< 9000", "reset"]
+        wanted += [f"#{at + 1} PUT DATA of {0x40 + at:02X}, piece 1 of a chain  (line {3 * at + 1})",
+                   f"  > header     10DA00{0x40 + at:02X}02", "  > data       **",
+                   "  < status     9000 normal processing", "| reset: the chain is dropped"]
+    given += ["> 00DA00600450023132", "< 9000"]
+    wanted += [f"#{count + 1} PUT DATA of 60  (line {3 * count + 1})", "  > header     00DA006004",
+               f"  > data       {shown}", "  < status     9000 normal processing"]
+    return f"{count} dropped chains", ["--tpdu", "--mask", "5A"], given, wanted, ""
 
 
 def alike():

@@ -1,6 +1,6 @@
-// Uses functions and macros of the header in C++. It compiles with warnings for old-style casts and
-// for 0 as a null pointer.
-#include <galliumtoad.h>
+// Uses functions and macros of the headers in C++. It compiles with warnings for old-style casts
+// and for 0 as a null pointer.
+#include <galliumtoad.hpp>
 
 int main() {
     gt_card card = GT_INIT;

@@ -397,9 +397,9 @@ def test_a_line_is_read_as_by_card_trace(line, sent, reason):
 
 
 def test_a_cr_without_an_lf_is_a_character_of_a_word():
-    assert [*Script("script", "get 50\r\nget 50", []).operations(1, {})] == [1, 2]
+    assert [*Script("script", "get 50\r\nget 50", []).operations({})] == [1, 2]
     with pytest.raises(ValueError):
-        Script("script", "get 50\r", []).operations(1, {})
+        Script("script", "get 50\r", []).operations({})
 
 
 def test_columns_take_only_what_words_take(tmp_path):

@@ -96,12 +96,13 @@ def passed_over(count):
 
 
 def dropped_chains(count, shown):
-    """Resets drop so many chains, and a command follows that is the last piece of none of them."""
+    """Resets drop `count` chains, and a command follows that is the last piece of none of them."""
     given, wanted = [], []
     for at in range(count):
-        given += [f"> 10DA00{0x40 + at:02X}025A04", "< 9000", "reset"]
-        wanted += [f"#{at + 1} PUT DATA of {0x40 + at:02X}, piece 1 of a chain  (line {3 * at + 1})",
-                   f"  > header     10DA00{0x40 + at:02X}02", "  > data       **",
+        tag = f"{0x40 + at:02X}"
+        given += [f"> 10DA00{tag}025A04", "< 9000", "reset"]
+        wanted += [f"#{at + 1} PUT DATA of {tag}, piece 1 of a chain  (line {3 * at + 1})",
+                   f"  > header     10DA00{tag}02", "  > data       **",
                    "  < status     9000 normal processing", "| reset: the chain is dropped"]
     given += ["> 00DA00600450023132", "< 9000"]
     wanted += [f"#{count + 1} PUT DATA of 60  (line {3 * count + 1})", "  > header     00DA006004",

@@ -346,10 +346,10 @@ def parities():
         words=["-k", "send", "00B0000000"], status=1))
 
     def marked_response_at_t1(other):
-        play(other, first[:-6] + "< 00E101FE1E > 00000500B0000000B5", card=True)
+        play(other, first + " < 00E101FE1E > 00000500B0000000B5 ~ 0.05", card=True)
         other.sends_marked("00")
         other.send("00026D006F")
-        play(other, "> 00810081 < 0000026D006F", card=True)
+        play(other, "> 00810081 ~ 0.05 < 0000026D006F", card=True)
 
     yield ("a wrong parity of a response at T=1", lambda: terminal(
         "", [*reset, EVEN, *END], output="= 6D00\n", play_it=marked_response_at_t1, echo=False,

@@ -313,7 +313,7 @@ static const char *receive_block(struct line *line, const struct t1_times *times
     if (is_well)
         return t1_receive(line, times, times->cwt, block);
     what = line_drop(line, times->cwt, times->cwt);
-    return what == NULL ? LINE_HAS_WRONG_PARITY : what;
+    return what == NULL || what == LINE_IS_BROKEN ? LINE_HAS_WRONG_PARITY : what;
 }
 
 /* Talks T=1 from the terminal's first character on, until a reset or a fault. */

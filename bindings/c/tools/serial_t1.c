@@ -44,7 +44,7 @@ const char *t1_receive(struct line *line, const struct t1_times *times, int64_t 
     if (fault != NULL && fault != LINE_HAS_WRONG_PARITY)
         return fault;
     end = line_drop(line, fault == NULL ? times->bgt : times->cwt, times->cwt);
-    return end == NULL ? fault : end;
+    return end == NULL || (fault != NULL && end == LINE_IS_BROKEN) ? fault : end;
 }
 
 static const char *give_up(struct t1_end *t1)

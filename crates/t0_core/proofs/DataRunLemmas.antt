@@ -1,5 +1,5 @@
 -- A terminal's end sends a run of its data, which is one turn for each.
-use Rattle.std.proofs.Common.{◌≡◌, ℕ, zero, suc, add-zero, ◌+◌, ◌<◌, ◌≤◌, List, ◌++◌, length, take, drop, refl, sym, subst, ap, ◌∙◌, arith, slice_index}
+use Rattle.std.proofs.Common.{◌≡◌, ℕ, zero, suc, add-zero, ◌+◌, ◌-◌, ◌<◌, ◌≤◌, List, ◌++◌, length, take, drop, refl, sym, subst, ap, ◌∙◌, arith, slice_index}
 use Rattle.std.proofs.lemmas.List.{drop_more, take_at, drop_at, length-take-le, length-drop}
 use Rattle.std.proofs.lemmas.Bool.{lt-ltb}
 use Rattle.apdu_core.specs.declared.header.Header.{Header}
@@ -53,44 +53,69 @@ module _ (h : Header) (p3 : ℕ) (content : List ℕ) (u : ℕ) where
         subst R e (run_of n (m + 1) request fits (omega (arith, within))),
       ))
 
-  -- they are written to a buffer
-  run_handed : (n m : ℕ) (before after : List ℕ)
-      → IsInRange (host_at h p3 ToCard content (Moving m u)) → m + n ≤ u → n ≤ length before
-      → after ≡ take n (drop m content) ++ drop n before
-      → HandsOut IsDataTurn (host_at h p3 ToCard content (Moving m u)) before after n
+  -- the same from a stage that moves data
+  moves_on : (n m : ℕ) → IsInRange (host_at h p3 ToCard content (Moving m u)) → m + n ≤ u
+      → Steps IsDataTurn (host_at h p3 ToCard content (Moving m u)) (take n (drop m content))
       (host_at h p3 ToCard content (moving (m + n) u))
-  run_handed n m before after range within fits is =
+  moves_on n m range within =
       let P : HostStage → Type 0 = λ s. Steps IsDataTurn (host_at h p3 ToCard content s)
       (take n (drop m content)) (host_at h p3 ToCard content (moving (m + n) u)) in
-      let Q : List ℕ → Type 0 = λ bs. Steps IsDataTurn
-      (host_at h p3 ToCard content (Moving m u)) bs
-      (host_at h p3 ToCard content (moving (m + n) u)) in
-      let len : length (take n (drop m content)) ≡ n = length-take-le n (drop m content)
-      (omega (arith, length-drop m content, range.0.2, range.1.1, within)) in
-      record {
-        fits = fits;
-        steps = subst Q (sym (ap (λ bs. take n bs) is
-            ∙ take_at (take n (drop m content)) (drop n before) n len))
-            (subst P (still_moving m u range.1.0) (run_of n m range.0 range.1.1 within));
-        behind = ap (λ bs. drop n bs) is
-            ∙ drop_at (take n (drop m content)) (drop n before) n len;
-      }
+      subst P (still_moving m u range.1.0) (run_of n m range.0 range.1.1 within)
 
 -- the same for an end by its fields
+in_range : (h : Header) (p3 : ℕ) (d : Direction) (own content : List ℕ) (stage : HostStage)
+    (m u : ℕ) → d ≡ ToCard → own ≡ content → stage ≡ Moving m u
+    → IsInRange (host_at h p3 d own stage) → IsInRange (host_at h p3 ToCard content (Moving m u))
+in_range h p3 d own content stage m u way same at range =
+    let Q : Direction → List ℕ → HostStage → Type 0 = λ x bs s. IsInRange (host_at h p3 x bs s) in
+    subst (λ s. Q ToCard content s) at
+    (subst (λ bs. Q ToCard bs stage) same (subst (λ x. Q x own stage) way range))
+
+sent_in : (h : Header) (p3 : ℕ) (d : Direction) (own content : List ℕ) (stage last : HostStage)
+    (m u n : ℕ) → d ≡ ToCard → own ≡ content → stage ≡ Moving m u
+    → IsInRange (host_at h p3 d own stage) → m + n ≤ u → last ≡ moving (m + n) u
+    → Steps IsDataTurn (host_at h p3 d own stage) (take n (drop m content))
+    (host_at h p3 d own last)
+sent_in h p3 d own content stage last m u n way same at range within ends =
+    let P : Direction → List ℕ → HostStage → HostStage → Type 0 = λ x bs s t.
+    Steps IsDataTurn (host_at h p3 x bs s) (take n (drop m content)) (host_at h p3 x bs t) in
+    subst (λ x. P x own stage last) (sym way)
+    (subst (λ bs. P ToCard bs stage last) (sym same)
+    (subst (λ s. P ToCard content s last) (sym at)
+    (subst (λ t. P ToCard content (Moving m u) t) (sym ends)
+    (moves_on h p3 content u n m (in_range h p3 d own content stage m u way same at range)
+    within))))
+
+-- all that are left
+pub rest_sent_in : (h : Header) (p3 : ℕ) (d : Direction) (own content : List ℕ)
+    (stage last : HostStage) (m u : ℕ) → d ≡ ToCard → own ≡ content → stage ≡ Moving m u
+    → IsInRange (host_at h p3 d own stage) → last ≡ moving u u
+    → Steps IsDataTurn (host_at h p3 d own stage) (take (u - m) (drop m content))
+    (host_at h p3 d own last)
+rest_sent_in h p3 d own content stage last m u way same at range ends =
+    let all : m + (u - m) ≡ u = omega (
+      arith,
+      (in_range h p3 d own content stage m u way same at
+          range).1.0,
+    ) in
+    sent_in h p3 d own content stage last m u (u - m) way same at range (omega (arith, all))
+    (subst (λ k. last ≡ moving k u) (sym all) ends)
+
+-- some, written to a buffer
 pub run_in : (h : Header) (p3 : ℕ) (d : Direction) (own content : List ℕ) (stage last : HostStage)
     (m u n : ℕ) (before after : List ℕ) → d ≡ ToCard → own ≡ content → stage ≡ Moving m u
     → IsInRange (host_at h p3 d own stage) → m + n ≤ u → n ≤ length before
     → after ≡ take n (drop m content) ++ drop n before → last ≡ moving (m + n) u
     → HandsOut IsDataTurn (host_at h p3 d own stage) before after n (host_at h p3 d own last)
 run_in h p3 d own content stage last m u n before after way same at range within fits is ends =
-    let P : Direction → List ℕ → HostStage → HostStage → Type 0 = λ x bs s t.
-    HandsOut IsDataTurn (host_at h p3 x bs s) before after n (host_at h p3 x bs t) in
-    let Q : Direction → List ℕ → HostStage → Type 0 = λ x bs s. IsInRange (host_at h p3 x bs s) in
-    subst (λ x. P x own stage last) (sym way)
-    (subst (λ bs. P ToCard bs stage last) (sym same)
-    (subst (λ s. P ToCard content s last) (sym at)
-    (subst (λ t. P ToCard content (Moving m u) t) (sym ends)
-    (run_handed h p3 content u n m before after
-    (subst (λ s. Q ToCard content s) at
-    (subst (λ bs. Q ToCard bs stage) same (subst (λ x. Q x own stage) way range)))
-    within fits is))))
+    let in_it = in_range h p3 d own content stage m u way same at range in
+    let len : length (take n (drop m content)) ≡ n = length-take-le n (drop m content)
+    (omega (arith, length-drop m content, in_it.0.2, in_it.1.1, within)) in
+    record {
+      fits = fits;
+      steps = subst (λ bs. Steps IsDataTurn (host_at h p3 d own stage) bs
+          (host_at h p3 d own last)) (sym (ap (λ bs. take n bs) is
+          ∙ take_at (take n (drop m content)) (drop n before) n len))
+          (sent_in h p3 d own content stage last m u n way same at range within ends);
+      behind = ap (λ bs. drop n bs) is ∙ drop_at (take n (drop m content)) (drop n before) n len;
+    }

@@ -1,11 +1,10 @@
 -- A whole TPDU, character by character, at a card's end.
-use Rattle.std.proofs.Common.{◌≡◌, ℕ, zero, suc, ◌==◌, ◌+◌, ◌<◌, ◌≤◌, ◌⊎◌, lit<, List, [], ◌∷◌, ◌++◌, length, take, refl, sym, subst, ◌∙◌, ap, arith, inl, inr, true, false, Bool, nat_lt, if◌then◌else◌, Option, Some, None, Result, Ok, length-append, append-nil, append_assoc}
+use Rattle.std.proofs.Common.{◌≡◌, ℕ, zero, suc, ◌==◌, ◌+◌, ◌<◌, ◌≤◌, ◌⊎◌, lit<, List, [], ◌∷◌, ◌++◌, length, take, drop, get_or, refl, sym, subst, ◌∙◌, ap, arith, inl, inr, true, false, Bool, nat_lt, if◌then◌else◌, Option, Some, None, Result, Ok, length-append, append-nil, append_assoc}
 use Rattle.std.specs.List.{slice_get, flat_map}
-use Rattle.std.specs.Result.{OnOk}
 use Rattle.std.specs.Option.{MatchOption, SomeIff}
-use Rattle.std.proofs.lemmas.Bool.{ltb-true, ltb-false, eqb-true, eq-eqb}
-use Rattle.std.proofs.lemmas.List.{take_more, take_all}
-use Rattle.std.proofs.lemmas.Option.{get_or_from_slice_get, slice_get_within}
+use Rattle.std.proofs.lemmas.Bool.{ltb-true, ltb-false, lt-ltb, eqb-true, eq-eqb}
+use Rattle.std.proofs.lemmas.List.{take_more, take_all, drop_more}
+use Rattle.std.proofs.lemmas.Option.{get_or_from_slice_get, slice_get_within, slice_get-get_or}
 use Rattle.std.proofs.Math.Seq.{take-nil}
 use Rattle.apdu_core.specs.declared.header.Header.{Header}
 use Rattle.apdu_core.specs.StatusWord.{StatusWord, IsStatusWord}
@@ -23,21 +22,22 @@ use Rattle.t0_core.specs.Front.{Front, fresh, front_characters, In_header, In_bo
 use Rattle.t0_core.specs.Room.{Room}
 use Rattle.t0_core.specs.CardHistory.{Leads, LeadsUnder, under_way}
 use Rattle.t0_core.specs.History.{Event, Whole, RunsOver, events_of, passed}
-use Rattle.t0_core.specs.CardSide.{EndOf, Stage, Taking_header, Refusing, Serving, Ending, StandsAt, Advances, IsOnPlan, IsPermitted, PermitsData, SuitsFront, begins_with, listens, with_character, still_to_go}
-use Rattle.t0_core.specs.CardLaws.{begun, taken_stays}
+use Rattle.t0_core.specs.CardSide.{EndOf, Stage, Taking_header, Refusing, Serving, Ending, StandsAt, Advances, IsOnPlan, IsPermitted, PermitsData, SuitsFront, begins_with, listens, with_character, still_to_go, comes_from_terminal}
+use Rattle.t0_core.specs.CardLaws.{begun, due_data, taken_stays}
 use Rattle.t0_core.specs.TpduBytes.{Asked}
 use Rattle.t0_core.specs.CardTpdu.{AreAsked, IsOf, IsCarriedOut, IsStuck, LeadsOnBy, rests}
 use Rattle.t0_core.specs.Answering.{awaited_in, data_awaited, IsFrontOf, IsWhole, IsAnswering, Ends, Sticks}
 use Rattle.t0_core.specs.FrontLaws.{goes_on}
 use Rattle.t0_core.specs.DialogueLaws.{flat_map_last, follow_each, all_more, runs_each, one_more_each}
 use Rattle.t0_core.proofs.PlannedFront.{at_front, at_fresh, planned_under}
-use Rattle.t0_core.proofs.HistoryLemmas.{whole_more}
+use Rattle.t0_core.proofs.HistoryLemmas.{whole_more, data_are_due}
 use Rattle.t0_core.specs.CardView.{KeepsDirection}
 use Rattle.t0_core.proofs.CardLemmas.{direction_in, suits_itself, stays_permitted}
 use Rattle.t0_core.proofs.PlanLemmas.{nulls_move_nothing}
 use Rattle.t0_core.proofs.PlaceLemmas.{card_is_due, same_card_place}
 use Rattle.t0_core.specs.Buffers as buffers
 use Rattle.t0_core.specs.CardSending.{IsHandedOut}
+use Rattle.t0_core.specs.CardTaking.{IsTaken}
 
 -- ---- data and directions
 
@@ -588,6 +588,82 @@ passes_own {C = C} card first plan asked before got old new place byte on is byt
       falls plan,
     )
 
+-- and the next one, if the end listens
+still_own : (stage : Stage) (place byte : ℕ) → awaited_in stage ≡ next.OfTerminal place
+    → listens (with_character stage byte) ≡ true
+    → awaited_in (with_character stage byte) ≡ next.OfTerminal (place + 1)
+still_own (Serving s came) place byte is due =
+    let was = terminal_due (nat_lt s.moved s.until) s.direction s.moved s.until place refl is in
+    let more = due_data s.direction (s.moved + 1) s.until due in
+    rw (lt-ltb (s.moved + 1) s.until more.1) (rw more.0
+    (ap (λ n. next.OfTerminal (n + 1)) was.2))
+still_own (Taking_header bytes) place byte is due = absurd (cc)
+still_own (Refusing header p3 status done) place byte is due = absurd (cc)
+still_own (Ending status) place byte is due = absurd (cc)
+
+-- the first step of a run
+one_of : {C : Type 0} (card : Ghosts C) (content : List ℕ) (n place : ℕ) (old new : EndOf C)
+    → place < length content
+    → buffers.Steps (IsTaken card) old (take (suc n) (drop place content)) new
+    → (mid : EndOf C) × IsTaken card old (get_or content place 0) mid
+    × buffers.Steps (IsTaken card) mid (take n (drop (place + 1) content)) new
+one_of card content n place old new lt steps =
+    subst (λ bs. buffers.Steps (IsTaken card) old (take (suc n) bs) new)
+    (drop_more content place 0 lt) steps
+
+-- a run of them
+pub passes_own_run : {C : Type 0} (card : Ghosts C) (first : card.State) (plan : Course)
+    (asked : Asked) (before got : List ℕ) (n place : ℕ) (old new : EndOf C)
+    → IsAnswering card first plan asked before got old
+    → awaited_in old.stage ≡ next.OfTerminal place → 0 < n → place + n ≤ length asked.content
+    → buffers.Steps (IsTaken card) old (take n (drop place asked.content)) new
+    → GoesFurther card first plan asked before got old new
+passes_own_run card first plan asked before got zero place old new on is some fits steps =
+    absurd (omega (arith, some))
+passes_own_run card first plan asked before got (suc zero) place old new on is some fits steps =
+    let content = asked.content in
+    let lt : place < length content = omega (arith, fits) in
+    let (mid, taken, same) = one_of card content 0 place old new lt steps in
+    subst (λ e. GoesFurther card first plan asked before got old e) (sym same)
+    (passes_own card first plan asked before got old mid place (get_or content place 0) on is
+    (slice_get-get_or content place 0 lt) taken.listening taken.taken taken.falls taken.goes_on)
+passes_own_run card first plan asked before got (suc (suc n)) place old new on is some fits steps =
+    let content = asked.content in
+    let lt : place < length content = omega (arith, fits) in
+    let byte = get_or content place 0 in
+    let (mid, taken, more) = one_of card content (suc n) place old new lt steps in
+    let one = passes_own card first plan asked before got old mid place byte on is
+    (slice_get-get_or content place 0 lt) taken.listening taken.taken taken.falls taken.goes_on in
+    let stage : mid.stage ≡ with_character old.stage byte =
+    ap (λ (e : EndOf _). e.stage) taken.taken in
+    let (_, later, _) = one_of card content n (place + 1) mid new (omega (arith, fits)) more in
+    let on_next = subst (λ x. awaited_in x ≡ next.OfTerminal (place + 1)) (sym stage)
+    (still_own old.stage place byte is (subst (λ x. listens x ≡ true) stage later.listening)) in
+    let rest = passes_own_run card first plan asked before got (suc n) (place + 1) mid new one.0
+    on_next (omega arith) (omega (arith, fits)) more in
+    (rest.0, omega (arith, one.1, rest.1))
+
+own_listens : (stage : Stage) (place : ℕ) → awaited_in stage ≡ next.OfTerminal place
+    → listens stage ≡ true
+own_listens (Serving s came) place is =
+    let was = terminal_due (nat_lt s.moved s.until) s.direction s.moved s.until place refl is in
+    data_are_due s.direction s.moved s.until (ap comes_from_terminal was.1) was.0
+own_listens (Taking_header bytes) place is = absurd (cc)
+own_listens (Refusing header p3 status done) place is = absurd (cc)
+own_listens (Ending status) place is = absurd (cc)
+
+-- the end takes at least one
+pub some_own : {C : Type 0} (card : Ghosts C) (n place : ℕ) (bs : List ℕ) (old new : EndOf C)
+    → awaited_in old.stage ≡ next.OfTerminal place → 0 < length bs
+    → buffers.Steps (IsTaken card) old (take n bs) new
+    → (n ≡ length bs) ⊎ ((n < length bs) × (listens new.stage ≡ false)) → 0 < n
+some_own card zero place bs old new is some steps (inl all) = omega (arith, some, all)
+some_own card zero place bs old new is some steps (inr few) =
+    let e : true ≡ false = sym (own_listens old.stage place is)
+    ∙ ap (λ (x : EndOf _). listens x.stage) (sym steps) ∙ few.1 in
+    absurd (cc)
+some_own card (suc n) place bs old new is some steps all = omega arith
+
 -- ---- errors
 
 -- data move only as permitted
@@ -645,9 +721,6 @@ wants_more card first plan asked before room e place on is past =
       stuck card first plan asked before room e b on at lt,
       (to, omega (arith, past, place_is)),
     )
-
-pub on_ok : {A E : Type 0} (r : Result A E) (P : Type 0) (x : A) → r ≡ Ok x → OnOk r P → P
-on_ok {A = A} {E = E} r P x is on = let Q : Result A E → Type 0 = λ s. OnOk s P in subst Q is on
 
 -- if no plan is taken, the cursor is unchanged
 pub cursor_stays : (v : Bool) (new other old : Cursor) → v ≡ false

@@ -1,5 +1,5 @@
 -- The card's end of the line: its progress, and the fronts of dialogues at which it is.
-use Rattle.std.specs.Prelude.{◌≡◌, ℕ, ◌+◌, ◌-◌, ◌<◌, ◌≤◌, List, [], ◌∷◌, ◌++◌, length, take, drop, true, false, nat_lt, ◌==◌, ◌&&◌, Bool, ◌⊎◌, if◌then◌else◌}
+use Rattle.std.specs.Prelude.{◌≡◌, ℕ, ◌+◌, ◌-◌, ◌<◌, ◌≤◌, List, [], ◌∷◌, ◌++◌, length, take, drop, true, false, nat_lt, ◌==◌, ◌&&◌, Bool, ◌⊎◌, if◌then◌else◌, Option, Some, None}
 use Rattle.std.specs.List.{AllByRecursion}
 use Rattle.apdu_core.specs.declared.header.Header.{Header}
 use Rattle.apdu_core.specs.HeaderBytes.{header_bytes, ins_is_valid}
@@ -60,6 +60,14 @@ due_in (Taking_header bytes) = 0
 due_in (Refusing header p3 status done) = 0
 due_in (Serving s came) = left_to_send s.direction s.moved s.until
 due_in (Ending status) = 0
+
+-- the terminal's data, once all of them came
+abbrev pub whole_data : Stage → Option (List ℕ)
+whole_data (Taking_header bytes) = None
+whole_data (Refusing header p3 status done) = None
+whole_data (Serving s came) =
+    if comes_from_terminal s.direction && (s.moved == s.p3) then Some came else None
+whole_data (Ending status) = None
 
 abbrev pub one_moved : Service → Service
 one_moved s = record {

@@ -15,6 +15,7 @@ ghost use Rattle.t0_core.specs.CardTaking.{IsTaken};
 ghost use Rattle.t0_core.specs.CardSending.{AreDue, IsHandedOut};
 ghost use Rattle.t0_core.specs.DataRun.{bytes_of};
 
+mod asking;
 mod tpdu;
 
 use crate::data_run::DataRun;
@@ -221,6 +222,12 @@ impl<C: TpduCard> CardEnd<C> {
         ensures taken { Steps (IsTaken C.TpduCard) self.old (take result bytes.now) self.new }
         ensures all { (result ≡ length bytes.now)
             ⊎ ((result < length bytes.now) × (listens self.new.stage ≡ false)) }
+
+        // Where a dialogue continues with the terminal, the end listens.
+        ensures due { (cut byte : ℕ) (front new : Front) →
+            StandsAt C.Does (C.standing self.new.card) (C.prepared self.new.card)
+            self.new.stage cut front → GoesOn front (Terminal, byte) new
+            → listens self.new.stage ≡ true }
     {
         let count = self.take_data(bytes);
         for at in count..bytes.len() {

@@ -215,6 +215,17 @@ impl<'a> HostEnd<'a> {
         data_bytes_at(&self.request, &mut self.stage, bytes)
     }
 
+    /// Returns the data characters that the end sends next, all in one run, and counts them as
+    /// sent. Empty if it sends none next.
+    #[inline(always)]
+    pub fn next_data_run(&mut self) -> &'a [u8]
+        ensures sent { Steps IsDataTurn self.old result.now self.new }
+        ensures all { data_due self.new ≡ None }
+        ensures keeps { IsRequest self.new }
+    {
+        data_run_at(&self.request, &mut self.stage)
+    }
+
     /// Takes the card's data characters at the front of `bytes` in one run, like `take` one at a
     /// time, as many as are expected and `gather` has room for. Returns how many.
     #[inline(always)]
@@ -558,6 +569,28 @@ fn data_bytes_at(request: &Request, stage: &mut HostStage, bytes: &mut [u8]) -> 
             Transfer::Asking => 0,
         },
         _ => 0,
+    }
+}
+
+/// Returns the data characters that an end at this stage sends next, all in one run.
+#[inline(always)]
+fn data_run_at<'a>(request: &Request<'a>, stage: &mut HostStage) -> &'a [u8]
+    requires { IsInRange (host_of request.now stage.old) }
+    ensures sent { Steps IsDataTurn (host_of request.now stage.old) result.now
+        (host_of request.now stage.new) }
+    ensures all { data_due (host_of request.now stage.new) ≡ None }
+    ensures range { IsInRange (host_of request.now stage.new) }
+{
+    match stage {
+        HostStage::Moving { moved, until } => match request.transfer {
+            Transfer::Sending(content) => {
+                let (place, end) = (*moved, *until);
+                *stage = stage_moving(end, end);
+                &content[place as usize..end as usize]
+            }
+            Transfer::Asking => &[],
+        },
+        _ => &[],
     }
 }
 

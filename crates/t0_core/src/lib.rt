@@ -66,7 +66,7 @@ pub use plan_queue::PlanQueue;
 pub use recorder::Recorder;
 pub use tap::Tap;
 pub use tap_fault::TapFault;
-pub use tpdu_card::{TpduCard, Verdict};
+pub use tpdu_card::{Open, TpduCard, Verdict};
 pub use tpdu_fault::TpduFault;
 pub use watch::{Silent, Watch};
 pub use whole_tpdu::WholeTpdu;

@@ -4,7 +4,8 @@ ghost use Rattle.t0_core.specs.declared.plan.Step.{Step};
 ghost use Rattle.t0_core.specs.declared.direction.Direction.TheVariants.{ToCard};
 ghost use Rattle.t0_core.specs.CardContract.{IsDecided};
 ghost use Rattle.t0_core.specs.CardView.{Fits, IsInService, IsNext, IsReadyFor, GivesStatus, KeepsDirection, phase_after, so_many_moved, stage_of};
-ghost use Rattle.t0_core.specs.CardSide.{comes_from_terminal, Advances, GoesByCount, IsServed, Serving, left_to_send, listens, one_moved, still_to_go, whole_of};
+ghost use Rattle.std.specs.Option.{option_map};
+ghost use Rattle.t0_core.specs.CardSide.{whole_data, comes_from_terminal, Advances, GoesByCount, IsServed, Serving, left_to_send, listens, one_moved, still_to_go, whole_of};
 ghost use Rattle.t0_core.specs.Answering.{awaited_in};
 ghost use Rattle.t0_core.specs.Dialogue as dialogue;
 ghost use Rattle.t0_core.specs.Dialogue.{Body};
@@ -119,6 +120,19 @@ impl Service {
         came[place..place + count].copy_from_slice(&bytes[..count]);
         self.moved += count as u32;
         count
+    }
+
+    /// The terminal's data, once all of them came. `came` starts with them.
+    pub(crate) fn whole_data<'a>(&self, came: &'a [u8; 255]) -> Option<&'a [u8]>
+        requires room { length came.now ≡ 255 }
+        ensures { option_map (λ bytes. bytes.now) result
+            ≡ whole_data (Serving self.now (take self.now.moved came.now)) }
+    {
+        if matches!(self.direction, Direction::ToCard) && self.moved == u32::from(self.p3) {
+            Some(&came[..self.p3 as usize])
+        } else {
+            None
+        }
     }
 
     /// How many data characters the card sends next.

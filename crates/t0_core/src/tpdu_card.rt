@@ -21,6 +21,10 @@ pub enum Verdict {
     Send,
 }
 
+/// A card that its caller may also change between two characters, by `CardEnd::with_card`: one that
+/// gets its responses from outside. A card of data objects is not open.
+pub trait Open {}
+
 /// A card as its end of the line sees it: command TPDUs, not characters (ISO/IEC 7816-3, 10.3.1).
 ///
 /// The end calls `header` for each header. After `Receive` it calls `data`. After `Send` it calls

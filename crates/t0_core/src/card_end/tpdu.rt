@@ -161,8 +161,8 @@ impl<C: TpduCard> CardEnd<C> {
         }
     }
 
-    /// Passes the next character to or from a card that has begun to answer. Returns the status,
-    /// after its second character.
+    /// Passes the next character to or from a card that has begun to answer, or a run of data.
+    /// Returns the status, after its second character.
     fn pass<A: Allocator, B: Allocator>(
         &mut self,
         tpdu: &WholeTpdu,
@@ -184,8 +184,8 @@ impl<C: TpduCard> CardEnd<C> {
         match self.awaited() {
             Awaited::OfTerminal(place) => match tpdu.content.get(place as usize) {
                 None => Err(TpduFault::WantsData),
-                Some(byte) => {
-                    self.take(*byte).unwrap();
+                Some(_) => {
+                    self.take_bytes(&tpdu.content[place as usize..]);
                     Ok(None)
                 }
             },

@@ -1,13 +1,14 @@
-use Rattle.std.proofs.Common.{List, ℕ, arith, refl, sym, ap, subst, ◌∙◌, is_ok, length, take}
-use Rattle.std.proofs.lemmas.List.{length-take-le}
+use Rattle.std.proofs.Common.{◌≡◌, ◌<◌, ◌≤◌, ◌-◌, List, ℕ, arith, sym, ap, subst, ◌∙◌, inl, inr, length, take, drop}
+use Rattle.std.proofs.lemmas.List.{length-take-le, length-drop, take-take}
+use Rattle.t0_core.specs.Buffers.{Steps}
 use Rattle.t0_core.specs.CardSending.{AreDue}
+use Rattle.t0_core.specs.CardTaking.{IsTaken}
 use Rattle.t0_core.proofs.CardSendingLemmas.{some_due}
 use Rattle.std.proofs.lemmas.Bool.{ltb-true, ltb-false}
-use Rattle.std.proofs.lemmas.Option.{slice_get_read}
 use Rattle.t0_core.specs.Plan.{plan_kept}
 use Rattle.t0_core.specs.Room.{Room}
 use Rattle.t0_core.specs.TpduBytes.{asked_of}
-use Rattle.t0_core.proofs.TpduLemmas.{GoesFurther, on_ok, passes_own, passes_run, some_taken, passes_procedure, passes_second, second_is, wants_more}
+use Rattle.t0_core.proofs.TpduLemmas.{GoesFurther, passes_own_run, some_own, passes_run, some_taken, passes_procedure, passes_second, second_is, wants_more}
 use Rattle.t0_core.proofs.card_end.CardEnd.pass.Goals as goal
 
 pub returns-in-Procedure-clause-passes : goal.returns-in-Procedure-clause-passes
@@ -40,20 +41,28 @@ returns-in-Some-data_due-clause-passes g c = λ first before on.
 
 pub returns-in-Some-clause-passes : goal.returns-in-Some-clause-passes
 returns-in-Some-clause-passes g c = λ first before on.
-    passes_own g.C.TpduCard first (plan_kept c.args.plans.now)
-    (asked_of c.args.tpdu.now) before c.args.gather.now.bytes
-    c.args.self.now c.take.new.self c.in-OfTerminal.place c.in-Some.byte.now on
-    (sym c.in-OfTerminal.ensures)
-    (slice_get_read c.args.tpdu.now.content.now (length c.args.tpdu.now.content.now)
-    c.in-OfTerminal.place c.in-Some.byte.now refl
-    (ltb-true c.in-OfTerminal.place (length c.args.tpdu.now.content.now)
-    (sym c.in-Some.ensures.lookup.0))
-    c.in-Some.ensures.lookup.1)
-    (sym c.take.ensures.listening ∙ ap is_ok c.unwrap.ensures)
-    (on_ok c.take.result _ c.unwrap.result c.unwrap.ensures c.take.ensures.taken)
-    (on_ok c.take.result _ c.unwrap.result c.unwrap.ensures c.take.ensures.falls)
-    (λ cut at later stands goes.
-    let step = c.take.ensures.goes_on cut at later stands goes in (step.1, step.2))
+    let card = g.C.TpduCard in
+    let run = c.take_bytes in
+    let content : List ℕ = c.args.tpdu.now.content.now in
+    let place = c.in-OfTerminal.place in
+    let left = length content - place in
+    let bytes : List ℕ = take left (drop place content) in
+    let is = sym c.in-OfTerminal.ensures in
+    let lt : place < length content = ltb-true place (length content)
+    (sym c.in-Some.ensures.lookup.0) in
+    let len : length bytes ≡ left = length-take-le left (drop place content)
+    (omega (arith, length-drop place content)) in
+    let within : run.result ≤ length bytes = elim run.ensures.all [
+      | inl all ↦ omega (arith, all)
+      | inr few ↦ omega (arith, few.0)
+    ] in
+    passes_own_run card first (plan_kept c.args.plans.now) (asked_of c.args.tpdu.now) before
+    c.args.gather.now.bytes run.result place c.args.self.now run.new.self on is
+    (some_own card run.result place bytes c.args.self.now run.new.self is (omega (arith, len, lt))
+    run.ensures.taken run.ensures.all) (omega (arith, within, len, lt))
+    (subst (λ bs. Steps (IsTaken card) c.args.self.now bs run.new.self)
+    (take-take run.result left (drop place content) (omega (arith, within, len)))
+    run.ensures.taken)
 
 pub returns-in-Second-clause-passes : goal.returns-in-Second-clause-passes
 returns-in-Second-clause-passes g c = λ first before on.

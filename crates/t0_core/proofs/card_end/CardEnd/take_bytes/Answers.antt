@@ -1,5 +1,6 @@
 use Rattle.std.proofs.Common.{sym}
 use Rattle.t0_core.proofs.CardTakingLemmas.{one_taken_more}
+use Rattle.t0_core.proofs.HistoryLemmas.{terminal_is_due}
 use Rattle.t0_core.proofs.card_end.CardEnd.take_bytes.Goals as goal
 
 pub loop-at-preserved : goal.loop-at-preserved
@@ -15,3 +16,17 @@ loop-at-preserved g c =
       led = e.led;
       led_under = e.led_under;
     })
+
+pub returns-in_default-clause-due : goal.returns-in_default-clause-due
+returns-in_default-clause-due g c =
+    let card = g.C.TpduCard in
+    let end = c.take.new.self in
+    λ cut byte front new stands goes. terminal_is_due card.Does (card.standing end.card)
+    (card.prepared end.card) end.stage cut byte front new stands goes
+
+pub returns-clause-due : goal.returns-clause-due
+returns-clause-due g c =
+    let card = g.C.TpduCard in
+    let end = c.loop-at.self in
+    λ cut byte front new stands goes. terminal_is_due card.Does (card.standing end.card)
+    (card.prepared end.card) end.stage cut byte front new stands goes

@@ -179,12 +179,3 @@ sending_is_going ex byte kept sends = by ex.stalled refl where
       let done = kept.stalled_at_end stalled in
       let e : Sends byte ≡ Done done.0 = sym sends ∙ done.1 in absurd (cc)
   by false going = going
-
--- an end that has ended stays so, even if `next` is called
-pub done_stays : (old new : Hosting) (given : Option ℕ)
-    → ((byte : ℕ) → given ≡ Some byte → turn_of old ≡ Sends byte) → (given ≡ None → new ≡ old)
-    → (status : StatusWord) × (turn_of old ≡ Done status)
-    → (status : StatusWord) × (turn_of new ≡ Done status)
-done_stays old new None sends stays done = (done.0, ap turn_of (stays refl) ∙ done.1)
-done_stays old new (Some byte) sends stays done =
-    let e : Sends byte ≡ Done done.0 = sym (sends byte refl) ∙ done.1 in absurd (cc)

@@ -14,14 +14,10 @@ use Rattle.card_terminal.specs.declared.wanted.Wanted.{Wanted}
 use Rattle.card_terminal.specs.Buffers.{IsHandingOut}
 use Rattle.card_terminal.proofs.BufferLemmas.{one_handed}
 use Rattle.card_terminal.specs.ExchangeSide.{ExchangeOf, IsKept, exchange_turn}
-use Rattle.card_terminal.specs.ExchangeSteps.{IsTurn}
+use Rattle.card_terminal.specs.ExchangeSteps.{IsTurn, SendsOne}
 use Rattle.card_terminal.specs.OwnedExchange.{of_parts}
 use Rattle.card_terminal.proofs.OwnedLemmas.{same_sent, turned}
 use Rattle.card_terminal.proofs.TurnLemmas.{over_by_turn}
-
--- a turn that sends a character
-abbrev pub SendsOne : ExchangeOf → ℕ → ExchangeOf → Type 0
-SendsOne s b t = IsTurn s (Sends b) t
 
 -- Since it began, the end of an exchange has written `at` characters to the buffer, whatever the
 -- other fields of the exchange.
@@ -39,7 +35,7 @@ pub record HasHanded (begun : Hosting) (stalled : Bool) (before after : List ℕ
   pub only : (content : List ℕ) → HasOnly content begun → HasOnly content end
 
 -- the invariant of an exchange still holds at another stage of its end, unless it has stalled
-still_kept : (end next : Hosting) (stalled : Bool) (gather : Room) (attempt : Attempt)
+pub still_kept : (end next : Hosting) (stalled : Bool) (gather : Room) (attempt : Attempt)
     (wanted : Wanted) → stalled ≡ false → IsKept (of_parts end gather attempt wanted stalled)
     → IsKept (of_parts next gather attempt wanted stalled)
 still_kept end next stalled gather attempt wanted going kept = record {
@@ -68,6 +64,14 @@ data_run (b ∷ bytes) end last gather attempt wanted kept steps =
       data_run bytes next last gather attempt wanted
           (still_kept end next false gather attempt wanted refl kept) steps.2,
     )
+
+pub data_run_of : (bytes : List ℕ) (end last : Hosting) (gather : Room) (attempt : Attempt)
+    (wanted : Wanted) (stalled : Bool) → stalled ≡ false
+    → IsKept (of_parts end gather attempt wanted stalled) → Steps IsDataTurn end bytes last
+    → Steps SendsOne (of_parts end gather attempt wanted stalled) bytes
+    (of_parts last gather attempt wanted stalled)
+data_run_of bytes end last gather attempt wanted stalled going =
+    rw going (λ kept steps. data_run bytes end last gather attempt wanted kept steps)
 
 data_over : (bytes : List ℕ) (end last : Hosting) (gather : Room) (attempt : Attempt)
     (wanted : Wanted) (status : StatusWord) → Steps IsDataTurn end bytes last

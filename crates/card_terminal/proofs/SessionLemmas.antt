@@ -1,5 +1,5 @@
 -- A character that passes from one end to the other moves both to the same front.
-use Rattle.std.proofs.Common.{◌≡◌, ℕ, ◌+◌, ◌-◌, ◌*◌, ◌<◌, ◌≤◌, List, [], ◌∷◌, ◌++◌, length, drop, refl, sym, subst, ◌∙◌, ap, arith, inl, inr, ◌⊎◌, lit<, true, false, Bool, Option, Some, None, Result, Ok, Err, length-append, if◌then◌else◌}
+use Rattle.std.proofs.Common.{◌≡◌, ℕ, ◌+◌, ◌-◌, ◌*◌, ◌<◌, ◌≤◌, List, [], ◌∷◌, ◌++◌, length, take, drop, zero, suc, refl, sym, subst, ◌∙◌, ap, arith, inl, inr, ◌⊎◌, lit<, true, false, Bool, Option, Some, None, Result, Ok, Err, length-append, if◌then◌else◌}
 use Rattle.std.proofs.Math.Nat.{le_refl}
 use Rattle.std.specs.Result.{OnOk}
 use Rattle.std.specs.List.{flat_map}
@@ -27,8 +27,9 @@ use Rattle.t0_core.specs.HostLaws.{opened, going, unbroken, too_long}
 use Rattle.t0_core.specs.CardSide.{Stage, EndOf, Taking_header, Serving, StandsAt, Advances, IsOnPlan, IsPermitted, PermitsData, SuitsFront, begins_with, listens, takes_plan, with_character, still_to_go}
 use Rattle.t0_core.specs.CardHistory.{under_way}
 use Rattle.t0_core.specs.CardSending.{IsHandedOut}
+use Rattle.t0_core.specs.CardTaking.{IsTaken}
 use Rattle.t0_core.specs.Buffers.{Steps}
-use Rattle.card_terminal.specs.ExchangeSteps.{TakesOne}
+use Rattle.card_terminal.specs.ExchangeSteps.{SendsOne, TakesOne}
 use Rattle.t0_core.specs.CardLaws.{begun, answers_on, taken_stays}
 use Rattle.card_terminal.specs.Line as on_line
 use Rattle.t0_core.specs.FrontLaws.{goes_on}
@@ -707,7 +708,7 @@ no_plan_due v is takes = absurd (cc)
 data_passed : {C : Type 0} (card : Ghosts C) (s : Start card.State) (l : Line C)
     (ex : ExchangeOf) (end : EndOf C) (hearing : Hearing) (byte : ℕ) → IsOneOf card s l
     → TakesOne l.exchange byte ex → IsHandedOut card l.end byte end
-    → HearsOne l.hearing byte hearing
+    → HearsOne Card l.hearing byte hearing
     → (left (line ex end l.cursor hearing) < left l)
     × IsOneOf card s (line ex end l.cursor hearing)
 data_passed card s l ex end hearing byte (inr over) takes sends hears =
@@ -745,19 +746,28 @@ data_passed card s l ex end hearing byte (inl under) takes sends hears =
           )
     ]
 
+-- nothing passes
+stays : {C : Type 0} (card : Ghosts C) (s : Start card.State) (l : Line C) (ex : ExchangeOf)
+    (end : EndOf C) (hearing : Hearing) → IsOneOf card s l → ex ≡ l.exchange → end ≡ l.end
+    → hearing ≡ l.hearing
+    → (left (line ex end l.cursor hearing) ≤ left l)
+    × IsOneOf card s (line ex end l.cursor hearing)
+stays {C = C} card s l ex end hearing on same_exchange same_end same_hearing =
+    let P : ExchangeOf → EndOf C → Hearing → Type 0 = λ x e h.
+    (left (line x e l.cursor h) ≤ left l) × IsOneOf card s (line x e l.cursor h) in
+    subst (λ x. P x end hearing) (sym same_exchange)
+    (subst (λ e. P l.exchange e hearing) (sym same_end)
+    (subst (λ h. P l.exchange l.end h) (sym same_hearing) (le_refl (left l), on)))
+
 -- and so do many
 pub run_passed : {C : Type 0} (card : Ghosts C) (s : Start card.State) (run : List ℕ)
     (l : Line C) (ex : ExchangeOf) (end : EndOf C) (hearing : Hearing) → IsOneOf card s l
     → Steps TakesOne l.exchange run ex → Steps (IsHandedOut card) l.end run end
-    → Steps HearsOne l.hearing run hearing
+    → Steps (HearsOne Card) l.hearing run hearing
     → (left (line ex end l.cursor hearing) ≤ left l)
     × IsOneOf card s (line ex end l.cursor hearing)
-run_passed {C = C} card s [] l ex end hearing on takes sends hears =
-    let P : ExchangeOf → EndOf C → Hearing → Type 0 = λ x e h.
-    (left (line x e l.cursor h) ≤ left l) × IsOneOf card s (line x e l.cursor h) in
-    subst (λ x. P x end hearing) (sym takes)
-    (subst (λ e. P l.exchange e hearing) (sym sends)
-    (subst (λ h. P l.exchange l.end h) (sym hears) (le_refl (left l), on)))
+run_passed card s [] l ex end hearing on takes sends hears =
+    stays card s l ex end hearing on takes sends hears
 run_passed card s (b ∷ run) l ex end hearing on (ex1, take, takes) (end1, send, sends)
     (hearing1, hear, hears) =
     let one = data_passed card s l ex1 end1 hearing1 b on take send hear in
@@ -810,6 +820,66 @@ pub still_sending : {C : Type 0} (card : Ghosts C) (s : Start card.State) (l : L
 still_sending card s l byte (inl under) sends = under
 still_sending card s l byte (inr over) sends =
     absurd (over_sends_nothing s.command l.exchange over.units over.status byte over.terminal sends)
+
+-- ---- a run of the terminal's data
+
+-- where a dialogue continues with the terminal, the card's end listens
+abbrev pub IsDue : {C : Type 0} (card : Ghosts C) → EndOf C → Type 0
+IsDue card end = (cut byte : ℕ) (front new : Front) → StandsAt card.Does (card.standing end.card)
+    (card.prepared end.card) end.stage cut front → GoesOn front (Terminal, byte) new
+    → listens end.stage ≡ true
+
+-- it takes all that the terminal sends
+listens_on : {C : Type 0} (card : Ghosts C) (s : Start card.State) (l : Line C) (ex : ExchangeOf)
+    (end : EndOf C) (byte : ℕ) → IsOneOf card s l → SendsOne l.exchange byte ex → end ≡ l.end
+    → IsDue card end → listens end.stage ≡ false → ⊥
+listens_on card s l ex end byte on send same due silent =
+    let under = still_sending card s l byte on send.turn_is in
+    let goes = send.goes_on s.command under.units under.tried under.front byte under.terminal refl
+    in
+    let e : true ≡ false = sym (due (next_plan under.before.rest).cut byte under.front goes.0
+    (rw same under.stands.0) goes.1) ∙ silent in
+    absurd (cc)
+
+-- a data character passes
+one_sent : {C : Type 0} (card : Ghosts C) (s : Start card.State) (l : Line C) (ex : ExchangeOf)
+    (end : EndOf C) (hearing : Hearing) (byte : ℕ) → IsOneOf card s l
+    → SendsOne l.exchange byte ex → IsTaken card l.end byte end
+    → HearsOne Terminal l.hearing byte hearing
+    → (left (line ex end l.cursor hearing) < left l)
+    × IsOneOf card s (line ex end l.cursor hearing)
+one_sent card s l ex end hearing byte on send taken hears =
+    let step = terminal_passed card s l (line ex end l.cursor hearing) byte
+    (still_sending card s l byte on send.turn_is)
+    (λ units tried front way. send.goes_on s.command units tried front byte way refl)
+    send.limit refl taken.taken taken.falls (λ cut front later stands goes.
+    let on = taken.goes_on cut front later stands goes in (taken.listening, on.0, on.1)) hears in
+    (step.0, inl step.1)
+
+-- and so do many: the card's end takes them all
+pub run_sent : {C : Type 0} (card : Ghosts C) (s : Start card.State) (run : List ℕ) (count : ℕ)
+    (l : Line C) (ex : ExchangeOf) (end : EndOf C) (hearing : Hearing) → IsOneOf card s l
+    → Steps SendsOne l.exchange run ex → Steps (IsTaken card) l.end (take count run) end
+    → (count ≡ length run) ⊎ ((count < length run) × (listens end.stage ≡ false))
+    → IsDue card end → Steps (HearsOne Terminal) l.hearing run hearing
+    → (left (line ex end l.cursor hearing) ≤ left l)
+    × IsOneOf card s (line ex end l.cursor hearing)
+run_sent {C = C} card s [] zero l ex end hearing on sends takes all due hears =
+    stays card s l ex end hearing on sends takes hears
+run_sent {C = C} card s [] (suc count) l ex end hearing on sends takes all due hears =
+    stays card s l ex end hearing on sends takes hears
+run_sent card s (b ∷ run) zero l ex end hearing on sends takes (inl all) due hears = absurd (cc)
+run_sent card s (b ∷ run) zero l ex end hearing on (ex1, send, sends) takes (inr few) due hears =
+    absurd (listens_on card s l ex1 end b on send takes due few.1)
+run_sent card s (b ∷ run) (suc count) l ex end hearing on (ex1, send, sends) (end1, one, takes) all
+    due (hearing1, hear, hears) =
+    let first = one_sent card s l ex1 end1 hearing1 b on send one hear in
+    let rest = run_sent card s run count (line ex1 end1 l.cursor hearing1) ex end hearing first.1
+    sends takes (elim all [
+      | inl e ↦ inl (omega (arith, e))
+      | inr few ↦ inr (omega (arith, few.0), few.1)
+    ]) due hears in
+    (omega (arith, first.0, rest.0), rest.1)
 
 -- an exchange whose turn is `Done` has ended
 pub still_over : {C : Type 0} (card : Ghosts C) (s : Start card.State) (l : Line C)

@@ -12,10 +12,9 @@ use Rattle.card_terminal.specs.declared.taken.Taken.{Taken}
 use Rattle.card_terminal.specs.Buffers.{IsHandingOut, IsTakingAll}
 use Rattle.card_terminal.specs.Conversing.{is_done}
 use Rattle.card_terminal.specs.ExchangeSide.{ExchangeOf, IsBounded, exchange_turn, is_final}
-use Rattle.card_terminal.specs.ExchangeSteps.{IsTurn, IsTaking, TakesOne}
+use Rattle.card_terminal.specs.ExchangeSteps.{IsTurn, IsTaking, SendsOne, TakesOne}
 use Rattle.card_terminal.specs.TerminalSide.{OperationOf, IsSettled, GoesOver, GoesToNext, with_exchange}
 use Rattle.card_terminal.specs.TerminalSteps.{IsTerminalTurn, IsTerminalHandingOut, IsTerminalTaking}
-use Rattle.card_terminal.proofs.HandingLemmas.{SendsOne}
 use Rattle.card_terminal.proofs.TurnLemmas.{not_listening}
 use Rattle.card_terminal.proofs.TerminalStepLemmas.{turns, takes, stays}
 

@@ -79,6 +79,10 @@ pub record IsTaking (old : ExchangeOf) (byte : ℕ) (result : Result (Unit {0}) 
       → MatchResult result (λ _. ComesTo c (came ++ (Card, byte) ∷ []) new)
       (λ fault. is_final fault ≡ true → ComesTo c (came ++ (Card, byte) ∷ []) new)
 
+-- it sends the character in its turn
+abbrev pub SendsOne : ExchangeOf → ℕ → ExchangeOf → Type 0
+SendsOne old byte new = IsTurn old (Sends byte) new
+
 -- it takes the character
 abbrev pub TakesOne : ExchangeOf → ℕ → ExchangeOf → Type 0
 TakesOne old byte new = IsTaking old byte (Ok tt) new

@@ -3,7 +3,7 @@ use Rattle.std.specs.Prelude.{◌≡◌, ◌<◌, ◌≤◌, ℕ, List, [], ◌�
 use Rattle.std.specs.List.{flat_map}
 use Rattle.apdu_core.specs.StatusWord.{StatusWord}
 use Rattle.apdu_core.specs.CommandBytes.{Command}
-use Rattle.t0_core.specs.declared.end.End.TheVariants.{Card}
+use Rattle.t0_core.specs.declared.end.End.{End}
 use Rattle.t0_core.specs.declared.line_fault.LineFault.{LineFault}
 use Rattle.t0_core.specs.declared.tpdu_card.TpduCard.{Ghosts}
 use Rattle.t0_core.specs.CardHistory.{under_way}
@@ -28,9 +28,9 @@ abbrev pub line : {C : Type 0} → ExchangeOf → EndOf C → Cursor → Hearing
 line exchange end cursor hearing =
     record { exchange = exchange; end = end; cursor = cursor; hearing = hearing }
 
--- a watch hears this character of the card
-abbrev pub HearsOne : Hearing → ℕ → Hearing → Type 0
-HearsOne old byte new = Hears old ((Card, byte) ∷ []) new
+-- a watch hears this character of an end
+abbrev pub HearsOne : End → Hearing → ℕ → Hearing → Type 0
+HearsOne end old byte new = Hears old ((end, byte) ∷ []) new
 
 -- the start of an exchange: its command, and the point of the talk
 pub record Start (State : Type 0) : Type 0 where

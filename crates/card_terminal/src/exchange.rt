@@ -81,9 +81,8 @@ impl<'a, A: Allocator> Exchange<'a, A> {
     ghost use Rattle.t0_core.specs.declared.end.End.TheVariants.{Terminal};
     ghost use Rattle.t0_core.specs.Dialogue.{Dialogue};
     ghost use Rattle.t0_core.specs.Front.{Front, GoesOn};
-    ghost use Rattle.t0_core.specs.HostSide.{data_due};
     ghost use Rattle.card_terminal.specs.Buffers.{IsHandingOut, IsTakingAll};
-    ghost use Rattle.card_terminal.specs.ExchangeSteps.{IsTurn, IsTaking, TakesOne, IsAnswering, IsLimited};
+    ghost use Rattle.card_terminal.specs.ExchangeSteps.{IsTurn, IsTaking, SendsOne, TakesOne, IsAnswering, IsLimited};
     ghost use Rattle.card_terminal.specs.Gathered.{UnitOf, Gathers};
     ghost use Rattle.card_terminal.specs.ExchangeHistory.{ComesTo, unit_characters};
     ghost use Rattle.card_terminal.specs.SentData.{TellsSent};
@@ -207,22 +206,16 @@ impl<'a, A: Allocator> Exchange<'a, A> {
         self.end.next()
     }
 
-    /// Returns the next character of the command's data if one is to be sent, as `next` would.
-    /// Otherwise nothing changes.
+    /// Returns the data characters that the terminal sends next, all in one run, as `next` one at a
+    /// time. Empty if it sends none next.
     #[inline(always)]
-    pub(crate) fn next_data(&mut self) -> Option<u8>
-        ensures due { result ≡ data_due self.old.host }
-        ensures sends { (byte : ℕ) → result ≡ Some byte
-            → exchange_turn self.old ≡ HostTurn.Sends byte }
-        ensures stays { result ≡ None → self.new ≡ self.old }
-        ensures limit { self.new.gather.limit ≡ self.old.gather.limit }
-        ensures goes_on { (c : spec.Command) (units : List UnitOf) (first : Option Dialogue)
-            (front : Front) (byte : ℕ) →
-            UnderWay c self.old units first front → result ≡ Some byte →
-            (new : Front) × GoesOn front (Terminal, byte) new
-            × UnderWay c self.new units first new }
+    pub(crate) fn next_data_run(&mut self) -> &'a [u8]
+        ensures { Steps SendsOne self.old result.now self.new }
     {
-        self.end.next_data()
+        if self.stalled {
+            return &[];
+        }
+        self.end.next_data_run()
     }
 
     /// Takes a character of the card. If it completes a status, the next TPDU begins, if one

@@ -146,36 +146,33 @@ fn pass_from_card<A: Allocator, B: Allocator, C: TpduCard, W: Watch>(
     Ok(())
 }
 
-/// Passes the data that the terminal sends now to the card and to the watch. For speed: it does not
-/// test before each character which end sends. The caller uses it only after a character of the
-/// card, since a call after each character slows down GET DATA.
+/// Lets the watch hear characters of an end. Apart from the loop of a session, a compiler asks once
+/// for a run whether somebody listens.
+#[inline(never)]
+fn hear<W: Watch>(watch: &mut W, end: End, bytes: &[u8])
+    ensures { Steps (HearsOne end) (W.hearing watch.old) bytes.now (W.hearing watch.new) }
+{
+    for at in 0..bytes.len() {
+        watch.seen(end, bytes[at]);
+    }
+}
+
+/// Passes the data that the terminal sends now to the card and to the watch, in one run. For speed:
+/// the caller uses it only after a character of the card, since a call after each character slows
+/// down GET DATA.
 #[inline(always)]
 fn pass_data<A: Allocator, C: TpduCard, W: Watch>(
     exchange: &mut Exchange<'_, A>,
     end: &mut CardEnd<C>,
     watch: &mut W,
 )
-    requires { (s : Start C.State) × (cursor : Cursor) ×
-        IsOneOf C.TpduCard s (line exchange.old end.old cursor (W.hearing watch.old)) }
     ensures { (cursor : Cursor) →
         Keeps C.TpduCard (line exchange.old end.old cursor (W.hearing watch.old))
         (line exchange.new end.new cursor (W.hearing watch.new)) }
 {
-    // For the proof: the label names the loop's goals.
-    'data: while let Some(byte) = exchange.next_data() {
-        end.take(byte).unwrap();
-        watch.seen(End::Terminal, byte);
-    }
-}
-
-/// Lets the watch hear data characters of the card.
-#[inline(always)]
-fn hear<W: Watch>(watch: &mut W, bytes: &[u8])
-    ensures { Steps HearsOne (W.hearing watch.old) bytes.now (W.hearing watch.new) }
-{
-    for at in 0..bytes.len() {
-        watch.seen(End::Card, bytes[at]);
-    }
+    let run = exchange.next_data_run();
+    end.take_bytes(run);
+    hear(watch, End::Terminal, run);
 }
 
 /// Passes the data that the card sends now to the terminal and to the watch, as far as they lie in
@@ -195,7 +192,7 @@ fn pass_run<A: Allocator, C: TpduCard, W: Watch>(
     };
     let bytes = run.bytes();
     let count = exchange.take_data(bytes);
-    hear(watch, &bytes[..count]);
+    hear(watch, End::Card, &bytes[..count]);
     end.skip_data(count);
 }
 

@@ -5,5 +5,5 @@ use Rattle.card_terminal.proofs.session.hear.Goals as goal
 
 pub loop-at-preserved : goal.loop-at-preserved
 loop-at-preserved g c =
-    one_taken HearsOne _ _ _ c.args.bytes.now c.loop-at.at c.loop-at-test.true c.loop-at.invariant
-    c.seen.ensures
+    one_taken (HearsOne c.args.end) _ _ _ c.args.bytes.now c.loop-at.at c.loop-at-test.true
+    c.loop-at.invariant c.seen.ensures

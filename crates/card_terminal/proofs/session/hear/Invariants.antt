@@ -6,4 +6,5 @@ use Rattle.card_terminal.proofs.session.hear.Given as goal
 -- the first `at` characters have been heard
 abbrev pub invariant-loop-at : goal.invariant-loop-at
 invariant-loop-at g l =
-    Steps HearsOne (g.W.Watch.hearing l.fn.watch) (take l.at l.bytes) (g.W.Watch.hearing l.watch)
+    Steps (HearsOne l.end) (g.W.Watch.hearing l.fn.watch) (take l.at l.bytes)
+    (g.W.Watch.hearing l.watch)

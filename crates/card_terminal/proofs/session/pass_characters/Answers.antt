@@ -53,18 +53,6 @@ pass_from_card-requires-clause-listens g c =
     ap exchange_turn (c.in-Listens.ensures.turn.stays listening_sends_nothing)
     ∙ sym c.in-Listens.ensures.turn.turn_is
 
-pub pass_data-requires : goal.pass_data-requires
-pass_data-requires g c =
-    let l = line c.args.exchange.now c.args.end.now c.args.plans.now
-    (g.W.Watch.hearing c.args.watch.now) in
-    let (s, began) = c.requires in (
-      s,
-      c.pass_from_card.new.plans,
-      (c.in_ok-pass_from_card-in-Listens.ensures s
-          (on_too g.C.TpduCard s l _ (c.in-Listens.ensures.turn.stays listening_sends_nothing)
-          began)).1,
-    )
-
 pub returns-in_ok-pass_from_card-in-Listens : goal.returns-in_ok-pass_from_card-in-Listens
 returns-in_ok-pass_from_card-in-Listens g c = λ s began.
     let l = line c.args.exchange.now c.args.end.now c.args.plans.now

@@ -1,6 +1,6 @@
 -- The unused room of a buffer holds zeros.
-use Rattle.std.proofs.Common.{arith, ◌≡◌, ℕ, ◌+◌, ◌++◌, ◌-◌, ◌<◌, ◌≤◌, List, drop, replicate, slice_set, ap, ◌∙◌, sym}
-use Rattle.std.proofs.lemmas.List.{drop-drop, drop-replicate, drop-set-lt, replicate-append-replicate}
+use Rattle.std.proofs.Common.{arith, ◌≡◌, ℕ, ◌+◌, ◌++◌, ◌-◌, ◌<◌, ◌≤◌, List, length, take, drop, replicate, slice_set, length-append, ap, ◌∙◌, sym}
+use Rattle.std.proofs.lemmas.List.{drop_at, drop-drop, drop-replicate, length-take-le, drop-set-lt, replicate-append-replicate}
 
 -- the bytes behind one that is written
 pub still_zeros : (room : List ℕ) (size at byte : ℕ) →
@@ -19,3 +19,16 @@ all_zeros room new size at within overwritten zeros =
     let whole : at + (size - at) ≡ size = omega (arith, within) in
     overwritten ∙ ap (λ rest. replicate at 0 ++ rest) zeros
     ∙ replicate-append-replicate at (size - at) 0 ∙ ap (λ k. replicate k 0) whole
+
+-- the bytes behind a run that is written
+pub zeros_behind : (room new run : List ℕ) (size at n : ℕ) → length run ≡ n → at ≤ length room
+    → new ≡ take at room ++ run ++ drop (at + n) room → drop at room ≡ replicate (size - at) 0
+    → drop (at + n) new ≡ replicate (size - (at + n)) 0
+zeros_behind room new run size at n len within is zeros =
+    let front = take at room ++ run in
+    let all : length front ≡ at + n = length-append (take at room) run
+    ∙ ap (λ k. k + length run) (length-take-le at room within) ∙ ap (λ k. at + k) len in
+    let fewer : size - at - n ≡ size - (at + n) = omega (arith) in
+    ap (λ bs. drop (at + n) bs) is ∙ drop_at front (drop (at + n) room) (at + n) all
+    ∙ sym (drop-drop n at room) ∙ ap (drop n) zeros ∙ drop-replicate n _ 0
+    ∙ ap (λ k. replicate k 0) fewer

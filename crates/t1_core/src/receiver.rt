@@ -1,5 +1,5 @@
 //! Finds the end of a block in the bytes of a line.
-ghost use Rattle.std.specs.Prelude.{◌≡◌, ◌≤◌, ◌<◌, ◌++◌, ◌∷◌, [], List, ℕ, true, false, length, take, drop, replicate, ◌⊎◌, if◌then◌else◌};
+ghost use Rattle.std.specs.Prelude.{◌≡◌, ◌≤◌, ◌<◌, ◌+◌, ◌-◌, ◌++◌, ◌∷◌, [], List, ℕ, true, false, length, take, drop, replicate, ◌⊎◌, if◌then◌else◌};
 ghost use Rattle.t1_core.specs.BlockBytes.{is_whole, received};
 
 use std::marker::Model;
@@ -95,13 +95,42 @@ impl Receiver {
         ensures none_behind { (k : ℕ) → k < result →
             is_whole (self.old ++ take k bytes.now) ≡ false }
     {
-        for at in 0..bytes.len() {
-            if self.is_whole() {
-                return at;
-            }
-            self.append(bytes[at]);
+        let mut at = 0;
+
+        // For the proof: the label names the loop's goals.
+        'take: while at < bytes.len() && !self.is_whole() {
+            at += self.append_run(&bytes[at..]);
         }
-        bytes.len()
+        at
+    }
+
+    /// Appends bytes up to LEN, or up to the end of the block, and returns how many.
+    fn append_run(&mut self, bytes: &[u8]) -> usize
+        requires part { is_whole self.old ≡ false }
+        requires some { 0 < length bytes.now }
+        ensures count { (0 < result) × (result ≤ length bytes.now) }
+        ensures after { self.new ≡ self.old ++ take result bytes.now }
+        ensures none_behind { (k : ℕ) → k < result →
+            is_whole (self.old ++ take k bytes.now) ≡ false }
+    {
+        let count = self.missing().min(bytes.len());
+        copy_at(&mut self.block, self.len, &bytes[..count]);
+        self.len += count;
+        count
+    }
+
+    /// How many bytes are missing up to LEN, or after LEN up to the end of the block.
+    fn missing(&self) -> usize
+        requires { is_whole self.now ≡ false }
+        ensures some { 0 < result }
+        ensures fits { result ≤ 259 - length self.now }
+        ensures part { (more : List ℕ) → length more < result →
+            is_whole (self.now ++ more) ≡ false }
+    {
+        match self.len {
+            0..=2 => 3 - self.len,
+            len => usize::from(self.block[2]) + 4 - len,
+        }
     }
 
     fn append(&mut self, byte: u8)
@@ -119,4 +148,12 @@ fn wipe(bytes: &mut [u8], len: usize)
     ensures { bytes.new ≡ replicate len 0 ++ drop len bytes.old }
 {
     bytes[..len].fill(0);
+}
+
+/// Copies `from` over the bytes at `at`.
+fn copy_at(bytes: &mut [u8], at: usize, from: &[u8])
+    requires { at + length from.now ≤ length bytes.old }
+    ensures { bytes.new ≡ take at bytes.old ++ from.now ++ drop (at + length from.now) bytes.old }
+{
+    bytes[at..at + from.len()].copy_from_slice(from);
 }

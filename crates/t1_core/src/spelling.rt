@@ -124,7 +124,7 @@ pub fn parts(bytes: &[u8]) -> Option<(Pcb, &[u8])>
     Some((pcb, &bytes[3..end]))
 }
 
-fn block_in(pcb: Pcb, info: &[u8]) -> Option<Block<'_>>
+pub(crate) fn block_in(pcb: Pcb, info: &[u8]) -> Option<Block<'_>>
     ensures { option_map said result ≡ block_in (Some (pcb, info.now)) }
 {
     match pcb {

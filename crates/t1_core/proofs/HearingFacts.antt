@@ -1,0 +1,399 @@
+-- The items that a tap gives are those of the bytes that it has heard.
+use Rattle.std.proofs.Common.{arith, ◌≡◌, refl, sym, ap, subst, ◌∙◌, ℕ, zero, suc, ◌+◌, ◌<◌, ◌≤◌, ◌⊎◌, inl, inr, Bool, true, false, List, [], ◌∷◌, ◌++◌, length, take, append_assoc, append-nil, length-append, nat_lt, slice_index}
+use Rattle.std.proofs.lemmas.Grind.{flat_map-append}
+use Rattle.std.proofs.lemmas.List.{append_cancel_left, map-append, take-append-le, take_all}
+use Rattle.std.specs.List.{flat_map}
+use Rattle.t1_core.specs.declared.reading.End.{End}
+use Rattle.t1_core.specs.declared.reading.End.TheVariants.{Terminal, Card}
+use Rattle.t1_core.specs.declared.reading.Reading.{Reading}
+use Rattle.t1_core.specs.declared.settings.Edc.{Edc}
+use Rattle.t1_core.specs.Block.{Block, more}
+use Rattle.t1_core.specs.Hearing.{Heard, Item, IsItem, AreItems, IsOther, Ear, HasHeard, after_items, given, goes_on, heard_of, hears, hears_all, hears_on, stops, goes_on_from, hears_next, is_cut, item_with, sent_by}
+use Rattle.t1_core.specs.Items.{Valid, Cut, found_in, is_complete}
+use Rattle.t1_core.specs.Reading.{fresh, peer, reads}
+use Rattle.std.proofs.Math.Seq.{take-append_seam}
+use Rattle.std.proofs.Math.Seq.{take-length}
+use Rattle.t1_core.specs.Hearing.{IsNext}
+
+-- ---- a run of bytes
+
+next_of : (e : Ear) (from : End) (bytes : List ℕ) (at : ℕ) → at < length bytes
+    → hears (hears_all e from (take at bytes)) from (slice_index bytes at)
+    ≡ hears_all e from (take (suc at) bytes)
+next_of e from [] at few = absurd (omega (arith, few))
+next_of e from (b ∷ bytes) zero few = refl
+next_of e from (b ∷ bytes) (suc n) few = next_of (hears e from b) from bytes n (omega (arith, few))
+
+pub all_next : (e old now : Ear) (from : End) (bytes : List ℕ) (at : ℕ) → at < length bytes
+    → old ≡ hears_all e from (take at bytes) → now ≡ hears old from (slice_index bytes at)
+    → now ≡ hears_all e from (take (at + 1) bytes)
+all_next e old now from bytes at few before is =
+    let one : suc at ≡ at + 1 = omega arith in
+    is ∙ ap (λ x. hears x from (slice_index bytes at)) before ∙ next_of e from bytes at few
+    ∙ ap (λ k. hears_all e from (take k bytes)) one
+
+pub none_more : (e now : Ear) (from : End) (bytes : List ℕ) (at : ℕ)
+    → now ≡ hears_all e from (take (at + 1) bytes) → now.ended ≡ false
+    → ((k : ℕ) → 0 < k → k ≤ at → (hears_all e from (take k bytes)).ended ≡ false)
+    → (k : ℕ) → 0 < k → k ≤ at + 1 → (hears_all e from (take k bytes)).ended ≡ false
+none_more e now from bytes at is none before k some few = by (nat_lt at k) refl where
+  by : (v : Bool) → nat_lt at k ≡ v → (hears_all e from (take k bytes)).ended ≡ false
+  by true lt =
+      let last : k ≡ at + 1 = grind (arith, few, lt) in
+      ap (λ j. (hears_all e from (take j bytes)).ended) last ∙ ap (λ (x : Ear). x.ended) (sym is)
+      ∙ none
+  by false lt = before k some (grind (arith, lt))
+
+-- ---- more bytes, and one more item
+
+other_longer : (from : End) (rest more : List Heard) → IsOther from rest
+    → IsOther from (rest ++ more)
+other_longer from [] more is = absurd is
+other_longer from (c ∷ cs) more is = is
+
+item_longer : {edc : Edc} {r : Reading} {i : Item} (rest more : List Heard)
+    → IsItem edc r i rest → IsItem edc r i (rest ++ more)
+item_longer {edc} {r} {i} rest more item = record {
+  some = item.some;
+  not_sooner = item.not_sooner;
+  ends = longer item.ends;
+  is = item.is;
+} where
+  longer : (is_complete edc i.bytes ≡ true) ⊎ IsOther i.from rest
+      → (is_complete edc i.bytes ≡ true) ⊎ IsOther i.from (rest ++ more)
+  longer (inl whole) = inl whole
+  longer (inr cut) = inr (other_longer i.from rest more cut)
+
+items_longer : (edc : Edc) (r : Reading) (items : List Item) (rest more : List Heard)
+    → AreItems edc r items rest → AreItems edc r items (rest ++ more)
+items_longer edc r [] rest more are = tt
+items_longer edc r (i ∷ items) rest more are = (
+  subst (IsItem edc r i) (append_assoc (flat_map heard_of items) rest more)
+      (item_longer (flat_map heard_of items ++ rest) more are.0),
+  items_longer edc (reads r i.from i.found).1 items rest more are.1,
+)
+
+-- `i` begins with `rest`, and `later` follows it
+one_more : (edc : Edc) (r : Reading) (items : List Item) (i : Item)
+    (rest more later : List Heard) → rest ++ more ≡ heard_of i ++ later
+    → AreItems edc r items rest → IsItem edc (after_items r items) i later
+    → AreItems edc r (items ++ i ∷ []) later
+one_more edc r [] i rest more later is are item = (item, tt)
+one_more edc r (j ∷ items) i rest more later is are item =
+    let before : List Heard = flat_map heard_of items in (
+      subst (IsItem edc r j)
+          (append_assoc before rest more ∙ ap (λ hs. before ++ hs) is
+          ∙ sym (append_assoc before (heard_of i) later)
+          ∙ ap (λ hs. (before ++ hs) ++ later) (sym (append-nil (heard_of i)))
+          ∙ ap (λ hs. hs ++ later) (sym (flat_map-append heard_of items (i ∷ []))))
+          (item_longer (before ++ rest) more are.0),
+      one_more edc (reads r j.from j.found).1 items i rest more later is are.1 item,
+    )
+
+read_more : (r : Reading) (items : List Item) (i : Item)
+    → after_items r (items ++ i ∷ []) ≡ (reads (after_items r items) i.from i.found).1
+read_more r [] i = refl
+read_more r (j ∷ items) i = read_more (reads r j.from j.found).1 items i
+
+-- ---- one byte
+
+-- an end that does not cut off the item adds to it
+joined : (part : List ℕ) (from now : End) (b : ℕ) → is_cut part from now ≡ false
+    → sent_by from part ++ (now, b) ∷ [] ≡ sent_by now (part ++ b ∷ [])
+joined [] from now b is = refl
+joined (c ∷ part) Terminal Terminal b is = sym (map-append (λ x. (Terminal, x)) (c ∷ part) (b ∷ []))
+joined (c ∷ part) Card Card b is = sym (map-append (λ x. (Card, x)) (c ∷ part) (b ∷ []))
+joined (c ∷ part) Terminal Card b is = absurd (cc)
+joined (c ∷ part) Card Terminal b is = absurd (cc)
+
+cut_by : (part : List ℕ) (from now : End) → is_cut part from now ≡ true
+    → (now ≡ peer from) × (0 < length part)
+cut_by [] from now is = absurd (cc)
+cut_by (c ∷ part) Terminal Card is = (refl, omega arith)
+cut_by (c ∷ part) Card Terminal is = (refl, omega arith)
+cut_by (c ∷ part) Terminal Terminal is = absurd (cc)
+cut_by (c ∷ part) Card Card is = absurd (cc)
+
+-- a part that grows is complete with its last byte, if ever
+grows : (edc : Edc) (part : List ℕ) (b k : ℕ) → ((k : ℕ) → is_complete edc (take k part) ≡ false)
+    → k < length (part ++ b ∷ []) → is_complete edc (take k (part ++ b ∷ [])) ≡ false
+grows edc part b k before few =
+    let long = length-append part (b ∷ []) in
+    ap (is_complete edc) (take-append-le k part (b ∷ []) (omega (arith, few, long))) ∙ before k
+
+one_is_short : (edc : Edc) (b k : ℕ) → is_complete edc (take k (b ∷ [])) ≡ false
+one_is_short edc b zero = refl
+one_is_short edc b (suc zero) = refl
+one_is_short edc b (suc (suc k)) = refl
+
+none_is_short : (edc : Edc) (k : ℕ) → is_complete edc (take k []) ≡ false
+none_is_short edc zero = refl
+none_is_short edc (suc k) = refl
+
+abbrev item_at : Ear → Item
+item_at e = item_with e.edc e.reading e.from e.part
+
+module _ (heard : List Heard) (items : List Item) where
+  abbrev pub Hears : End → (byte : ℕ) → Ear → Type 0
+  Hears from b e = HasHeard (heard ++ (from, b) ∷ []) (items ++ given e) (goes_on e)
+
+  -- with the item of `e`, which this byte ends
+  all_more : (g e : Ear) (from : End) (b : ℕ) (later : List Heard) → HasHeard heard items g
+      → sent_by g.from g.part ++ (from, b) ∷ [] ≡ heard_of (item_at e) ++ later
+      → heard ++ (from, b) ∷ [] ≡ flat_map heard_of (items ++ item_at e ∷ []) ++ later
+  all_more g e from b later h is =
+      let before : List Heard = flat_map heard_of items in
+      ap (λ hs. hs ++ (from, b) ∷ []) h.all
+      ∙ append_assoc before (sent_by g.from g.part) ((from, b) ∷ [])
+      ∙ ap (λ hs. before ++ hs) is
+      ∙ sym (append_assoc before (heard_of (item_at e)) later)
+      ∙ ap (λ hs. (before ++ hs) ++ later) (sym (append-nil (heard_of (item_at e))))
+      ∙ ap (λ hs. hs ++ later) (sym (flat_map-append heard_of items (item_at e ∷ [])))
+
+  item_is : (e : Ear) (later : List Heard) → e.reading ≡ after_items fresh items
+      → 0 < length e.part
+      → ((k : ℕ) → k < length e.part → is_complete e.edc (take k e.part) ≡ false)
+      → (is_complete e.edc e.part ≡ true) ⊎ IsOther e.from later
+      → IsItem e.edc (after_items fresh items) (item_at e) later
+  item_is e later read some before ends = subst (λ r. IsItem e.edc r (item_at e) later) read
+      (record { some = some; not_sooner = before; ends = ends; is = refl })
+
+  -- a byte of the other end cuts off the item
+  cuts : (g : Ear) (from : End) (b : ℕ) → is_cut g.part g.from from ≡ true
+      → HasHeard heard items g → Hears from b (record g { ended = true; held = b ∷ [] })
+  cuts g from b cut h =
+      let e : Ear = record g { ended = true; held = b ∷ [] } in
+      let by = cut_by g.part g.from from cut in
+      let later : List Heard = (peer g.from, b) ∷ [] in
+      let is : sent_by g.from g.part ++ (from, b) ∷ [] ≡ heard_of (item_at e) ++ later =
+      ap (λ end. sent_by g.from g.part ++ (end, b) ∷ []) by.0 in
+      record {
+        all = all_more g e from b later h is;
+        divided = one_more g.edc fresh items (item_at e) (sent_by g.from g.part)
+            ((from, b) ∷ []) later is h.divided
+            (item_is e later h.read by.1 (λ k few. h.incomplete k) (inr refl));
+        incomplete = one_is_short g.edc b;
+        none_held = refl;
+        read = ap (λ r. (reads r g.from (found_in g.edc g.part)).1) h.read
+            ∙ sym (read_more fresh items (item_at e));
+      }
+
+  adds : (g : Ear) (from : End) (b : ℕ) → is_cut g.part g.from from ≡ false
+      → HasHeard heard items g → (v : Bool) → is_complete g.edc (g.part ++ b ∷ []) ≡ v
+      → Hears from b (record g { from = from; part = g.part ++ b ∷ []; ended = v })
+  adds g from b cut h true whole =
+      let e : Ear = record g { from = from; part = g.part ++ b ∷ []; ended = true } in
+      let is : sent_by g.from g.part ++ (from, b) ∷ [] ≡ heard_of (item_at e) ++ [] =
+      joined g.part g.from from b cut ∙ sym (append-nil (heard_of (item_at e))) in
+      rw h.none_held (record {
+        all = all_more g e from b [] h is;
+        divided = one_more g.edc fresh items (item_at e) (sent_by g.from g.part)
+            ((from, b) ∷ []) [] is h.divided
+            (item_is e [] h.read (let long = length-append g.part (b ∷ []) in omega (arith, long))
+            (λ k. grows g.edc g.part b k h.incomplete) (inl whole));
+        incomplete = none_is_short g.edc;
+        none_held = refl;
+        read = ap (λ r. (reads r from (found_in g.edc e.part)).1) h.read
+            ∙ sym (read_more fresh items (item_at e));
+      })
+  adds g from b cut h false whole =
+      let part : List ℕ = g.part ++ b ∷ [] in
+      let is : sent_by g.from g.part ++ (from, b) ∷ [] ≡ sent_by from part =
+      joined g.part g.from from b cut in
+      rw (append-nil items) (record {
+        all = ap (λ hs. hs ++ (from, b) ∷ []) h.all
+            ∙ append_assoc (flat_map heard_of items) (sent_by g.from g.part) ((from, b) ∷ [])
+            ∙ ap (λ hs. flat_map heard_of items ++ hs) is;
+        divided = subst (AreItems g.edc fresh items) is
+            (items_longer g.edc fresh items (sent_by g.from g.part) ((from, b) ∷ []) h.divided);
+        incomplete = λ k. any k (nat_lt k (length part)) refl;
+        none_held = h.none_held;
+        read = h.read;
+      }) where
+        any : (k : ℕ) (v : Bool) → nat_lt k (length (g.part ++ b ∷ [])) ≡ v
+            → is_complete g.edc (take k (g.part ++ b ∷ [])) ≡ false
+        any k true few = grows g.edc g.part b k h.incomplete (grind (arith, few))
+        any k false few =
+            ap (is_complete g.edc) (take_all k (g.part ++ b ∷ []) (grind (arith, few))) ∙ whole
+
+  pub hears_so : (e now : Ear) (from : End) (b : ℕ) → now ≡ hears e from b
+      → HasHeard heard items (goes_on e) → Hears from b now
+  hears_so e now from b is h = subst (Hears from b) (sym is) (by (goes_on e) h) where
+    by : (g : Ear) → HasHeard heard items g → Hears from b (hears_next g from b)
+    by g h = at (is_cut g.part g.from from) refl where
+      at : (v : Bool) → is_cut g.part g.from from ≡ v → Hears from b (hears_on v g from b)
+      at true cut = cuts g from b cut h
+      at false cut = adds g from b cut h (is_complete g.edc (g.part ++ b ∷ [])) refl
+
+-- ---- a reset
+
+nothing : (bytes : List ℕ) → more bytes ≡ false → bytes ≡ []
+nothing [] none = refl
+nothing (b ∷ bytes) none = absurd (cc)
+
+stopped_at : (g : Ear) → is_complete g.edc g.part ≡ false → g.held ≡ [] → (v : Bool)
+    → more g.part ≡ v → HasHeard [] [] (goes_on_from v (record g { ended = v; reading = fresh }))
+stopped_at g incomplete none_held true some =
+    rw (none_held, incomplete) (record {
+      all = refl;
+      divided = tt;
+      incomplete = none_is_short g.edc;
+      none_held = refl;
+      read = refl;
+    })
+stopped_at g incomplete none_held false none =
+    rw (nothing g.part none) (record {
+      all = refl;
+      divided = tt;
+      incomplete = none_is_short g.edc;
+      none_held = none_held;
+      read = refl;
+    })
+
+pub stopped : (heard : List Heard) (items : List Item) (e now : Ear) → now ≡ stops e
+    → HasHeard heard items (goes_on e) → HasHeard [] [] (goes_on now)
+stopped heard items e now is h =
+    let g : Ear = goes_on e in
+    subst (λ x. HasHeard [] [] (goes_on x)) (sym is)
+    (stopped_at g (ap (is_complete g.edc) (sym (take-length g.part)) ∙ h.incomplete (length g.part))
+    h.none_held (more g.part) refl)
+
+-- ---- a whole valid block
+
+-- two runs of an end that begin the same bytes
+data Compared (xs ys : List ℕ) (from : End) (tail : List Heard) : Type 0 where
+  Same : xs ≡ ys → Compared xs ys from tail
+  Shorter : (b : ℕ) (zs : List ℕ) (later : List Heard) → ys ≡ xs ++ b ∷ zs
+      → tail ≡ (from, b) ∷ later → Compared xs ys from tail
+  Longer : (b : ℕ) (zs : List ℕ) → xs ≡ ys ++ b ∷ zs → Compared xs ys from tail
+
+abbrev head_of : Heard → List Heard → Heard
+head_of c [] = c
+head_of c (d ∷ ds) = d
+
+abbrev tail_of : List Heard → List Heard
+tail_of [] = []
+tail_of (d ∷ ds) = ds
+
+compared : (f g : End) (xs ys : List ℕ) (tail more : List Heard)
+    → sent_by f xs ++ tail ≡ sent_by g ys ++ more → Compared xs ys g tail
+compared f g [] [] tail more is = Same refl
+compared f g [] (b ∷ ys) tail more is = Shorter b ys (sent_by g ys ++ more) refl is
+compared f g (a ∷ xs) [] tail more is = Longer a xs refl
+compared f g (a ∷ xs) (b ∷ ys) tail more is =
+    one (compared f g xs ys tail more (ap tail_of is)) where
+      first : a ≡ b
+      first = ap (λ (cs : List Heard). (head_of (f, a) cs).1) is
+
+      one : Compared xs ys g tail → Compared (a ∷ xs) (b ∷ ys) g tail
+      one (Same same) = Same (ap (λ c. c ∷ xs) first ∙ ap (λ zs. b ∷ zs) same)
+      one (Shorter c zs later longer next) =
+          Shorter c zs later (ap (λ zs. b ∷ zs) longer ∙ ap (λ d. d ∷ (xs ++ c ∷ zs)) (sym first))
+          next
+      one (Longer c zs longer) =
+          Longer c zs (ap (λ d. d ∷ xs) first ∙ ap (λ zs. b ∷ zs) longer)
+
+same_from : (f g : End) (xs ys : List ℕ) (tail more : List Heard) → 0 < length xs
+    → 0 < length ys → sent_by f xs ++ tail ≡ sent_by g ys ++ more → f ≡ g
+same_from f g [] ys tail more some any is = absurd (omega (arith, some))
+same_from f g xs [] tail more some any is = absurd (omega (arith, any))
+same_from f g (a ∷ xs) (b ∷ ys) tail more some any is =
+    ap (λ (cs : List Heard). (head_of (f, a) cs).0) is
+
+-- the shorter run is the first bytes of the longer one
+front_of : (xs zs : List ℕ) (b : ℕ) → (take (length xs) (xs ++ b ∷ zs) ≡ xs)
+    × (length xs < length (xs ++ b ∷ zs))
+front_of xs zs b =
+    let long = length-append xs (b ∷ zs) in
+    (take-append_seam xs (b ∷ zs), omega (arith, long))
+
+valid_is_complete : (edc : Edc) (bytes : List ℕ) (b : Block) → found_in edc bytes ≡ Valid b
+    → is_complete edc bytes ≡ true
+valid_is_complete edc bytes b is = by (is_complete edc bytes) refl where
+  by : (v : Bool) → is_complete edc bytes ≡ v → is_complete edc bytes ≡ true
+  by true e = e
+  by false e =
+      absurd (let cut : found_in edc bytes ≡ Cut = rw e refl in (let no = sym cut ∙ is in cc))
+
+not_own : (from : End) → from ≡ peer from → ⊥
+not_own Terminal is = cc
+not_own Card is = cc
+
+complete_is_some : (edc : Edc) (bytes : List ℕ) → is_complete edc bytes ≡ true → 0 < length bytes
+complete_is_some edc [] is = absurd (cc)
+complete_is_some edc (b ∷ bytes) is = omega arith
+
+later_items : (edc : Edc) (r : Reading) (xs ys : List Item) (rest : List Heard)
+    → AreItems edc r (xs ++ ys) rest → AreItems edc (after_items r xs) ys rest
+later_items edc r [] ys rest are = are
+later_items edc r (x ∷ xs) ys rest are =
+    later_items edc (reads r x.from x.found).1 xs ys rest are.1
+
+module _ (heard more : List Heard) (xs ys : List Item) (e : Ear) (from : End) (bytes : List ℕ)
+    (b : Block) (h : HasHeard heard (xs ++ ys) e)
+    (is : heard ≡ flat_map heard_of xs ++ (sent_by from bytes ++ more))
+    (valid : found_in e.edc bytes ≡ Valid b)
+    (none_sooner : (k : ℕ) → k < length bytes → is_complete e.edc (take k bytes) ≡ false) where
+  whole : is_complete e.edc bytes ≡ true
+  whole = valid_is_complete e.edc bytes b valid
+
+  -- no first part of these is the block
+  too_short : (part : List ℕ) → is_complete e.edc (take (length bytes) part) ≡ false
+      → take (length bytes) part ≡ bytes → ⊥
+  too_short part none is = let no = sym (ap (is_complete e.edc) is) ∙ none in
+      let sure = whole in cc
+
+  no_rest : (part : List ℕ) (end : End) → ((k : ℕ) → is_complete e.edc (take k part) ≡ false)
+      → Compared part bytes from [] → ⊥
+  no_rest part end none (Same same) =
+      too_short part (none (length bytes))
+      (ap (λ bs. take (length bytes) bs) same ∙ take-length bytes)
+  no_rest part end none (Shorter c zs later longer next) = cc
+  no_rest part end none (Longer c zs longer) =
+      too_short part (none (length bytes))
+      (ap (λ bs. take (length bytes) bs) longer ∙ (front_of bytes zs c).0)
+
+  first_is : (r : Reading) (i : Item) (is : List Item) (tail : List Heard)
+      → IsItem e.edc r i tail → i.from ≡ from → Compared i.bytes bytes from tail
+      → IsNext (i ∷ is) from bytes b
+  first_is r i is tail item end (Same same) =
+      (end, same, ap (λ (j : Item). j.found) item.is ∙ ap (found_in e.edc) same ∙ valid)
+  first_is r i is tail item end (Longer c zs longer) =
+      let front = front_of bytes zs c in
+      let shorter : length bytes < length i.bytes =
+      subst (λ bs. length bytes < length bs) (sym longer) front.1 in
+      absurd (too_short i.bytes (item.not_sooner (length bytes) shorter)
+      (ap (λ bs. take (length bytes) bs) longer ∙ front.0))
+  first_is r i is tail item end (Shorter c zs later longer next) = absurd (no item.ends) where
+    front : (take (length i.bytes) bytes ≡ i.bytes) × (length i.bytes < length bytes)
+    front = subst (λ bs. (take (length i.bytes) bs ≡ i.bytes) × (length i.bytes < length bs))
+        (sym longer) (front_of i.bytes zs c)
+
+    no : (is_complete e.edc i.bytes ≡ true) ⊎ IsOther i.from tail → ⊥
+    no (inl sure) =
+        let none = sym (ap (is_complete e.edc) front.0) ∙ none_sooner (length i.bytes) front.1 in cc
+    no (inr other) =
+        not_own i.from (end ∙ subst (IsOther i.from) next other)
+
+  at : (r : Reading) (items : List Item) → AreItems e.edc r items (sent_by e.from e.part)
+      → flat_map heard_of items ++ sent_by e.from e.part ≡ sent_by from bytes ++ more
+      → IsNext items from bytes b
+  at r [] are is = absurd (no_rest e.part e.from h.incomplete
+      (compared e.from from e.part bytes [] more (append-nil (sent_by e.from e.part) ∙ is)))
+  at r (i ∷ items) are is =
+      let tail : List Heard = flat_map heard_of items ++ sent_by e.from e.part in
+      let both : heard_of i ++ tail ≡ sent_by from bytes ++ more =
+      sym (append_assoc (heard_of i) (flat_map heard_of items) (sent_by e.from e.part)) ∙ is in
+      first_is r i items tail are.0
+      (same_from i.from from i.bytes bytes tail more are.0.some
+      (complete_is_some e.edc bytes whole) both)
+      (compared i.from from i.bytes bytes tail more both)
+
+  pub whole_block : IsNext ys from bytes b
+  whole_block =
+      at (after_items fresh xs) ys
+      (later_items e.edc fresh xs ys (sent_by e.from e.part) h.divided)
+      (append_cancel_left (flat_map heard_of xs) _ _
+      (sym (append_assoc (flat_map heard_of xs) (flat_map heard_of ys) (sent_by e.from e.part))
+      ∙ ap (λ hs. hs ++ sent_by e.from e.part) (sym (flat_map-append heard_of xs ys))
+      ∙ sym h.all ∙ is))

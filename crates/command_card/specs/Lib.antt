@@ -2,6 +2,8 @@ pub mod Carrying
 pub mod State
 pub mod Meaning
 pub mod View
+pub mod Given
+pub mod Wanted
 pub mod AtT1
 pub mod Told
 pub mod Deeds

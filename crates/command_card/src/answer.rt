@@ -36,7 +36,12 @@ fn same_header(first: Header, header: Header) -> bool
 }
 
 /// The pending response, if this header asks for it: where its bytes begin, and its status.
-fn pending_for(waiting: &Waiting, kept: &Vec<u8>, header: Header, p3: u8) -> Option<(usize, Status)>
+pub(crate) fn pending_for(
+    waiting: &Waiting,
+    kept: &Vec<u8>,
+    header: Header,
+    p3: u8,
+) -> Option<(usize, Status)>
     ensures { option_map {U = Hand}
         (λ p. record { bytes = drop p.0 kept.now.items; status = p.1 }) result
         ≡ pending_for (left_of kept.now.items waiting.now) header p3 }

@@ -1,9 +1,10 @@
 //! The same application at T=1, and for whole commands.
 ghost use Rattle.std.specs.Prelude.{◌≡◌, ◌+◌, ◌≤◌, [], ◌++◌, length, drop, vec_capacity, Some, unwrap_or};
+ghost use Rattle.apdu_core.specs.declared.header.Header.{Header};
 ghost use Rattle.apdu_core.specs.StatusWord.{IsStatusWord};
 ghost use Rattle.command_card.specs.AtT1.{HandsOut, Responds, DoesAt, status_bytes, may_bring};
 ghost use Rattle.command_card.specs.State.{Nothing_left};
-ghost use Rattle.command_card.specs.View.{after_reset, left_of, state_of};
+ghost use Rattle.command_card.specs.View.{WaitsFor, after_reset, left_of, state_of};
 
 use crate::answer::{announcing, carried_out, fetch_left, wipe, word};
 use crate::application::{Application, GET_RESPONSE};
@@ -62,7 +63,7 @@ impl<A: Application> AppletOf<A> {
 }
 
 /// Writes a response, for which there is room.
-fn write(content: &[u8], status: Status, response: &mut Vec<u8>)
+pub(crate) fn write(content: &[u8], status: Status, response: &mut Vec<u8>)
     requires empty { response.old.items ≡ [] }
     requires room { length content.now + 2 ≤ vec_capacity response.old }
     ensures { response.new.items ≡ content.now ++ status_bytes status }
@@ -84,8 +85,10 @@ fn hand_out(
 ) -> Waiting
     requires le { may_bring le ≤ 256 }
     requires room { (response.old.items ≡ []) × (RESPONSE_ROOM ≤ vec_capacity response.old) }
-    ensures { HandsOut (drop from bytes.now.items) status (may_bring le) response.new.items
+    ensures hands { HandsOut (drop from bytes.now.items) status (may_bring le) response.new.items
         (left_of bytes.now.items result) }
+    ensures under { (h : Header) → WaitsFor result h → ⊥ }
+    ensures short { length response.new.items ≤ 258 }
 {
     let first = from.min(bytes.len());
     let left = bytes.len() - first;
@@ -103,13 +106,16 @@ pub(crate) fn respond<A: Application>(
     application: &mut A,
     kept: &mut Vec<u8>,
     waiting: Waiting,
-    command: Command<'_>,
+    command: &Command<'_>,
     response: &mut Vec<u8>,
 ) -> Waiting
     requires { (response.old.items ≡ []) × (RESPONSE_ROOM ≤ vec_capacity response.old) }
-    ensures { Responds A.takes A.Does (state_of (A.standing application.old) kept.old.items waiting)
-        command.entry response.new.items
+    ensures responds { Responds A.takes A.Does
+        (state_of (A.standing application.old) kept.old.items waiting)
+        command.now response.new.items
         (state_of (A.standing application.new) kept.new.items result) }
+    ensures under { (h : Header) → WaitsFor result h → ⊥ }
+    ensures short { length response.new.items ≤ 258 }
 {
     let header = command.header();
     let le = command.le();
@@ -171,7 +177,7 @@ impl<A: Application> Applet for AppletOf<A> {
                     &mut self.application,
                     &mut self.kept,
                     self.waiting,
-                    command,
+                    &command,
                     response,
                 );
                 if matches!(self.waiting, Waiting::Nothing) {

@@ -17,11 +17,11 @@ use t0_core::{DataRun, TpduCard, Verdict};
 ///   The application is unchanged after both.
 #[derive(Drop)]
 pub struct CommandCard<A: Application> {
-    application: A,
-    kept: Vec<u8>,
-    fresh: Vec<u8>,
-    waiting: Waiting,
-    ready: Ready,
+    pub(crate) application: A,
+    pub(crate) kept: Vec<u8>,
+    pub(crate) fresh: Vec<u8>,
+    pub(crate) waiting: Waiting,
+    pub(crate) ready: Ready,
 }
 
 impl<A: Application> Model for CommandCard<A> {

@@ -20,10 +20,19 @@ mod applet;
 mod application;
 mod card;
 mod copied;
+mod given;
+mod given_applet;
 pub mod laws;
+mod own;
 mod ready;
 
 pub use applet::{AppletOf, RESPONSE_ROOM};
 pub use application::{Application, GET_RESPONSE, RESPONSE_LIMIT};
 pub use card::CommandCard;
 pub use copied::{Copied, Eager};
+pub use given::{Directions, Given};
+pub use given_applet::GivenApplet;
+pub use own::{
+    GiveFault, Need, Wanted, decide, forget, give, respond_to, wanted_by_command, wanted_by_tpdu,
+    wanted_next,
+};

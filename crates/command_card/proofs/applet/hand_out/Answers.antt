@@ -4,8 +4,8 @@ use Rattle.command_card.specs.View.{left_of}
 use Rattle.command_card.proofs.CutLemmas.{hands_out, rest_length}
 use Rattle.command_card.proofs.applet.hand_out.Goals as goal
 
-pub returns : goal.returns
-returns c =
+pub returns-clause-hands : goal.returns-clause-hands
+returns-clause-hands c =
     let bytes = c.args.bytes.now.items in
     let n = may_bring c.args.le in
     let first = c.min-first.result in

@@ -1,0 +1,66 @@
+-- An application whose responses come from outside: what it holds, and what it does.
+use Rattle.std.specs.Prelude.{◌≡◌, ◌⊎◌, ℕ, ◌^◌, ◌/◌, ◌%◌, ◌==◌, List, slice_get, Option, Some, None, Bool, true, false, unwrap_or}
+use Rattle.apdu_core.specs.declared.header.Header.{Header}
+use Rattle.apdu_core.specs.StatusWord.{StatusWord}
+use Rattle.command_card.specs.declared.given.Directions.{Directions}
+use Rattle.command_card.specs.declared.given.Directions.TheVariants.{Table, Unknown, Known}
+use Rattle.command_card.specs.Carrying.{Did, out_of_memory}
+
+-- a response and its status
+pub record Answer : Type 0 where
+  pub bytes : List ℕ
+  pub status : StatusWord
+
+-- The state: which way data go, the response that was given, and whether the last command that got
+-- one has settled.
+pub record GivenState : Type 0 where
+  pub directions : Directions
+  pub given : Option Answer
+  pub settled : Bool
+
+abbrev pub answer_of : Option StatusWord → List ℕ → Option Answer
+answer_of None bytes = None
+answer_of (Some status) bytes = Some (record { bytes = bytes; status = status })
+
+abbrev pub with_answer : GivenState → List ℕ → StatusWord → GivenState
+with_answer s bytes status = record {
+  directions = s.directions;
+  given = Some (record { bytes = bytes; status = status });
+  settled = false;
+}
+
+-- bit INS mod 8 of byte INS/8, the lowest bit first
+abbrev pub is_set : List ℕ → ℕ → Bool
+is_set bytes ins = (unwrap_or (slice_get bytes (ins / 8)) 0) / (2 ^ (ins % 8)) % 2 == 1
+
+abbrev pub go_to_card : Directions → ℕ → Bool
+go_to_card (Table bytes) ins = is_set bytes ins
+go_to_card Unknown ins = false
+go_to_card (Known to_card) ins = to_card
+
+abbrev pub takes_data : GivenState → Header → Bool
+takes_data s h = go_to_card s.directions h.ins
+
+-- the answer about one header holds for that one only
+abbrev pub forgotten : Directions → Directions
+forgotten (Table bytes) = Table bytes
+forgotten Unknown = Unknown
+forgotten (Known to_card) = Unknown
+
+abbrev pub settled : GivenState → GivenState
+settled s = record { directions = forgotten s.directions; given = None; settled = true }
+
+-- a reset drops a response, whose command then never settles
+abbrev pub after_drop : GivenState → GivenState
+after_drop s =
+    record { directions = forgotten s.directions; given = None; settled = s.settled }
+
+abbrev pub IsGiven : Option Answer → List ℕ → StatusWord → Type 0
+IsGiven None bytes status = ⊥
+IsGiven (Some answer) bytes status = (bytes ≡ answer.bytes) × (status ≡ answer.status)
+
+-- A command gets the response that was given, and settles with it. Or it gets none, is not carried
+-- out, and its status is 6581.
+abbrev pub Answers : GivenState → Did → GivenState → Type 0
+Answers old did new = (IsGiven old.given did.response did.status × (new ≡ settled old))
+    ⊎ ((did ≡ out_of_memory did.command) × (new ≡ old))

@@ -1,0 +1,96 @@
+-- What a card of given responses asks its caller before it continues.
+use Rattle.std.specs.Prelude.{◌≡◌, ◌⊎◌, ℕ, ◌==◌, ◌&&◌, not, List, [], ◌∷◌, length, Option, Some, None, Bool, true, false, unwrap_or, is_some, if◌then◌else◌}
+use Rattle.apdu_core.specs.declared.header.Header.{Header}
+use Rattle.apdu_core.specs.HeaderBytes.{ins_is_valid}
+use Rattle.apdu_core.specs.CommandBytes.{Command}
+use Rattle.apdu_core.specs.StatusWord.{count}
+use Rattle.t0_core.specs.CardSide.{EndOf, Taking_header, begins_with, takes_plan, whole_data}
+use Rattle.command_card.specs.declared.given.Directions.{Directions}
+use Rattle.command_card.specs.declared.given.Directions.TheVariants.{Table, Unknown, Known}
+use Rattle.command_card.specs.declared.own.Need.{Need}
+use Rattle.command_card.specs.declared.own.Need.TheVariants as need
+use Rattle.command_card.specs.declared.own.Wanted.{Wanted}
+use Rattle.command_card.specs.declared.own.Wanted.TheVariants as wanted
+use Rattle.command_card.specs.declared.ready.Ready.{Ready}
+use Rattle.command_card.specs.declared.ready.Ready.TheVariants as ready
+use Rattle.command_card.specs.Carrying.{asking, taking}
+use Rattle.command_card.specs.Given.{GivenState, takes_data}
+use Rattle.command_card.specs.Meaning.{Kind, Invalid, Hands, Unfetched, Takes, Asks, kind_in}
+use Rattle.command_card.specs.State.{CardState, is_fetch}
+use Rattle.command_card.specs.View.{CardOf, standing_in}
+
+abbrev pub is_known : Directions → Bool
+is_known (Table bytes) = true
+is_known Unknown = false
+is_known (Known to_card) = true
+
+-- What the application is needed for at a header of this kind: nothing, which way its data go, or a
+-- response, at the header or after the data.
+abbrev pub need_of : Bool → Kind → Need
+need_of known Invalid = need.Nothing
+need_of known (Hands hand) = need.Nothing
+need_of known Unfetched = need.Nothing
+need_of false Takes = need.Direction
+need_of false Asks = need.Direction
+need_of true Takes = need.AfterData
+need_of true Asks = need.AtHeader
+
+abbrev pub need_in : CardState GivenState → Header → ℕ → Need
+need_in s h p3 = need_of (is_known s.app.directions) (kind_in takes_data s h p3)
+
+-- what is wanted of the caller at a whole header, if these are its data
+abbrev pub wanted_at : Need → Bool → Header → ℕ → List ℕ → Wanted
+wanted_at need.Nothing given h p3 bytes = wanted.Nothing
+wanted_at need.Direction given h p3 bytes = wanted.Direction h
+wanted_at need.AtHeader given h p3 bytes =
+    if given then wanted.Nothing else wanted.Response (asking h (count p3))
+wanted_at need.AfterData given h p3 bytes =
+    if not given && (length bytes == p3) then wanted.Response (taking h bytes) else wanted.Nothing
+
+abbrev pub wanted_by : CardOf GivenState → Header → ℕ → List ℕ → Wanted
+wanted_by c h p3 bytes =
+    wanted_at (need_in (standing_in (λ s. s) c) h p3) (is_some c.app.given) h p3 bytes
+
+-- after the data that the card waits for
+abbrev pub wanted_after : Bool → Ready → List ℕ → Wanted
+wanted_after false (ready.Receives h p3 cut) bytes =
+    if ins_is_valid h.ins && (length bytes == p3) then wanted.Response (taking h bytes)
+    else wanted.Nothing
+wanted_after false ready.Nothing bytes = wanted.Nothing
+wanted_after false (ready.Sends h p3 cut from status ending) bytes = wanted.Nothing
+wanted_after false (ready.Leaves ending) bytes = wanted.Nothing
+wanted_after true r bytes = wanted.Nothing
+
+abbrev pub wanted_with : CardOf GivenState → Option (List ℕ) → Wanted
+wanted_with c None = wanted.Nothing
+wanted_with c (Some bytes) = wanted_after (is_some c.app.given) c.ready bytes
+
+-- the card has prepared no answer
+abbrev pub is_open : Ready → Bool
+is_open ready.Nothing = true
+is_open (ready.Receives h p3 cut) = true
+is_open (ready.Sends h p3 cut from status ending) = false
+is_open (ready.Leaves ending) = false
+
+-- What is wanted before the end's next character.
+abbrev pub IsWanted : EndOf (CardOf GivenState) → Wanted → Type 0
+IsWanted e w =
+    ((takes_plan e.stage ≡ false) × (w ≡ wanted_with e.card (whole_data e.stage)))
+    ⊎ ((h : Header) × (p3 : ℕ) × (e.stage ≡ Taking_header (begins_with h p3))
+    × (w ≡ wanted_by e.card h p3 []))
+
+-- A whole command, as T=0 shows it. Data where none are taken, and Le without data where data are
+-- taken, are no command of the application.
+abbrev pub wanted_told : Bool → Bool → Header → List ℕ → Option ℕ → Wanted
+wanted_told true takes h bytes le = wanted.Nothing
+wanted_told false true h [] (Some n) = wanted.Nothing
+wanted_told false true h [] None = wanted.Response (taking h [])
+wanted_told false true h (b ∷ bytes) le = wanted.Response (taking h (b ∷ bytes))
+wanted_told false false h [] le = wanted.Response (asking h (unwrap_or le 256))
+wanted_told false false h (b ∷ bytes) le = wanted.Nothing
+
+abbrev pub wanted_for : GivenState → Command → Wanted
+wanted_for s c = if is_fetch c.header then wanted.Nothing
+    else if is_known s.directions
+    then wanted_told (is_some s.given) (takes_data s c.header) c.header c.content c.le
+    else wanted.Direction c.header

@@ -1,0 +1,214 @@
+//! An application whose responses come from outside, one for each command.
+ghost use Rattle.std.specs.Prelude.{◌≡◌, ◌<◌, ◌^◌, true, None, is_some, OnOk, OnErr};
+ghost use Rattle.command_card.specs.Carrying.{IsOwn};
+ghost use Rattle.command_card.specs.Given.{after_drop, forgotten, go_to_card, with_answer};
+ghost use Rattle.command_card.specs.declared.given.Directions.TheVariants as way;
+
+use crate::answer::wipe;
+use crate::application::Application;
+use apdu_core::{Command, Header, Status};
+use std::alloc::{AllocError, Global};
+use std::marker::Model;
+use std::mem::swap;
+
+/// Which way the data of a command go.
+#[derive(Clone, Copy, Debug)]
+pub enum Directions {
+    /// By INS: bit INS mod 8 of byte INS/8, the lowest bit first, is set if data go to the card.
+    Table([u8; 32]),
+    /// Each header is asked for, and the next one is not answered.
+    Unknown,
+    /// It is: whether data go to the card.
+    Known(bool),
+}
+
+fn power_of_two(exponent: u8) -> u8
+    requires { exponent < 8 }
+    ensures { result ≡ 2 ^ exponent }
+{
+    1 << exponent
+}
+
+/// Whether data go to the card under this INS.
+fn go_to_card(directions: &Directions, ins: u8) -> bool
+    ensures { result ≡ go_to_card directions.now ins }
+{
+    match directions {
+        Directions::Table(bytes) => { bytes[(ins / 8) as usize] / power_of_two(ins % 8) % 2 == 1 }
+        Directions::Unknown => false,
+        Directions::Known(to_card) => *to_card,
+    }
+}
+
+/// The directions once a command has ended.
+fn forgotten(directions: Directions) -> Directions
+    ensures { result ≡ forgotten directions }
+{
+    match directions {
+        Directions::Table(bytes) => Directions::Table(bytes),
+        Directions::Unknown | Directions::Known(_) => Directions::Unknown,
+    }
+}
+
+/// An application that answers each command with the response that it was given for it. Without one
+/// the status is 6581. For callers without callbacks.
+#[derive(Drop)]
+pub struct Given {
+    directions: Directions,
+    /// The response, and its status if one was given.
+    bytes: Vec<u8>,
+    status: Option<Status>,
+    /// A copy to hand out, so that no memory is needed then, unless it is used.
+    spare: Vec<u8>,
+    used: bool,
+    settled: bool,
+}
+
+impl Model for Given {
+    ghost use Rattle.std.specs.Prelude.{◌≡◌, false, MatchOption, ⊤};
+    ghost use Rattle.command_card.specs.Carrying.{IsOwn};
+    ghost use Rattle.command_card.specs.Given.{GivenState, answer_of};
+
+    ghost Value = { GivenState };
+
+    ghost view = { λ g. record {
+      directions = g.directions;
+      given = answer_of g.status g.bytes.items;
+      settled = g.settled;
+    } };
+
+    ghost invariant = { λ g. (g.used ≡ false → g.spare.items ≡ g.bytes.items)
+        × MatchOption g.status ⊤ IsOwn };
+}
+
+impl Given {
+    /// Makes the application, with no response.
+    pub fn new(alloc: Global, directions: Directions) -> Given
+        ensures { result ≡ record { directions = directions; given = None; settled = true } }
+    {
+        Given {
+            directions,
+            bytes: Vec::new(alloc),
+            status: None,
+            spare: Vec::new(alloc),
+            used: true,
+            settled: true,
+        }
+    }
+
+    /// Whether a response was given, for a command that has not settled.
+    pub fn has_response(&self) -> bool
+        ensures { result ≡ is_some self.now.given }
+    {
+        self.status.is_some()
+    }
+
+    /// Whether the last command that got a response has settled.
+    pub fn has_settled(&self) -> bool
+        ensures { result ≡ self.now.settled }
+    {
+        self.settled
+    }
+
+    /// Which way data go.
+    pub fn directions(&self) -> Directions
+        ensures { result ≡ self.now.directions }
+    {
+        self.directions
+    }
+
+    /// Takes the response to the next command.
+    ///
+    /// # Errors
+    /// - `AllocError`: memory ran out; nothing has changed.
+    pub(crate) fn give(&mut self, bytes: &[u8], status: Status) -> Result<(), AllocError>
+        requires none { self.old.given ≡ None }
+        requires own { IsOwn status }
+        ensures failed { OnErr result (self.new ≡ self.old) }
+        ensures done { OnOk result (self.new ≡ with_answer self.old bytes.now status) }
+    {
+        self.used = true;
+        if copied(bytes, &mut self.bytes).is_err() {
+            return Err(AllocError);
+        }
+        if copied(bytes, &mut self.spare).is_err() {
+            wipe(&mut self.bytes);
+            return Err(AllocError);
+        }
+        self.status = Some(status);
+        self.used = false;
+        self.settled = false;
+        Ok(())
+    }
+
+    /// Answers which way the data of the next header go.
+    pub(crate) fn decide(&mut self, to_card: bool)
+        ensures { self.new ≡ record self.old { directions = way.Known to_card } }
+    {
+        self.directions = Directions::Known(to_card);
+    }
+
+    /// Drops the response, and what was answered about one header.
+    fn drop_response(&mut self)
+        ensures { self.new ≡ after_drop self.old }
+    {
+        wipe(&mut self.bytes);
+        wipe(&mut self.spare);
+        self.status = None;
+        self.used = true;
+        self.directions = forgotten(self.directions);
+    }
+}
+
+/// Replaces the content of `into`.
+fn copied(bytes: &[u8], into: &mut Vec<u8>) -> Result<(), AllocError>
+    ensures { OnOk result (into.new.items ≡ bytes.now) }
+{
+    wipe(into);
+    into.extend_from_slice(bytes)
+}
+
+impl Application for Given {
+    ghost use Rattle.command_card.specs.Given.{GivenState, Answers, after_drop, settled, takes_data};
+
+    ghost State = { GivenState };
+
+    ghost standing = { λ g. g };
+
+    ghost next = { settled };
+
+    ghost takes = { takes_data };
+
+    ghost Does = { Answers };
+
+    ghost after_reset = { after_drop };
+
+    fn takes_data(&self, header: Header) -> bool {
+        go_to_card(&self.directions, header.ins)
+    }
+
+    fn carry_out(
+        &mut self,
+        _command: Command<'_>,
+        response: &mut Vec<u8>,
+    ) -> Result<Status, AllocError> {
+        let Some(status) = self.status else {
+            return Err(AllocError);
+        };
+        if self.used {
+            return Err(AllocError);
+        }
+        self.used = true;
+        swap(&mut self.spare, response);
+        Ok(status)
+    }
+
+    fn settle(&mut self) {
+        self.drop_response();
+        self.settled = true;
+    }
+
+    fn reset(&mut self) {
+        self.drop_response();
+    }
+}

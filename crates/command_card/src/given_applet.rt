@@ -1,0 +1,106 @@
+//! The card of given responses at T=1.
+ghost use Rattle.std.specs.Prelude.{◌≡◌, ◌+◌, ◌≤◌, [], ◌++◌, length, vec_capacity};
+ghost use Rattle.t1_core.specs.CardSide.{no_requests};
+
+use crate::answer::{wipe, word};
+use crate::applet::{COMMAND_LIMIT, RESPONSE_ROOM, write};
+use crate::card::CommandCard;
+use crate::given::Given;
+use crate::own::{Wanted, forget, respond_to, wanted_by_command};
+use apdu_core::{ApduFault, Command};
+use std::alloc::{AllocError, Global};
+use t0_core::CardEnd;
+use t1_core::{Applet, Requests};
+
+/// A card of given responses above its end of a line at T=1. It carries out no command without its
+/// response, and keeps it. Give the end the same block again once the response is there.
+#[derive(Drop)]
+pub struct GivenApplet {
+    pub end: CardEnd<CommandCard<Given>>,
+    /// The command that waits, if one does.
+    pub asked: Vec<u8>,
+}
+
+impl GivenApplet {
+    /// Makes the card at T=1 of one at T=0.
+    pub fn new(alloc: Global, end: CardEnd<CommandCard<Given>>) -> GivenApplet
+        ensures { (result.end ≡ end) × (result.asked.items ≡ []) }
+    {
+        GivenApplet {
+            end,
+            asked: Vec::new(alloc),
+        }
+    }
+}
+
+/// Appends bytes, for which there is room.
+fn push(content: &[u8], response: &mut Vec<u8>)
+    requires { length response.old.items + length content.now ≤ vec_capacity response.old }
+    ensures { response.new.items ≡ response.old.items ++ content.now }
+{
+    if response.extend_from_slice(content).is_err() {
+        unreachable!()
+    }
+}
+
+fn no_requests() -> Requests
+    ensures { result ≡ no_requests }
+{
+    Requests {
+        extensions: 0,
+        multiple: 0,
+        size: None,
+    }
+}
+
+impl Applet for GivenApplet {
+    ghost use Rattle.command_card.specs.Given.{Answers, GivenState, takes_data};
+    ghost use Rattle.command_card.specs.AtT1.{DoesAt};
+    ghost use Rattle.command_card.specs.State.{CardState};
+    ghost use Rattle.command_card.specs.View.{standing_in};
+
+    const LIMIT: usize = COMMAND_LIMIT;
+
+    ghost LIMIT = { 261 };
+
+    ghost State = { CardState GivenState };
+
+    ghost standing = { λ c. standing_in (λ s. s) c.end.card };
+
+    ghost Does = { DoesAt takes_data Answers };
+
+    fn carry_out(
+        &mut self,
+        command: &[u8],
+        response: &mut Vec<u8>,
+    ) -> Result<Requests, AllocError> {
+        wipe(&mut self.asked);
+        response.clear();
+        response.reserve(RESPONSE_ROOM)?;
+        match Command::read(command) {
+            Ok(read) => {
+                if !matches!(wanted_by_command(&self.end, &read), Wanted::Nothing) {
+                    self.asked.extend_from_slice(command)?;
+                    return Err(AllocError);
+                }
+                respond_to(&mut self.end, read.header(), read.data(), read.le())?;
+                push(self.end.card().response(), response);
+                forget(&mut self.end);
+            }
+            Err(ApduFault::InvalidIns) => write(&[], word(0x6D, 0x00), response),
+            Err(ApduFault::TooShort | ApduFault::BadLength) => {
+                write(&[], word(0x67, 0x00), response);
+            }
+        }
+        Ok(no_requests())
+    }
+
+    #[tactic(auto, using(crate::proofs::AppletLemmas::too_long_does))]
+    fn too_long(&mut self, response: &mut Vec<u8>) -> Result<Requests, AllocError> {
+        wipe(&mut self.asked);
+        response.clear();
+        response.reserve(RESPONSE_ROOM)?;
+        write(&[], word(0x67, 0x00), response);
+        Ok(no_requests())
+    }
+}

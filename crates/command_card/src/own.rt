@@ -1,0 +1,367 @@
+//! The card of an application whose responses come from outside, and what it asks its caller.
+ghost use Rattle.std.specs.Prelude.{◌≡◌, ◌≤◌, ◌<◌, length, None, Some, true, false, Err, OnOk, OnErr};
+ghost use Rattle.apdu_core.specs.declared.header.Header.{Header};
+ghost use Rattle.command_card.specs.declared.own.GiveFault.TheVariants as fault;
+ghost use Rattle.command_card.specs.declared.given.Directions.TheVariants as way;
+ghost use Rattle.command_card.specs.declared.application.TheConstants.{RESPONSE_LIMIT};
+ghost use Rattle.command_card.specs.declared.applet.TheConstants.{RESPONSE_ROOM};
+ghost use Rattle.command_card.specs.Carrying.{IsOwn};
+ghost use Rattle.command_card.specs.Given.{Answers, settled, takes_data, with_answer};
+ghost use Rattle.command_card.specs.AtT1.{Responds};
+ghost use Rattle.command_card.specs.View.{standing_in, prepared_in};
+ghost use Rattle.command_card.specs.Wanted.{IsWanted, is_open, is_known, need_in, wanted_by, wanted_for, wanted_with};
+
+use crate::answer::{pending_for, wipe};
+use crate::applet::{RESPONSE_ROOM, respond};
+use crate::application::{Application, GET_RESPONSE, RESPONSE_LIMIT};
+use crate::card::CommandCard;
+use crate::given::{Directions, Given};
+use crate::ready::{Ready, Waiting};
+use apdu_core::{Command, Header, Status, count};
+use std::alloc::AllocError;
+use t0_core::{CardEnd, Open, WholeTpdu};
+
+/// What the application is needed for, to answer a header.
+#[derive(Clone, Copy, Debug, PartialEq, Eq)]
+pub enum Need {
+    /// Nothing: the card answers alone.
+    Nothing,
+    /// Which way the data go.
+    Direction,
+    /// A response, before the first character of the answer.
+    AtHeader,
+    /// A response, after the data to the card.
+    AfterData,
+}
+
+/// What a card of given responses asks its caller before it continues.
+#[derive(Drop)]
+pub enum Wanted<'a> {
+    /// Nothing.
+    Nothing,
+    /// Which way the data of this header go.
+    Direction(Header),
+    /// The response to this command.
+    Response(Command<'a>),
+}
+
+/// Why a card does not take what it is given. Nothing has changed.
+#[derive(Clone, Copy, Debug, PartialEq, Eq)]
+pub enum GiveFault {
+    /// It has a response already, or has begun to answer.
+    NotWanted,
+    /// The response exceeds `RESPONSE_LIMIT`.
+    TooLong,
+    /// The status is `61XX` or `6CXX`, which are the card's own.
+    CardsOwn,
+    /// Memory ran out.
+    OutOfMemory,
+}
+
+/// Whether the application may still be given something: the card has prepared no answer.
+fn is_open(ready: &Ready) -> bool
+    ensures { result ≡ is_open ready.now }
+{
+    matches!(ready, Ready::Nothing | Ready::Receives { .. })
+}
+
+/// Whether the way of the next data is known.
+fn is_known(directions: Directions) -> bool
+    ensures { result ≡ is_known directions }
+{
+    match directions {
+        Directions::Table(_) | Directions::Known(_) => true,
+        Directions::Unknown => false,
+    }
+}
+
+impl Open for CommandCard<Given> {}
+
+impl CommandCard<Given> {
+    ghost use Rattle.std.specs.Prelude.{◌≡◌};
+    ghost use Rattle.command_card.specs.View.{standing_in, prepared_in};
+
+    /// What the application is needed for, to answer this header.
+    pub fn need(&self, header: Header, p3: u8) -> Need
+        ensures { result ≡ need_in (standing_in (λ s. s) self.now) header p3 }
+    {
+        if !header.ins_is_valid() {
+            return Need::Nothing;
+        }
+        if pending_for(&self.waiting, &self.kept, header, p3).is_some() {
+            return Need::Nothing;
+        }
+        if header.ins == GET_RESPONSE {
+            return Need::Nothing;
+        }
+        if !is_known(self.application.directions()) {
+            return Need::Direction;
+        }
+        if self.application.takes_data(header) {
+            Need::AfterData
+        } else {
+            Need::AtHeader
+        }
+    }
+
+    /// Takes the response to the command in progress.
+    ///
+    /// # Errors
+    /// In this order; nothing has changed:
+    /// - `NotWanted`: it has one, or has begun to answer.
+    /// - `TooLong`: the response exceeds `RESPONSE_LIMIT`.
+    /// - `CardsOwn`: the status is `61XX` or `6CXX`.
+    /// - `OutOfMemory`.
+    pub fn give(&mut self, bytes: &[u8], status: Status) -> Result<(), GiveFault>
+        ensures prepared { prepared_in (λ s. s) settled self.new
+            ≡ prepared_in (λ s. s) settled self.old }
+        ensures failed { OnErr result (self.new ≡ self.old) }
+        ensures done { OnOk result (IsOwn status × (length bytes.now ≤ RESPONSE_LIMIT)
+            × (self.new ≡ record self.old { app = with_answer self.old.app bytes.now status })) }
+        ensures wanted { result ≡ Err fault.NotWanted →
+            ¬ ((is_open self.old.ready ≡ true) × (self.old.app.given ≡ None)) }
+        ensures long { result ≡ Err fault.TooLong → RESPONSE_LIMIT < length bytes.now }
+        ensures own { result ≡ Err fault.CardsOwn → ¬ IsOwn status }
+    {
+        if !is_open(&self.ready) || self.application.has_response() {
+            return Err(GiveFault::NotWanted);
+        }
+        if bytes.len() > RESPONSE_LIMIT {
+            return Err(GiveFault::TooLong);
+        }
+        if status.announces().is_some() || status.corrects().is_some() {
+            return Err(GiveFault::CardsOwn);
+        }
+        match self.application.give(bytes, status) {
+            Ok(()) => Ok(()),
+            Err(_) => Err(GiveFault::OutOfMemory),
+        }
+    }
+
+    /// Takes the answer which way the data of the next header go. Returns whether it was wanted;
+    /// otherwise nothing has changed.
+    pub fn decide(&mut self, to_card: bool) -> bool
+        ensures prepared { prepared_in (λ s. s) settled self.new
+            ≡ prepared_in (λ s. s) settled self.old }
+        ensures failed { result ≡ false → self.new ≡ self.old }
+        ensures done { result ≡ true → self.new
+            ≡ record self.old { app = record self.old.app { directions = way.Known to_card } } }
+    {
+        if !matches!(self.ready, Ready::Nothing) || is_known(self.application.directions()) {
+            return false;
+        }
+        self.application.decide(to_card);
+        true
+    }
+
+    /// Carries out a whole command, which settles. The card keeps its response until `forget`.
+    ///
+    /// # Errors
+    /// - `AllocError`: memory ran out, the card has begun to answer, or this is no command; nothing
+    ///   is carried out.
+    pub fn respond(
+        &mut self,
+        header: Header,
+        bytes: &[u8],
+        le: Option<u16>,
+    ) -> Result<(), AllocError>
+        ensures prepared { prepared_in (λ s. s) settled self.new
+            ≡ prepared_in (λ s. s) settled self.old }
+        ensures failed { OnErr result
+            (standing_in (λ s. s) self.new ≡ standing_in (λ s. s) self.old) }
+        ensures done { OnOk result (Responds takes_data Answers
+            (standing_in (λ s. s) self.old)
+            (record { header = header; content = bytes.now; le = le }) self.new.fresh
+            (standing_in (λ s. s) self.new)) }
+        ensures short { OnOk result (length self.new.fresh ≤ RESPONSE_ROOM) }
+    {
+        let Some(command) = Command::new(header, bytes, le) else {
+            return Err(AllocError);
+        };
+        if !matches!(self.ready, Ready::Nothing) {
+            return Err(AllocError);
+        }
+        wipe(&mut self.fresh);
+        self.fresh.reserve(RESPONSE_ROOM)?;
+        self.waiting = respond(
+            &mut self.application,
+            &mut self.kept,
+            self.waiting,
+            &command,
+            &mut self.fresh,
+        );
+        if matches!(self.waiting, Waiting::Nothing) {
+            wipe(&mut self.kept);
+        }
+        Ok(())
+    }
+
+    /// The response to the last whole command, until `forget`.
+    pub fn response(&self) -> &[u8]
+        ensures { result.now ≡ self.now.fresh }
+    {
+        &self.fresh
+    }
+
+    /// Wipes the response to the last whole command, if nothing else is in its place.
+    pub fn forget(&mut self)
+        ensures prepared { prepared_in (λ s. s) settled self.new
+            ≡ prepared_in (λ s. s) settled self.old }
+        ensures stands { standing_in (λ s. s) self.new ≡ standing_in (λ s. s) self.old }
+    {
+        if matches!(self.ready, Ready::Nothing) {
+            wipe(&mut self.fresh);
+        }
+    }
+}
+
+/// What is wanted of the caller at a header, if these are its data.
+fn wanted_by<'a>(card: &CommandCard<Given>, header: Header, p3: u8, bytes: &'a [u8]) -> Wanted<'a>
+    ensures { result ≡ wanted_by card.now header p3 bytes.now }
+{
+    if !header.ins_is_valid() {
+        return Wanted::Nothing;
+    }
+    let is_given = card.application.has_response();
+    match card.need(header, p3) {
+        Need::Nothing => Wanted::Nothing,
+        Need::Direction => Wanted::Direction(header),
+        Need::AtHeader => {
+            if is_given {
+                return Wanted::Nothing;
+            }
+            Wanted::Response(Command::new(header, &[], Some(count(p3))).unwrap())
+        }
+        Need::AfterData => {
+            if is_given || bytes.len() != p3 as usize {
+                return Wanted::Nothing;
+            }
+            Wanted::Response(Command::new(header, bytes, None).unwrap())
+        }
+    }
+}
+
+/// What is wanted once the data are there.
+fn wanted_after<'a>(card: &CommandCard<Given>, bytes: &'a [u8]) -> Wanted<'a>
+    ensures { result ≡ wanted_with card.now (Some bytes.now) }
+{
+    if card.application.has_response() {
+        return Wanted::Nothing;
+    }
+    let Ready::Receives { header, p3, .. } = card.ready else {
+        return Wanted::Nothing;
+    };
+    if !header.ins_is_valid() || bytes.len() != p3 as usize {
+        return Wanted::Nothing;
+    }
+    Wanted::Response(Command::new(header, bytes, None).unwrap())
+}
+
+/// What is wanted of the caller before the end's next character.
+pub fn wanted_next<'a>(end: &'a CardEnd<CommandCard<Given>>) -> Wanted<'a>
+    ensures { IsWanted end.now result }
+{
+    if let Some((header, p3)) = end.whole_header() {
+        return wanted_by(end.card(), header, p3, &[]);
+    }
+    match end.whole_data() {
+        Some(bytes) => wanted_after(end.card(), bytes),
+        None => Wanted::Nothing,
+    }
+}
+
+/// What is wanted of the caller before an end at rest carries out this TPDU.
+pub fn wanted_by_tpdu<'a>(end: &CardEnd<CommandCard<Given>>, tpdu: &WholeTpdu<'a>) -> Wanted<'a>
+    ensures { result ≡ wanted_by end.now.card tpdu.now.header tpdu.now.p3 tpdu.now.content.now }
+{
+    wanted_by(end.card(), tpdu.header, tpdu.p3, tpdu.content)
+}
+
+/// What is wanted of the caller before an end at rest carries out this command.
+pub fn wanted_by_command<'a>(end: &CardEnd<CommandCard<Given>>, command: &Command<'a>) -> Wanted<'a>
+    ensures { result ≡ wanted_for end.now.card.app command.now }
+{
+    let header = command.header();
+    if header.ins == GET_RESPONSE {
+        return Wanted::Nothing;
+    }
+    let application = &end.card().application;
+    if !is_known(application.directions()) {
+        return Wanted::Direction(header);
+    }
+    if application.has_response() {
+        return Wanted::Nothing;
+    }
+    let (bytes, le) = (command.data(), command.le());
+    if application.takes_data(header) {
+        if bytes.is_empty() && le.is_some() {
+            return Wanted::Nothing;
+        }
+        return Wanted::Response(Command::new(header, bytes, None).unwrap());
+    }
+    if !bytes.is_empty() {
+        return Wanted::Nothing;
+    }
+    Wanted::Response(Command::new(header, &[], Some(le.unwrap_or(256))).unwrap())
+}
+
+/// Gives the response to the command in progress (`CommandCard::give`).
+pub fn give(
+    end: &mut CardEnd<CommandCard<Given>>,
+    bytes: &[u8],
+    status: Status,
+) -> Result<(), GiveFault>
+    ensures stage { end.new.stage ≡ end.old.stage }
+    ensures failed { OnErr result (end.new.card ≡ end.old.card) }
+    ensures done { OnOk result (IsOwn status × (length bytes.now ≤ RESPONSE_LIMIT)
+        × (end.new.card ≡ record end.old.card {
+          app = with_answer end.old.card.app bytes.now status;
+        })) }
+    ensures wanted { result ≡ Err fault.NotWanted →
+        ¬ ((is_open end.old.card.ready ≡ true) × (end.old.card.app.given ≡ None)) }
+    ensures long { result ≡ Err fault.TooLong → RESPONSE_LIMIT < length bytes.now }
+    ensures own { result ≡ Err fault.CardsOwn → ¬ IsOwn status }
+{
+    end.with_card(|card| card.give(bytes, status))
+}
+
+/// Answers which way the data of the next header go (`CommandCard::decide`).
+pub fn decide(end: &mut CardEnd<CommandCard<Given>>, to_card: bool) -> bool
+    ensures stage { end.new.stage ≡ end.old.stage }
+    ensures failed { result ≡ false → end.new.card ≡ end.old.card }
+    ensures done { result ≡ true → end.new.card ≡ record end.old.card {
+      app = record end.old.card.app { directions = way.Known to_card };
+    } }
+{
+    end.with_card(|card| card.decide(to_card))
+}
+
+/// Carries out a whole command at an end at rest (`CommandCard::respond`).
+///
+/// # Errors
+/// - `AllocError`: as there.
+pub fn respond_to(
+    end: &mut CardEnd<CommandCard<Given>>,
+    header: Header,
+    bytes: &[u8],
+    le: Option<u16>,
+) -> Result<(), AllocError>
+    ensures stage { end.new.stage ≡ end.old.stage }
+    ensures failed { OnErr result
+        (standing_in (λ s. s) end.new.card ≡ standing_in (λ s. s) end.old.card) }
+    ensures done { OnOk result (Responds takes_data Answers
+        (standing_in (λ s. s) end.old.card)
+        (record { header = header; content = bytes.now; le = le }) end.new.card.fresh
+        (standing_in (λ s. s) end.new.card)) }
+    ensures short { OnOk result (length end.new.card.fresh ≤ RESPONSE_ROOM) }
+{
+    end.with_card(|card| card.respond(header, bytes, le))
+}
+
+/// Wipes the response to the last whole command (`CommandCard::forget`).
+pub fn forget(end: &mut CardEnd<CommandCard<Given>>)
+    ensures stage { end.new.stage ≡ end.old.stage }
+    ensures stands { standing_in (λ s. s) end.new.card ≡ standing_in (λ s. s) end.old.card }
+{
+    end.with_card(|card| card.forget())
+}

@@ -24,8 +24,8 @@
  *
  * Every function returns a code of the list below, except those of texts, of the version,
  * gt_is_object and the .._free ones. 0 or above is success, below 0 is a fault: compare with < 0,
- * not with != 0. gt_pps_agreed and gt_session_idle return 1 or 0 if they succeed. The numbers are
- * fixed. A function's comment names all faults that it may return, except three:
+ * not with != 0. gt_pps_agreed, gt_session_idle and gt_card_settled return 1 or 0 if they succeed.
+ * The numbers are fixed. A function's comment names all faults that it may return, except three:
  *
  * - GT_NULL: see above.
  * - GT_EMPTY: the handle holds nothing. Each function with a handle returns it, unless its comment
@@ -101,6 +101,8 @@ enum {
                              * full; at T=1: the received block is whole, or dropped */
     GT_DONE = 2,            /* of a turn of an exchange or a terminal: it has ended, and has an
                              * answer; at T=1: there is no block to send */
+    GT_COMMAND = 3,         /* of a card of your own: a command waits for its response */
+    GT_HEADER = 4,          /* of a card of your own: a header waits for the way of its data */
 
     GT_ALL_SENT = 10,       /* all data to the card have left the terminal, or it has none to
                              * send */
@@ -197,6 +199,8 @@ GT_FUNCTION const char *gt_text(int32_t code) {
     case GT_OK: return "ok";
     case GT_SENDS: return "sends";
     case GT_DONE: return "done";
+    case GT_COMMAND: return "a command waits";
+    case GT_HEADER: return "a header waits";
     case GT_ALL_SENT: return "all data sent";
     case GT_NOT_ALL_SENT: return "not all data sent";
     case GT_SENT_UNKNOWN: return "data sent unknown";
@@ -412,6 +416,8 @@ enum {
     GT_TPDU_LIMIT = 260,        /* the most bytes of a whole TPDU: header, P3 and 255 of data */
     GT_APDU_LIMIT = 261,        /* of a command: header, Lc, 255 of data and Le */
     GT_ANSWER_LIMIT = 258,      /* of the answer to either: 256 of data, and the status */
+    GT_DATA_LIMIT = 255,        /* of the data of a command */
+    GT_OWN_LIMIT = 4096,        /* of a response of your own card, without the status */
     GT_ATR_LIMIT = 33,          /* of an answer to reset */
     GT_PROTOCOLS_LIMIT = 15,    /* the most protocols that it offers: T=0 to T=14 */
     GT_PPS_LIMIT = 6,           /* the most bytes of a PPS request or response */
@@ -440,6 +446,15 @@ typedef struct gt_character {
     uint8_t from;           /* GT_TERMINAL or GT_CARD */
     uint8_t byte;
 } gt_character;
+
+/* A command that reached a card of your own, as T=0 shows it: with data and without Le, or with Le
+ * and without data. */
+typedef struct gt_command {
+    uint8_t cla, ins, p1, p2;
+    uint16_t le;            /* Le, 1 to 256; 0: the command has none */
+    uint8_t size;           /* the number of bytes of data, 0 to GT_DATA_LIMIT */
+    uint8_t data[GT_DATA_LIMIT]; /* the data, and then zeros */
+} gt_command;
 
 enum { GT_DIRECT = 0, GT_INVERSE = 1 };
 enum { GT_STOP_NONE = 0, GT_STOP_LOW = 1, GT_STOP_HIGH = 2, GT_STOP_EITHER = 3 };
@@ -528,7 +543,8 @@ typedef struct gt_atr {
  *                 damaged; response or fault; .. reset; free
  * - gt_card_      new; app and object; finish; take and turn, send_bytes and receive_bytes, tpdu
  *                 or apdu; or t1_begin, then t1_receive_bytes, t1_missed or t1_damaged, and
- *                 t1_send_bytes; .. plan, selected, app_at, entry_at, reset; free
+ *                 t1_send_bytes; .. plan, selected, app_at, entry_at, reset; free. A card of your
+ *                 own has `own` in place of new to finish; command, direction, respond; .. settled
  * - gt_session_   start, with a card; listen, to call heard; select, get, put or send; .. answer,
  *                 heard, idle, plan, selected, app_at, entry_at, reset; end, which gives the card
  *                 back, or free
@@ -664,6 +680,11 @@ int32_t galliumtoad_card_t1_receive_bytes(gt_card *c, const uint8_t *bytes, size
                                           size_t *taken);
 int32_t galliumtoad_card_t1_missed(gt_card *c);
 int32_t galliumtoad_card_t1_damaged(gt_card *c);
+int32_t galliumtoad_card_own(gt_card *c, const uint8_t *directions, size_t n);
+int32_t galliumtoad_card_command(gt_card *c, gt_command *command);
+int32_t galliumtoad_card_direction(gt_card *c, bool to_card);
+int32_t galliumtoad_card_respond(gt_card *c, const uint8_t *data, size_t n, uint16_t status);
+int32_t galliumtoad_card_settled(gt_card *c);
 int32_t galliumtoad_card_plan(gt_card *c, const char *steps, size_t n, uint16_t cut);
 int32_t galliumtoad_card_selected(gt_card *c, uint8_t *aid, size_t room, size_t *n);
 int32_t galliumtoad_card_app_at(gt_card *c, size_t app, uint8_t *aid, size_t room, size_t *n);
@@ -1717,6 +1738,113 @@ GT_FUNCTION void gt_card_free(gt_card *c) {
     if (c) galliumtoad_card_free(c);
 }
 
+/* ---- A card of your own application ----------------------------------------------------------
+ *
+ * You write what a command does; the card does the rest. It carries your commands over T=0 by
+ * characters and buffers, each at most once. Make it with `gt_card_own`. These calls above work on
+ * it: gt_card_take, _turn, _send_bytes, _receive_bytes, _reset and _free. The others return
+ * GT_STATE, also those for plans, whole TPDUs, whole commands and T=1, and gt_session_start.
+ *
+ * gt_card_turn and gt_card_send_bytes return GT_COMMAND if a command waits for its response. Then
+ * nothing changes, except `n` of gt_card_send_bytes and the bytes that it counts. The order:
+ *
+ *   the card returned   then call                          and then
+ *   GT_HEADER           gt_card_command for the header     gt_card_direction; the same call again
+ *   GT_COMMAND          gt_card_command for the command    gt_card_respond; the same call again
+ *
+ * GT_HEADER is only for a card without directions. GT_COMMAND may follow it.
+ *
+ * No command waits in these cases, and the card answers alone:
+ *
+ * - GET RESPONSE, INS C0 in any class: it fetches the rest of a response that 61XX announces. If
+ *   nothing waits, it is 6985.
+ * - The same header with the P3 that 6CXX names: the response is there already.
+ * - INS 6X and 9X: 6D00.
+ *
+ * At most P3 bytes of a response go out. The card answers 61XX for the rest, and your status
+ * follows the last byte. It answers 6CXX if your response is shorter than P3, but not empty. Any
+ * other command drops what waits. Pieces of a chain (CLA 10) arrive one by one.
+ *
+ * A command takes effect when it settles: with SW2 of the TPDU that carried it out, also if that is
+ * 61XX or 6CXX. A reset before SW2 drops it: undo what it did.
+ *
+ * Misuse gets these codes, and changes nothing:
+ *
+ * - gt_card_own: the handle holds a card: GT_STATE.
+ * - gt_card_command: nothing waits: GT_STATE.
+ * - gt_card_direction: no header waits: GT_STATE.
+ * - gt_card_respond: no command waits, as before the first one, after the response to it, and after
+ *   a reset: GT_STATE. Another response than one may give: GT_ARGUMENT.
+ * - gt_card_take and gt_card_receive_bytes, while one waits: GT_NOT_LISTENING.
+ * - The calls of this section on a card of data objects or a session: GT_STATE. */
+
+/* The directions of the instructions of ISO/IEC 7816-4, 7816-8, 7816-9 and of EMV, by INS alone:
+ * `const uint8_t directions[32] = GT_ISO_DIRECTIONS;`. A SIM of class A0 has others, for INS 12. */
+#define GT_ISO_DIRECTIONS { \
+    0x10, 0xD0, 0x55, 0x41, 0x57, 0x15, 0x00, 0x00, 0x50, 0x00, 0x00, \
+    0x00, 0x00, 0x00, 0x00, 0x00, 0xC4, 0x01, 0x00, 0x00, 0x17, 0x41, \
+    0x0A, 0x00, 0x0C, 0x08, 0xC7, 0x3C, 0x55, 0x01, 0x00, 0x40 }
+
+/* Makes a card of your own application, in a handle that holds nothing. It listens at T=0, and
+ * nothing waits.
+ *
+ * `directions` are 32 bytes, which are copied. Bit INS mod 8 of byte INS/8, the lowest bit first,
+ * is set if data go to the card: at T=0 the header does not say (ISO/IEC 7816-3, 10.3.1). If
+ * `directions` is NULL, each header waits for its direction: GT_HEADER.
+ *
+ * - GT_OK.
+ * - GT_STATE: the handle holds a card, which stays as it was.
+ * - GT_MEMORY: the handle still holds nothing.
+ *
+ * It never returns GT_EMPTY. */
+GT_MUST_CHECK int32_t gt_card_own(gt_card *c, const uint8_t directions[32]) {
+    if (!c) return GT_NULL;
+    return galliumtoad_card_own(c, gt_bytes_(directions), directions ? 32 : 0);
+}
+
+/* Copies the command that waits. Of a header that waits it gives CLA to P2; `le` and `size` are 0.
+ *
+ * - GT_OK: the next call gives the same.
+ * - GT_STATE: nothing waits, or the card is not of your own. `command` is unchanged. */
+GT_MUST_CHECK int32_t gt_card_command(gt_card *c, gt_command *command) {
+    if (!c || !command) return GT_NULL;
+    return galliumtoad_card_command(c, command);
+}
+
+/* Answers a header that waits: with `to_card` other than 0 data of the terminal follow it, if P3
+ * names some. The answer is for this command alone.
+ *
+ * - GT_OK.
+ * - GT_STATE: no header waits, or the card is not of your own. */
+GT_MUST_CHECK int32_t gt_card_direction(gt_card *c, int to_card) {
+    if (!c) return GT_NULL;
+    return galliumtoad_card_direction(c, to_card != 0);
+}
+
+/* Answers the command that waits: `n` bytes of data, and `status`. They are copied. What goes out
+ * is this response. If you can't carry the command out, answer 6581 or another status.
+ *
+ * - GT_OK: it is taken. Call again what returned GT_COMMAND.
+ * - GT_STATE: no command waits, or the card is not of your own.
+ * - GT_ARGUMENT: `n` is above GT_OWN_LIMIT, or `status` is 61XX or 6CXX, which are the card's own,
+ *   or no status word (6X except 60, or 9X, and any byte). The command still waits.
+ * - GT_MEMORY: the command still waits. */
+GT_MUST_CHECK int32_t gt_card_respond(gt_card *c, const uint8_t *data, size_t n,
+                                      uint16_t status) {
+    if (!c || (!data && n)) return GT_NULL;
+    return galliumtoad_card_respond(c, gt_bytes_(data), n, status);
+}
+
+/* Returns whether the last command that got a response has settled. Compare with == 1.
+ *
+ * - 1: it has, or there was none.
+ * - 0: it has not. After a reset it never will: undo it.
+ * - GT_STATE: the card is not of your own. */
+GT_MUST_CHECK int32_t gt_card_settled(gt_card *c) {
+    if (!c) return GT_NULL;
+    return galliumtoad_card_settled(c);
+}
+
 /* ---- Commands of a card here, and what it answers --------------------------------------------
  *
  * - 00 A4 04 00 Lc AID [00]: SELECT. The data that wait are 6F with 84 with the AID.
@@ -1764,8 +1892,8 @@ GT_FUNCTION void gt_card_free(gt_card *c) {
  * listens yet: see `gt_session_listen`.
  *
  * - GT_OK.
- * - GT_STATE: `s` holds a session, or the card is not finished yet or speaks T=1. Both handles stay
- *   as they were.
+ * - GT_STATE: `s` holds a session, or the card is not finished yet, speaks T=1 or is one of your
+ *   own application. Both handles stay as they were.
  * - GT_EMPTY: `c` holds nothing. Both handles stay as they were. */
 GT_MUST_CHECK int32_t gt_session_start(gt_session *s, gt_card *c) {
     if (!s || !c) return GT_NULL;

@@ -22,6 +22,9 @@
 #define GT_HIDDEN __attribute__((visibility("hidden")))
 #define GT_ASK [[nodiscard]] inline GT_HIDDEN
 #define GT_CODE GT_ASK Code
+/* What C takes for a span, and a call that returns the code of one of C. */
+#define GT_SPAN(it) (it).data(), (it).size()
+#define GT_OVER(...) noexcept { return Code(__VA_ARGS__); }
 
 namespace galliumtoad {
 
@@ -97,132 +100,92 @@ GT_ASK const char *text(Code code) noexcept { return gt_text(int32_t(code)); }
 GT_ASK const char *status_text(uint16_t status) noexcept { return gt_status_text(status); }
 inline GT_HIDDEN size_t status_words(uint8_t cla, uint8_t ins, uint16_t status,
                                      Span<char> words) noexcept
-{ return gt_status_words(cla, ins, status, words.data(), words.size()); }
+{ return gt_status_words(cla, ins, status, GT_SPAN(words)); }
 GT_ASK uint32_t version() noexcept { return gt_version(); }
 GT_ASK bool version_fits() noexcept { return gt_version_fits() == 1; }
-GT_CODE objects(Bytes list, Span<gt_object> to, size_t &count, size_t &place) noexcept
-{ return Code(gt_objects(list.data(), list.size(), to.data(), to.size(), &count, &place)); }
-GT_CODE find(Bytes list, Span<const uint32_t> path, gt_object &it, size_t &place) noexcept
-{ return Code(gt_find(list.data(), list.size(), path.data(), path.size(), &it, &place)); }
+GT_CODE objects(Bytes list, Span<gt_object> to, size_t &count, size_t &place)
+GT_OVER(gt_objects(GT_SPAN(list), GT_SPAN(to), &count, &place))
+GT_CODE find(Bytes list, Span<const uint32_t> path, gt_object &it, size_t &place)
+GT_OVER(gt_find(GT_SPAN(list), GT_SPAN(path), &it, &place))
 GT_ASK bool is_object(Bytes it, uint32_t tag) noexcept
-{ return gt_is_object(it.data(), it.size(), tag) == 1; }
-GT_CODE head(uint32_t tag, uint16_t length, Head &to) noexcept
-{ return Code(gt_head(tag, length, to.bytes, &to.count)); }
-GT_CODE atr_read(Bytes bytes, gt_atr &atr, size_t &place) noexcept
-{ return Code(gt_atr_read(bytes.data(), bytes.size(), &atr, &place)); }
+{ return gt_is_object(GT_SPAN(it), tag) == 1; }
+GT_CODE head(uint32_t tag, uint16_t length, Head &to)
+GT_OVER(gt_head(tag, length, to.bytes, &to.count))
+GT_CODE atr_read(Bytes bytes, gt_atr &atr, size_t &place)
+GT_OVER(gt_atr_read(GT_SPAN(bytes), &atr, &place))
 GT_CODE pps_request(Pps &to, uint8_t t, uint16_t pps1 = GT_ABSENT, uint16_t pps2 = GT_ABSENT,
-                    uint16_t pps3 = GT_ABSENT) noexcept
-{ return Code(gt_pps_request(t, pps1, pps2, pps3, to.bytes, &to.count)); }
-GT_CODE pps_agreed(Bytes request, Bytes response, bool &is) noexcept
-{ return whether(gt_pps_agreed(request.data(), request.size(), response.data(), response.size()),
-                 is); }
+                    uint16_t pps3 = GT_ABSENT)
+GT_OVER(gt_pps_request(t, pps1, pps2, pps3, to.bytes, &to.count))
+GT_CODE pps_agreed(Bytes request, Bytes response, bool &is)
+GT_OVER(whether(gt_pps_agreed(GT_SPAN(request), GT_SPAN(response)), is))
 
-inline GT_HIDDEN void drop(gt_exchange *it) noexcept { gt_exchange_free(it); }
-inline GT_HIDDEN void drop(gt_terminal *it) noexcept { gt_terminal_free(it); }
-inline GT_HIDDEN void drop(gt_t1 *it) noexcept { gt_t1_free(it); }
-inline GT_HIDDEN void drop(gt_card *it) noexcept { gt_card_free(it); }
-inline GT_HIDDEN void drop(gt_session *it) noexcept { gt_session_free(it); }
-
-/* Owns a handle of C. */
-template <class Held> class Handle {
-public:
-    GT_HIDDEN Handle() noexcept = default;
-    GT_HIDDEN Handle(Handle &&other) noexcept : held(std::exchange(other.held, Held{})) {}
-    GT_HIDDEN Handle &operator=(Handle &&other) noexcept {
-        const Held taken = std::exchange(other.held, Held{});
-        free();
-        held = taken;
-        return *this;
-    }
-    GT_HIDDEN ~Handle() { free(); }
-    GT_HIDDEN void free() noexcept { drop(&held); }
-    GT_ASK Held *handle() noexcept { return &held; }
-
-protected:
-    Held held = GT_INIT;
-};
-/* A class that left these out would export its own. */
-#define GT_MOVES(Name) \
+/* What each handle has: it moves, and frees what it holds. */
+#define GT_OWNS(Name, Held) \
+public: \
     GT_HIDDEN Name() noexcept = default; \
-    GT_HIDDEN Name(Name &&) noexcept = default; \
-    GT_HIDDEN Name &operator=(Name &&) noexcept = default; \
-    GT_HIDDEN ~Name() = default
-
-class Exchange : public Handle<gt_exchange> {
+    GT_HIDDEN Name(Name &&other) noexcept : held(std::exchange(other.held, Held{})) {} \
+    GT_HIDDEN Name &operator=(Name &&other) noexcept { \
+        const Held taken = std::exchange(other.held, Held{}); \
+        free(); \
+        held = taken; \
+        return *this; \
+    } \
+    GT_HIDDEN ~Name() { free(); } \
+    GT_HIDDEN void free() noexcept { Held##_free(&held); } \
+    GT_ASK Held *handle() noexcept { return &held; } \
+\
+private: \
+    Held held = GT_INIT; \
+\
 public:
-    GT_MOVES(Exchange);
-    GT_CODE start(Bytes command) noexcept
-    { return Code(gt_exchange_start(&held, command.data(), command.size())); }
-    GT_CODE start_within(Bytes command, size_t limit) noexcept
-    { return Code(gt_exchange_start_within(&held, command.data(), command.size(), limit)); }
-    GT_CODE next(uint8_t &byte) noexcept { return Code(gt_exchange_next(&held, &byte)); }
-    GT_CODE take(uint8_t byte) noexcept { return Code(gt_exchange_take(&held, byte)); }
-    GT_CODE send_bytes(Room to, size_t &n) noexcept
-    { return Code(gt_exchange_send_bytes(&held, to.data(), to.size(), &n)); }
-    GT_CODE receive_bytes(Bytes it, size_t &n) noexcept
-    { return Code(gt_exchange_receive_bytes(&held, it.data(), it.size(), &n)); }
-    GT_CODE tpdu(Tpdu &to, size_t &most) noexcept
-    { return Code(gt_exchange_tpdu(&held, to.bytes, &to.count, &most)); }
-    GT_CODE answered(Bytes it) noexcept
-    { return Code(gt_exchange_answered(&held, it.data(), it.size())); }
-    GT_CODE apdu(Apdu &to, size_t &most) noexcept
-    { return Code(gt_exchange_apdu(&held, to.bytes, &to.count, &most)); }
-    GT_CODE responded(Bytes it) noexcept
-    { return Code(gt_exchange_responded(&held, it.data(), it.size())); }
-    GT_CODE answer(uint16_t &status, Room to, size_t &n) noexcept
-    { return Code(gt_exchange_answer(&held, &status, to.data(), to.size(), &n)); }
-    GT_CODE data_sent() noexcept { return Code(gt_exchange_data_sent(&held)); }
+
+/* The calls that an exchange and a terminal share. */
+#define GT_PASSES(Held) \
+    GT_CODE next(uint8_t &byte) GT_OVER(Held##_next(&held, &byte)) \
+    GT_CODE take(uint8_t byte) GT_OVER(Held##_take(&held, byte)) \
+    GT_CODE send_bytes(Room to, size_t &n) GT_OVER(Held##_send_bytes(&held, GT_SPAN(to), &n)) \
+    GT_CODE receive_bytes(Bytes it, size_t &n) \
+    GT_OVER(Held##_receive_bytes(&held, GT_SPAN(it), &n)) \
+    GT_CODE tpdu(Tpdu &to, size_t &most) GT_OVER(Held##_tpdu(&held, to.bytes, &to.count, &most)) \
+    GT_CODE answered(Bytes it) GT_OVER(Held##_answered(&held, GT_SPAN(it))) \
+    GT_CODE apdu(Apdu &to, size_t &most) GT_OVER(Held##_apdu(&held, to.bytes, &to.count, &most)) \
+    GT_CODE responded(Bytes it) GT_OVER(Held##_responded(&held, GT_SPAN(it))) \
+    GT_CODE answer(uint16_t &status, Room to, size_t &n) \
+    GT_OVER(Held##_answer(&held, &status, GT_SPAN(to), &n)) \
+    GT_CODE data_sent() GT_OVER(Held##_data_sent(&held))
+
+class Exchange {
+    GT_OWNS(Exchange, gt_exchange)
+    GT_CODE start(Bytes command) GT_OVER(gt_exchange_start(&held, GT_SPAN(command)))
+    GT_CODE start_within(Bytes command, size_t limit)
+    GT_OVER(gt_exchange_start_within(&held, GT_SPAN(command), limit))
+    GT_PASSES(gt_exchange)
 };
 
-class Terminal : public Handle<gt_terminal> {
-public:
-    GT_MOVES(Terminal);
-    GT_CODE create() noexcept { return Code(gt_terminal_new(&held)); }
-    GT_CODE create_within(size_t limit) noexcept
-    { return Code(gt_terminal_new_within(&held, limit)); }
+class Terminal {
+    GT_OWNS(Terminal, gt_terminal)
+    GT_CODE create() GT_OVER(gt_terminal_new(&held))
+    GT_CODE create_within(size_t limit) GT_OVER(gt_terminal_new_within(&held, limit))
     GT_HIDDEN Code reset() noexcept { return Code(gt_terminal_reset(&held)); }
-    GT_CODE select(Bytes aid) noexcept
-    { return Code(gt_terminal_select(&held, aid.data(), aid.size())); }
-    GT_CODE get(uint32_t tag) noexcept { return Code(gt_terminal_get(&held, tag)); }
-    GT_CODE put(uint32_t tag, Bytes value) noexcept
-    { return Code(gt_terminal_put(&held, tag, value.data(), value.size())); }
-    GT_CODE send(Bytes command) noexcept
-    { return Code(gt_terminal_send(&held, command.data(), command.size())); }
-    GT_CODE next(uint8_t &byte) noexcept { return Code(gt_terminal_next(&held, &byte)); }
-    GT_CODE take(uint8_t byte) noexcept { return Code(gt_terminal_take(&held, byte)); }
-    GT_CODE send_bytes(Room to, size_t &n) noexcept
-    { return Code(gt_terminal_send_bytes(&held, to.data(), to.size(), &n)); }
-    GT_CODE receive_bytes(Bytes it, size_t &n) noexcept
-    { return Code(gt_terminal_receive_bytes(&held, it.data(), it.size(), &n)); }
-    GT_CODE tpdu(Tpdu &to, size_t &most) noexcept
-    { return Code(gt_terminal_tpdu(&held, to.bytes, &to.count, &most)); }
-    GT_CODE answered(Bytes it) noexcept
-    { return Code(gt_terminal_answered(&held, it.data(), it.size())); }
-    GT_CODE apdu(Apdu &to, size_t &most) noexcept
-    { return Code(gt_terminal_apdu(&held, to.bytes, &to.count, &most)); }
-    GT_CODE responded(Bytes it) noexcept
-    { return Code(gt_terminal_responded(&held, it.data(), it.size())); }
-    GT_CODE answer(uint16_t &status, Room to, size_t &n) noexcept
-    { return Code(gt_terminal_answer(&held, &status, to.data(), to.size(), &n)); }
-    GT_CODE data_sent() noexcept { return Code(gt_terminal_data_sent(&held)); }
+    GT_CODE select(Bytes aid) GT_OVER(gt_terminal_select(&held, GT_SPAN(aid)))
+    GT_CODE get(uint32_t tag) GT_OVER(gt_terminal_get(&held, tag))
+    GT_CODE put(uint32_t tag, Bytes value) GT_OVER(gt_terminal_put(&held, tag, GT_SPAN(value)))
+    GT_CODE send(Bytes command) GT_OVER(gt_terminal_send(&held, GT_SPAN(command)))
+    GT_PASSES(gt_terminal)
 };
 
-class T1 : public Handle<gt_t1> {
-public:
-    GT_MOVES(T1);
+class T1 {
+    GT_OWNS(T1, gt_t1)
     GT_CODE create(Edc edc, uint8_t ifsc, uint8_t tries = GT_T1_TRIES,
-                   uint16_t extensions = GT_T1_EXTENSIONS, size_t limit = GT_ANSWER_LIMIT) noexcept
-    { return Code(gt_t1_new(&held, uint8_t(edc), ifsc, tries, extensions, limit)); }
-    GT_CODE begin(Bytes apdu) noexcept
-    { return Code(gt_t1_begin(&held, apdu.data(), apdu.size())); }
-    GT_CODE send_bytes(Room to, size_t &n, uint8_t &waits) noexcept
-    { return Code(gt_t1_send_bytes(&held, to.data(), to.size(), &n, &waits)); }
-    GT_CODE receive_bytes(Bytes it, size_t &n) noexcept
-    { return Code(gt_t1_receive_bytes(&held, it.data(), it.size(), &n)); }
-    GT_CODE missed() noexcept { return Code(gt_t1_missed(&held)); }
-    GT_CODE damaged() noexcept { return Code(gt_t1_damaged(&held)); }
-    GT_CODE response(Room to, size_t &n) noexcept
-    { return Code(gt_t1_response(&held, to.data(), to.size(), &n)); }
+                   uint16_t extensions = GT_T1_EXTENSIONS, size_t limit = GT_ANSWER_LIMIT)
+    GT_OVER(gt_t1_new(&held, uint8_t(edc), ifsc, tries, extensions, limit))
+    GT_CODE begin(Bytes apdu) GT_OVER(gt_t1_begin(&held, GT_SPAN(apdu)))
+    GT_CODE send_bytes(Room to, size_t &n, uint8_t &waits)
+    GT_OVER(gt_t1_send_bytes(&held, GT_SPAN(to), &n, &waits))
+    GT_CODE receive_bytes(Bytes it, size_t &n) GT_OVER(gt_t1_receive_bytes(&held, GT_SPAN(it), &n))
+    GT_CODE missed() GT_OVER(gt_t1_missed(&held))
+    GT_CODE damaged() GT_OVER(gt_t1_damaged(&held))
+    GT_CODE response(Room to, size_t &n) GT_OVER(gt_t1_response(&held, GT_SPAN(to), &n))
     GT_CODE fault(Code &cause, Outcome &outcome) noexcept {
         int32_t why = int32_t(cause), known = int32_t(outcome);
         const Code code{gt_t1_fault(&held, &why, &known)};
@@ -233,74 +196,60 @@ public:
     GT_HIDDEN Code reset() noexcept { return Code(gt_t1_reset(&held)); }
 };
 
-class Card : public Handle<gt_card> {
-public:
-    GT_MOVES(Card);
-    GT_CODE create() noexcept { return Code(gt_card_new(&held)); }
-    GT_CODE app(Bytes aid) noexcept { return Code(gt_card_app(&held, aid.data(), aid.size())); }
-    GT_CODE object(uint32_t tag, Bytes value, bool locked = false) noexcept
-    { return Code(gt_card_object(&held, tag, value.data(), value.size(), locked)); }
-    GT_CODE finish() noexcept { return Code(gt_card_finish(&held)); }
-    GT_CODE take(uint8_t byte) noexcept { return Code(gt_card_take(&held, byte)); }
-    GT_CODE turn(uint8_t &byte) noexcept { return Code(gt_card_turn(&held, &byte)); }
-    GT_CODE send_bytes(Room to, size_t &n) noexcept
-    { return Code(gt_card_send_bytes(&held, to.data(), to.size(), &n)); }
-    GT_CODE receive_bytes(Bytes it, size_t &n) noexcept
-    { return Code(gt_card_receive_bytes(&held, it.data(), it.size(), &n)); }
+class Card {
+    GT_OWNS(Card, gt_card)
+    GT_CODE create() GT_OVER(gt_card_new(&held))
+    GT_CODE app(Bytes aid) GT_OVER(gt_card_app(&held, GT_SPAN(aid)))
+    GT_CODE object(uint32_t tag, Bytes value, bool locked = false)
+    GT_OVER(gt_card_object(&held, tag, GT_SPAN(value), locked))
+    GT_CODE finish() GT_OVER(gt_card_finish(&held))
+    GT_CODE take(uint8_t byte) GT_OVER(gt_card_take(&held, byte))
+    GT_CODE turn(uint8_t &byte) GT_OVER(gt_card_turn(&held, &byte))
+    GT_CODE send_bytes(Room to, size_t &n) GT_OVER(gt_card_send_bytes(&held, GT_SPAN(to), &n))
+    GT_CODE receive_bytes(Bytes it, size_t &n)
+    GT_OVER(gt_card_receive_bytes(&held, GT_SPAN(it), &n))
     GT_HIDDEN Code reset() noexcept { return Code(gt_card_reset(&held)); }
-    GT_CODE tpdu(Bytes it, Room to, size_t &n) noexcept
-    { return Code(gt_card_tpdu(&held, it.data(), it.size(), to.data(), to.size(), &n)); }
-    GT_CODE apdu(Bytes it, Room to, size_t &n) noexcept
-    { return Code(gt_card_apdu(&held, it.data(), it.size(), to.data(), to.size(), &n)); }
-    GT_CODE t1_begin() noexcept { return Code(gt_card_t1_begin(&held)); }
-    GT_CODE t1_send_bytes(Room to, size_t &n) noexcept
-    { return Code(gt_card_t1_send_bytes(&held, to.data(), to.size(), &n)); }
-    GT_CODE t1_receive_bytes(Bytes it, size_t &n) noexcept
-    { return Code(gt_card_t1_receive_bytes(&held, it.data(), it.size(), &n)); }
-    GT_CODE t1_missed() noexcept { return Code(gt_card_t1_missed(&held)); }
-    GT_CODE t1_damaged() noexcept { return Code(gt_card_t1_damaged(&held)); }
-    GT_CODE plan(const char *steps, uint16_t cut = 256) noexcept
-    { return Code(gt_card_plan(&held, steps, cut)); }
-    GT_CODE selected(Aid &to) noexcept
-    { return Code(gt_card_selected(&held, to.bytes, &to.count)); }
-    GT_CODE app_at(size_t app, Aid &to) noexcept
-    { return Code(gt_card_app_at(&held, app, to.bytes, &to.count)); }
-    GT_CODE entry_at(size_t app, size_t at, Entry &it, Room to) noexcept
-    { return Code(gt_card_entry_at(&held, app, at, &it.tag, &it.locked, to.data(), to.size(),
-                                   &it.count)); }
+    GT_CODE tpdu(Bytes it, Room to, size_t &n)
+    GT_OVER(gt_card_tpdu(&held, GT_SPAN(it), GT_SPAN(to), &n))
+    GT_CODE apdu(Bytes it, Room to, size_t &n)
+    GT_OVER(gt_card_apdu(&held, GT_SPAN(it), GT_SPAN(to), &n))
+    GT_CODE t1_begin() GT_OVER(gt_card_t1_begin(&held))
+    GT_CODE t1_send_bytes(Room to, size_t &n) GT_OVER(gt_card_t1_send_bytes(&held, GT_SPAN(to), &n))
+    GT_CODE t1_receive_bytes(Bytes it, size_t &n)
+    GT_OVER(gt_card_t1_receive_bytes(&held, GT_SPAN(it), &n))
+    GT_CODE t1_missed() GT_OVER(gt_card_t1_missed(&held))
+    GT_CODE t1_damaged() GT_OVER(gt_card_t1_damaged(&held))
+    GT_CODE plan(const char *steps, uint16_t cut = 256) GT_OVER(gt_card_plan(&held, steps, cut))
+    GT_CODE selected(Aid &to) GT_OVER(gt_card_selected(&held, to.bytes, &to.count))
+    GT_CODE app_at(size_t app, Aid &to) GT_OVER(gt_card_app_at(&held, app, to.bytes, &to.count))
+    GT_CODE entry_at(size_t app, size_t at, Entry &it, Room to)
+    GT_OVER(gt_card_entry_at(&held, app, at, &it.tag, &it.locked, GT_SPAN(to), &it.count))
 };
 
-class Session : public Handle<gt_session> {
-public:
-    GT_MOVES(Session);
-    GT_CODE start(Card &card) noexcept { return Code(gt_session_start(&held, card.handle())); }
-    GT_CODE idle(bool &is) noexcept { return whether(gt_session_idle(&held), is); }
-    GT_CODE plan(const char *steps, uint16_t cut = 256) noexcept
-    { return Code(gt_session_plan(&held, steps, cut)); }
-    GT_CODE select(Bytes aid, uint16_t &status, Room to, size_t &n) noexcept
-    { return Code(gt_session_select(&held, aid.data(), aid.size(), &status, to.data(), to.size(),
-                                    &n)); }
-    GT_CODE get(uint32_t tag, uint16_t &status, Room to, size_t &n) noexcept
-    { return Code(gt_session_get(&held, tag, &status, to.data(), to.size(), &n)); }
-    GT_CODE put(uint32_t tag, Bytes value, uint16_t &status) noexcept
-    { return Code(gt_session_put(&held, tag, value.data(), value.size(), &status)); }
-    GT_CODE send(Bytes it, uint16_t &status, Room to, size_t &n) noexcept
-    { return Code(gt_session_send(&held, it.data(), it.size(), &status, to.data(), to.size(),
-                                  &n)); }
-    GT_CODE answer(uint16_t &status, Room to, size_t &n) noexcept
-    { return Code(gt_session_answer(&held, &status, to.data(), to.size(), &n)); }
-    GT_CODE listen() noexcept { return Code(gt_session_listen(&held)); }
-    GT_CODE heard(Span<gt_character> to, size_t &n) noexcept
-    { return Code(gt_session_heard(&held, to.data(), to.size(), &n)); }
+class Session {
+    GT_OWNS(Session, gt_session)
+    GT_CODE start(Card &card) GT_OVER(gt_session_start(&held, card.handle()))
+    GT_CODE idle(bool &is) GT_OVER(whether(gt_session_idle(&held), is))
+    GT_CODE plan(const char *steps, uint16_t cut = 256) GT_OVER(gt_session_plan(&held, steps, cut))
+    GT_CODE select(Bytes aid, uint16_t &status, Room to, size_t &n)
+    GT_OVER(gt_session_select(&held, GT_SPAN(aid), &status, GT_SPAN(to), &n))
+    GT_CODE get(uint32_t tag, uint16_t &status, Room to, size_t &n)
+    GT_OVER(gt_session_get(&held, tag, &status, GT_SPAN(to), &n))
+    GT_CODE put(uint32_t tag, Bytes value, uint16_t &status)
+    GT_OVER(gt_session_put(&held, tag, GT_SPAN(value), &status))
+    GT_CODE send(Bytes it, uint16_t &status, Room to, size_t &n)
+    GT_OVER(gt_session_send(&held, GT_SPAN(it), &status, GT_SPAN(to), &n))
+    GT_CODE answer(uint16_t &status, Room to, size_t &n)
+    GT_OVER(gt_session_answer(&held, &status, GT_SPAN(to), &n))
+    GT_CODE listen() GT_OVER(gt_session_listen(&held))
+    GT_CODE heard(Span<gt_character> to, size_t &n)
+    GT_OVER(gt_session_heard(&held, GT_SPAN(to), &n))
     GT_HIDDEN Code reset() noexcept { return Code(gt_session_reset(&held)); }
-    GT_CODE selected(Aid &to) noexcept
-    { return Code(gt_session_selected(&held, to.bytes, &to.count)); }
-    GT_CODE app_at(size_t app, Aid &to) noexcept
-    { return Code(gt_session_app_at(&held, app, to.bytes, &to.count)); }
-    GT_CODE entry_at(size_t app, size_t at, Entry &it, Room to) noexcept
-    { return Code(gt_session_entry_at(&held, app, at, &it.tag, &it.locked, to.data(), to.size(),
-                                      &it.count)); }
-    GT_CODE end(Card &card) noexcept { return Code(gt_session_end(&held, card.handle())); }
+    GT_CODE selected(Aid &to) GT_OVER(gt_session_selected(&held, to.bytes, &to.count))
+    GT_CODE app_at(size_t app, Aid &to) GT_OVER(gt_session_app_at(&held, app, to.bytes, &to.count))
+    GT_CODE entry_at(size_t app, size_t at, Entry &it, Room to)
+    GT_OVER(gt_session_entry_at(&held, app, at, &it.tag, &it.locked, GT_SPAN(to), &it.count))
+    GT_CODE end(Card &card) GT_OVER(gt_session_end(&held, card.handle()))
 };
 
 } // namespace galliumtoad
@@ -308,5 +257,8 @@ public:
 #undef GT_ASK
 #undef GT_CODE
 #undef GT_HIDDEN
-#undef GT_MOVES
+#undef GT_OVER
+#undef GT_OWNS
+#undef GT_PASSES
+#undef GT_SPAN
 #endif

@@ -14,6 +14,8 @@ HEADER = r"\nGT_(?:FUNCTION|MUST_CHECK) (\w+|const char \*)\s?gt_(\w+)\(([^)]*)\
 ALONE = {"text", "status_text", "status_words", "is_object", "version_fits", "version"}
 # One buffer may be input and output of these, so they pass on a copy of at most these sizes.
 COPIES = {"card_tpdu": "GT_TPDU_LIMIT", "card_apdu": "GT_APDU_LIMIT"}
+# The pointers that may be NULL, though they have a fixed number of elements: then that is 0.
+OPTIONAL = {("card_own", "directions")}
 HANDLE = r"typedef struct gt_\w+ \{ bool live; void \*held; \} (gt_\w+);"
 # A narrower type, or the place of another parameter, would change these numbers.
 MOST = {"uint8_t": 0xF0, "uint16_t": 0xFED0, "uint32_t": 0xFEDCBA90, "size_t": 2**64 - 16}
@@ -84,7 +86,7 @@ class Function:
             elif own:
                 yield "ANY" if values[it.name] == "NULL" else f"P({values[it.name]})"
             elif counted and counted.elements:
-                yield counted.elements
+                yield "0" if values[counted.name] == "NULL" else counted.elements
             elif counted and counted.type == "const char *":
                 yield values[counted.name][5:-1]
             elif of is self.answer:
@@ -116,6 +118,9 @@ class Function:
             for it in self.parameters:
                 yield from (self.row(value=value) for value in VALUES.get(it.type, []))
         for it in pointers:
+            if (self.name, it.name) in OPTIONAL:
+                yield self.row(null=[it])
+                continue
             arguments = ", ".join(dict(self.given(null=[it])).values())
             yield f"REFUSES(gt_{self.name}({arguments}));"
 

@@ -29,12 +29,15 @@ static const enum port_signal SIGNALS[] = { PORT_RTS, PORT_DTR, PORT_NONE };
 
 static const struct serial_names NAMES = { OPTIONS, SIGNALS, PORT_RTS };
 
+static const char CUT_SHORT[] = "the card ended the command before it took the data";
+
 /* A card behind a line. */
 struct session {
     struct line *line;
     int64_t waiting_time;
     int64_t patience;           /* the longest that a command may take */
     struct t1_end t1;           /* its end at T=1, if the protocol is T=1 */
+    uint8_t status[2];          /* the last two bytes of the card at T=0 */
 };
 
 static int tell(const char *fault)
@@ -69,7 +72,7 @@ static const char *take(struct session *session, gt_terminal *terminal, const ui
                         size_t size)
 {
     uint8_t bytes[LINE_RUN];
-    size_t n, taken = 0;
+    size_t i, n, taken = 0;
     int32_t code;
     const char *fault =
         line_refuse_echo(session->line, header, size, session->waiting_time);
@@ -81,20 +84,34 @@ static const char *take(struct session *session, gt_terminal *terminal, const ui
     if (code != GT_OK)
         taken++;
     line_take(session->line, bytes, taken);
+    for (i = 0; i < taken; i++) {
+        session->status[0] = session->status[1];
+        session->status[1] = bytes[i];
+    }
     if (code == GT_NOT_LISTENING || code == GT_AFTER_END)
         return "unexpected byte";
     return code == GT_OK ? NULL : gt_text(code);
 }
 
-/* Passes the characters of the operation in progress, until it ends. */
+/* Whether SW1 is that of a status other than a refusal: 61XX, 62XX, 63XX or 9XXX. */
+static bool is_no_refusal(uint8_t sw1)
+{
+    return (sw1 >= 0x61 && sw1 <= 0x63) || sw1 >= 0x90;
+}
+
+/* Passes the characters of the operation in progress, until it ends. It sends no other header once
+ * the card has ended a TPDU before it took the data, with a status that is no refusal. */
 static const char *pass_all(struct session *session, gt_terminal *terminal)
 {
     const char *fault = NULL;
     uint8_t bytes[LINE_RUN];
+    bool lacks_data = false;
     while (fault == NULL) {
         size_t n = 0, most;
         const bool is_header = gt_terminal_tpdu(terminal, bytes, &n, &most) == GT_OK;
         const int32_t code = gt_terminal_send_bytes(terminal, bytes, sizeof bytes, &n);
+        if (lacks_data && (is_header || code == GT_DONE) && is_no_refusal(session->status[0]))
+            return CUT_SHORT;
         if (is_header) {
             begin_command(session);
             fault = line_await_quiet(session->line);
@@ -103,6 +120,7 @@ static const char *pass_all(struct session *session, gt_terminal *terminal)
             fault = code < 0 ? gt_text(code) : line_send_all(session->line, bytes, n);
         if (code == GT_DONE)
             return fault;
+        lacks_data = gt_terminal_data_sent(terminal) == GT_NOT_ALL_SENT;
         if (code == GT_OK && fault == NULL)
             fault = take(session, terminal, bytes, is_header ? n : 0);
     }
@@ -125,7 +143,8 @@ static const char *pass_commands(struct session *session, gt_terminal *terminal)
     return fault == NULL && code != GT_NOT_DUE ? gt_text(code) : fault;
 }
 
-/* The `pass` of steps.h; `line` is a session. */
+/* The `pass` of steps.h; `line` is a session. Of a command that was cut short it prints the
+ * status. */
 static const char *pass(void *line, gt_terminal *terminal, const struct operation *operation)
 {
     struct session *session = line;
@@ -133,6 +152,8 @@ static const char *pass(void *line, gt_terminal *terminal, const struct operatio
                                                     : pass_all(session, terminal);
     (void)operation;
     line_note_text(session->line, NULL);
+    if (fault == CUT_SHORT && print_bytes(stdout, "= ", session->status, 2) != NULL)
+        return "write fault";
     return fault;
 }
 
@@ -228,7 +249,7 @@ static int run_over(struct port *port, const struct script *script,
                     const struct serial_options *options)
 {
     struct line line = serial_options_line(options, port, LINE_TERMINAL);
-    struct session session = { NULL, 0, 0, { NULL, { 0, 0, 0 }, GT_INIT } };
+    struct session session = { NULL, 0, 0, { NULL, { 0, 0, 0 }, GT_INIT }, { 0, 0 } };
     struct steps steps = { GT_INIT, pass, NULL, false, false };
     struct answer answer;
     struct answer_wishes wishes;

@@ -12,15 +12,6 @@ static const char *carry_out(struct steps *steps, const struct operation *operat
     return code == GT_OK ? steps->pass(steps->line, &steps->terminal, operation) : gt_text(code);
 }
 
-/* Whether the card has ended a command before it took the data, with a status that is not a
- * refusal: 61XX, 62XX, 63XX or 9XXX. */
-static bool is_cut_short(gt_terminal *terminal, uint16_t status)
-{
-    const unsigned sw1 = status >> 8;
-    return ((sw1 >= 0x61 && sw1 <= 0x63) || sw1 >= 0x90)
-        && gt_terminal_data_sent(terminal) == GT_NOT_ALL_SENT;
-}
-
 /* Carries out one step. `fault` gets the text on it, or NULL. */
 static enum outcome carry_out_step(struct steps *steps, const struct operation *operation,
                                    const char **fault)
@@ -30,8 +21,6 @@ static enum outcome carry_out_step(struct steps *steps, const struct operation *
     *fault = carry_out(steps, operation);
     if (*fault == NULL)
         *fault = print_answer(stdout, &steps->terminal, &status);
-    if (*fault == NULL && is_cut_short(&steps->terminal, status))
-        *fault = "the card ended the command before it took the data";
     if (*fault != NULL)
         return FAULT;
     *fault = operation_answer_fault(operation, &steps->terminal);

@@ -14,5 +14,6 @@ pub mod HeldT1Kind
 pub mod HeldTerminalKind
 pub mod HeldWalks
 pub mod Listing
+pub mod OwnLemmas
 pub mod PlanLemmas
 pub mod PointerValues

@@ -17,6 +17,7 @@ use Rattle.card_c.specs.declared.card_side.CardSide.{CardSide}
 use Rattle.card_c.specs.declared.card_side.CardSide.TheVariants.{Standing}
 use Rattle.card_c.specs.Codes.{gt_ok, gt_sends, gt_state, line_code}
 use Rattle.card_c.specs.ExchangeCalls.{turn_code, taking_code}
+use Rattle.card_c.specs.OwnCalls.{OwnReceives, OwnSends}
 use Rattle.card_c.specs.CardCalls.{TakesCharacter, HandsOutCharacter}
 
 -- why the terminal stops: the array is full, or this is what it does next
@@ -70,8 +71,7 @@ CardSends room n room' n' (Standing end plans) code new =
     (next : EndOf CardView) × (left : Cursor) × (new ≡ Standing next left)
     × HandsOutAll end plans room room' n' next left
     × (n' ≡ length room → code ≡ gt_sends) × (n' < length room → code ≡ gt_ok)
-CardSends room n room' n' side code new =
-    (code ≡ gt_state) × (new ≡ side) × (room' ≡ room) × (n' ≡ n)
+CardSends room n room' n' side code new = OwnSends room n room' n' side code new
 
 -- A card's end takes this number of characters of an array: all, or until it does not listen.
 abbrev pub TakesAll : EndOf CardView → List ℕ → ℕ → EndOf CardView → Type 0
@@ -83,4 +83,4 @@ CardReceives bytes n n' (Standing end plans) code new =
     (next : EndOf CardView) × (new ≡ Standing next plans) × TakesAll end bytes n' next
     × (n' ≡ length bytes → code ≡ gt_ok)
     × (n' < length bytes → code ≡ line_code NotListening)
-CardReceives bytes n n' side code new = (code ≡ gt_state) × (new ≡ side) × (n' ≡ n)
+CardReceives bytes n n' side code new = OwnReceives bytes n n' side code new

@@ -16,6 +16,7 @@ use Rattle.object_card.specs.Builder.{TakesApplication, RefusesApplication, Take
 use Rattle.card_c.specs.declared.card_side.CardSide.{CardSide}
 use Rattle.card_c.specs.declared.card_side.CardSide.TheVariants.{Building, Standing, AtT1}
 use Rattle.card_c.specs.Codes.{gt_ok, gt_sends, gt_state, gt_memory, gt_argument, builder_code, line_code}
+use Rattle.card_c.specs.OwnCalls.{OwnTakes, OwnTurns, OwnResets}
 use Rattle.card_c.specs.TagNumbers.{IsNumbered}
 
 -- A card without applications, if the handle was empty and memory did not run out.
@@ -93,7 +94,7 @@ TakesOne byte (Standing end plans) code new =
     ((listens end.stage ≡ false) × (code ≡ line_code NotListening) × (new ≡ Standing end plans))
     ⊎ ((next : EndOf CardView) × (code ≡ gt_ok) × (new ≡ Standing next plans)
     × TakesCharacter end byte next)
-TakesOne byte side code new = (code ≡ gt_state) × (new ≡ side)
+TakesOne byte side code new = OwnTakes byte side code new
 
 -- A card that does not listen sends this character, under its plan, or the next one if it begins to
 -- answer.
@@ -113,7 +114,7 @@ Turns before byte (Standing end plans) code new =
     ((listens end.stage ≡ true) × (code ≡ gt_ok) × (new ≡ Standing end plans) × (byte ≡ before))
     ⊎ ((next : EndOf CardView) × (left : Cursor) × (code ≡ gt_sends) × (new ≡ Standing next left)
     × HandsOutCharacter end plans byte next left)
-Turns before byte side code new = (code ≡ gt_state) × (new ≡ side) × (byte ≡ before)
+Turns before byte side code new = OwnTurns before byte side code new
 
 -- The card is reset, and speaks T=0; the plans stay.
 abbrev pub ResetsEnd : EndOf CardView → Cursor → ℤ → CardSide → Type 0
@@ -126,4 +127,4 @@ ResetsEnd end plans code new =
 abbrev pub Resets : CardSide → ℤ → CardSide → Type 0
 Resets (Standing end plans) code new = ResetsEnd end plans code new
 Resets (AtT1 at) code new = ResetsEnd at.end.card at.plans code new
-Resets side code new = (code ≡ gt_state) × (new ≡ side)
+Resets side code new = OwnResets side code new

@@ -22,6 +22,12 @@ gt_sends = pos 1
 abbrev pub gt_done : ℤ
 gt_done = pos 2
 
+abbrev pub gt_command : ℤ
+gt_command = pos 3
+
+abbrev pub gt_header : ℤ
+gt_header = pos 4
+
 abbrev pub gt_all_sent : ℤ
 gt_all_sent = pos 10
 

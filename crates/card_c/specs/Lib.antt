@@ -11,6 +11,7 @@ pub mod ExchangeCalls
 pub mod Handles
 pub mod HeardCalls
 pub mod HeldOwned
+pub mod OwnCalls
 pub mod PlanCalls
 pub mod PlanLetters
 pub mod PpsCalls

@@ -8,9 +8,9 @@ ghost use Rattle.card_c.specs.CardCalls.{Begins, AddsApplication, AddsObject, Fi
 use crate::card_held::GtCard;
 use crate::card_side::CardSide;
 use crate::card_t1::leave;
-use crate::code;
 use crate::handle::{Handle, on, with};
 use crate::tag_number::tag_of;
+use crate::{code, own};
 use object_card::{Aid, CardBuilder, ObjectCard};
 use std::alloc::Global;
 use std::mem;
@@ -132,7 +132,7 @@ fn take(side: &mut CardSide, byte: u8) -> i32
     ensures { TakesOne byte side.old result side.new }
 {
     let CardSide::Standing(end, _) = side else {
-        return code::STATE;
+        return own::take_own(side, byte);
     };
     match end.take(byte) {
         Ok(()) => code::OK,
@@ -153,7 +153,7 @@ fn turn(side: &mut CardSide, byte: &mut u8) -> i32
     ensures { Turns byte.old byte.new side.old result side.new }
 {
     let CardSide::Standing(end, plans) = side else {
-        return code::STATE;
+        return own::turn_own(side, byte);
     };
     let Some(sent) = next_of(end, plans) else {
         return code::OK;
@@ -197,7 +197,7 @@ fn reset_at_t0(side: &mut CardSide) -> i32
     ensures { Resets side.old result side.new }
 {
     let CardSide::Standing(end, _) = side else {
-        return code::STATE;
+        return own::reset_own(side);
     };
     end.reset();
     code::OK

@@ -22,6 +22,11 @@ pub const SENDS: i32 = 1;
 /// The exchange or operation has ended with an answer. At T=1: there is no block to send.
 pub const DONE: i32 = 2;
 
+/// Of a card of an own application: a command waits for its response.
+pub const COMMAND: i32 = 3;
+/// A header waits for its direction.
+pub const HEADER: i32 = 4;
+
 /// All data of the command have left the terminal, or it has no data.
 pub const ALL_SENT: i32 = 10;
 /// Not all have.

@@ -249,8 +249,6 @@ template <class T> static void is_handle(const char *name) {
     static_assert(std::is_nothrow_destructible_v<T>);
     static_assert(!std::is_copy_constructible_v<T> && !std::is_copy_assignable_v<T>);
     static_assert(sizeof(T) == 16);
-    static_assert(std::is_nothrow_move_constructible_v<Handle<gt_card>>);
-    static_assert(std::is_nothrow_move_assignable_v<Handle<gt_card>>);
     CHECK(T().handle()->live, 0);
     frees<T>(name);
     moves<T>(name);

@@ -1,22 +1,29 @@
 #!/usr/bin/env python3
 """same.py INCLUDE: compares galliumtoad.hpp with galliumtoad.h, both in the folder INCLUDE.
 
-Each function of the header is called in one place. If C warns of an ignored result, so does C++.
-The codes have the same names, but `NotFound` for GT_NOT_FOUND. The last line is 'N passed, N
-failed'."""
+Each function of the header is called in one place, which can't throw. If C warns of an ignored
+result, so does C++. The codes have the same names, but `NotFound` for GT_NOT_FOUND. The last line
+is 'N passed, N failed'."""
 
+import os
 import re
+import subprocess
 import sys
 from pathlib import Path
 
 MOST_LINES = 350
 FUNCTION = r"\nGT_(FUNCTION|MUST_CHECK) (?:\w+|const char \*)\s?(gt_\w+)\("
+MUST, HIDDEN = "[[nodiscard]]", '__attribute__((visibility("hidden")))'
 
 
-def declarations(text):
-    """The name of each function of C that a declaration of C++ calls, with that declaration."""
-    text = re.sub(r"/\*.*?\*/|^#.*?(?<!\\)$", "", text, flags=re.S | re.M)
-    begins = re.compile(r"^ *(?:GT_|inline |template )", re.M)
+def declarations(folder):
+    """The name of each function of C that a function of C++ calls, with that function, as the
+    preprocessor writes it."""
+    command = [os.environ.get("CXX", "c++"), "-std=c++17", "-E", "-P", "-x", "c++", "-I", folder]
+    text = subprocess.run([*command, Path(folder) / "galliumtoad.hpp"], check=True, text=True,
+                          stdout=subprocess.PIPE).stdout
+    text = text[text.index("namespace galliumtoad {"):]
+    begins = re.compile(rf"(?:{re.escape(MUST)} )?(?:inline )?{re.escape(HIDDEN)}")
     at = [it.start() for it in begins.finditer(text)] + [len(text)]
     for start, end in zip(at, at[1:]):
         for name in re.findall(r"\b(gt_\w+)\(", text[start:end]):
@@ -27,13 +34,15 @@ def main(folder):
     header = (Path(folder) / "galliumtoad.h").read_text(encoding="utf-8")
     other = (Path(folder) / "galliumtoad.hpp").read_text(encoding="utf-8")
     kinds = {name: kind for kind, name in re.findall(FUNCTION, header)}
-    found = list(declarations(other))
+    found = list(declarations(folder))
     wrong = [f"{name} is called {[it for it, _ in found].count(name)} times" for name in kinds
              if [it for it, _ in found].count(name) != 1]
     for name, declared in found:
-        must = "GT_CODE" in declared or "GT_ASK" in declared
+        must = declared.startswith(MUST)
         if must < (kinds.get(name) == "MUST_CHECK"):
             wrong.append(f"{name}: nobody has to look at its result")
+        if "noexcept" not in declared:
+            wrong.append(f"{name}: its call may throw")
         if must and name.endswith(("_reset", "_words")):
             wrong.append(f"{name}: its result has to be looked at")
     listed = header[header.index("enum {\n    GT_OK"):]

@@ -1,0 +1,71 @@
+/* Tests the memory of a card of one's own application: each request is refused in turn. A refusal
+ * changes nothing, and the same call works once there is memory. At the end all of it is free. */
+#include "galliumtoad.h"
+#include "check.h"
+#include "counting_heap.h"
+
+static gt_card card;
+static uint8_t data[GT_OWN_LIMIT];
+
+/* The first call that asks no more than `refused - 1` times succeeds; returns how many that are. */
+static size_t makes(void) {
+    size_t at;
+    for (at = 1;; at++) {
+        int32_t code;
+        requests = 0;
+        refused = at;
+        code = gt_card_own(&card, NULL);
+        refused = 0;
+        if (code == GT_OK) return at - 1;
+        CHECK(code, GT_MEMORY);
+        CHECK(gt_card_settled(&card), GT_EMPTY);
+        CHECK(taken, 0);
+    }
+}
+
+/* A command waits. Then the response is refused for lack of memory, and the command still waits. */
+static size_t responds(size_t n) {
+    const uint8_t header[] = { 0x80, 0x10, 0, 0, 0x00 };
+    gt_command command;
+    uint8_t byte;
+    size_t at, i;
+    for (i = 0; i < sizeof header; i++) CHECK(gt_card_take(&card, header[i]), GT_OK);
+    CHECK(gt_card_turn(&card, &byte), GT_HEADER);
+    CHECK(gt_card_direction(&card, 0), GT_OK);
+    for (at = 1;; at++) {
+        int32_t code;
+        CHECK(gt_card_turn(&card, &byte), GT_COMMAND);
+        requests = 0;
+        refused = at;
+        code = gt_card_respond(&card, data, n, 0x9000);
+        refused = 0;
+        if (code == GT_OK) break;
+        CHECK(code, GT_MEMORY);
+        CHECK(gt_card_command(&card, &command), GT_OK);
+        CHECK(command.ins, 0x10);
+    }
+    /* The rest needs no memory. */
+    requests = 0;
+    refused = 1;
+    for (i = 0; gt_card_turn(&card, &byte) == GT_SENDS; i++) {}
+    CHECK(i, n > 256 ? 1 + 256 + 2 : n == 256 ? 1 + n + 2 : 2);
+    CHECK(requests, 0);
+    CHECK(gt_card_settled(&card), 1);
+    refused = 0;
+    return at - 1;
+}
+
+int main(void) {
+    static const size_t sizes[] = { 0, 256, 300, GT_OWN_LIMIT };
+    size_t i;
+    memset(data, 0x5A, sizeof data);
+    CHECK(makes() > 0, 1);
+    for (i = 0; i < sizeof sizes / sizeof *sizes; i++) {
+        const size_t times = responds(sizes[i]);
+        CHECK(times > 0 || sizes[i] == 0, 1);
+        CHECK(gt_card_reset(&card), GT_OK);
+    }
+    gt_card_free(&card);
+    CHECK(taken, 0);
+    return check_result("memory_own");
+}

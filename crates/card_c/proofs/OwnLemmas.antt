@@ -1,0 +1,57 @@
+-- What a card of an own application does, it does as a card that has no data objects.
+use Rattle.std.proofs.Common.{◌≡◌, ◌<◌, ℕ, ℤ, List, length, Option, None, Some, false, refl, arith}
+use Rattle.std.specs.Prelude.{is_some}
+use Rattle.t0_core.specs.CardSide.{EndOf}
+use Rattle.t0_core.specs.Plan.{Cursor}
+use Rattle.object_card.specs.CardView.{CardView}
+use Rattle.command_card.specs.declared.application.TheConstants.{RESPONSE_LIMIT}
+use Rattle.command_card.specs.Carrying.{IsOwn}
+use Rattle.card_c.specs.declared.card_side.CardSide.{CardSide}
+use Rattle.card_c.specs.declared.card_side.CardSide.TheVariants.{Building, Standing, Joined, AtT1, Own}
+use Rattle.card_c.specs.BufferCalls.{CardReceives}
+use Rattle.card_c.specs.CardCalls.{Resets, TakesOne, Turns}
+use Rattle.card_c.specs.CardT1Calls.{at_t0}
+use Rattle.card_c.specs.OwnCalls.{MayBeGiven, OwnReceives, OwnResets, OwnTakes, OwnTurns, word_of}
+
+-- it is not a card of data objects at T=0
+abbrev pub IsOther : CardSide → Type 0
+IsOther side = (end : EndOf CardView) (plans : Cursor) → side ≡ Standing end plans → ⊥
+
+pub other_takes : (byte : ℕ) (side : CardSide) (code : ℤ) (new : CardSide) → IsOther side
+    → OwnTakes byte side code new → TakesOne byte side code new
+other_takes byte (Standing end plans) code new other is = absurd (other end plans refl)
+other_takes byte (Building applications) code new other is = is
+other_takes byte (Joined session) code new other is = is
+other_takes byte (AtT1 at) code new other is = is
+other_takes byte (Own own) code new other is = is
+
+pub other_turns : (before byte : ℕ) (side : CardSide) (code : ℤ) (new : CardSide) → IsOther side
+    → OwnTurns before byte side code new → Turns before byte side code new
+other_turns before byte (Standing end plans) code new other is = absurd (other end plans refl)
+other_turns before byte (Building applications) code new other is = is
+other_turns before byte (Joined session) code new other is = is
+other_turns before byte (AtT1 at) code new other is = is
+other_turns before byte (Own own) code new other is = is
+
+pub other_receives : (bytes : List ℕ) (before n : ℕ) (side : CardSide) (code : ℤ)
+    (new : CardSide) → IsOther side → OwnReceives bytes before n side code new
+    → CardReceives bytes before n side code new
+other_receives bytes before n (Standing end plans) code new other is =
+    absurd (other end plans refl)
+other_receives bytes before n (Building applications) code new other is = is
+other_receives bytes before n (Joined session) code new other is = is
+other_receives bytes before n (AtT1 at) code new other is = is
+other_receives bytes before n (Own own) code new other is = is
+
+pub other_resets : (side : CardSide) (code : ℤ) (new : CardSide) → at_t0 side ≡ side
+    → IsOther side → OwnResets side code new → Resets side code new
+other_resets (Standing end plans) code new same other is = absurd (other end plans refl)
+other_resets (Building applications) code new same other is = is
+other_resets (Joined session) code new same other is = is
+other_resets (AtT1 at) code new same other is =
+    let never : Standing at.end.card at.plans ≡ AtT1 at = same in absurd (cc)
+other_resets (Own own) code new same other is = is
+
+pub empty_is : (o : Option CardSide) → is_some o ≡ false → o ≡ None
+empty_is None none = refl
+empty_is (Some side) none = absurd (cc)

@@ -1,0 +1,250 @@
+-- What the calls on a card of an own application do to it. A refusal changes nothing.
+use Rattle.std.specs.Prelude.{◌≡◌, ◌≢◌, ◌⊎◌, ◌<◌, ◌≤◌, ◌/◌, ◌%◌, ℕ, ℤ, pos, List, [], ◌∷◌, ◌++◌, length, drop, take, replicate, Bool, true, false, Option, Some, None, MatchOption, unwrap_or, if◌then◌else◌}
+use Rattle.apdu_core.specs.declared.header.Header.{Header}
+use Rattle.apdu_core.specs.CommandBytes.{Command, IsCommand, command_bytes}
+use Rattle.apdu_core.specs.StatusWord.{IsStatusWord, StatusWord}
+use Rattle.t0_core.specs.Character.{Character}
+use Rattle.t0_core.specs.declared.end.End.TheVariants.{Card}
+use Rattle.t0_core.specs.declared.line_fault.LineFault.TheVariants.{NotListening}
+use Rattle.t0_core.specs.declared.tpdu_card.TpduCard.{Ghosts}
+use Rattle.t0_core.specs.Buffers.{HandsOut, Steps}
+use Rattle.t0_core.specs.CardHistory.{Leads, LeadsUnder, IsTakenLast}
+use Rattle.t0_core.specs.CardSide.{EndOf, Taking_header, listens, takes_plan}
+use Rattle.t0_core.specs.CardTaking.{IsTaken}
+use Rattle.t0_core.specs.History.{Event, Passed, Reset}
+use Rattle.t0_core.specs.Plan.{Course, Cursor, advanced, plan_kept}
+use Rattle.command_card.specs.declared.given.Directions.{Directions}
+use Rattle.command_card.specs.declared.given.Directions.TheVariants as way
+use Rattle.command_card.specs.declared.own.Wanted.{Wanted}
+use Rattle.command_card.specs.declared.own.Wanted.TheVariants as wanted
+use Rattle.command_card.specs.declared.application.TheConstants.{RESPONSE_LIMIT}
+use Rattle.command_card.specs.Carrying.{IsOwn}
+use Rattle.command_card.specs.Given.{Answers, GivenState, after_drop, settled, takes_data, with_answer}
+use Rattle.command_card.specs.Meaning.{Does}
+use Rattle.command_card.specs.State.{CardState}
+use Rattle.command_card.specs.View.{CardOf, MayReceive, MaySend, after_reset, prepared_in, standing_in}
+use Rattle.command_card.specs.Wanted.{IsWanted, is_open}
+use Rattle.card_c.specs.declared.card_side.CardSide.{CardSide}
+use Rattle.card_c.specs.declared.card_side.CardSide.TheVariants.{Own}
+use Rattle.card_c.specs.declared.command_record.CommandRecord.{CommandRecord}
+use Rattle.card_c.specs.declared.own_side.OwnSide.{OwnSide}
+use Rattle.card_c.specs.Codes.{gt_ok, gt_sends, gt_command, gt_header, gt_state, gt_memory, gt_argument, line_code}
+
+abbrev pub OwnCard : Type 0
+OwnCard = CardOf GivenState
+
+-- the card of given responses, as its end of the line sees it: each command gets the response that
+-- was given for it
+abbrev pub own_card : Ghosts OwnCard
+own_card = record {
+  State = CardState GivenState;
+  standing = λ card. standing_in (λ s. s) card;
+  Does = Does takes_data Answers;
+  after_reset = after_reset after_drop;
+  MayReceive = MayReceive takes_data;
+  MaySend = MaySend takes_data;
+  prepared = λ card. prepared_in (λ s. s) settled card;
+}
+
+-- these events led to the end, from a card in this state
+abbrev pub OwnLed : CardState GivenState → List Event → EndOf OwnCard → Type 0
+OwnLed first events end = Leads own_card.Does own_card.after_reset first events
+    (own_card.standing end.card) (own_card.prepared end.card) end.stage
+
+abbrev pub OwnLedUnder : CardState GivenState → List Character → List Course → EndOf OwnCard
+    → Type 0
+OwnLedUnder first came taken end = LeadsUnder own_card.Does first came taken
+    (own_card.standing end.card) (own_card.prepared end.card) end.stage
+
+-- The card's next character, as `HandsOutCharacter` says of a card of data objects.
+abbrev pub OwnHandsOut : EndOf OwnCard → Cursor → ℕ → EndOf OwnCard → Cursor → Type 0
+OwnHandsOut end plans byte next left = (listens end.stage ≡ false)
+    × (left ≡ (if takes_plan end.stage then advanced plans else plans))
+    × ((first : CardState GivenState) (events : List Event) → OwnLed first events end
+    → OwnLed first (events ++ Passed (Card, byte) ∷ []) next)
+    × ((first : CardState GivenState) (came : List Character) (taken : List Course)
+    → OwnLedUnder first came taken end
+    → (takes_plan end.stage ≡ false → IsTakenLast (plan_kept plans) taken)
+    → OwnLedUnder first (came ++ (Card, byte) ∷ [])
+    (if takes_plan end.stage then taken ++ plan_kept left ∷ [] else taken) next)
+
+-- the code for what waits
+abbrev pub wait_code : Wanted → Option ℤ
+wait_code wanted.Nothing = None
+wait_code (wanted.Direction h) = Some gt_header
+wait_code (wanted.Response c) = Some gt_command
+
+-- A character of the terminal is taken if the card listens.
+abbrev pub OwnTakesOne : ℕ → OwnSide → ℤ → OwnSide → Type 0
+OwnTakesOne byte own code new =
+    ((listens own.end.stage ≡ false) × (code ≡ line_code NotListening) × (new ≡ own))
+    ⊎ ((code ≡ gt_ok) × (new ≡ record own { end = new.end })
+    × IsTaken own_card own.end byte new.end)
+
+abbrev pub OwnTakes : ℕ → CardSide → ℤ → CardSide → Type 0
+OwnTakes byte (Own own) code new = (next : OwnSide) × (new ≡ Own next)
+    × OwnTakesOne byte own code next
+OwnTakes byte side code new = (code ≡ gt_state) × (new ≡ side)
+
+-- The card's next character, unless something waits or it listens.
+abbrev pub OwnTurnsOne : ℕ → ℕ → OwnSide → ℤ → OwnSide → Type 0
+OwnTurnsOne before byte own code new = (w : Wanted) × IsWanted own.end w
+    × MatchOption (wait_code w)
+    (((listens own.end.stage ≡ true) × (code ≡ gt_ok) × (new ≡ own) × (byte ≡ before))
+    ⊎ ((code ≡ gt_sends) × (new ≡ record own { end = new.end; plans = new.plans })
+    × OwnHandsOut own.end own.plans byte new.end new.plans))
+    (λ waits. (code ≡ waits) × (new ≡ own) × (byte ≡ before))
+
+abbrev pub OwnTurns : ℕ → ℕ → CardSide → ℤ → CardSide → Type 0
+OwnTurns before byte (Own own) code new = (next : OwnSide) × (new ≡ Own next)
+    × OwnTurnsOne before byte own code next
+OwnTurns before byte side code new = (code ≡ gt_state) × (new ≡ side) × (byte ≡ before)
+
+abbrev pub OwnDriven : Type 0
+OwnDriven = EndOf OwnCard × Cursor
+
+abbrev pub OwnHandsOutOne : OwnDriven → ℕ → OwnDriven → Type 0
+OwnHandsOutOne s byte t = OwnHandsOut s.0 s.1 byte t.0 t.1
+
+-- why no more characters are written: the array is full, something waits, or the card listens
+abbrev pub OwnStops : List ℕ → ℕ → EndOf OwnCard → ℤ → Type 0
+OwnStops room n end code = ((n ≡ length room) × (code ≡ gt_sends))
+    ⊎ ((n < length room) × (w : Wanted) × IsWanted end w
+    × MatchOption (wait_code w) ((listens end.stage ≡ true) × (code ≡ gt_ok))
+    (λ waits. code ≡ waits))
+
+-- It writes this number of characters to an array.
+abbrev pub OwnHandsOutAll : EndOf OwnCard → Cursor → List ℕ → List ℕ → ℕ → ℤ → EndOf OwnCard
+    → Cursor → Type 0
+OwnHandsOutAll end plans room room' n code next left =
+    HandsOut OwnHandsOutOne (end, plans) room room' n (next, left) × OwnStops room n next code
+
+abbrev pub OwnSends : List ℕ → ℕ → List ℕ → ℕ → CardSide → ℤ → CardSide → Type 0
+OwnSends room before room' n (Own own) code new = (next : OwnSide) × (new ≡ Own next)
+    × OwnHandsOutAll own.end own.plans room room' n code next.end next.plans
+OwnSends room before room' n side code new =
+    (code ≡ gt_state) × (new ≡ side) × (room' ≡ room) × (n ≡ before)
+
+-- Characters of an array are taken: all, or until the card does not listen.
+abbrev pub OwnReceivesAll : List ℕ → ℕ → OwnSide → ℤ → OwnSide → Type 0
+OwnReceivesAll bytes n own code new = (new ≡ record own { end = new.end })
+    × Steps (IsTaken own_card) own.end (take n bytes) new.end
+    × (n ≡ length bytes → code ≡ gt_ok)
+    × (n < length bytes → (code ≡ line_code NotListening) × (listens new.end.stage ≡ false))
+
+abbrev pub OwnReceives : List ℕ → ℕ → ℕ → CardSide → ℤ → CardSide → Type 0
+OwnReceives bytes before n (Own own) code new = (next : OwnSide) × (new ≡ Own next)
+    × OwnReceivesAll bytes n own code next
+OwnReceives bytes before n side code new = (code ≡ gt_state) × (new ≡ side) × (n ≡ before)
+
+-- The card is reset. What waits is dropped, and so is a response that did not settle; the plans
+-- stay.
+abbrev pub OwnResetsOne : OwnSide → ℤ → OwnSide → Type 0
+OwnResetsOne own code new = (code ≡ gt_ok) × (new.plans ≡ own.plans)
+    × (own_card.standing new.end.card
+    ≡ own_card.after_reset (own_card.standing own.end.card))
+    × (new.end.stage ≡ Taking_header [])
+    × ((first : CardState GivenState) (events : List Event) → OwnLed first events own.end
+    → OwnLed first (events ++ Reset ∷ []) new.end)
+    × OwnLed (own_card.standing new.end.card) [] new.end
+    × OwnLedUnder (own_card.standing new.end.card) [] [] new.end
+
+abbrev pub OwnResets : CardSide → ℤ → CardSide → Type 0
+OwnResets (Own own) code new = (next : OwnSide) × (new ≡ Own next) × OwnResetsOne own code next
+OwnResets side code new = (code ≡ gt_state) × (new ≡ side)
+
+-- no plans, no response, and the events since its making: none
+abbrev pub IsFresh : Directions → OwnSide → Type 0
+IsFresh directions own = (own.plans ≡ record { rest = []; kept = None })
+    × (own.end.stage ≡ Taking_header [])
+    × (own.end.card.app ≡ record { directions = directions; given = None; settled = true })
+    × OwnLed (own_card.standing own.end.card) [] own.end
+    × OwnLedUnder (own_card.standing own.end.card) [] [] own.end
+
+-- 32 bytes, or none: each header is asked for
+abbrev pub IsDirections : List ℕ → Option Directions → Type 0
+IsDirections [] d = d ≡ Some way.Unknown
+IsDirections (b ∷ bytes) None = length (b ∷ bytes) ≢ 32
+IsDirections (b ∷ bytes) (Some d) = (length (b ∷ bytes) ≡ 32) × (d ≡ way.Table (b ∷ bytes))
+
+abbrev pub BeginsOwn : List ℕ → Option CardSide → ℤ → Option CardSide → Type 0
+BeginsOwn bytes (Some old) code new = (code ≡ gt_state) × (new ≡ Some old)
+BeginsOwn bytes None code new =
+    (IsDirections bytes None × (code ≡ gt_argument) × (new ≡ None))
+    ⊎ ((d : Directions) × IsDirections bytes (Some d) × (code ≡ gt_memory) × (new ≡ None))
+    ⊎ ((d : Directions) × IsDirections bytes (Some d) × (own : OwnSide) × (code ≡ gt_ok)
+    × (new ≡ Some (Own own)) × IsFresh d own)
+
+-- header, Le and data as C sees them
+pub record IsRecord (h : Header) (bytes : List ℕ) (le : ℕ) (r : CommandRecord) : Type 0 where
+  pub cla : r.cla ≡ h.cla
+  pub ins : r.ins ≡ h.ins
+  pub p1 : r.p1 ≡ h.p1
+  pub p2 : r.p2 ≡ h.p2
+  pub le_is : r.le ≡ le
+  pub size : r.size ≡ length bytes
+  pub data_is : r.data ≡ bytes ++ drop (length bytes) (replicate 255 0)
+
+abbrev pub TellsWanted : Wanted → CommandRecord → CommandRecord → ℤ → Type 0
+TellsWanted wanted.Nothing old new code = (code ≡ gt_state) × (new ≡ old)
+TellsWanted (wanted.Direction h) old new code = (code ≡ gt_ok) × IsRecord h [] 0 new
+TellsWanted (wanted.Response c) old new code = (code ≡ gt_ok)
+    × (length c.content ≤ 255 → IsRecord c.header c.content (unwrap_or c.le 0) new)
+
+abbrev pub TellsCommand : CommandRecord → CommandRecord → CardSide → ℤ → Type 0
+TellsCommand old new (Own own) code = (w : Wanted) × IsWanted own.end w × TellsWanted w old new code
+TellsCommand old new side code = (code ≡ gt_state) × (new ≡ old)
+
+-- the end is at the same place of its TPDU, over this card
+abbrev pub IsEndWith : EndOf OwnCard → OwnCard → EndOf OwnCard → Type 0
+IsEndWith end card new = (new.stage ≡ end.stage) × (new.card ≡ card)
+
+-- The header that waits gets its direction.
+abbrev pub DecidesOne : Wanted → Bool → EndOf OwnCard → ℤ → EndOf OwnCard → Type 0
+DecidesOne (wanted.Direction h) to_card end code new =
+    ((code ≡ gt_state) × IsEndWith end end.card new)
+    ⊎ ((code ≡ gt_ok) × IsEndWith end (record end.card {
+      app = record end.card.app { directions = way.Known to_card };
+    }) new)
+DecidesOne wanted.Nothing to_card end code new = (code ≡ gt_state) × (new ≡ end)
+DecidesOne (wanted.Response c) to_card end code new = (code ≡ gt_state) × (new ≡ end)
+
+abbrev pub Decides : Bool → CardSide → ℤ → CardSide → Type 0
+Decides to_card (Own own) code new = (w : Wanted) × IsWanted own.end w × (end : EndOf OwnCard)
+    × (new ≡ Own (record own { end = end })) × DecidesOne w to_card own.end code end
+Decides to_card side code new = (code ≡ gt_state) × (new ≡ side)
+
+-- a status word with this number, which an application may give
+abbrev pub word_of : ℕ → StatusWord
+word_of number = (number / 256, number % 256)
+
+abbrev pub MayBeGiven : List ℕ → ℕ → Type 0
+MayBeGiven bytes number = IsStatusWord (word_of number) × IsOwn (word_of number)
+    × (length bytes ≤ RESPONSE_LIMIT)
+
+-- The command in progress gets this response, and no other goes out for it. Or it is refused.
+abbrev pub GivesOne : List ℕ → ℕ → EndOf OwnCard → ℤ → EndOf OwnCard → Type 0
+GivesOne bytes number end code new =
+    (MayBeGiven bytes number × (code ≡ gt_ok) × IsEndWith end (record end.card {
+      app = with_answer end.card.app bytes (word_of number);
+    }) new)
+    ⊎ ((¬ MayBeGiven bytes number) × (code ≡ gt_argument) × IsEndWith end end.card new)
+    ⊎ ((code ≡ gt_memory) × IsEndWith end end.card new)
+    ⊎ ((¬ ((is_open end.card.ready ≡ true) × (end.card.app.given ≡ None)))
+    × (code ≡ gt_state) × IsEndWith end end.card new)
+
+-- the same of the command that waits, if one does
+abbrev pub RespondsOne : Wanted → List ℕ → ℕ → EndOf OwnCard → ℤ → EndOf OwnCard → Type 0
+RespondsOne (wanted.Response c) bytes number end code new = GivesOne bytes number end code new
+RespondsOne wanted.Nothing bytes number end code new = (code ≡ gt_state) × (new ≡ end)
+RespondsOne (wanted.Direction h) bytes number end code new = (code ≡ gt_state) × (new ≡ end)
+
+abbrev pub RespondsOwn : List ℕ → ℕ → CardSide → ℤ → CardSide → Type 0
+RespondsOwn bytes number (Own own) code new = (w : Wanted) × IsWanted own.end w
+    × (end : EndOf OwnCard) × (new ≡ Own (record own { end = end }))
+    × RespondsOne w bytes number own.end code end
+RespondsOwn bytes number side code new = (code ≡ gt_state) × (new ≡ side)
+
+abbrev pub TellsSettled : CardSide → ℤ → Type 0
+TellsSettled (Own own) code = code ≡ (if own.end.card.app.settled then pos 1 else pos 0)
+TellsSettled side code = code ≡ gt_state

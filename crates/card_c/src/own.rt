@@ -1,0 +1,147 @@
+//! The exports of a card of an own application, and what the calls by characters do to it.
+ghost use Rattle.std.specs.Prelude.{◌≡◌, true, MatchOption};
+ghost use Rattle.t0_core.specs.CardSide.{listens};
+ghost use Rattle.card_c.specs.OwnCalls.{OwnTakesOne, OwnTakes, OwnTurnsOne, OwnTurns, OwnHandsOut, OwnHandsOutAll, OwnSends, OwnReceives, OwnReceivesAll, OwnResets, OwnResetsOne};
+
+use crate::card_side::CardSide;
+use crate::code;
+use crate::own_side::OwnSide;
+use command_card::{CommandCard, Given, Wanted, wanted_next};
+use t0_core::{CardEnd, LineFault, PlanQueue, Turn};
+
+/// Takes a character of the terminal, if the card is one of an own application.
+#[inline(never)]
+pub(crate) fn take_own(side: &mut CardSide, byte: u8) -> i32
+    ensures { OwnTakes byte side.old result side.new }
+{
+    let CardSide::Own(own) = side else {
+        return code::STATE;
+    };
+    take_one(own, byte)
+}
+
+fn take_one(own: &mut OwnSide, byte: u8) -> i32
+    ensures { OwnTakesOne byte own.old result own.new }
+{
+    match own.end.take(byte) {
+        Ok(()) => code::OK,
+        Err(_) => code::of_line(LineFault::NotListening),
+    }
+}
+
+/// Writes the next character, if the card is one of an own application.
+#[inline(never)]
+pub(crate) fn turn_own(side: &mut CardSide, byte: &mut u8) -> i32
+    ensures { OwnTurns byte.old byte.new side.old result side.new }
+{
+    let CardSide::Own(own) = side else {
+        return code::STATE;
+    };
+    turn_one(own, byte)
+}
+
+fn turn_one(own: &mut OwnSide, byte: &mut u8) -> i32
+    ensures { OwnTurnsOne byte.old byte.new own.old result own.new }
+{
+    match wanted_next(&own.end) {
+        Wanted::Nothing => {}
+        Wanted::Direction(_) => return code::HEADER,
+        Wanted::Response(_) => return code::COMMAND,
+    }
+    let Some(sent) = next_of(&mut own.end, &mut own.plans) else {
+        return code::OK;
+    };
+    *byte = sent;
+    code::SENDS
+}
+
+/// Returns the next character, under the card's plans, or `None` if it listens.
+fn next_of(end: &mut CardEnd<CommandCard<Given>>, plans: &mut PlanQueue) -> Option<u8>
+    ensures { MatchOption result
+        ((listens end.old.stage ≡ true) × (end.new ≡ end.old) × (plans.new ≡ plans.old))
+        (λ byte. OwnHandsOut end.old plans.old byte end.new plans.new) }
+{
+    let takes_plan = end.takes_plan();
+    let Turn::Sends(byte) = end.turn(&mut plans.cursor()) else {
+        return None;
+    };
+    plans.advance_if(takes_plan);
+    Some(byte)
+}
+
+/// Writes the card's characters, if it is one of an own application.
+#[inline(never)]
+pub(crate) fn send_own(side: &mut CardSide, bytes: &mut [u8], count: &mut usize) -> i32
+    ensures { OwnSends bytes.old count.old bytes.new count.new side.old result side.new }
+{
+    let CardSide::Own(own) = side else {
+        return code::STATE;
+    };
+    send_all(&mut own.end, &mut own.plans, bytes, count)
+}
+
+/// Writes characters until the array is full, something waits, or the card listens.
+fn send_all(
+    end: &mut CardEnd<CommandCard<Given>>,
+    plans: &mut PlanQueue,
+    bytes: &mut [u8],
+    count: &mut usize,
+) -> i32
+    ensures { OwnHandsOutAll end.old plans.old bytes.old bytes.new count.new result
+        end.new plans.new }
+{
+    for (at, place) in bytes.iter_mut().enumerate() {
+        *count = at;
+        match wanted_next(end) {
+            Wanted::Nothing => {}
+            Wanted::Direction(_) => return code::HEADER,
+            Wanted::Response(_) => return code::COMMAND,
+        }
+        let Some(byte) = next_of(end, plans) else {
+            return code::OK;
+        };
+        *place = byte;
+    }
+    *count = bytes.len();
+    code::SENDS
+}
+
+/// Takes characters of the terminal, if the card is one of an own application.
+#[inline(never)]
+pub(crate) fn receive_own(side: &mut CardSide, bytes: &[u8], count: &mut usize) -> i32
+    ensures { OwnReceives bytes.now count.old count.new side.old result side.new }
+{
+    let CardSide::Own(own) = side else {
+        return code::STATE;
+    };
+    receive_all(own, bytes, count)
+}
+
+fn receive_all(own: &mut OwnSide, bytes: &[u8], count: &mut usize) -> i32
+    ensures { OwnReceivesAll bytes.now count.new own.old result own.new }
+{
+    let taken = own.end.take_bytes(bytes);
+    *count = taken;
+    if taken < bytes.len() {
+        code::of_line(LineFault::NotListening)
+    } else {
+        code::OK
+    }
+}
+
+/// Resets the card, if it is one of an own application.
+pub(crate) fn reset_own(side: &mut CardSide) -> i32
+    ensures { OwnResets side.old result side.new }
+{
+    let CardSide::Own(own) = side else {
+        return code::STATE;
+    };
+    reset_one(own)
+}
+
+fn reset_one(own: &mut OwnSide) -> i32
+    ensures { OwnResetsOne own.old result own.new }
+{
+    own.end.reset();
+    code::OK
+}

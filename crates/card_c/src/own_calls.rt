@@ -1,0 +1,185 @@
+//! The exports that make a card of an own application, and give it responses.
+ghost use Rattle.std.specs.Prelude.{◌≡◌, ◌≤◌, ⊤, length};
+ghost use Rattle.card_c.specs.Handles.{held_by, OnHandle, OnLook};
+ghost use Rattle.card_c.specs.OwnCalls.{BeginsOwn, Decides, GivesOne, IsRecord, RespondsOwn, TellsCommand, TellsSettled, IsDirections};
+
+use crate::card_held::GtCard;
+use crate::card_side::CardSide;
+use crate::code;
+use crate::command_record::CommandRecord;
+use crate::handle::{Handle, on, with};
+use crate::own_side::OwnSide;
+use apdu_core::{Header, Status};
+use command_card::{CommandCard, Directions, GiveFault, Given, Wanted, decide, give, wanted_next};
+use std::alloc::Global;
+use t0_core::{CardEnd, PlanQueue};
+
+/// Makes a card of an own application, which listens at T=0. `directions` are 32 bytes, or none.
+#[unsafe(no_mangle)]
+pub extern "C" fn galliumtoad_card_own(alloc: Global, card: &mut GtCard, directions: &[u8]) -> i32
+    ensures { BeginsOwn directions.now (held_by card.old) result (held_by card.new) }
+{
+    if card.is_live() {
+        return code::STATE;
+    }
+    let Some(directions) = directions_in(directions) else {
+        return code::ARGUMENT;
+    };
+    let side = CardSide::Own(OwnSide {
+        end: CardEnd::new(CommandCard::new(alloc, Given::new(alloc, directions))),
+        plans: PlanQueue::new(alloc),
+    });
+    match Box::new(alloc, side) {
+        Ok(side) => {
+            card.put(side);
+            code::OK
+        }
+        Err(_) => code::MEMORY,
+    }
+}
+
+/// The directions in 32 bytes. Without bytes each header is asked for.
+fn directions_in(bytes: &[u8]) -> Option<Directions>
+    ensures { IsDirections bytes.now result }
+{
+    if bytes.is_empty() {
+        return Some(Directions::Unknown);
+    }
+    if bytes.len() != 32 {
+        return None;
+    }
+    let mut table = [0; 32];
+    table.copy_from_slice(bytes);
+    Some(Directions::Table(table))
+}
+
+/// Writes the command that waits, or the header that waits for its direction.
+#[unsafe(no_mangle)]
+pub extern "C" fn galliumtoad_card_command(
+    alloc: Global,
+    card: &mut GtCard,
+    command: &mut CommandRecord,
+) -> i32
+    ensures { OnLook (command.new ≡ command.old) (TellsCommand command.old command.new)
+        (held_by card.old) result (held_by card.new) }
+{
+    on!(alloc, card, side => tell_command(&side, command))
+}
+
+fn tell_command(side: &CardSide, command: &mut CommandRecord) -> i32
+    ensures { TellsCommand command.old command.new side.now result }
+{
+    let CardSide::Own(own) = side else {
+        return code::STATE;
+    };
+    match wanted_next(&own.end) {
+        Wanted::Nothing => return code::STATE,
+        Wanted::Direction(header) => *command = record_of(header, &[], 0),
+        Wanted::Response(waits) => {
+            *command = record_of(waits.header(), waits.data(), waits.le().unwrap_or(0));
+        }
+    }
+    code::OK
+}
+
+/// A command as C sees it, with at most 255 bytes of data.
+fn record_of(header: Header, bytes: &[u8], le: u16) -> CommandRecord
+    ensures { length bytes.now ≤ 255 → IsRecord header bytes.now le result }
+{
+    let count = bytes.len().min(255);
+    let mut data = [0; 255];
+    data[..count].copy_from_slice(&bytes[..count]);
+    CommandRecord {
+        cla: header.cla,
+        ins: header.ins,
+        p1: header.p1,
+        p2: header.p2,
+        le,
+        size: count as u8,
+        data,
+    }
+}
+
+/// Answers which way the data of the header that waits go.
+#[unsafe(no_mangle)]
+pub extern "C" fn galliumtoad_card_direction(alloc: Global, card: &mut GtCard, to_card: bool) -> i32
+    ensures { OnHandle (Decides to_card) (held_by card.old) result (held_by card.new) }
+{
+    with(alloc, card, |side| direction(side, to_card))
+}
+
+fn direction(side: &mut CardSide, to_card: bool) -> i32
+    ensures { Decides to_card side.old result side.new }
+{
+    let CardSide::Own(own) = side else {
+        return code::STATE;
+    };
+    if !matches!(wanted_next(&own.end), Wanted::Direction(_)) {
+        return code::STATE;
+    }
+    if decide(&mut own.end, to_card) {
+        code::OK
+    } else {
+        code::STATE
+    }
+}
+
+/// Gives the response to the command that waits.
+#[unsafe(no_mangle)]
+pub extern "C" fn galliumtoad_card_respond(
+    alloc: Global,
+    card: &mut GtCard,
+    bytes: &[u8],
+    status: u16,
+) -> i32
+    ensures { OnHandle (RespondsOwn bytes.now status) (held_by card.old) result
+        (held_by card.new) }
+{
+    with(alloc, card, |side| respond(side, bytes, status))
+}
+
+fn respond(side: &mut CardSide, bytes: &[u8], status: u16) -> i32
+    ensures { RespondsOwn bytes.now status side.old result side.new }
+{
+    let CardSide::Own(own) = side else {
+        return code::STATE;
+    };
+    let Wanted::Response(_) = wanted_next(&own.end) else {
+        return code::STATE;
+    };
+    give_to(&mut own.end, bytes, status)
+}
+
+/// Gives the response to the command in progress, and returns the code.
+fn give_to(end: &mut CardEnd<CommandCard<Given>>, bytes: &[u8], status: u16) -> i32
+    ensures { GivesOne bytes.now status end.old result end.new }
+{
+    let [sw1, sw2] = status.to_be_bytes();
+    let Some(status) = Status::new(sw1, sw2) else {
+        return code::ARGUMENT;
+    };
+    match give(end, bytes, status) {
+        Ok(()) => code::OK,
+        Err(GiveFault::NotWanted) => code::STATE,
+        Err(GiveFault::TooLong) => code::ARGUMENT,
+        Err(GiveFault::CardsOwn) => code::ARGUMENT,
+        Err(GiveFault::OutOfMemory) => code::MEMORY,
+    }
+}
+
+/// Returns whether the last command that got a response has settled.
+#[unsafe(no_mangle)]
+pub extern "C" fn galliumtoad_card_settled(alloc: Global, card: &mut GtCard) -> i32
+    ensures { OnLook ⊤ TellsSettled (held_by card.old) result (held_by card.new) }
+{
+    on!(alloc, card, side => settled(&side))
+}
+
+fn settled(side: &CardSide) -> i32
+    ensures { TellsSettled side.now result }
+{
+    let CardSide::Own(own) = side else {
+        return code::STATE;
+    };
+    i32::from(own.end.card().application().has_settled())
+}

@@ -135,9 +135,9 @@ pub struct GuardTime {
 #[non_exhaustive]
 pub enum Edc {
     /// One byte: the exclusive-or of all others of the block.
-    Lrc,
+    Lrc = 1,
     /// Two bytes: a cyclic redundancy check.
-    Crc,
+    Crc = 2,
 }
 
 /// BWT of T=1: the most from the last character of a block to the card to the first of its answer
@@ -280,7 +280,9 @@ impl<'a> Atr<'a> {
             waiting_integer: Some(told.waiting_integer).filter(|&wi| wi != 0),
             waiting_time: Some(told.waiting_time).filter(|&cycles| cycles != 0),
             ifsc: Some(told.t1.ifsc).filter(|&size| size != 0),
-            edc: Edc::of(told.t1.edc),
+            edc: [Edc::Lrc, Edc::Crc]
+                .into_iter()
+                .find(|&it| it as u8 == told.t1.edc),
             block_waiting_integer: Some(told.t1.bwi).filter(|_| told.t1.bwt_etu != 0),
             character_waiting_integer: told.t1.cwi,
             character_waiting_time: told.t1.cwt_etu,
@@ -314,9 +316,7 @@ impl<'a> Atr<'a> {
             indicated,
         }
     }
-}
 
-impl Atr<'_> {
     /// Returns the times of the line without a PPS, at a clock of this frequency in Hz. `None` if
     /// it is 0, or if the rate is reserved or not stated.
     #[must_use]
@@ -390,16 +390,6 @@ impl Classes {
             b: bits & 2 != 0,
             c: bits & 4 != 0,
         })
-    }
-}
-
-impl Edc {
-    fn of(size: u8) -> Option<Edc> {
-        match size {
-            1 => Some(Edc::Lrc),
-            2 => Some(Edc::Crc),
-            _ => None,
-        }
     }
 }
 

@@ -2,6 +2,7 @@
 
 use crate::card::Card;
 use crate::error::{done, told, Error};
+use crate::own_card::Application;
 use crate::raw::{self, Handle, Held};
 use core::fmt;
 
@@ -43,7 +44,7 @@ impl fmt::Display for ReceiveError {
     }
 }
 
-impl Card {
+impl<A: Application> Card<A> {
     /// Hands out what the card sends now, as [`turn`](Card::turn) one at a time, as many characters
     /// as `room` has place for. It never stops with [`Stop::Done`].
     ///
@@ -52,7 +53,16 @@ impl Card {
     /// None today.
     #[inline]
     pub fn send_bytes(&mut self, room: &mut [u8]) -> Result<Sent, Error> {
-        send(&self.0 .0, raw::galliumtoad_card_send_bytes, room)
+        let mut count = 0;
+        let code = self.run(|at| {
+            let (left, mut n) = (&mut room[count..], 0);
+            let (to, most) = (left.as_mut_ptr(), left.len());
+            // SAFETY: a card's handle; a slice with its length, and `n`, which are apart.
+            let code = unsafe { raw::galliumtoad_card_send_bytes(at, to, most, &mut n) };
+            count += n;
+            code
+        })?;
+        Ok(sent(code, count))
     }
 
     /// Takes characters of the terminal, as many as the card listens to.
@@ -63,7 +73,7 @@ impl Card {
     ///   those that it has taken. The others were not looked at.
     #[inline]
     pub fn receive_bytes(&mut self, bytes: &[u8]) -> Result<(), ReceiveError> {
-        receive(&self.0 .0, raw::galliumtoad_card_receive_bytes, bytes)
+        receive(&self.0, raw::galliumtoad_card_receive_bytes, bytes)
     }
 }
 
@@ -76,12 +86,16 @@ pub(crate) fn send(handle: &Handle, sends: Sends, room: &mut [u8]) -> Result<Sen
     let mut count = 0;
     // SAFETY: a handle of this crate; a slice with its length, and `count`, which are apart.
     let code = unsafe { sends(handle.at(), room.as_mut_ptr(), room.len(), &mut count) };
-    let stop = match told(code)? {
+    Ok(sent(told(code)?, count))
+}
+
+fn sent(code: i32, count: usize) -> Sent {
+    let stop = match code {
         raw::SENDS => Stop::Full,
         raw::DONE => Stop::Done,
         _ => Stop::Listens,
     };
-    Ok(Sent { count, stop })
+    Sent { count, stop }
 }
 
 /// What an end takes; the handle is of the function's kind.

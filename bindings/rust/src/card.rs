@@ -1,7 +1,8 @@
 //! A card of data objects at the line, and its builder.
 
 use crate::error::{done, told, Error};
-use crate::exchange::{turn, Turn};
+use crate::exchange::{turned, Turn};
+use crate::own_card::{Application, Own};
 use crate::raw::{self, Handle};
 use crate::tables::{Tables, OF_CARD};
 use alloc::vec::Vec;
@@ -53,7 +54,7 @@ impl fmt::Debug for Entry {
 /// Builds a card of up to [`APPS_LIMIT`] applications, each with up to [`ENTRIES_LIMIT`] data
 /// objects. Each application gets its objects before the next one is added.
 #[derive(Debug)]
-pub struct CardBuilder(Owned);
+pub struct CardBuilder(Handle);
 
 /// A card of data objects at the line: SELECT, GET DATA, PUT DATA and GET RESPONSE over T=0.
 ///
@@ -87,17 +88,11 @@ pub struct CardBuilder(Owned);
 /// assert_eq!(card.selected(), Some(aid.to_vec()));
 /// # Ok::<(), galliumtoad::Error>(())
 /// ```
-#[derive(Debug)]
-pub struct Card(pub(crate) Owned);
+pub struct Card<A = ()>(pub(crate) Handle, pub(crate) Own<A>);
 
-/// The handle of a card, which is freed once.
-#[derive(Debug)]
-pub(crate) struct Owned(pub(crate) Handle);
-
-impl Drop for Owned {
-    fn drop(&mut self) {
-        // SAFETY: a card's handle, which is not used again.
-        unsafe { raw::galliumtoad_card_free(self.0.at()) }
+impl<A> fmt::Debug for Card<A> {
+    fn fmt(&self, f: &mut fmt::Formatter<'_>) -> fmt::Result {
+        f.write_str("Card")
     }
 }
 
@@ -108,9 +103,9 @@ impl CardBuilder {
     ///
     /// - [`Error::Memory`]: it ran out. There is no builder.
     pub fn new() -> Result<CardBuilder, Error> {
-        let builder = CardBuilder(Owned(Handle::empty()));
+        let builder = CardBuilder(Handle::empty(raw::galliumtoad_card_free));
         // SAFETY: a handle that holds nothing.
-        told(unsafe { raw::galliumtoad_card_new(builder.0 .0.at()) })?;
+        told(unsafe { raw::galliumtoad_card_new(builder.0.at()) })?;
         Ok(builder)
     }
 
@@ -126,7 +121,7 @@ impl CardBuilder {
     /// - [`Error::Memory`]: it ran out.
     pub fn app(&mut self, aid: &[u8]) -> Result<(), Error> {
         // SAFETY: a card's handle; a slice with its length.
-        done(unsafe { raw::galliumtoad_card_app(self.0 .0.at(), aid.as_ptr(), aid.len()) })
+        done(unsafe { raw::galliumtoad_card_app(self.0.at(), aid.as_ptr(), aid.len()) })
     }
 
     /// Adds a data object to the last application. If it has one under this tag, the new value
@@ -162,7 +157,7 @@ impl CardBuilder {
     fn add(&mut self, tag: u32, value: &[u8], locked: bool) -> Result<(), Error> {
         // SAFETY: a card's handle; a slice with its length.
         done(unsafe {
-            raw::galliumtoad_card_object(self.0 .0.at(), tag, value.as_ptr(), value.len(), locked)
+            raw::galliumtoad_card_object(self.0.at(), tag, value.as_ptr(), value.len(), locked)
         })
     }
 
@@ -173,12 +168,12 @@ impl CardBuilder {
     /// - [`Error::Memory`]: it ran out. The builder is dropped, with all that it has.
     pub fn finish(self) -> Result<Card, Error> {
         // SAFETY: a card's handle.
-        told(unsafe { raw::galliumtoad_card_finish(self.0 .0.at()) })?;
-        Ok(Card(self.0))
+        told(unsafe { raw::galliumtoad_card_finish(self.0.at()) })?;
+        Ok(Card(self.0, Own::of((), Vec::new())))
     }
 }
 
-impl Card {
+impl<A: Application> Card<A> {
     /// Takes a character of the terminal.
     ///
     /// # Errors
@@ -187,7 +182,7 @@ impl Card {
     #[inline]
     pub fn take(&mut self, byte: u8) -> Result<(), Error> {
         // SAFETY: a card's handle.
-        done(unsafe { raw::galliumtoad_card_take(self.0 .0.at(), byte) })
+        done(unsafe { raw::galliumtoad_card_take(self.0.at(), byte) })
     }
 
     /// Returns what the card does now: [`Turn::Sends`] a character, or [`Turn::Listens`]. A
@@ -199,7 +194,10 @@ impl Card {
     /// None today.
     #[inline]
     pub fn turn(&mut self) -> Result<Turn, Error> {
-        turn(&self.0 .0, raw::galliumtoad_card_turn)
+        let mut byte = 0;
+        // SAFETY: a card's handle; `byte` is apart from it.
+        let code = self.run(|at| unsafe { raw::galliumtoad_card_turn(at, &mut byte) })?;
+        Ok(turned(code, byte))
     }
 
     /// Resets the card, at any time: a TPDU in progress is dropped, and nothing is selected or
@@ -210,9 +208,13 @@ impl Card {
     /// None today.
     pub fn reset(&mut self) -> Result<(), Error> {
         // SAFETY: a card's handle.
-        done(unsafe { raw::galliumtoad_card_reset(self.0 .0.at()) })
+        done(unsafe { raw::galliumtoad_card_reset(self.0.at()) })?;
+        self.1.was_reset();
+        Ok(())
     }
+}
 
+impl Card {
     /// Plans how the card answers one more of the TPDUs to come, in turn.
     ///
     /// `steps` are letters, in any order and number, carried out from left to right: `n` a NULL,
@@ -231,20 +233,17 @@ impl Card {
     /// - [`Error::Memory`]: it ran out.
     pub fn plan(&mut self, steps: &str, cut: u16) -> Result<(), Error> {
         // SAFETY: a card's handle; a slice with its length.
-        done(unsafe {
-            raw::galliumtoad_card_plan(self.0 .0.at(), steps.as_ptr(), steps.len(), cut)
-        })
+        done(unsafe { raw::galliumtoad_card_plan(self.0.at(), steps.as_ptr(), steps.len(), cut) })
     }
-
     /// Returns the identifier of the selected application, or `None` if none is selected.
     #[must_use]
     pub fn selected(&self) -> Option<Vec<u8>> {
-        Tables(&self.0 .0, &OF_CARD).selected()
+        Tables(&self.0, &OF_CARD).selected()
     }
 
     /// Returns the identifiers of the applications, in the order of building.
     pub fn apps(&self) -> impl Iterator<Item = Vec<u8>> + '_ {
-        Tables(&self.0 .0, &OF_CARD).apps()
+        Tables(&self.0, &OF_CARD).apps()
     }
 
     /// Returns the place of the application with this identifier, from 0, for
@@ -257,6 +256,6 @@ impl Card {
     /// Returns the data objects of the application at this place, from 0, in order of first
     /// storing. It yields nothing if `app` is past the last.
     pub fn entries(&self, app: usize) -> impl Iterator<Item = Entry> + '_ {
-        Tables(&self.0 .0, &OF_CARD).entries(app)
+        Tables(&self.0, &OF_CARD).entries(app)
     }
 }

@@ -55,7 +55,7 @@ impl CardT1 {
     /// - [`Error::Memory`]: memory ran out. The block is dropped, no command is carried out, and
     ///   there is no answer. The terminal asks again.
     pub fn receive(&mut self, bytes: &[u8]) -> Result<Received, Error> {
-        let (at, n) = (self.0 .0 .0.at(), bytes.len());
+        let (at, n) = (self.0 .0.at(), bytes.len());
         let mut taken = 0;
         // SAFETY: a card's handle; a slice with its length, and `taken`, which are apart.
         let code = told(unsafe {
@@ -73,7 +73,7 @@ impl CardT1 {
     /// None today.
     pub fn missed(&mut self) -> Result<(), Error> {
         // SAFETY: a card's handle.
-        done(unsafe { raw::galliumtoad_card_t1_missed(self.0 .0 .0.at()) })
+        done(unsafe { raw::galliumtoad_card_t1_missed(self.0 .0.at()) })
     }
 
     /// Reports that a character of the terminal's block had a wrong parity: as
@@ -85,7 +85,7 @@ impl CardT1 {
     /// None today.
     pub fn damaged(&mut self) -> Result<(), Error> {
         // SAFETY: a card's handle.
-        done(unsafe { raw::galliumtoad_card_t1_damaged(self.0 .0 .0.at()) })
+        done(unsafe { raw::galliumtoad_card_t1_damaged(self.0 .0.at()) })
     }
 
     /// Copies the block to send now to the front of `room`, and returns its length, 4 to
@@ -100,7 +100,7 @@ impl CardT1 {
     /// - [`Error::Memory`]: memory ran out.
     /// - [`Error::Buffer`]: `room` is too short.
     pub fn block_into(&self, room: &mut [u8]) -> Result<Option<usize>, Error> {
-        let (at, n) = (self.0 .0 .0.at(), room.len());
+        let (at, n) = (self.0 .0.at(), room.len());
         let mut count = 0;
         // SAFETY: a card's handle; `room` with its length and `count` are apart.
         let code = told(unsafe {
@@ -118,7 +118,7 @@ impl CardT1 {
     pub fn reset(&mut self) -> Result<(), Error> {
         self.0.reset()?;
         // SAFETY: a card's handle.
-        done(unsafe { raw::galliumtoad_card_t1_begin(self.0 .0 .0.at()) })
+        done(unsafe { raw::galliumtoad_card_t1_begin(self.0 .0.at()) })
     }
 
     /// Returns the card, to look at its objects and what is selected.

@@ -95,7 +95,8 @@ pub struct Answer {
 }
 
 impl Answer {
-    /// Returns the answer if its status is `9000`.
+    /// Returns the answer if its status is `9000`. If you want no data, `answer.status.ok()?` is
+    /// enough: the compiler warns of an answer that is dropped.
     ///
     /// # Errors
     ///
@@ -138,11 +139,16 @@ type Turns = unsafe extern "C" fn(*mut Held, *mut u8) -> i32;
 pub(crate) fn turn(handle: &Handle, turns: Turns) -> Result<Turn, Error> {
     let mut byte = 0;
     // SAFETY: a handle of this crate; `byte` is apart from it.
-    Ok(match told(unsafe { turns(handle.at(), &mut byte) })? {
+    let code = told(unsafe { turns(handle.at(), &mut byte) })?;
+    Ok(turned(code, byte))
+}
+
+pub(crate) fn turned(code: i32, byte: u8) -> Turn {
+    match code {
         raw::SENDS => Turn::Sends(byte),
         raw::DONE => Turn::Done,
         _ => Turn::Listens,
-    })
+    }
 }
 
 /// The function of the archive that copies the answer of a handle.
@@ -230,7 +236,7 @@ impl Exchange {
     ///   There is no exchange.
     /// - Any other: as [`start`](Exchange::start).
     pub fn start_within(command: &[u8], limit: usize) -> Result<Exchange, Error> {
-        let exchange = Exchange(Handle::empty());
+        let exchange = Exchange(Handle::empty(raw::galliumtoad_exchange_free));
         // SAFETY: a handle that holds nothing; a slice with its length.
         told(unsafe {
             raw::galliumtoad_exchange_start_within(
@@ -250,12 +256,5 @@ impl Exchange {
     pub fn data_sent(&self) -> DataSent {
         // SAFETY: an exchange's handle.
         DataSent::of(unsafe { raw::galliumtoad_exchange_data_sent(self.0.at()) })
-    }
-}
-
-impl Drop for Exchange {
-    fn drop(&mut self) {
-        // SAFETY: an exchange's handle, which is not used again.
-        unsafe { raw::galliumtoad_exchange_free(self.0.at()) }
     }
 }

@@ -115,6 +115,11 @@ declared! {
     ) -> i32;
     fn galliumtoad_card_t1_missed(c: *mut Held) -> i32;
     fn galliumtoad_card_t1_damaged(c: *mut Held) -> i32;
+    fn galliumtoad_card_own(c: *mut Held, directions: *const u8, n: usize) -> i32;
+    fn galliumtoad_card_command(c: *mut Held, command: *mut Command) -> i32;
+    fn galliumtoad_card_direction(c: *mut Held, to_card: bool) -> i32;
+    fn galliumtoad_card_respond(c: *mut Held, data: *const u8, n: usize, status: u16) -> i32;
+    fn galliumtoad_card_settled(c: *mut Held) -> i32;
     fn galliumtoad_card_plan(c: *mut Held, steps: *const u8, n: usize, cut: u16) -> i32;
     fn galliumtoad_card_selected(c: *mut Held, aid: *mut u8, room: usize, n: *mut usize) -> i32;
     fn galliumtoad_card_app_at(

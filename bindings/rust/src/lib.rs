@@ -2,6 +2,7 @@
 //!
 #![doc = "[`Terminal`]: Terminal\n[`Card`]: Card\n[`Session`]: Session\n[`Exchange`]: Exchange"]
 #![doc = "[`Objects`]: Objects\n[`Atr`]: Atr\n[`Pps`]: Pps\n[`T1`]: T1\n[`CardT1`]: CardT1\n"]
+#![doc = "[`OwnCard`]: OwnCard\n"]
 #![doc = include_str!("../README.md")]
 #![no_std]
 #![warn(missing_docs)]
@@ -21,6 +22,7 @@ mod heap;
 mod in_progress;
 mod meanings;
 mod objects;
+mod own_card;
 mod passing;
 mod pps;
 mod raw;
@@ -49,6 +51,7 @@ pub use error::Error;
 pub use exchange::{Answer, Copied, DataSent, Exchange, Turn, RESPONSE_LIMIT};
 pub use in_progress::InProgress;
 pub use objects::{encode, find, head, Object, Objects, ObjectsError, Reason, LEVELS_LIMIT};
+pub use own_card::{Application, Command, OwnCard, Response, DATA_LIMIT, OWN_LIMIT};
 pub use pps::{Pps, PpsError, PPS_LIMIT};
 pub use session::{End, Session};
 pub use status::{Refused, Status};

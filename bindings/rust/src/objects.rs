@@ -248,11 +248,8 @@ pub fn find<'a>(bytes: &'a [u8], path: &[u32]) -> Result<Option<Object<'a>>, Obj
 #[must_use]
 pub fn head(tag: u32, length: u16) -> Option<Vec<u8>> {
     version::look();
-    let (mut bytes, mut n) = ([0; 6], 0);
-    // SAFETY: an array with its length; `n` is apart from it.
-    let code =
-        unsafe { raw::galliumtoad_head(tag, length, bytes.as_mut_ptr(), bytes.len(), &mut n) };
-    (code == raw::OK).then(|| bytes[..n].to_vec())
+    // SAFETY: as for `copied`.
+    raw::copied::<6>(|to, room, n| unsafe { raw::galliumtoad_head(tag, length, to, room, n) })
 }
 
 /// Writes one data object, with the length in its shortest form. The parts of its value come one

@@ -2,7 +2,8 @@
 //! 7816-3, clause 9).
 
 use crate::error::codes;
-use crate::{raw, version};
+use crate::raw::{self, copied};
+use crate::version;
 use alloc::vec::Vec;
 
 /// The most bytes of a PPS request or response.
@@ -61,20 +62,11 @@ impl Pps {
     pub fn request(&self) -> Option<Vec<u8>> {
         version::look();
         let number = |byte: Option<u8>| byte.map_or(ABSENT, u16::from);
-        let (mut bytes, mut n) = ([0; PPS_LIMIT], 0);
-        // SAFETY: an array with its length; `n` is apart from it.
-        let code = unsafe {
-            raw::galliumtoad_pps_request(
-                self.t,
-                number(self.pps1),
-                number(self.pps2),
-                number(self.pps3),
-                bytes.as_mut_ptr(),
-                bytes.len(),
-                &mut n,
-            )
-        };
-        (code == raw::OK).then(|| bytes[..n].to_vec())
+        let [pps1, pps2, pps3] = [self.pps1, self.pps2, self.pps3].map(number);
+        // SAFETY: as for `copied`.
+        copied::<PPS_LIMIT>(|to, room, n| unsafe {
+            raw::galliumtoad_pps_request(self.t, pps1, pps2, pps3, to, room, n)
+        })
     }
 
     /// Returns whether a card's response accepts this request (9.3). It does if it names the same

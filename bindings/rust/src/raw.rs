@@ -8,12 +8,14 @@
 //! The last of these holds when a handle's owner is called by `&` or `&mut`, see [`Handle`].
 
 use crate::version;
+use crate::wiped::wipe;
+use alloc::vec::Vec;
 use core::cell::UnsafeCell;
 use core::ffi::c_void;
+use core::fmt;
 
 /// What C sees of a handle: 16 bytes that only the library reads or writes.
 #[repr(C)]
-#[derive(Debug)]
 pub struct Held {
     live: bool,
     held: *mut c_void,
@@ -24,8 +26,10 @@ pub struct Held {
 /// other thread has one. The archive calls nothing that could call it again, except the three
 /// functions for memory, and these the program's allocator. An allocator must not call this crate
 /// (README, Memory), and writing one is `unsafe`. So no two calls have one handle at once.
-#[derive(Debug)]
-pub struct Handle(UnsafeCell<Held>);
+pub struct Handle {
+    held: UnsafeCell<Held>,
+    frees: unsafe extern "C" fn(*mut Held),
+}
 
 // SAFETY: it is proved for each kind of handle that it may move to another thread. Whatever moves a
 // Rust value there makes all that the first thread did happen before all that the second does. That
@@ -35,23 +39,36 @@ pub struct Handle(UnsafeCell<Held>);
 unsafe impl Send for Handle {}
 
 impl Handle {
-    /// Makes a handle that holds nothing, as `GT_INIT` of the header does.
+    /// Makes a handle that holds nothing, as `GT_INIT` of the header does. A drop passes it to
+    /// `frees`, the function for handles of its kind.
     ///
     /// # Panics
     ///
     /// If the library does not fit this crate: see `version_fits`.
-    pub fn empty() -> Handle {
+    pub fn empty(frees: unsafe extern "C" fn(*mut Held)) -> Handle {
         version::look();
-        Handle(UnsafeCell::new(Held {
-            live: false,
-            held: core::ptr::null_mut(),
-        }))
+        let (live, held) = (false, core::ptr::null_mut());
+        let held = UnsafeCell::new(Held { live, held });
+        Handle { held, frees }
     }
 
     /// Its address, for a call that may write to it.
     #[inline]
     pub fn at(&self) -> *mut Held {
-        self.0.get()
+        self.held.get()
+    }
+}
+
+impl Drop for Handle {
+    fn drop(&mut self) {
+        // SAFETY: a handle of the function's kind, which is not used again.
+        unsafe { (self.frees)(self.at()) }
+    }
+}
+
+impl fmt::Debug for Handle {
+    fn fmt(&self, f: &mut fmt::Formatter<'_>) -> fmt::Result {
+        f.write_str("Handle")
     }
 }
 
@@ -121,12 +138,34 @@ pub struct Character {
     pub byte: u8,
 }
 
+/// `gt_command` of the header. A drop wipes its data.
+#[repr(C)]
+pub struct Command {
+    pub cla: u8,
+    pub ins: u8,
+    pub p1: u8,
+    pub p2: u8,
+    pub le: u16,
+    pub size: u8,
+    pub data: [u8; 255],
+}
+
+impl Drop for Command {
+    fn drop(&mut self) {
+        wipe(&mut self.data);
+    }
+}
+
 /// `GT_OK`: success; of a turn: the end listens.
 pub const OK: i32 = 0;
 /// `GT_SENDS`: a character to send, or the buffer is full. At T=1: the received block is whole.
 pub const SENDS: i32 = 1;
 /// `GT_DONE`: the exchange has ended, and has an answer. At T=1: there is no block to send.
 pub const DONE: i32 = 2;
+/// `GT_COMMAND`: a command waits for the response of a card of your own.
+pub const COMMAND: i32 = 3;
+/// `GT_HEADER`: a header waits for the way of its data.
+pub const HEADER: i32 = 4;
 /// `GT_ARGUMENT`: an argument is out of its range.
 pub const ARGUMENT: i32 = -5;
 /// `GT_BUFFER`: too little room for the output.
@@ -136,11 +175,6 @@ pub const NOT_FOUND: i32 = -8;
 
 /// `GT_TERMINAL`: the terminal sent the character. Any other number means the card.
 pub const TERMINAL: u8 = 0;
-
-/// `GT_LRC`: the check of a block has one byte.
-pub const LRC: u8 = 1;
-/// `GT_CRC`: the check of a block has two bytes.
-pub const CRC: u8 = 2;
 
 /// `GT_NOT_CARRIED_OUT`: the card has not carried out the command.
 pub const NOT_CARRIED_OUT: i32 = 0;
@@ -158,3 +192,12 @@ macro_rules! declared {
 }
 
 include!("functions.rs");
+
+/// The bytes that a call copies to an array: it gets the array, its length, and a count apart.
+pub fn copied<const N: usize>(
+    copies: impl FnOnce(*mut u8, usize, &mut usize) -> i32,
+) -> Option<Vec<u8>> {
+    let (mut bytes, mut n) = ([0; N], 0);
+    let code = copies(bytes.as_mut_ptr(), N, &mut n);
+    (code == OK).then(|| bytes[..n].to_vec())
+}

@@ -1,14 +1,16 @@
 //! A terminal and a card, joined by a line.
 
-use crate::card::{Card, Entry, Owned};
+use crate::card::{Card, Entry};
 use crate::error::{done, told, Error};
 use crate::exchange::{self, Answer, Copied};
+use crate::own_card::Own;
 use crate::raw::{self, Handle};
 use crate::status::Status;
 use crate::tables::{Tables, OF_SESSION};
-use crate::terminal::Operation;
-use crate::wiped::{room_for, wipe};
+use crate::terminal::{calls, Operation};
+use crate::wiped::{room_for, wipe_from};
 use alloc::vec::Vec;
+use core::mem::size_of_val;
 
 /// One of the two ends of the line.
 #[derive(Clone, Copy, Debug, PartialEq, Eq, Hash)]
@@ -54,9 +56,9 @@ impl Session {
     /// None today.
     #[allow(clippy::needless_pass_by_value)] // the session owns it from now on
     pub fn start(card: Card) -> Result<Session, Error> {
-        let session = Session(Handle::empty());
+        let session = Session(Handle::empty(raw::galliumtoad_session_free));
         // SAFETY: a handle that holds nothing, and a card's, which are apart.
-        told(unsafe { raw::galliumtoad_session_start(session.0.at(), card.0 .0.at()) })?;
+        told(unsafe { raw::galliumtoad_session_start(session.0.at(), card.0.at()) })?;
         Ok(session)
     }
 
@@ -99,20 +101,10 @@ impl Session {
     ///
     /// As those.
     pub fn run(&mut self, operation: Operation<'_>) -> Result<Answer, Error> {
-        let s = self.0.at();
-        // SAFETY: a session's handle; each slice has its length.
-        done(unsafe {
-            match operation {
-                Operation::Select(aid) => {
-                    raw::galliumtoad_session_select(s, aid.as_ptr(), aid.len())
-                }
-                Operation::Get(tag) => raw::galliumtoad_session_get(s, tag),
-                Operation::Put(tag, it) => {
-                    raw::galliumtoad_session_put(s, tag, it.as_ptr(), it.len())
-                }
-                Operation::Send(it) => raw::galliumtoad_session_send(s, it.as_ptr(), it.len()),
-            }
-        })?;
+        calls! { operation, self.0 =>
+            galliumtoad_session_select, galliumtoad_session_get,
+            galliumtoad_session_put, galliumtoad_session_send
+        }?;
         self.answer()
     }
 
@@ -227,7 +219,8 @@ impl Session {
             _ => End::Card,
         };
         heard.extend(line.iter().map(|it| (from(it), it.byte)));
-        wipe(&mut line);
+        // SAFETY: all of a list that is borrowed by `&mut`, whose numbers may be zeros.
+        unsafe { wipe_from(line.as_mut_ptr().cast(), size_of_val(&*line)) };
         Ok(heard)
     }
 
@@ -284,16 +277,12 @@ impl Session {
     ///
     /// None today.
     pub fn end(self) -> Result<Card, Error> {
-        let card = Card(Owned(Handle::empty()));
+        let card = Card(
+            Handle::empty(raw::galliumtoad_card_free),
+            Own::of((), Vec::new()),
+        );
         // SAFETY: a session's handle, and one that holds nothing, which are apart.
-        told(unsafe { raw::galliumtoad_session_end(self.0.at(), card.0 .0.at()) })?;
+        told(unsafe { raw::galliumtoad_session_end(self.0.at(), card.0.at()) })?;
         Ok(card)
-    }
-}
-
-impl Drop for Session {
-    fn drop(&mut self) {
-        // SAFETY: a session's handle, which is not used again.
-        unsafe { raw::galliumtoad_session_free(self.0.at()) }
     }
 }

@@ -128,12 +128,8 @@ impl T1 {
     /// - [`Error::Argument`]: `edc` is not [`Edc::Lrc`], or `ifsc` is 0 or 255.
     /// - [`Error::Memory`]: it ran out.
     pub fn new(edc: Edc, ifsc: u8, limits: T1Limits) -> Result<T1, Error> {
-        let t1 = T1(Handle::empty());
-        let edc = match edc {
-            Edc::Lrc => raw::LRC,
-            Edc::Crc => raw::CRC,
-        };
-        let (tries, extensions) = (limits.tries, limits.extensions);
+        let t1 = T1(Handle::empty(raw::galliumtoad_t1_free));
+        let (edc, tries, extensions) = (edc as u8, limits.tries, limits.extensions);
         // SAFETY: an empty handle.
         done(unsafe {
             raw::galliumtoad_t1_new(t1.0.at(), edc, ifsc, tries, extensions, limits.response)
@@ -271,12 +267,5 @@ impl T1 {
     pub fn reset(&mut self) -> Result<(), Error> {
         // SAFETY: an end's handle.
         done(unsafe { raw::galliumtoad_t1_reset(self.0.at()) })
-    }
-}
-
-impl Drop for T1 {
-    fn drop(&mut self) {
-        // SAFETY: the handle is not used again.
-        unsafe { raw::galliumtoad_t1_free(self.0.at()) }
     }
 }

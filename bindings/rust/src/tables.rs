@@ -1,7 +1,7 @@
 //! What a card holds, alone or in a session.
 
 use crate::card::{Entry, AID_LIMIT};
-use crate::raw::{self, Handle, Held};
+use crate::raw::{self, copied, Handle, Held};
 use alloc::vec;
 use alloc::vec::Vec;
 
@@ -39,11 +39,8 @@ pub(crate) static OF_SESSION: Calls = Calls {
 
 impl<'a> Tables<'a> {
     pub(crate) fn selected(self) -> Option<Vec<u8>> {
-        let (mut aid, mut n) = ([0; AID_LIMIT], 0);
-        // SAFETY: a handle of what the calls are for, which a call by `&` may write to (`Handle`);
-        // `aid` with its length, and `n`, are apart from it and from one another.
-        let code = unsafe { (self.1.selected)(self.0.at(), aid.as_mut_ptr(), aid.len(), &mut n) };
-        (code == raw::OK).then(|| aid[..n].to_vec())
+        // SAFETY: a handle of what the calls are for, which a call by `&` may write to (`Handle`).
+        copied::<AID_LIMIT>(|to, room, n| unsafe { (self.1.selected)(self.0.at(), to, room, n) })
     }
 
     pub(crate) fn apps(self) -> impl Iterator<Item = Vec<u8>> + 'a {
@@ -51,11 +48,8 @@ impl<'a> Tables<'a> {
     }
 
     fn app(self, app: usize) -> Option<Vec<u8>> {
-        let (mut aid, mut n) = ([0; AID_LIMIT], 0);
         // SAFETY: as in `selected`.
-        let code =
-            unsafe { (self.1.app_at)(self.0.at(), app, aid.as_mut_ptr(), aid.len(), &mut n) };
-        (code == raw::OK).then(|| aid[..n].to_vec())
+        copied::<AID_LIMIT>(|to, room, n| unsafe { (self.1.app_at)(self.0.at(), app, to, room, n) })
     }
 
     pub(crate) fn entries(self, app: usize) -> impl Iterator<Item = Entry> + 'a {
@@ -76,7 +70,7 @@ impl<'a> Tables<'a> {
     fn copy(self, app: usize, entry: usize, mut value: Vec<u8>) -> (i32, Entry, usize) {
         let (mut tag, mut locked, mut n) = (0, 0, 0);
         let (at, to, room) = (self.0.at(), value.as_mut_ptr(), value.len());
-        // SAFETY: as in `selected`, of all that is written to; `value` with its length.
+        // SAFETY: as in `selected`; all that is written to, and `value` with its length, are apart.
         let code =
             unsafe { (self.1.entry_at)(at, app, entry, &mut tag, &mut locked, to, room, &mut n) };
         let found = Entry {

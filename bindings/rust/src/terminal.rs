@@ -32,6 +32,23 @@ impl fmt::Debug for Operation<'_> {
     }
 }
 
+/// Calls the function for an operation, of those for this kind of handle.
+macro_rules! calls {
+    ($operation:ident, $handle:expr => $select:ident, $get:ident, $put:ident, $send:ident) => {{
+        use crate::terminal::Operation::{Get, Put, Select, Send};
+        // SAFETY: a handle of the functions' kind; each slice has its length.
+        crate::error::done(unsafe {
+            match $operation {
+                Select(aid) => raw::$select($handle.at(), aid.as_ptr(), aid.len()),
+                Get(tag) => raw::$get($handle.at(), tag),
+                Put(tag, it) => raw::$put($handle.at(), tag, it.as_ptr(), it.len()),
+                Send(it) => raw::$send($handle.at(), it.as_ptr(), it.len()),
+            }
+        })
+    }};
+}
+pub(crate) use calls;
+
 /// A terminal, which carries out one operation after another with a card over any line.
 ///
 /// An operation begins ([`begin`](Terminal::begin)). Then its characters, its whole TPDUs or its
@@ -88,7 +105,7 @@ impl Terminal {
     /// - [`Error::Argument`]: the limit is above that.
     /// - [`Error::Memory`]: it ran out.
     pub fn new_within(limit: usize) -> Result<Terminal, Error> {
-        let terminal = Terminal(Handle::empty());
+        let terminal = Terminal(Handle::empty(raw::galliumtoad_terminal_free));
         // SAFETY: the handle holds nothing.
         told(unsafe { raw::galliumtoad_terminal_new_within(terminal.0.at(), limit) })?;
         Ok(terminal)
@@ -108,24 +125,10 @@ impl Terminal {
     ///   command.
     /// - [`Error::Memory`]: it ran out.
     pub fn begin(&mut self, operation: Operation<'_>) -> Result<(), Error> {
-        let handle = self.0.at();
-        // SAFETY: the handle is one of this crate, used by this thread alone; each slice has its
-        // length.
-        let code = unsafe {
-            match operation {
-                Operation::Select(aid) => {
-                    raw::galliumtoad_terminal_select(handle, aid.as_ptr(), aid.len())
-                }
-                Operation::Get(tag) => raw::galliumtoad_terminal_get(handle, tag),
-                Operation::Put(tag, value) => {
-                    raw::galliumtoad_terminal_put(handle, tag, value.as_ptr(), value.len())
-                }
-                Operation::Send(command) => {
-                    raw::galliumtoad_terminal_send(handle, command.as_ptr(), command.len())
-                }
-            }
-        };
-        done(code)
+        calls! { operation, self.0 =>
+            galliumtoad_terminal_select, galliumtoad_terminal_get,
+            galliumtoad_terminal_put, galliumtoad_terminal_send
+        }
     }
 
     /// Returns whether all data of the operation's commands so far have left the terminal, as
@@ -149,12 +152,5 @@ impl Terminal {
     pub fn reset(&mut self) -> Result<(), Error> {
         // SAFETY: a terminal's handle.
         done(unsafe { raw::galliumtoad_terminal_reset(self.0.at()) })
-    }
-}
-
-impl Drop for Terminal {
-    fn drop(&mut self) {
-        // SAFETY: the handle is not used again.
-        unsafe { raw::galliumtoad_terminal_free(self.0.at()) }
     }
 }

@@ -160,7 +160,7 @@ impl Card {
         let (to, n) = (room.as_mut_ptr(), room.len());
         // SAFETY: a card's handle, for a function of a card; slices with their lengths, and
         // `count`, which are apart.
-        done(unsafe { call(self.0 .0.at(), at, sent.len(), to, n, &mut count) })?;
+        done(unsafe { call(self.0.at(), at, sent.len(), to, n, &mut count) })?;
         Ok(count)
     }
 }

@@ -1,20 +1,7 @@
 //! Memory for values, and how it is wiped.
 
-use crate::raw::Character;
 use alloc::vec::Vec;
-use core::mem::size_of_val;
 use core::ptr::addr_of;
-
-/// A type whose zero bytes are a value.
-///
-/// # Safety
-///
-/// All bytes of a value may be 0.
-pub(crate) unsafe trait Zero: Copy {}
-
-// SAFETY: a number, and two of them.
-unsafe impl Zero for u8 {}
-unsafe impl Zero for Character {}
 
 /// The function that clears memory. A compiler drops a write to memory that nobody reads again. It
 /// must read this pointer each time, and so call the function.
@@ -38,9 +25,9 @@ pub(crate) unsafe fn wipe_from(at: *mut u8, count: usize) {
 }
 
 /// As [`wipe_from`], all of a slice.
-pub(crate) fn wipe<T: Zero>(room: &mut [T]) {
-    // SAFETY: all bytes of a slice that is borrowed by `&mut`, whose values may be zeros.
-    unsafe { wipe_from(room.as_mut_ptr().cast(), size_of_val(room)) }
+pub(crate) fn wipe(room: &mut [u8]) {
+    // SAFETY: all of a slice that is borrowed by `&mut`.
+    unsafe { wipe_from(room.as_mut_ptr(), room.len()) }
 }
 
 /// A buffer of zeros, if there is memory for it.

@@ -6,6 +6,7 @@
 #![allow(unused_must_use)]
 
 use galliumtoad::{find, head, version, version_fits, Atr, Card, CardBuilder, Error, Exchange};
+use galliumtoad::{Application, OwnCard, Response, Status};
 use galliumtoad::{CardT1, Cause, Edc, Outcome, T1Limits, T1};
 use galliumtoad::{Objects, Operation, Pps, ReceiveError, Sent, Session, Stop, Terminal, Turn};
 use std::cell::{Cell, RefCell};
@@ -17,6 +18,7 @@ type Call = (&'static str, Vec<usize>);
 thread_local! {
     static CALLS: RefCell<Vec<Call>> = const { RefCell::new(Vec::new()) };
     static TOLD: Cell<i32> = const { Cell::new(0) };
+    static FIRST: RefCell<Vec<i32>> = const { RefCell::new(Vec::new()) };
     static VERSION: Cell<i32> = const { Cell::new(OWN) };
 }
 
@@ -30,7 +32,9 @@ const TELLS: &str = "GALLIUMTOAD_TELLS_VERSION";
 fn note(name: &'static str, handed: Vec<usize>) -> i32 {
     CALLS.with(|it| it.borrow_mut().push((name, handed)));
     if name != "galliumtoad_version" {
-        return TOLD.with(Cell::get);
+        let is_of_a_card = name.starts_with("galliumtoad_card");
+        let first = is_of_a_card.then(|| FIRST.with(|it| it.borrow_mut().pop()));
+        return first.flatten().unwrap_or(TOLD.with(Cell::get));
     }
     let told = std::env::var(TELLS).ok().and_then(|it| it.parse().ok());
     told.unwrap_or(VERSION.with(Cell::get))
@@ -44,6 +48,7 @@ enum Character {}
 mod stand_ins {
     use super::{note, Character, Held, Object};
     type Atr = Held;
+    type Command = Held;
 
     macro_rules! declared {
         ($(fn $name:ident($($arg:ident: $of:ty),*) $(-> $back:ty)?;)*) => {
@@ -99,6 +104,12 @@ macro_rules! hands {
 /// Sets the code that the archive returns from now on.
 fn tell(code: i32) {
     TOLD.with(|it| it.set(code));
+}
+
+/// Sets the codes that calls of a card return first.
+fn tell_first<const N: usize>(mut codes: [i32; N]) {
+    codes.reverse();
+    FIRST.with(|it| it.replace(codes.to_vec()));
 }
 
 fn at<T>(slice: &[T]) -> usize {
@@ -437,6 +448,52 @@ fn of_a_card() {
     hands!(it.selected() => card_selected(_, _, 16, _));
     hands!(it.apps().next() => card_app_at(_, 0, _, 16, _));
     hands!(it.entries(7).next() => card_entry_at(_, 7, 0, _, _, _, 0, _));
+}
+
+struct Answers;
+
+impl Application for Answers {
+    fn takes_data(&self, _: [u8; 4]) -> bool {
+        true
+    }
+
+    fn carry_out(&mut self, _: galliumtoad::Command<'_>, response: &mut Response) -> Status {
+        response.extend(b"ABC");
+        Status(0x1234)
+    }
+}
+
+/// What waits is asked for, answered, and asked for again until nothing waits.
+#[test]
+fn of_a_card_of_your_own() {
+    let mut room = [0; 300];
+    let space = at(&room);
+    tell(0);
+    let mut it = hands!(OwnCard::new(Answers) => card_own(_, _, 0)).expect("a card");
+    tell_first([4, 0, 0, 3, 0, 0, 1, 0]);
+    let turn = hands!(it.turn() => card_turn(_, _), card_command(_, _), card_direction(_, 1),
+        card_turn(_, _), card_command(_, _), card_respond(_, _, 3, 0x1234), card_turn(_, _),
+        card_settled(_));
+    assert_eq!(turn, Ok(Turn::Sends(0)));
+    tell_first([1, 1]);
+    hands!(it.send_bytes(&mut room) => card_send_bytes(_, space, 300, _), card_settled(_));
+    hands!(it.send_bytes(&mut room) => card_send_bytes(_, space, 300, _));
+    tell_first([3, 0, 0, 0, 1]);
+    hands!(it.send_bytes(&mut room) => card_send_bytes(_, space, 300, _), card_command(_, _),
+        card_respond(_, _, 3, 0x1234), card_send_bytes(_, space, 300, _), card_settled(_));
+    // a fault after a call of the application resets the card, one before does not
+    for (codes, fault) in [([3, 0, -5], Error::Argument), ([3, 0, -4], Error::Memory)] {
+        tell_first(codes);
+        let told = hands!(it.turn() => card_turn(_, _), card_command(_, _),
+            card_respond(_, _, 3, 0x1234), card_reset(_));
+        assert_eq!(told, Err(fault));
+    }
+    tell_first([-3]);
+    assert_eq!(hands!(it.turn() => card_turn(_, _)), Err(Error::State));
+    hands!(drop(it) => card_free(_));
+    tell(-4);
+    assert!(hands!(OwnCard::new(Answers) => card_own(_, _, 0), card_free(_)).is_err());
+    tell(0);
 }
 
 #[test]

@@ -3,6 +3,7 @@
 
 use galliumtoad::{find, Atr, CardBuilder, Error, Exchange, Objects, Operation, Pps, Session};
 use galliumtoad::{Answer, Entry, Level, Pdu, Refused, RunError, Status, Stop, Terminal, Turn};
+use galliumtoad::{Application, Command, OwnCard, Response};
 use std::collections::HashSet;
 use std::error::Error as Cause;
 use std::fmt;
@@ -155,6 +156,21 @@ fn hides(value: &impl fmt::Debug, wanted: &str) {
     }
 }
 
+/// Answers with the data of a command.
+struct Echo;
+
+impl Application for Echo {
+    fn takes_data(&self, _: [u8; 4]) -> bool {
+        true
+    }
+
+    fn carry_out(&mut self, command: Command<'_>, response: &mut Response) -> Status {
+        hides(&command, "Command([00, 10, 00, 00], 3 bytes, Le 0)");
+        response.extend(command.data);
+        Status(0x9000)
+    }
+}
+
 #[test]
 fn debug_shows_no_secret() {
     let put = Operation::Put(0x5F20, &SECRET);
@@ -180,6 +196,7 @@ fn debug_shows_no_secret() {
     let mut terminal = Terminal::new().expect("memory");
     terminal.begin(put).expect("begun");
     hides(&terminal, "Terminal(");
+    assert_eq!(format!("{terminal:?}"), "Terminal(Handle)", "no address");
     terminal.reset().expect("a reset");
     let passing = terminal.begin_guarded(put).expect("begun");
     hides(&passing, "InProgress(");
@@ -189,6 +206,13 @@ fn debug_shows_no_secret() {
     assert_eq!(tpdu.bytes[5..], SECRET);
     hides(&tpdu, "Pdu(8 bytes, 0 back)");
     hides(&Turn::Sends(SECRET[0]), "Sends(_)");
+    let mut card = OwnCard::new(Echo).expect("memory");
+    card.receive_bytes(b"\x00\x10\x00\x00\x03")
+        .expect("a header");
+    assert_eq!(card.turn(), Ok(Turn::Sends(0x10)));
+    card.receive_bytes(&SECRET).expect("data");
+    assert_eq!(card.turn(), Ok(Turn::Sends(0x61)));
+    hides(&card, "Card");
     assert_eq!(
         format!("{:?} {:?}", Turn::Listens, Turn::Done),
         "Listens Done"
@@ -324,6 +348,7 @@ fn handles_may_go_to_another_thread_and_other_values_be_shared() {
         Card,
         Session,
         T1,
+        OwnCard<()>,
         CardT1,
         T1Line<u8>
     );
@@ -338,6 +363,8 @@ fn handles_may_go_to_another_thread_and_other_values_be_shared() {
     fn is_shared<T: Send + Sync>() {}
     is_shared::<Answer>();
     is_shared::<Entry>();
+    is_shared::<Command<'_>>();
+    is_shared::<Response>();
     is_shared::<Pdu>();
     is_shared::<Level>();
     is_shared::<Atr<'_>>();

@@ -5,6 +5,7 @@
 #![cfg(not(feature = "own-memory"))]
 
 use galliumtoad::{encode, find, head, Card, CardBuilder, Error, Exchange, Objects, ObjectsError};
+use galliumtoad::{Application, Command, OwnCard, Response, Status, OWN_LIMIT};
 use galliumtoad::{Operation, RunError, Session, Terminal, Turn, TPDU_LIMIT};
 use std::alloc::{GlobalAlloc, Layout, System};
 use std::cell::Cell;
@@ -283,6 +284,70 @@ fn a_card_leaves_nothing_by_characters() {
         }),
         NOTHING
     );
+}
+
+/// Takes the secret from a command, and answers with it, or panics.
+struct Echo(bool);
+
+impl Application for Echo {
+    fn takes_data(&self, [_, ins, ..]: [u8; 4]) -> bool {
+        ins == 0xDA
+    }
+
+    fn carry_out(&mut self, command: Command<'_>, response: &mut Response) -> Status {
+        assert_eq!(has_secret(command.data), command.le == 0);
+        response.extend(if command.le > 0 {
+            &SECRET
+        } else {
+            command.data
+        });
+        if self.0 {
+            std::panic::resume_unwind(Box::new(()));
+        }
+        Status(0x9000)
+    }
+}
+
+/// Passes the secret to a card, and fetches it.
+fn talk(card: &mut OwnCard<Echo>) {
+    let mut room = vec![0; 300];
+    for sent in [
+        &PUT[..5],
+        &PUT[5..],
+        b"\x00\xC0\x00\x00\x10",
+        b"\x00\xCA\x5F\x20\x10",
+    ] {
+        card.receive_bytes(sent).expect("listens");
+        assert!(card.send_bytes(&mut room).expect("a card").count > 0);
+    }
+    own(room, true);
+}
+
+#[test]
+fn a_card_of_your_own_leaves_nothing() {
+    let _one = one();
+    let card = |panics| OwnCard::new(Echo(panics)).expect("memory");
+    assert_eq!(left(|| talk(&mut card(false))), NOTHING);
+    let resets = |mut card: OwnCard<Echo>| card.reset().expect("a card");
+    for ends in [drop, resets] {
+        assert_eq!(
+            left(|| {
+                let mut card = card(false);
+                card.receive_bytes(&PUT[..5]).expect("a header");
+                assert_eq!(card.turn(), Ok(Turn::Sends(0xDA)));
+                card.receive_bytes(&PUT[5..]).expect("its data");
+                assert_eq!(card.turn(), Ok(Turn::Sends(0x61)));
+                ends(card);
+            }),
+            NOTHING
+        );
+    }
+    let panics = || {
+        let run = AssertUnwindSafe(|| talk(&mut card(true)));
+        assert!(catch_unwind(run).is_err());
+    };
+    panics();
+    assert_eq!(left(panics), NOTHING);
 }
 
 #[test]
@@ -568,6 +633,10 @@ fn without_memory_nothing_is_done() {
         assert_eq!(ask(&mut card, &SELECT), Ok(vec![0x61, 0x0B]));
         card.reset().expect("a reset");
     }
+    let made = without(OWN_LIMIT, || OwnCard::new(Echo(false)).map(drop));
+    assert_eq!(made, Err(Error::Memory));
+    let made = with_blocks(1, || OwnCard::new(Echo(false)).map(drop));
+    assert_eq!(made, Err(Error::Memory));
     let value = [0x41; 300];
     let found = without(303, || encode(0x5F20, &[&value]).map(|it| it.len()));
     assert_eq!(found, Err(ObjectsError::Memory));

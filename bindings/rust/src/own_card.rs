@@ -1,0 +1,207 @@
+//! A card of an application of your own.
+
+use crate::card::Card;
+use crate::error::{done, told, Error};
+use crate::raw::{self, Handle, Held};
+use crate::status::Status;
+use crate::wiped::{room_for, wipe};
+use alloc::vec::Vec;
+use core::fmt;
+use core::mem::{forget, zeroed};
+
+/// The most bytes of the data of a [`Command`].
+pub const DATA_LIMIT: usize = 255;
+
+/// The most bytes of a [`Response`].
+pub const OWN_LIMIT: usize = 4_096;
+
+/// A command that reached an [`OwnCard`], as T=0 shows it: with data, or with Le and without data.
+/// The card's copy of the data is wiped after the call. `Debug` shows their number.
+#[derive(Clone, Copy, PartialEq, Eq, Hash)]
+#[non_exhaustive]
+pub struct Command<'a> {
+    /// CLA, INS, P1 and P2.
+    pub header: [u8; 4],
+    /// The data, at most [`DATA_LIMIT`] bytes.
+    pub data: &'a [u8],
+    /// How many bytes the terminal asks for, 1 to 256, or 0 without Le.
+    pub le: usize,
+}
+
+impl fmt::Debug for Command<'_> {
+    fn fmt(&self, f: &mut fmt::Formatter<'_>) -> fmt::Result {
+        let (header, n, le) = (self.header, self.data.len(), self.le);
+        write!(f, "Command({header:02X?}, {n} bytes, Le {le})")
+    }
+}
+
+/// The data of a response, up to [`OWN_LIMIT`] bytes. They are wiped once the library has them.
+pub struct Response {
+    room: Vec<u8>,
+    count: usize,
+}
+
+impl Response {
+    /// Adds bytes at the end.
+    pub fn extend(&mut self, bytes: &[u8]) {
+        let end = self.count.saturating_add(bytes.len());
+        if let Some(room) = self.room.get_mut(self.count..end) {
+            room.copy_from_slice(bytes);
+        }
+        self.count = end;
+    }
+}
+
+/// What a card of your own does, see [`OwnCard`].
+pub trait Application {
+    /// Whether data of the terminal follow this header, CLA to P2: at T=0 it does not say (ISO/IEC
+    /// 7816-3, 10.3.1). If not, data may come from the card.
+    fn takes_data(&self, header: [u8; 4]) -> bool;
+
+    /// Carries out a command, once. If the response is longer than the terminal asks for, the card
+    /// keeps the rest for GET RESPONSE. The status follows the last byte. It is not `61XX` or
+    /// `6CXX`, which are the card's own.
+    fn carry_out(&mut self, command: Command<'_>, response: &mut Response) -> Status;
+
+    /// The last command takes effect, with SW2 of its TPDU, also if that is `61XX` or `6CXX`.
+    fn settle(&mut self) {}
+
+    /// The card is reset. A command that has not settled is dropped: undo it. A panic here aborts
+    /// the program if it follows one of the application.
+    fn reset(&mut self) {}
+}
+
+/// A card of an [`Application`] of your own: you write what a command does. It goes over T=0, by
+/// characters and buffers. A command is carried out at most once, by [`turn`](Card::turn) or
+/// [`send_bytes`](Card::send_bytes). The card itself answers GET RESPONSE, the same header after
+/// `6CXX`, and INS `6X` and `9X`.
+///
+/// A panic of the application, or an error after it was called, resets the card and the
+/// application: [`Error::Argument`] for a status or a length that no application may return, and
+/// [`Error::Memory`].
+///
+/// ```
+#[doc = include_str!("../examples/counter.rs")]
+/// ```
+pub type OwnCard<A> = Card<A>;
+
+/// No application of your own: the library carries out the commands of a card of data objects.
+impl Application for () {
+    fn takes_data(&self, _: [u8; 4]) -> bool {
+        false
+    }
+
+    fn carry_out(&mut self, _: Command<'_>, _: &mut Response) -> Status {
+        Status(0x6F00)
+    }
+}
+
+/// What a card keeps for its application.
+pub(crate) struct Own<A> {
+    application: A,
+    response: Response,
+    is_settled: bool,
+}
+
+impl<A: Application> Own<A> {
+    /// With the room for a response.
+    pub(crate) fn of(application: A, room: Vec<u8>) -> Own<A> {
+        Own {
+            application,
+            response: Response { room, count: 0 },
+            is_settled: true,
+        }
+    }
+
+    fn clear(&mut self) {
+        wipe(&mut self.response.room);
+        self.response.count = 0;
+    }
+
+    pub(crate) fn was_reset(&mut self) {
+        self.clear();
+        self.application.reset();
+    }
+}
+
+/// Resets a card, unless it is forgotten.
+struct Resets<'a, A: Application>(&'a mut Card<A>);
+
+impl<A: Application> Drop for Resets<'_, A> {
+    fn drop(&mut self) {
+        let _ = self.0.reset();
+    }
+}
+
+impl<A: Application> Card<A> {
+    /// Makes a card of an application of your own. It listens for a header at T=0.
+    ///
+    /// # Errors
+    ///
+    /// - [`Error::Memory`]: it ran out. The application is dropped.
+    pub fn new(application: A) -> Result<OwnCard<A>, Error> {
+        let room = room_for(OWN_LIMIT).ok_or(Error::Memory)?;
+        let handle = Handle::empty(raw::galliumtoad_card_free);
+        // SAFETY: a handle that holds nothing; a slice with its length.
+        told(unsafe { raw::galliumtoad_card_own(handle.at(), [].as_ptr(), 0) })?;
+        Ok(Card(handle, Own::of(application, room)))
+    }
+
+    /// The application of a card of your own.
+    #[must_use]
+    pub fn application(&self) -> &A {
+        &self.1.application
+    }
+
+    /// The application of a card of your own, to change it between two commands.
+    pub fn application_mut(&mut self) -> &mut A {
+        &mut self.1.application
+    }
+
+    /// Calls a function of the archive until nothing waits for the application.
+    #[inline]
+    pub(crate) fn run(&mut self, mut call: impl FnMut(*mut Held) -> i32) -> Result<i32, Error> {
+        let mut code = told(call(self.0.at()))?;
+        let resets = Resets(self);
+        while let raw::HEADER | raw::COMMAND = code {
+            resets.0.ask(code == raw::HEADER)?;
+            code = told(call(resets.0 .0.at()))?;
+        }
+        resets.0.settle();
+        forget(resets);
+        Ok(code)
+    }
+
+    /// Asks the application about the header or the command that waits.
+    fn ask(&mut self, is_header: bool) -> Result<(), Error> {
+        // SAFETY: numbers alone, whose bytes may be 0.
+        let (at, mut waits) = (self.0.at(), unsafe { zeroed::<raw::Command>() });
+        // SAFETY: a card's handle; `waits` is apart from it.
+        done(unsafe { raw::galliumtoad_card_command(at, &mut waits) })?;
+        let (own, header) = (&mut self.1, [waits.cla, waits.ins, waits.p1, waits.p2]);
+        if is_header {
+            let to_card = own.application.takes_data(header);
+            // SAFETY: a card's handle.
+            return done(unsafe { raw::galliumtoad_card_direction(at, to_card) });
+        }
+        let (data, le) = (&waits.data[..waits.size.into()], waits.le.into());
+        let command = Command { header, data, le };
+        let Status(word) = own.application.carry_out(command, &mut own.response);
+        let data = own.response.room.get(..own.response.count);
+        let data = data.ok_or(Error::Argument)?;
+        // SAFETY: a card's handle; a slice with its length.
+        done(unsafe { raw::galliumtoad_card_respond(at, data.as_ptr(), data.len(), word) })?;
+        own.is_settled = false;
+        own.clear();
+        Ok(())
+    }
+
+    /// Has the application settle, if the library has.
+    fn settle(&mut self) {
+        // SAFETY: a card's handle.
+        if !self.1.is_settled && unsafe { raw::galliumtoad_card_settled(self.0.at()) } == 1 {
+            self.1.is_settled = true;
+            self.1.application.settle();
+        }
+    }
+}

@@ -51,6 +51,15 @@ def told(out):
     return [it for it in lines if ": insert a card for row" not in it]
 
 
+def steps_of(script, row):
+    """The steps for a row. Raises `ValueError` with the mistakes in it."""
+    wrong = []
+    steps = script.steps(row, "here", wrong)
+    if wrong:
+        raise ValueError("\n".join(wrong))
+    return steps
+
+
 class Room:
     """A folder with readers, a table and a script. A run creates the journal if it is missing, and
     writes the cards that lie in the readers."""
@@ -114,12 +123,12 @@ class Room:
         out, error = ended(run)
         return run.returncode, out, error
 
-    def create(self, *words):
+    def create(self, id_tag=None):
         """Creates the journal, without a run."""
-        from galliumtoad.batch.journal import Heading, Part, create, place_of
+        from galliumtoad.batch.journal import Heading, create, place_of
 
         table = place_of(str(self.path / "rows.csv"))
-        create(str(self.path / "journal"), Heading(Part(), *(words or (None,)), bytes(16), table))
+        create(str(self.path / "journal"), Heading(1, 1, id_tag, "00" * 16, table))
 
     def opened(self, rows):
         """The journal, in this process."""

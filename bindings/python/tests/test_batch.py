@@ -13,7 +13,7 @@ import time
 import pytest
 from galliumtoad import Card, Select, Terminal
 from galliumtoad.batch.script import Script
-from room import AID, FULL, HERE, SCRIPT, STANDIN, Room, ended, listed, told
+from room import AID, FULL, HERE, SCRIPT, STANDIN, Room, ended, listed, steps_of, told
 
 sys.path.append(str(HERE.parents[2] / "checks/program"))
 import operations  # noqa: E402
@@ -105,7 +105,7 @@ def outcome_of(script, reader, row=None):
 
     row = row or {"name": "PERSON 1", "code": "00000001"}
     made = Script("script", script, [*row])
-    return tuple(carry_out(made, made.operations(row), Recorder(reader)))
+    return tuple(carry_out(steps_of(made, row), Recorder(reader)))
 
 
 @pytest.mark.parametrize(("tag", "outcome"), [("5F20", "done"), ("50", "failed")])
@@ -159,7 +159,7 @@ def test_a_row_in_progress_is_not_to_be_decided(tmp_path):
     room.create()
     journal = room.opened(2)
     assert journal.reserve() == 1
-    journal.begin(1, journal_check(room, 1), "Slot0")
+    journal.note(1, "begin", f"{journal_check(room, 1)} Slot0")
     assert room.to_decide() == {}
     journal.identify(1, "00")
     assert room.to_decide() == {} and journal.undecided() == {}
@@ -168,7 +168,7 @@ def test_a_row_in_progress_is_not_to_be_decided(tmp_path):
         assert room.run(f"--{word}=1")[2] == wanted
         with pytest.raises(ValueError, match="row 1 is in progress"):
             journal.decide(1, word)
-    journal._opened.close()
+    os.close(journal._file)
     assert room.to_decide() == {1: "unsure"}
 
 
@@ -177,8 +177,8 @@ def journal_check(room, row):
     from galliumtoad.batch.script import check_of
 
     script = Script("script", (room.path / "script").read_text(), ["name", "code"])
-    made = script.operations({"name": f"PERSON {row}", "code": f"{row:08X}"})
-    return check_of(made, bytes(16))
+    made = steps_of(script, {"name": f"PERSON {row}", "code": f"{row:08X}"})
+    return check_of(made, "00" * 16)
 
 
 def test_a_row_is_taken_after_whoever_has_the_journal(tmp_path):
@@ -201,7 +201,7 @@ def test_threads_and_processes_reserve_different_rows(tmp_path):
     one.release(1)
     assert [one.reserve(), one.reserve(), one.reserve(), one.reserve()] == [1, 3, 4, None]
     assert one.reserve(2) is None
-    one.begin(2, "00", "Slot0")
+    one.note(2, "begin", "00 Slot0")
     one.note(2, "done", "")
     assert one.reserve(2) is None
     one.decide(2, "again")
@@ -340,8 +340,8 @@ def test_the_card_of_a_crashed_run_waits(tmp_path):
     room.create()
     journal = room.opened(2)
     assert journal.reserve() == 1
-    journal.begin(1, journal_check(room, 1), "Slot0")
-    journal._opened.close()
+    journal.note(1, "begin", f"{journal_check(room, 1)} Slot0")
+    os.close(journal._file)
     name, out = room.names[0], room.run(go=False)[1]
     assert out.startswith("continuing: 0 of 2 rows done, 1 unsure\n")
     assert told(out)[:2] == [
@@ -387,35 +387,37 @@ def test_a_card_that_stores_another_byte_has_failed(tmp_path):
 def test_a_line_is_read_as_by_card_trace(line, sent, reason):
     if reason:
         with pytest.raises(ValueError):
-            Script("script", f"{line}\n", []).operations({})
+            steps_of(Script("script", f"{line}\n", []), {})
         return
     card, terminal, tpdus = Card({AID: {}}), Terminal(), []
     terminal.run(card.tpdu, Select(AID))
-    made = Script("script", f"# 1\n{line}\n", []).operations({})
-    terminal.run(lambda it: (tpdus.append(bytes(it)), card.tpdu(it))[1], made[2])
+    [made] = steps_of(Script("script", f"# 1\n{line}\n", []), {})
+    terminal.run(lambda it: (tpdus.append(bytes(it)), card.tpdu(it))[1], made.operation)
+    assert made.line == 2
     assert sent in (None, b"".join(tpdus).hex().upper())
 
 
 def test_a_cr_without_an_lf_is_a_character_of_a_word():
-    assert [*Script("script", "get 50\r\nget 50", []).operations({})] == [1, 2]
+    steps = steps_of(Script("script", "get 50\r\nget 50", []), {})
+    assert [it.line for it in steps] == [1, 2]
     with pytest.raises(ValueError):
-        Script("script", "get 50\r", []).operations({})
+        steps_of(Script("script", "get 50\r", []), {})
 
 
 def test_columns_take_only_what_words_take(tmp_path):
     """A cell is no more than a script's own word, and is not filled again."""
     script = Script("script", "select {a}\nget {t}\nput {t} {v}\nput 50 @{v}\n", [*"atv"])
     row = {"a": "A000000003", "t": "5F20", "v": "41*3"}
-    made = script.operations(row)
-    assert [made[2].tag, made[3].value, made[4].value] == [0x5F20, b"AAA", b"41*3"]
-    assert script.operations({**row, "v": "-"})[3].value == b""
+    _, get, put, text = (it.operation for it in steps_of(script, row))
+    assert [get.tag, put.value, text.value] == [0x5F20, b"AAA", b"41*3"]
+    assert steps_of(script, {**row, "v": "-"})[2].operation.value == b""
     for bad in ({"a": "A000000003*1"}, {"t": "-"}, {"t": "50*1"}, {"v": "{t}"}, {"v": "4142*3"}):
         with pytest.raises(ValueError):
-            script.operations({**row, **bad})
+            steps_of(script, {**row, **bad})
     (tmp_path / "long").write_bytes(b"A" * 16321)
     for value in (f"@{tmp_path}/long", "@{v}"):
         with pytest.raises(ValueError):
-            Script("script", f"put 50 {value}", ["v"]).operations({"v": "A" * 16321})
+            steps_of(Script("script", f"put 50 {value}", ["v"]), {"v": "A" * 16321})
 
 
 def test_a_table_may_be_a_pipe(tmp_path):
@@ -488,7 +490,7 @@ def test_a_row_is_decided_under_one_lock(tmp_path, monkeypatch):
     room.create()
     journal = room.opened(1)
     journal.reserve()
-    journal.begin(1, "00", "Slot0")
+    journal.note(1, "begin", "00 Slot0")
     journal.note(1, "unsure", "")
     steps, lockf, pwrite = [], fcntl.lockf, os.pwrite
     monkeypatch.setattr(fcntl, "lockf", lambda *it: (steps.append(it[1:]), lockf(*it))[1])
@@ -517,22 +519,28 @@ def test_texts_are_stored_as_they_are(tmp_path):
     assert held["40758"] == ""
 
 
-def test_a_file_that_went_away_takes_no_row(tmp_path):
-    room = Room(tmp_path, 1)
+def test_a_file_that_the_script_names_is_read_once(tmp_path):
+    file = tmp_path / "photo"
+    file.write_bytes(b"A")
+    script = Script("script", f"put 50 @{file}\n", [])
+    steps = steps_of(script, {})
+    file.unlink()
+    assert steps_of(script, {}) == steps and steps[0].operation.value == b"A"
+
+
+def test_cards_get_what_was_checked(tmp_path):
+    """A file of a value is read once, so that it may change or go away during a run."""
+    room = Room(tmp_path, 2)
     room.write("script", "select A0000000031010\nput 5F20 @{name}.jpg\n")
-    photo = tmp_path / "PERSON 1.jpg"
-    photo.write_bytes(b"1")
-    room.environment["SLOW"] = "0.5"
-    room.put_in(room.names[0], 5)
+    for row in (1, 2):
+        (tmp_path / f"PERSON {row}.jpg").write_bytes(bytes([row]))
+    room.environment["SLOW"] = "0.1"
     run = room.start()
     begun(room)
-    photo.unlink()
-    while "unused" not in room.journal()[-1] or len(room.journal()) < 5:
-        time.sleep(0.01)
-    os.kill(run.pid, signal.SIGKILL)
-    ended(run)
-    why = "column 'name': no file: No such file or directory"
-    assert room.journal()[4].split(" ", 3)[3] == why
+    (tmp_path / "PERSON 1.jpg").unlink()
+    (tmp_path / "PERSON 2.jpg").write_bytes(b"3")
+    assert ended(run)[0].endswith("2 of 2 rows done, 0 to decide\n")
+    assert sorted(it["24352"] for it in room.held().values()) == ["01", "02"]
 
 
 def interruptible(room, *words):

@@ -1,8 +1,12 @@
 """Tests that a batch gives each row to one card, and each card one row: cards that are inserted
 again, cards that lie in a reader, journals with a wrong name, and corrected cells."""
 
+import errno
+import os
+import re
+
 import pytest
-from galliumtoad.batch.journal import Part
+from galliumtoad.batch.journal import Heading
 from room import Room, ended, listed
 
 NOT_TOLD = "without --id it can't tell cards apart: a card inserted twice gets two rows\n"
@@ -21,11 +25,21 @@ def test_a_card_that_is_inserted_three_times_has_one_row(tmp_path):
     room = Room(tmp_path, 3)
     same_card(room, 3)
     status, out, _ = room.run("--id=9F7F")
-    said = f"row 2 unused, {{}} s: card {id_of(room, 0)} has row 1, which is done\n"
+    said = rf"row 2 unused, \d+\.\d s: card {id_of(room, 0)} has row 1, which is done\n"
     assert status == 0 and out.count("has row 1, which is done") == 2, out
-    assert said.format("0.0") in out.replace("0.1", "0.0")
+    assert re.search(said, out)
     assert [room.cards_of(row) for row in (1, 2, 3)] == [(1, 1)] * 3
     assert len(room.held()) == 3
+
+
+def test_a_script_that_only_reads_knows_its_cards_too(tmp_path):
+    room = Room(tmp_path, 3)
+    room.write("script", "select A0000000031010\nget 9F7F\n")
+    same_card(room, 3)
+    status, out, _ = room.run("--id=9F7F")
+    assert status == 0 and out.count(f"card {id_of(room, 0)} has row 1, which is done") == 2, out
+    for number in range(3):
+        assert f"row {number + 1} done, card {id_of(room, number)}, " in out
 
 
 @pytest.mark.parametrize(("number", "state"), [(11, "failed"), (7, "unsure")])
@@ -148,6 +162,21 @@ def test_a_table_names_a_journal_elsewhere(tmp_path):
     assert room.run(*second)[0] == 0 and link.resolve() == tmp_path / "two/journal"
 
 
+@pytest.mark.parametrize(("is_writable", "number"), [(False, errno.EROFS), (True, errno.EPERM)])
+def test_a_table_whose_folder_takes_no_link(tmp_path, monkeypatch, is_writable, number):
+    """It is on a disk that can't be written, or that has no links."""
+    room = Room(tmp_path, 1)
+    (tmp_path / "one").mkdir()
+
+    def refuse(*_):
+        raise OSError(number, os.strerror(number))
+
+    monkeypatch.setattr(os, "access", lambda *_: is_writable)
+    monkeypatch.setattr(os, "symlink", refuse)
+    assert room.run("--journal=one/journal", "--new", *room.readers)[0] == 0
+    assert not (tmp_path / "rows.csv.1-of-1.journal").is_symlink()
+
+
 def test_a_second_journal_beside_the_first_is_refused(tmp_path):
     """The table's folder could not be written, so no link is there."""
     room = Room(tmp_path, 1)
@@ -159,10 +188,11 @@ def test_a_second_journal_beside_the_first_is_refused(tmp_path):
 
 
 def test_parts_meet_where_they_share_a_row():
-    parts = [Part(at, of) for of in range(1, 7) for at in range(1, of + 1)]
-    rows = {it: set(range(it.at, 61, it.of)) for it in parts}
+    parts = [(at, of) for of in range(1, 7) for at in range(1, of + 1)]
+    rows = {(at, of): set(range(at, 61, of)) for at, of in parts}
     for one in parts:
-        assert [one.meets(it) for it in parts] == [bool(rows[one] & rows[it]) for it in parts]
+        heading = Heading(*one, None, "", "")
+        assert [heading.meets(*it) for it in parts] == [bool(rows[one] & rows[it]) for it in parts]
 
 
 def test_a_row_that_is_done_is_not_done_again(tmp_path):

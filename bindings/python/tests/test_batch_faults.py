@@ -12,7 +12,7 @@ import pytest
 from galliumtoad import Card, Select, Terminal
 from galliumtoad.batch.dialogue import Recorder, carry_out, compared
 from galliumtoad.batch.script import Script
-from room import AID, HERE, SCRIPT, Room, ended, told
+from room import AID, HERE, SCRIPT, Room, ended, steps_of, told
 
 ROW = {"name": "PERSON 1", "code": "00000001"}
 VALUES = {0x5F20: b"PERSON 1", 0x9F36: bytes.fromhex("00000001"), 0x50: b"A" * 300}
@@ -39,18 +39,18 @@ class Pulled:
 def commands_of(script):
     """The number of commands that a whole row takes."""
     reader = Pulled(Card({AID: {}}), 0, False)
-    assert carry_out(script, script.operations(ROW), Recorder(reader)) == ("done", "")
+    assert carry_out(steps_of(script, ROW), Recorder(reader)) == ("done", "")
     return reader.sent
 
 
 def test_a_card_is_pulled_at_each_command():
     script = Script("script", SCRIPT, [*ROW])
-    made, count = script.operations(ROW), commands_of(script)
+    made, count = steps_of(script, ROW), commands_of(script)
     words = []
     for at in range(1, count + 1):
         for is_carried_out in (False, True):
             card = Card({AID: {}})
-            outcome = carry_out(script, made, Recorder(Pulled(card, at, is_carried_out)))
+            outcome = carry_out(made, Recorder(Pulled(card, at, is_carried_out)))
             held = {it.tag: it.value for it in card.entries(AID)}
             is_written = at >= 3  # a select, its response, and the first put
             assert outcome == ("unsure" if is_written else "unused", "the card was removed")
@@ -138,6 +138,7 @@ def test_a_reader_that_comes_and_goes(tmp_path):
     (tmp_path / room.names[0] / "away").unlink()
     out, error = ended(run)
     assert error == "" and f"{room.names[1]}: row" not in out and out.count(" done") >= 2
+    assert "the reader is gone" not in out
     assert out.endswith(" to decide\n") and len(set(room.events()) & {"begin 5", "begin 6"}) == 2
     (tmp_path / room.names[1] / "away").unlink()
     while room.run("--status")[0] == 1:

@@ -13,9 +13,9 @@ from html.parser import HTMLParser
 
 import pytest
 from galliumtoad import Card
-from galliumtoad.batch.dialogue import Recorder, carry_out, compared
+from galliumtoad.batch.dialogue import Recorder, carry_out, compared, identity
 from galliumtoad.batch.script import Script
-from room import AID, SCRIPT, Room, ended, listed, told
+from room import AID, SCRIPT, Room, ended, listed, steps_of, told
 
 TIME = r"\d{4}-\d\d-\d\dT\d\d:\d\d:\d\d\.\d{3}[+-]\d\d:\d\d"
 
@@ -44,6 +44,22 @@ def test_a_run_tells_where_it_continues(tmp_path):
     out = room.run()[1]
     assert out.startswith("continuing: 0 of 4 rows done, 1 failed, 1 unsure\n")
     assert out.endswith("2 of 4 rows done, 2 to decide\n")
+
+
+def test_a_card_is_asked_for_once(tmp_path):
+    """Also after one that did not answer to reset."""
+    room = Room(tmp_path, 1)
+    room.environment.update(MUTE="0", LIES="yes")
+    run, name = room.start(), room.names[0]
+    while (line := run.stdout.readline()) and "does not answer to reset" not in line:
+        assert "insert a card" not in line
+    (tmp_path / name / "out").touch()
+    time.sleep(2)
+    room.put_in(name, 1)
+    (tmp_path / name / "out").unlink()
+    out, error = ended(run)
+    assert error == "" and out.count(f"{name}: insert a card for row 1\n") == 1
+    assert out.endswith("1 of 1 rows done, 0 to decide\n")
 
 
 def test_a_row_in_doubt_is_shown_with_its_card(tmp_path):
@@ -170,6 +186,29 @@ def test_a_dialogue_is_kept_without_a_value(tmp_path):
         ), line
 
 
+def test_a_dialogue_shows_the_header_of_each_select():
+    """A cell is in its data alone."""
+    row, recorder = {"aid": "A0000000031010"}, Recorder(Card({AID: {}}).tpdu)
+    steps = steps_of(Script("script", "select {aid}\n", ["aid"]), row)
+    assert carry_out(steps, recorder)[0] == "done"
+    assert recorder.lines[1] == "> 00A4040007 ** 7 bytes"
+
+
+@pytest.mark.parametrize("more", ["", "put 50 41\n"])
+def test_a_dialogue_shows_how_a_card_is_identified(more):
+    """The line before has a cell in its header, which is hidden."""
+    recorder = Recorder(Card({AID: {0x5F20: b"JOE", 0x9F7F: b"7"}}).tpdu)
+    script = Script("script", f"select A0000000031010\nget {{tag}}\n{more}", ["tag"])
+    found = []
+
+    def identify(terminal):
+        found.append(identity(terminal, recorder, 0x9F7F))
+
+    assert carry_out(steps_of(script, {"tag": "5F20"}), recorder, identify)[0] == "done"
+    assert found == ["37"] and "> 00CA9F7F00" in recorder.lines
+    assert "5F20" not in "".join(recorder.lines)
+
+
 def test_a_second_dialogue_follows_the_first(tmp_path):
     room = Room(tmp_path, 1)
     room.environment["WORN"] = "yes"
@@ -293,10 +332,10 @@ def card_of(values):
 
 def look(values, script=SCRIPT):
     made = Script("script", script, ["name", "code"])
-    operations = made.operations({"name": "JANE", "code": "0077"})
+    steps = steps_of(made, {"name": "JANE", "code": "0077"})
     card = card_of(values)
     before = {it.tag: it.value for it in card.entries(AID)}
-    found = compared(operations, card.tpdu)
+    found = compared(steps, card.tpdu)
     assert {it.tag: it.value for it in card.entries(AID)} == before
     return found
 
@@ -333,6 +372,13 @@ def test_look_finds_what_a_card_holds(tmp_path):
     before = room.journal()
     card = f"card {id_of(room, 11)}"
     assert room.run(*words) == (1, f"row 1, {card}: partly: 2 of 3 objects\n", "")
+    # a look writes nothing, also where the card differs from the row
+    file = tmp_path / f"cards/{room.names[0]}-11"
+    file.write_text(file.read_text().replace(b"PERSON 1".hex(), b"PERSON 9".hex()))
+    held = file.read_bytes()
+    room.put_in(room.names[0], 11)
+    assert room.run(*words) == (1, f"row 1, {card}: partly: 1 of 3 objects\n", "")
+    assert file.read_bytes() == held
     room.put_in(room.names[0], 3)
     wanted = f"this is card {id_of(room, 3)}, but row 1 is on {card}"
     assert room.run(*words) == (2, "", f"galliumtoad.batch: {wanted}\n")
@@ -369,7 +415,7 @@ def reason_of(script, answer):
     def reader(tpdu):
         return answer if tpdu[1] == 0xCA else card.tpdu(tpdu)
 
-    return carry_out(made, made.operations(row), Recorder(reader))
+    return carry_out(steps_of(made, row), Recorder(reader))
 
 
 @pytest.mark.parametrize(("answer", "reason"), [

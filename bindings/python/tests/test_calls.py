@@ -22,6 +22,7 @@ from galliumtoad import (
     CommandError,
     Due,
     Edc,
+    Entry,
     Exchange,
     Get,
     Level,
@@ -486,6 +487,12 @@ def test_what_shows():
             "Answer(status=Status(0x9000), data=<6 bytes>)",
         ]
     assert repr([answer]) == f"[{answer}]"
+    assert repr(Answer(Status(0x9000), bytearray(3))) == repr(Answer(Status(0x9000), bytes(3)))
+    inner = repr(objects(b"\x6f\x05\x84\x03JOE")[1])
+    assert inner.startswith("Object(tag=132, level=2, is_constructed=False, place=2, ")
+    assert inner.endswith(", encoded=<5 bytes>, value=<3 bytes>)")
+    assert repr(Entry(0x50, b"VISA", True)) == "Entry(tag=80, value=<4 bytes>, is_locked=True)"
+    assert all(Level)
     assert repr(Status(0x61)) == "Status(0x0061)" and not Status(0x6110).is_ok
     assert Status(0x9001).text == "no known meaning"
     assert Status(0x63C2).text == "a warning: a counter is at 2"

@@ -8,10 +8,12 @@ import galliumtoad
 from galliumtoad import (
     T1,
     Answer,
+    Application,
     Atr,
     BlockError,
     Card,
     Code,
+    Command,
     Due,
     Edc,
     Error,
@@ -21,6 +23,7 @@ from galliumtoad import (
     Level,
     Operation,
     Outcome,
+    OwnCard,
     Put,
     Refused,
     Select,
@@ -122,6 +125,34 @@ def by_hand(exchange: Exchange, card: Card) -> Optional[Due]:
         exchange.answered(card.tpdu(due.data))
         due = exchange.tpdu()
     return exchange.apdu()
+
+
+class Counter(Application):
+    def __init__(self) -> None:
+        self.count = 0
+
+    def takes_data(self, header: bytes) -> bool:
+        return header[1] == 0x10
+
+    def carry_out(self, command: Command) -> tuple[int, bytes]:
+        self.count += command.le + len(command.data)
+        command.le = 0  # type: ignore[misc]
+        return Status(0x9000), command.header
+
+
+class OfTexts(Counter):
+    def carry_out(self, command: Command) -> tuple[int, str]:  # type: ignore[override]
+        return 0x9000, command.data.hex()
+
+
+def of_your_own(terminal: Terminal, operation: Operation) -> bytes:
+    Application()  # type: ignore[abstract]
+    OwnCard("counter")  # type: ignore[arg-type]
+    with OwnCard(Counter()) as card:
+        card.application.settle()
+        taken: int = card.receive_bytes(b"\x00\x10\x00\x00\x05")
+        terminal.run(card, operation)  # type: ignore[arg-type]
+        return card.send_bytes(taken)
 
 
 def main() -> None:

@@ -8,7 +8,11 @@ from typing import Optional
 from . import __version__
 
 # Each is a module with a function `main`, which takes words and returns an exit status.
-PROGRAMS = {"batch": "personalises cards by the hundred; needs pyscard (the extra `pcsc`)"}
+PROGRAMS = {
+    "batch": "personalises cards by the hundred; needs pyscard (the extra `pcsc`)",
+    "simulate": "a card that misbehaves as a file says, at vpcd or a serial line",
+    "trials": "lets a terminal do a job with 60 cards that misbehave",
+}
 
 
 def main(words: Optional[list[str]] = None) -> int:

@@ -6,7 +6,7 @@ from typing import Any, NamedTuple, Optional
 
 from ._library import ffi, lib
 from .errors import checked
-from .handle import Bytes, copied, plain, readable, tag_number, within, writable
+from .handle import Bytes, copied, plain, readable, shown, tag_number, within, writable
 
 Byte = Optional[int]
 
@@ -49,7 +49,7 @@ class Object(NamedTuple):
 
     `level` is 1 outside of any other, and one more in each template. `is_constructed` is whether
     the value is a list of objects. `place` is the index of its first byte. `encoded` is its tag,
-    length and value as they were.
+    length and value as they were. Its `repr` hides both.
     """
 
     tag: int
@@ -58,6 +58,9 @@ class Object(NamedTuple):
     place: int
     encoded: bytes
     value: bytes
+
+    def __repr__(self) -> str:
+        return shown(self)
 
 
 def _object(found: Any, data: bytes) -> Object:
@@ -159,7 +162,7 @@ class Answer(NamedTuple):
         return find(self.data, tag) if is_it else None
 
     def __repr__(self) -> str:
-        return f"Answer(status={self.status!r}, data=<{len(self.data)} bytes>)"
+        return shown(self)
 
 
 class Edc(enum.IntEnum):

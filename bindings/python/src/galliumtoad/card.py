@@ -4,19 +4,22 @@ from typing import Any, Collection, Mapping, NamedTuple, Optional
 
 from ._library import ffi, lib
 from .answers import Answer, Status
-from .handle import Bytes, Lasting, copied, plain, readable, tag_number, within, writable
+from .handle import Bytes, Lasting, copied, plain, readable, shown, tag_number, within, writable
 from .terminal import Operation, Put, call_of
 
 Tables = Mapping[bytes, Mapping[int, Bytes]]
 
 
 class Entry(NamedTuple):
-    """A data object of an application: its tag as a number, and its value. No command changes a
-    locked one."""
+    """A data object of an application: its tag as a number, and its value, which its `repr` hides.
+    No command changes a locked one."""
 
     tag: int
     value: bytes
     is_locked: bool
+
+    def __repr__(self) -> str:
+        return shown(self)
 
 
 class Holder(Lasting):

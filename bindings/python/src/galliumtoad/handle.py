@@ -1,14 +1,16 @@
 """Handles of the library, and what their calls take and return. Every other module uses it."""
 
 import contextlib
+import functools
 import threading
-from typing import Any, Collection, Iterator, TypeVar, Union
+from typing import Any, Collection, Iterator, TypeVar, Union, get_args
 
 from ._library import ffi, lib
 from .errors import checked
 
 Bytes = Union[bytes, bytearray, memoryview]
 Self = TypeVar("Self", bound="Handle")
+BYTES, COUNT = ffi.typeof("uint8_t[]"), ffi.typeof("size_t *")
 
 
 def plain(data: Bytes) -> bytes:
@@ -22,17 +24,23 @@ def readable(data: Bytes) -> tuple[Any, int]:
     # A memoryview is copied: if an exception's frames keep it, the collector may clear it before
     # cffi returns its buffer.
     kept = data if isinstance(data, (bytes, bytearray)) else plain(data)
-    return ffi.from_buffer("uint8_t[]", kept), len(kept)
+    return ffi.from_buffer(BYTES, kept), len(kept)
 
 
 def writable(room: int) -> tuple[Any, Any]:
     """Returns a buffer of `room` bytes for the library, and the count that it sets."""
-    return ffi.new("uint8_t[]", room), ffi.new("size_t *")
+    return ffi.new(BYTES, room), ffi.new(COUNT)
 
 
 def copied(made: Any, count: Any) -> bytes:
     """Copies the bytes that the library wrote into a buffer."""
-    return bytes(ffi.buffer(made, count[0]))
+    return ffi.buffer(made, count[0])[:]
+
+
+def shown(record: Any) -> str:
+    """Returns the `repr` of a named tuple with the number of bytes in place of bytes."""
+    each = (f"<{len(it)} bytes>" if isinstance(it, get_args(Bytes)) else repr(it) for it in record)
+    return f"{type(record).__name__}({', '.join(map('{}={}'.format, record._fields, each))})"
 
 
 def within(value: int, least: int, most: int, what: str) -> int:
@@ -49,6 +57,15 @@ def tag_number(tag: int) -> int:
     return within(tag, 0, 0xFFFFFF, "a tag")
 
 
+BUSY = "another thread is in a call of this handle"
+
+
+@functools.lru_cache(maxsize=None)
+def function(kind: str, name: str) -> Any:
+    """Returns the library's function of this name for a kind of handle."""
+    return getattr(lib, f"gt_{kind}_{name}")
+
+
 class Handle:
     """A context manager over a handle of the library. `close` or the collector frees it.
 
@@ -59,7 +76,7 @@ class Handle:
     """
 
     def __init__(self, kind: str, *calls: tuple[Any, ...]) -> None:
-        self._handle = ffi.gc(ffi.new(f"gt_{kind} *"), getattr(lib, f"gt_{kind}_free"))
+        self._handle = ffi.gc(ffi.new(f"gt_{kind} *"), function(kind, "free"))
         self._kind, self._lock = kind, threading.Lock()
         for words in calls:
             self._call(*words)
@@ -67,15 +84,21 @@ class Handle:
     def _call(self, name: str, *words: Any, but: Collection[int] = (), place: Any = None) -> int:
         """Calls the library's function of this name with the handle. Returns its code, or 0 if it
         has none. Raises each fault except those in `but`."""
-        with self._alone():
-            code = getattr(lib, f"gt_{self._kind}_{name}")(self._handle, *words)
-        return checked(code or 0, place, but)
+        # As `_alone`, which would take half of the time of a call.
+        lock = self._lock
+        if not lock.acquire(False):
+            raise RuntimeError(BUSY)
+        try:
+            code = function(self._kind, name)(self._handle, *words)
+        finally:
+            lock.release()
+        return checked(code, place, but) if code else 0
 
     @contextlib.contextmanager
     def _alone(self) -> Iterator[None]:
         """Holds the handle for this thread."""
         if not self._lock.acquire(blocking=False):
-            raise RuntimeError("another thread is in a call of this handle")
+            raise RuntimeError(BUSY)
         try:
             yield
         finally:

@@ -7,16 +7,17 @@ from typing import Any, Callable, NamedTuple, Optional, Protocol, Union
 from ._library import ffi, lib
 from .answers import Answer, Edc, Status
 from .errors import BlockError
-from .handle import Bytes, Handle, Lasting, copied, readable, tag_number, within, writable
+from .handle import (COUNT, Bytes, Handle, Lasting, copied, readable, shown, tag_number, within,
+                     writable)
 
 Line = Callable[[bytes, int], Bytes]
 
 
 class Level(enum.IntEnum):
     """What a transport carries: whole TPDUs, as PC/SC does at T=0, or whole commands, as at T=1 or
-    without contacts."""
+    without contacts. Neither is false."""
 
-    TPDU, APDU = range(2)
+    TPDU, APDU = range(1, 3)
 
 
 class Transport(Protocol):
@@ -91,7 +92,7 @@ class Due(NamedTuple):
     most: int
 
     def __repr__(self) -> str:
-        return f"Due(data=<{len(self.data)} bytes>, most={self.most})"
+        return shown(self)
 
 
 class Machine(Handle):
@@ -159,7 +160,7 @@ class Machine(Handle):
         self._call("responded", *readable(response))
 
     def _due(self, name: str, room: int) -> Optional[Due]:
-        (made, count), most = writable(room), ffi.new("size_t *")
+        (made, count), most = writable(room), ffi.new(COUNT)
         is_missing = self._call(name, made, count, most, but=[lib.GT_NOT_DUE])
         return None if is_missing else Due(copied(made, count), most[0])
 

@@ -1,7 +1,5 @@
 """Runs the program."""
 
-import sys
-
 from .program import main
 
-sys.exit(main())
+raise SystemExit(main())

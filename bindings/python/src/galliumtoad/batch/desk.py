@@ -1,145 +1,324 @@
-"""A run of a batch: its readers, and what the operator sees, on a terminal or in a file."""
+"""A run of a batch: readers, each in a thread of its own, and what the operator sees."""
 
+import argparse
 import contextlib
+import errno
 import os
 import select
 import signal
+import socket
 import sys
 import threading
 import time
-from typing import Callable, Optional
+from itertools import takewhile
+from pathlib import Path
+from typing import Any, Optional
 
-from .inputs import Batch
-from .journal import Journal, Row
-from .reader import Gone, Reader, chosen, listed
+from smartcard import scard
+from smartcard.Exceptions import SmartcardException
+from smartcard.pcsc.PCSCCardConnection import PCSCCardConnection
 
-# A reader that went away is looked for, and a report is written, at most once in this time.
-PAUSE = 1.0
+from . import report
+from ..errors import Error
+from ..pyscard import transport
+from ..terminal import Put, Send, Terminal
+from .dialogue import Recorder, Refused, carry_out, compared, identity, sentence
+from .journal import Journal
+from .script import Rows, check_of
+
+FAILURES_IN_A_ROW = 5
+PAUSE = 1.0  # between two looks for a reader that went away, and two reports
+PRESENT = scard.SCARD_STATE_PRESENT
+_WIPE = "\r\x1b[K"  # removes the bar
+
+
+class Gone(OSError):
+    """A reader, or pcscd, is gone."""
+
+
+def told(code: int, found: Any) -> Any:
+    """Returns the result of a PC/SC call, also after a timeout. Raises `Gone`."""
+    if code not in (scard.SCARD_S_SUCCESS, scard.SCARD_E_TIMEOUT):
+        raise Gone(scard.SCardGetErrorMessage(code))
+    return found
+
+
+def context() -> Any:  # each thread has its own
+    return told(*scard.SCardEstablishContext(scard.SCARD_SCOPE_USER))
+
+
+def chosen(parts: list[str]) -> dict[str, str]:
+    """Returns the reader with each of these parts of names, or the only one. Raises `Gone`."""
+    made = context()
+    code, here = scard.SCardListReaders(made, [])
+    scard.SCardReleaseContext(made)
+    here = [] if code == scard.SCARD_E_NO_READERS_AVAILABLE else sorted(told(code, here))
+    there = f"there are: {', '.join(map(repr, here))}" if here else "there is no reader"
+    named = {part: [it for it in here if part in it] for part in parts or [""]}
+    if wrong := [it for it in named if len(named[it]) != 1]:
+        counts = [f"'{it}' names {len(named[it])} readers; {there}" for it in wrong]
+        raise Gone("\n".join(counts) if parts else f"name one with --reader; {there}")
+    return {part: name for part, [name] in named.items()}
+
+
+def state_of(connection: Any, name: str, known: int, wait: int) -> int:
+    """Returns a reader's state, once it changes or after `wait` milliseconds. Its upper 16 bits
+    count the cards that came and went."""
+    found = told(*scard.SCardGetStatusChange(connection, wait, [(name, known)]))
+    state = int(found[0][1] & ~scard.SCARD_STATE_CHANGED) if found else known
+    if state & (scard.SCARD_STATE_UNKNOWN | scard.SCARD_STATE_UNAVAILABLE):
+        raise Gone("unplugged")
+    return state
+
+
+def connected(name: str) -> Any:
+    card = PCSCCardConnection(name)
+    card.connect(None, scard.SCARD_SHARE_EXCLUSIVE, scard.SCARD_RESET_CARD)
+    return card
 
 
 class Desk:
-    """What the threads of a run share."""
+    """What the threads of a run share. `faults` end it."""
 
-    def __init__(self, batch: Batch, journal: Journal, goes: bool, most: Optional[int]) -> None:
-        self.batch, self.journal, self.goes, self.most = batch, journal, goes, most
-        self.stopped, self.keys = threading.Event(), 0
-        self.has_failed, self._failures, self._alone = False, 0, threading.Lock()
-        self._readers, self._bar = dict[str, Reader](), ""
+    def __init__(self, rows: Rows, journal: Journal, given: argparse.Namespace) -> None:
+        self.rows, self.journal, self.given = rows, journal, given
+        self.stopped, self.keys, self.faults = threading.Event(), 0, list[str]()
+        self._failures, self._alone, self._bar, self._interrupts = 0, threading.Lock(), "", 0
         self._begun, self._done_before = time.monotonic(), journal.count("done")
-        self._looked, self._reported, self._interrupts, self._told = 0.0, -1, 0, 0
+        self._looked, self._reported, self._is_told = 0.0, -1, False
 
     def say(self, line: str) -> None:
         """Prints a line above the bar."""
         with self._alone:
-            wipe = "\r\x1b[K" if self._bar else ""
-            print(f"{wipe}{line}\n{self._bar}", end="", flush=True)
+            print(f"{self._bar and _WIPE}{line}\n{self._bar}", end="", flush=True)
 
-    def fail(self, line: str) -> None:
-        """Prints a fault that ends the run."""
-        self.has_failed = True
-        self.stopped.set()
-        print(line, file=sys.stderr, flush=True)
-
-    def count_failure(self) -> None:
-        """Counts a failed or unsure row. Ends the run if there are too many."""
-        with self._alone:
-            self._failures += 1
-        if self._failures == self.most:
-            self.stopped.set()
-            self.say(f"stopped: {self.most} rows failed")
-
-    def keep(self, row: int, entry: Row, lines: list[str]) -> None:
-        """Adds a card's dialogue to the file of its row, for the owner alone."""
-        folder = f"{self.journal.path}.cards"
-        about = f"# row {row}, card {entry.card or 'unknown'}, {entry.reader}, {entry.state}"
+    def keep(self, row: int, lines: list[str]) -> None:
+        """Adds a failed or unsure row's dialogue to its file, and ends the run if they are many."""
+        file, it = Path(f"{self.journal.path}.cards/{row}.trace"), self.journal.rows[row]
+        about = f"# row {row}, card {it.card or 'unknown'}, {it.reader}, {it.state}"
+        about = f"{about}, {it.ended.isoformat(timespec='seconds')}: {it.reason}"
         try:
-            os.makedirs(folder, 0o700, exist_ok=True)
-            flags = os.O_WRONLY | os.O_CREAT | os.O_APPEND
-            file = os.open(os.path.join(folder, f"{row}.trace"), flags, 0o600)
-            with open(file, "w", encoding="utf-8", errors="backslashreplace") as opened:
-                ended = entry.ended.isoformat(timespec="seconds") if entry.ended else ""
-                opened.write("\n".join([f"{about}, {ended}: {entry.reason}", *lines, ""]))
+            file.parent.mkdir(0o700, exist_ok=True)
+            file.touch(0o600)
+            with file.open("a", encoding="utf-8", errors="backslashreplace") as opened:
+                opened.write("\n".join([about, *lines, ""]))
         except OSError as error:
             self.say(f"the dialogue of row {row} is lost: {error.strerror}")
+        with self._alone:
+            self._failures += 1
+        if self._failures == self.given.stop_after:
+            self.stopped.set()
+            self.say(f"stopped: {self._failures} rows failed")
 
-    def run(self, parts: list[str], report: Callable[[], None]) -> None:
-        """Serves the readers with these parts of names until all rows are begun, or it stops. Then
-        each card in progress ends, unless Ctrl-C is pressed twice."""
-        names, before = chosen(parts, listed()), signal.getsignal(signal.SIGINT)
+    def run(self) -> None:
+        """Serves the readers. Then waits for cards in progress, unless Ctrl-C was pressed twice."""
+        readers = [Reader(self, part) for part in chosen(self.given.reader)]
+        before = signal.getsignal(signal.SIGINT)
         if before is not signal.SIG_IGN:
             signal.signal(signal.SIGINT, self._interrupt)
         try:
-            while self._is_on(names) and self._interrupts < 2:
-                self._turn(names, report)
+            for it in readers:
+                it.start()
+            while any(it.is_alive() for it in readers) and self._interrupts < 2:
+                self._turn()
         finally:
             signal.signal(signal.SIGINT, before)
             self.stopped.set()
-            for it in self._readers.values():
+            for it in readers:
                 if self._interrupts < 2:
                     it.join()
-                elif it.is_alive() and it.given is not None:
-                    self.journal.release(it.given)
+                it.give_up()
             if self._bar:
-                print("\r\x1b[K", end="", flush=True)
+                print(_WIPE, end="", flush=True)
 
     def _interrupt(self, *_: object) -> None:
         self._interrupts += 1
         self.stopped.set()
 
-    def _turn(self, names: dict[str, str], report: Callable[[], None]) -> None:
-        """Looks for readers, writes the report and draws the bar, each if it is time."""
-        if self._interrupts > self._told:
-            self._told = self._interrupts
+    def _turn(self) -> None:
+        """Writes the report and draws the bar, if it is time. Waits a little, or for Enter."""
+        if self._interrupts and not self._is_told:
+            self._is_told = True
             self.say("stops after the cards in progress; Ctrl-C again stops at once")
         if time.monotonic() >= self._looked + PAUSE:
-            self._looked = time.monotonic()
-            self._serve(names)
-            if self._reported != (size := self.journal.size):
-                self._reported = size
-                try:
-                    report()
-                except OSError as error:
-                    self.say(f"no report: {error}")
-            self._draw()
-        self._await_key()
-
-    def _is_on(self, names: dict[str, str]) -> bool:
-        at_work = [it for it in self._readers.values() if it.is_alive()]
-        aside = [it for it in self._readers.values() if it.is_set_aside]
-        is_over = self.stopped.is_set() or not self.journal.count("free")
-        return bool(at_work) or not (is_over or len(aside) == len(names))
-
-    def _serve(self, names: dict[str, str]) -> None:
-        """Starts a thread for each reader that is here and has none."""
-        if self.stopped.is_set() or not self.journal.count("free"):
-            return
-        with contextlib.suppress(Gone):
-            here = listed()
-            for part, name in names.items():
-                named = [it for it in here if part in it]
-                thread = self._readers.get(part)
-                if len(named) == 1 and not (thread and (thread.is_alive() or thread.is_set_aside)):
-                    names[part] = named[0]
-                    self._readers[part] = Reader(self, named[0])
-                    self._readers[part].start()
-
-    def _await_key(self) -> None:
-        """Waits a little, or until Enter is pressed."""
+            self._looked, size = time.monotonic(), os.path.getsize(self.journal.path)
+            try:
+                if size != self._reported:
+                    report.write(self.given.report, [self.journal])
+            except OSError as error:
+                self.say(f"no report: {error}")
+            self._reported = size
+            if sys.stdout.isatty():
+                self._draw()
         # A job in the background must not read.
-        if sys.stdin and sys.stdin.isatty() and os.tcgetpgrp(0) == os.getpgrp():
-            if select.select([sys.stdin], [], [], 0.1)[0] and sys.stdin.readline():
-                self.keys += 1
-                return
-        time.sleep(0.1)
+        reads = sys.stdin and sys.stdin.isatty() and os.tcgetpgrp(0) == os.getpgrp()
+        if reads and select.select([sys.stdin], [], [], 0.1)[0] and sys.stdin.readline():
+            self.keys += 1
+        else:
+            time.sleep(0.1)
 
     def _draw(self) -> None:
-        """Draws a bar with the rate and the time left, on a terminal."""
-        if not sys.stdout.isatty():
-            return
+        """Draws a bar with the rate and the time left."""
         done, all_of = self.journal.count("done"), len(self.journal.numbers)
         rate = (done - self._done_before) / max(time.monotonic() - self._begun, 0.1) * 60
         left = f", {(all_of - done) / rate:.0f} min left" if rate else ""
-        full = "#" * (done * 20 // all_of)
         with self._alone:
-            self._bar = f"[{full:-<20}] {done} of {all_of} rows, {rate:.0f} a minute{left}"
-            print(f"\r\x1b[K{self._bar}", end="", flush=True)
+            full = f"{'#' * (done * 20 // all_of):-<20}"
+            self._bar = f"[{full}] {done} of {all_of} rows, {rate:.0f} a minute{left}"
+            print(f"{_WIPE}{self._bar}", end="", flush=True)
+
+
+class Reader(threading.Thread):
+    """Serves the reader with this part of a name, until no row is free or it is set aside."""
+
+    def __init__(self, desk: Desk, part: str) -> None:
+        super().__init__(daemon=True)
+        self.desk, self.part, self.reader, self.journal = desk, part, part, desk.journal
+        # The row that is held for the next card, or goes to the card in the reader.
+        self.row: Optional[int] = None
+        self.failures, self.is_set_aside = 0, False
+
+    def run(self) -> None:
+        is_here = False
+        while self._may_continue():
+            try:
+                self.reader, is_here = chosen([self.part])[self.part], True
+                with socket.socket(socket.AF_UNIX) as mark:
+                    # The name of a socket is short. A reader's name ends in its number.
+                    mark.bind(b"\0galliumtoad.batch " + os.fsencode(self.reader)[-80:])
+                    self._serve(context())
+            except Gone as error:
+                if is_here:
+                    self._say(f"the reader is gone: {sentence(error)}")
+                is_here = False
+                self.give_up()
+                self.desk.stopped.wait(PAUSE)
+            except Exception as error:
+                if getattr(error, "errno", None) == errno.EADDRINUSE:
+                    self._set_aside("another run serves this reader")
+                else:  # the journal can't be written
+                    self.desk.faults.append(f"{self.reader}: {sentence(error)}")
+                    self.desk.stopped.set()
+        self.give_up()
+
+    def give_up(self) -> None:
+        if self.row is not None:
+            self.journal.release(self.row)
+        self.row = None
+
+    def _may_continue(self) -> bool:
+        if self.failures >= FAILURES_IN_A_ROW and not self.is_set_aside:
+            self._set_aside(f"{FAILURES_IN_A_ROW} cards in a row failed")
+        is_over = self.row is None and not self.journal.count("free")
+        return not (self.desk.stopped.is_set() or self.is_set_aside or is_over)
+
+    def _set_aside(self, why: str) -> None:
+        self.is_set_aside = True
+        self._say(f"set aside: {why}")
+
+    def _say(self, what: str) -> None:
+        self.desk.say(f"{self.reader}: {what}")
+
+    def _serve(self, connection: Any) -> None:
+        # Numbers of cards: the one that was served, and one that did not answer to reset.
+        keys, used, mute, asked = self.desk.keys, -1, -1, 0
+        known = state_of(connection, self.reader, scard.SCARD_STATE_UNAWARE, 0)
+        if lies := known & PRESENT and not self.desk.given.go:
+            used = known >> 16
+            self._say("a card lies in it: remove and insert it, or press Enter to write it")
+        while self._may_continue():
+            if lies and self.desk.keys > keys:
+                used = -1
+            self.row = self.row or self.journal.reserve()
+            is_new = known & PRESENT and known >> 16 != used
+            if self.row is None:
+                self.desk.stopped.wait(0.2)
+                continue
+            if is_new:
+                try:
+                    card, asked = connected(self.reader), 0
+                    # It may have changed between the last look and this connection.
+                    known, lies = state_of(connection, self.reader, known, 0), False
+                    used = known >> 16
+                    self._serve_card(card)
+                    continue
+                except SmartcardException as error:
+                    if mute != known >> 16:
+                        self._say(sentence(error))
+                        self.failures += 1
+                    mute, asked = known >> 16, 0
+            elif asked != self.row:
+                self._say(f"insert a card for row {self.row}")
+                asked = self.row
+            known = state_of(connection, self.reader, known, 500)
+
+    def _serve_card(self, card: Any) -> None:
+        """Gives a card the row that is held, or the one that it has."""
+        if own := self._carry_out(card):
+            self.row = self.journal.reserve(own)
+            if self.row is None:
+                self._say(f"row {own} is in progress: wait for it, and insert the card again")
+            else:  # only selects and gets were carried out so far
+                self._carry_out(card)
+        with contextlib.suppress(SmartcardException):
+            card.disconnect()
+
+    def _carry_out(self, card: Any) -> Optional[int]:
+        """Carries out the script for the row that is held, and writes how it ended. Returns the
+        card's own row if that is another one, which is free again."""
+        row = own = self.row or 0
+        steps, heading = self.desk.rows[row - 1], self.journal.heading
+        recorder, begun = Recorder(transport(card)), time.monotonic()
+
+        def identify(terminal: Terminal) -> None:
+            nonlocal own
+            if heading.id_tag is not None:
+                found = identity(terminal, recorder, heading.id_tag)
+                own = self.journal.identify(row, found)
+                if own != row:
+                    state = self.journal.state(own)
+                    raise Refused(f"card {found} has row {own}, which is {state}")
+
+        self.journal.note(row, "begin", f"{check_of(steps, heading.key)} {self.reader}")
+        word, reason = carry_out(steps, recorder, identify)
+        self.journal.note(row, word, reason)
+        self.row = None
+        if own != row and self.journal.state(own) == "free":
+            return own
+        card, seconds = self.journal.rows[row].card, time.monotonic() - begun
+        about = f"row {row} {word}{card and f', card {card}'}, {seconds:.1f} s"
+        self._say(about + (reason and f": {reason}"))
+        if own == row:
+            self.failures = 0 if word == "done" else self.failures + 1
+        if word in ("failed", "unsure"):
+            self.desk.keep(row, recorder.lines)
+        return None
+
+
+def look(rows: Rows, journal: Journal, given: argparse.Namespace) -> int:
+    """Waits for a card in the only reader, and compares it with a row. Returns the exit status."""
+    if (row := given.look) not in journal.rows:
+        raise ValueError(f"row {row} has not begun")
+    if len(names := chosen(given.reader)) != 1:
+        raise ValueError("--look needs one reader")
+    [name], connection, steps, card = names.values(), context(), rows[row - 1], "the card"
+    known = state_of(connection, name, scard.SCARD_STATE_UNAWARE, 0)
+    if not known & PRESENT:
+        print(f"{name}: insert the card of row {row}", flush=True)
+    while not known & PRESENT:
+        known = state_of(connection, name, known, 500)
+    try:
+        reader = transport(opened := connected(name))
+        if wanted := journal.rows[row].card:
+            with Terminal() as terminal:
+                for step in takewhile(lambda it: not isinstance(it.operation, (Put, Send)), steps):
+                    terminal.run(reader, step.operation)
+                card = f"card {identity(terminal, reader, journal.heading.id_tag or 0)}"
+            if card != f"card {wanted}":
+                raise ValueError(f"this is {card}, but row {row} is on card {wanted}")
+        word = compared(steps, reader)
+        opened.disconnect()
+    except (SmartcardException, Refused, Error) as error:
+        raise ValueError(f"{name}: {error}") from None
+    print(f"row {row}, {card}: {word}")
+    return 0 if word == "done" else 1

@@ -1,40 +1,19 @@
 """What a batch does with one card: carries out the script for a row, or compares both."""
 
-from typing import Callable, Mapping, NamedTuple, Optional
+from typing import Callable, Optional
 
-from ..answers import Answer
 from ..errors import Error
-from ..terminal import Get, Level, Operation, Put, Select, Send, Terminal, Transport
-from .script import Script, counted
-
-Operations = Mapping[int, Operation]
-
-
-class Outcome(NamedTuple):
-    """How a row ended, and why, as a sentence without any value.
-
-    - done: each status was 9000, each get returned its object, and each value reads back as sent.
-    - unused: it stopped before the first put or send.
-    - failed: the card refused an operation, returned another object, or stored another value.
-    - unsure: the reader failed, or the card's answer did not fit.
-    """
-
-    word: str
-    reason: str = ""
+from ..terminal import Get, Level, Put, Select, Send, Terminal, Transport
+from .script import Step, counted
 
 
 class Refused(Exception):
     """The card refused an operation, returned another object, or stored another value."""
 
 
-class ReaderFault(Exception):
-    """What a transport raised, as text."""
-
-
 class Recorder:
-    """A transport that keeps what went over it, without any data: a header, and how many bytes
-    follow; how many bytes came, and the status. The header too is hidden if `hides_header` is set.
-    """
+    """A transport that keeps what went over it, without any data. Whatever a reader's driver raises
+    is a `ConnectionError`."""
 
     def __init__(self, transport: Transport) -> None:
         self.level = getattr(transport, "level", Level.TPDU)
@@ -45,25 +24,19 @@ class Recorder:
         self._add(">", bytes(data[:shown]), len(data) - shown)
         try:
             answer = bytes(self.transport(data))
-        except Exception as error:  # whatever a reader's driver raises
+        except Exception as error:
             self.lines.append(f"# {sentence(error)}")
-            raise ReaderFault(sentence(error)) from error
+            raise ConnectionError(sentence(error)) from error
         self._add("<", answer[-2:], len(answer) - 2)
         return answer
 
     def _add(self, sign: str, shown: bytes, hidden: int) -> None:
-        count = f" ** {hidden} bytes" if hidden > 0 else ""
-        self.lines.append(f"{sign} {shown.hex().upper()}{count}".replace("  ", " "))
+        count = f"** {hidden} bytes" if hidden > 0 else ""
+        self.lines.append(" ".join(filter(None, (sign, shown.hex().upper(), count))))
 
 
 def sentence(error: BaseException) -> str:
-    """Returns an error's text in one line."""
     return " ".join(str(error).split()) or type(error).__name__
-
-
-def told(answer: Answer) -> str:
-    """Returns an answer's status, and what it means."""
-    return f"answered {answer.status:04X} {answer.status.text}"
 
 
 def stored(terminal: Terminal, reader: Transport, tag: int) -> tuple[Optional[bytes], str]:
@@ -71,7 +44,9 @@ def stored(terminal: Terminal, reader: Transport, tag: int) -> tuple[Optional[by
     answer = terminal.run(reader, Get(tag))
     if found := answer.object(tag):
         return found.value, ""
-    return None, "read back nothing" if answer.status.is_ok else f"its reading was {told(answer)}"
+    status = answer.status
+    reading = f"its reading was answered {status:04X} {status.text}"
+    return None, "read back nothing" if status.is_ok else reading
 
 
 def identity(terminal: Terminal, reader: Transport, tag: int) -> str:
@@ -82,50 +57,42 @@ def identity(terminal: Terminal, reader: Transport, tag: int) -> str:
     return value.hex().upper()
 
 
-def identity_before(operations: Operations, reader: Transport, tag: int) -> str:
-    """Returns the identifier that a card has before its first put or send. Raises `Refused`."""
-    with Terminal() as terminal:
-        for operation in operations.values():
-            if isinstance(operation, (Put, Send)):
-                break
-            terminal.run(reader, operation)
-        return identity(terminal, reader, tag)
-
-
 def carry_out(
-    script: Script,
-    operations: Operations,
-    reader: Recorder,
-    identify: Callable[[Terminal], None] = lambda _: None,
-) -> Outcome:
-    """Carries out a row's operations. Calls `identify` before the first put or send; that may raise
-    `Refused`."""
-    terminal, has_written = Terminal(), False
+    steps: list[Step], reader: Recorder, identify: Callable[[Terminal], None] = lambda _: None
+) -> tuple[str, str]:
+    """Carries out a row's steps, and reads each put back. Calls `identify` before the first put or
+    send, or at the end. Returns how the row ended, and why, without any value:
+
+    - done: each status was 9000, each get returned its object, and each value reads back as sent.
+    - unused: it stopped before the first put or send.
+    - failed: it was `Refused`. unsure: the reader failed, or the card's answer did not fit.
+    """
+    has_written = False
     try:
-        for line, operation in operations.items():
-            if isinstance(operation, (Put, Send)) and not has_written:
+        with Terminal() as terminal:
+            for step in steps:
+                if isinstance(step.operation, (Put, Send)) and not has_written:
+                    reader.hides_header = False
+                    identify(terminal)
+                    has_written = True
+                reader.lines.append(f"# line {step.line}: {step.shown}")
+                reader.hides_header = step.hides_header
+                if fault := _fault_of(terminal, reader, step):
+                    raise Refused(f"{step.shown} was {fault}")
+            if not has_written:
                 reader.hides_header = False
                 identify(terminal)
-                has_written = True
-            shown = script.shown(line)
-            reader.lines.append(f"# line {line}: {shown}")
-            reader.hides_header = script.hides_headers(line) and not isinstance(operation, Select)
-            if fault := _fault_of(terminal, reader, operation):
-                raise Refused(f"{shown} was {fault}")
     except Refused as error:
-        return Outcome("failed" if has_written else "unused", sentence(error))
-    except (ReaderFault, ValueError, Error) as error:
-        return Outcome("unsure" if has_written else "unused", sentence(error))
-    finally:
-        terminal.close()
-    return Outcome("done")
+        return "failed" if has_written else "unused", sentence(error)
+    except (ConnectionError, ValueError, Error) as error:
+        return "unsure" if has_written else "unused", sentence(error)
+    return "done", ""
 
 
-def _fault_of(terminal: Terminal, reader: Transport, operation: Operation) -> str:
-    """Carries out an operation, and reads a put back. Returns what is wrong with the answer."""
-    answer = terminal.run(reader, operation)
+def _fault_of(terminal: Terminal, reader: Transport, step: Step) -> str:
+    operation, answer = step.operation, terminal.run(reader, step.operation)
     if not answer.status.is_ok:
-        return told(answer)
+        return f"answered {answer.status:04X} {answer.status.text}"
     if isinstance(operation, Get) and not answer.object(operation.tag):
         return "answered 9000, but not with this object"
     if isinstance(operation, Put):
@@ -135,40 +102,30 @@ def _fault_of(terminal: Terminal, reader: Transport, operation: Operation) -> st
     return ""
 
 
-def compared(operations: Operations, reader: Transport) -> str:
-    """Compares a card with a row, and writes nothing. Returns `done`, `untouched`, or `partly` with
-    the number of objects that are as in the row.
-
-    Commands of `send` are not repeated. What they have done is not known, so with them a card is
-    neither done nor untouched."""
-    wanted, application = dict[tuple[bytes, int], bytes](), b""
-    sends = sum(isinstance(it, Send) for it in operations.values())
-    for it in operations.values():
-        if isinstance(it, Select):
+def compared(steps: list[Step], reader: Transport) -> str:
+    """Compares a card with a row, and writes nothing. What `send` has done can't be read back: with
+    it a card is neither done nor untouched."""
+    wanted, application, sends = dict[tuple[bytes, int], bytes](), b"", 0
+    for step in steps:
+        if isinstance(it := step.operation, Select):
             application = bytes(it.aid)
-        if isinstance(it, Put):
+        elif isinstance(it, Put):
             wanted[application, it.tag] = bytes(it.value)
-    found = {place: _value_at(reader, *place) for place in wanted}
-    same, there = 0, 0
-    for place, value in wanted.items():
-        same += found[place] == value
-        there += found[place] not in (None, value)
-    count = f"{same} of {len(wanted)} objects"
+        sends += isinstance(it, Send)
     if not wanted and not sends:
         return "unknown: the script stores nothing"
+    same = others = 0
+    for (application, tag), value in wanted.items():
+        with Terminal() as terminal:
+            selects = Select(application)
+            is_there = not application or terminal.run(reader, selects).status.is_ok
+            found = stored(terminal, reader, tag)[0] if is_there else None
+        same += found == value
+        others += found not in (None, value)
+    partly = f"partly: {same} of {len(wanted)} objects"
     if sends:
-        return f"partly: {count}, and {counted(sends, 'send')} can't be read back"
-    if same == len(wanted):
-        return "done"
+        return f"{partly}, and {counted(sends, 'send')} can't be read back"
     if same:
-        return f"partly: {count}"
-    values = f"{counted(there, 'other value')} {'is' if there == 1 else 'are'}"
-    return f"untouched, if {values} its own" if there else "untouched"
-
-
-def _value_at(reader: Transport, application: bytes, tag: int) -> Optional[bytes]:
-    """Reads an object of an application."""
-    with Terminal() as terminal:
-        if application and not terminal.run(reader, Select(application)).status.is_ok:
-            return None
-        return stored(terminal, reader, tag)[0]
+        return "done" if same == len(wanted) else partly
+    values = f"{counted(others, 'other value')} {'is' if others == 1 else 'are'}"
+    return f"untouched, if {values} its own" if others else "untouched"

@@ -1,30 +1,37 @@
-"""Scripts of a batch: operations as gt_pcsc takes them, with columns of a table in the words."""
+"""What a batch writes to cards: operations as gt_pcsc takes them, with columns of a table in the
+words. A `ValueError` has all mistakes, one a line, without a value."""
 
+import argparse
+import csv
+import functools
+import io
 import re
 from hashlib import blake2b
 from pathlib import Path
-from typing import Any, Mapping, Optional
+from typing import Any, Iterator, Mapping, NamedTuple, Optional
 
 from ..errors import Error
 from ..terminal import Get, Operation, Put, Select, Send, Terminal
 
 _COLUMN = re.compile(r"\{([^{}]*)\}")
-_HEX = "(?:[0-9A-Fa-f]{2})+"
-# The data of 64 commands.
-VALUE_LIMIT = 64 * 255
+VALUE_LIMIT = 64 * 255  # the data of 64 commands
 Row = Mapping[str, str]
 
 
-class Mistakes(ValueError):
-    """The mistakes in a script, a table or the words, one a line, without any value."""
+class Step(NamedTuple):
+    """An operation for one row. `shown` has no value. A hidden header may contain a cell."""
 
-    def __init__(self, lines: list[str]) -> None:
-        super().__init__("\n".join(dict.fromkeys(lines)))
+    line: int
+    shown: str
+    hides_header: bool
+    operation: Operation
+
+
+Rows = list[list[Step]]
 
 
 def read(path: str) -> str:
-    """Reads a file in UTF-8, without a byte order mark at its start. Any byte that is not UTF-8
-    becomes a character that no value can contain. Raises `OSError` if the file can't be read."""
+    """Reads a file. A byte that is not UTF-8 becomes a character that no value can contain."""
     data = Path(path).read_bytes()
     if data[:2] in (b"\xff\xfe", b"\xfe\xff"):
         raise ValueError(f"{path} is in UTF-16: save it in UTF-8")
@@ -32,99 +39,76 @@ def read(path: str) -> str:
 
 
 def counted(number: int, what: str) -> str:
-    """Returns a number and a word, in the plural if need be."""
     return f"{number:,} {what}{'' if number == 1 else 's'}"
 
 
-def fault_of_text(text: str) -> Optional[str]:
-    """Says why a text can't be stored, or returns None."""
+def _text(text: str) -> str:
     if "\0" in text:
-        return "a NUL character"
-    return "not UTF-8" if re.search("[\ud800-\udfff]", text) else None
+        raise ValueError("a NUL character")
+    if re.search("[\ud800-\udfff]", text):
+        raise ValueError("not UTF-8")
+    return text
 
 
-def fault_of_digits(text: str) -> Optional[str]:
-    """Says why a text is not the digits of some bytes, or returns None."""
-    if text == "":
-        return "empty, and the script needs a value"
-    if fault := fault_of_text(text):
-        return fault
+def digits(text: str) -> bytes:
+    if _text(text) == "":
+        raise ValueError("empty, and the script needs a value")
     if text[:2] in ("0x", "0X"):
-        return "0x before the digits"
-    if found := re.search(r"\s", text):
-        return f"a space, as character {found.start() + 1}"
+        raise ValueError("0x before the digits")
     if found := re.search("[^0-9A-Fa-f]", text):
-        return f"no hexadecimal digit, as character {found.start() + 1}"
-    return f"{counted(len(text), 'digit')}, an odd number" if len(text) % 2 else None
-
-
-def _filled(word: str, row: Row) -> str:
-    return _COLUMN.sub(lambda it: row[it[1]], word)
-
-
-def digits(word: str, row: Row) -> bytes:
-    """Returns the bytes of a word of digits. Raises `ValueError` for other words."""
-    if fault := fault_of_digits(text := _filled(word, row)):
-        raise ValueError(fault)
+        what = "a space" if found[0].isspace() else "no hexadecimal digit"
+        raise ValueError(f"{what}, as character {found.start() + 1}")
+    if len(text) % 2:
+        raise ValueError(f"{counted(len(text), 'digit')}, an odd number")
     return bytes.fromhex(text)
 
 
-def _begun(operation: Operation, fault: str) -> Operation:
-    """Returns an operation that a terminal can begin. Raises `ValueError` for others."""
+def _begun(kind: Any, word: Any, fault: str = "") -> Any:
+    """Returns a word that begins this operation. Raises `ValueError` for others."""
     try:
         with Terminal() as terminal:
-            terminal.begin(operation)
+            terminal.begin(kind(word))
     except (ValueError, Error) as error:
         raise ValueError(fault or str(error)) from None
-    return operation
+    return word
 
 
-def identifier(word: str, row: Row) -> bytes:
-    """Returns the bytes of an application's identifier. Raises `ValueError` for other words."""
-    found = digits(word, row)
-    _begun(Select(found), f"{counted(len(found), 'byte')}, but an identifier has 5 to 16")
-    return found
+def identifier(text: str) -> Any:
+    found = digits(text)
+    return _begun(Select, found, f"{counted(len(found), 'byte')}, but an identifier has 5 to 16")
 
 
-def command(word: str, row: Row) -> bytes:
-    """Returns the bytes of a command. Raises `ValueError` for other words."""
-    _begun(Send(found := digits(word, row)), "")
-    return found
+def command(text: str) -> Any:
+    return _begun(Send, digits(text))
 
 
-def tag(word: str, row: Row) -> int:
-    """Returns the number of a tag's digits. Raises `ValueError` for other words."""
-    found = digits(word, row)
-    number = int.from_bytes(found, "big")
-    if found[0] == 0:
+def tag(text: str) -> Any:
+    if (found := digits(text))[0] == 0:
         raise ValueError("a tag has no 00 in front")
-    _begun(Get(number), "not a tag that a command can name")
-    return number
+    return _begun(Get, int.from_bytes(found, "big"), "not a tag that a command can name")
 
 
-def value(word: str, row: Row) -> bytes:
-    """Returns the bytes of a value: `-` for none, digits, `HH*N`, the file `@NAME`, or the text
-    `@{column}`. Raises `ValueError` for other words, and for too many bytes."""
-    if found := _COLUMN.fullmatch(word, 1) if word[0] == "@" else None:
-        data = _text(row[found[1]]).encode()
-    elif word[0] == "@":
+def value(text: str) -> bytes:
+    if found := re.fullmatch(r"([0-9A-Fa-f]{2})\*([1-9][0-9]{0,4})", text):
+        return bytes.fromhex(found[1]) * int(found[2])
+    return b"" if text == "-" else digits(text)
+
+
+def meaning(reads: Any, word: str, row: Row) -> Any:
+    """Returns what a word means. As a value `@{column}` is the text of a cell, `@NAME` a file."""
+    text = _COLUMN.sub(lambda it: row[it[1]], word)
+    if reads is not value or word[0] != "@":
+        found = reads(text)
+    elif _COLUMN.fullmatch(word, 1):
+        found = _text(text[1:]).encode()
+    else:
         try:
-            data = Path(_text(_filled(word[1:], row))).read_bytes()
+            found = Path(_text(text[1:])).read_bytes()
         except OSError as error:
             raise ValueError(f"no file: {error.strerror}") from None
-    elif found := re.fullmatch(r"([0-9A-Fa-f]{2})\*([1-9][0-9]{0,4})", _filled(word, row)):
-        data = bytes.fromhex(found[1]) * int(found[2])
-    else:
-        data = b"" if _filled(word, row) == "-" else digits(word, row)
-    if len(data) > VALUE_LIMIT:
-        raise ValueError(f"{len(data):,} bytes, more than the {VALUE_LIMIT:,} of a value")
-    return data
-
-
-def _text(text: str) -> str:
-    if fault := fault_of_text(text):
-        raise ValueError(fault)
-    return text
+    if reads is value and len(found) > VALUE_LIMIT:
+        raise ValueError(f"{len(found):,} bytes, more than the {VALUE_LIMIT:,} of a value")
+    return found
 
 
 # The operation of each first word, and what reads its other words.
@@ -133,94 +117,107 @@ _KINDS |= {"get": (Get, tag), "put": (Put, tag, value)}
 
 
 class Script:
-    """The operations of a file, one a line, in words that use these columns.
-
-    Raises `Mistakes`, each with the file's name and the line.
-    """
+    """The operations of a file, one a line."""
 
     def __init__(self, path: str, text: str, columns: list[str]) -> None:
-        self.path, self.columns, self.lines = path, columns, dict[int, list[str]]()
-        # What words without a column mean, by what reads them.
-        self._fixed, wrong = dict[tuple[Any, str], Any](), list[str]()
+        self.path, self.lines, wrong = path, dict[int, list[str]](), list[str]()
+        # A file that a word names is read once.
+        self._fixed = functools.cache(functools.partial(meaning, row={}))
         for number, line in enumerate(text.replace("\r\n", "\n").split("\n"), 1):
             words = [it for it in line.split(" ") if it]
             if words and line[0] != "#":
                 self.lines[number] = words
-                if fault := self._fault_of_line(words):
+                if fault := _fault_of_line(words, columns):
                     wrong.append(f"{path}:{number}: {fault}")
-        if not self.lines:
-            wrong.append(f"{path} has no operation")
-        if wrong:
-            raise Mistakes(wrong)
+        if wrong or not self.lines:
+            raise ValueError("\n".join(wrong or [f"{path} has no operation"]))
 
-    def _fault_of_line(self, words: list[str]) -> Optional[str]:
-        if words[0] not in _KINDS:
-            known = ", ".join(_KINDS)
-            return f"`{words[0]}` is no operation: it is one of {known}"
-        if len(words) != len(_KINDS[words[0]]):
-            has = counted(len(words) - 1, "word")
-            return f"`{words[0]}` has {has}, not {len(_KINDS[words[0]]) - 1}"
-        for column in _COLUMN.findall(" ".join(words)):
-            if (count := self.columns.count(column)) != 1:
-                listed = ", ".join(map(repr, filter(None, self.columns)))
-                what = f"{count} columns" if count else "no column"
-                return f"{what} '{column}': the table has {listed or 'no columns'}"
-        for reads, word in zip(_KINDS[words[0]][1:], words[1:]):
-            try:
-                if not _COLUMN.search(word):
-                    self._fixed[reads, word] = reads(word, {})
-            except ValueError as error:
-                return f"`{words[0]}`: {reads.__name__}: {error}"
-        return None
-
-    def texts(self) -> set[str]:
-        """Returns the columns whose text is a value."""
-        found = (_COLUMN.fullmatch(word, 1) for words in self.lines.values() for word in words)
-        return {it[1] for it in found if it and it.string[0] == "@"}
-
-    def operations(self, row: Row) -> dict[int, Operation]:
-        """Returns the operations for a row of the table, by line number. A terminal can begin each.
-
-        Raises `Mistakes`, each with the column.
-        """
-        found, wrong = dict[int, Operation](), []
+    def steps(self, row: Row, where: str, wrong: list[str]) -> list[Step]:
+        """Returns the steps for a row, whose place is `where`. Adds each mistake to `wrong`."""
+        steps = []
         for line, words in self.lines.items():
-            kind, *readers = _KINDS[words[0]]
-            made = []
+            made, (kind, *readers) = [], _KINDS[words[0]]
             for reads, word in zip(readers, words[1:]):
-                fixed = self._fixed.get((reads, word))
+                columns = _COLUMN.findall(word)
                 try:
-                    made.append(reads(word, row) if fixed is None else fixed)
+                    made.append(meaning(reads, word, row) if columns else self._fixed(reads, word))
                 except ValueError as error:
-                    wrong.append(_mistake(word, row, str(error)))
+                    in_script = f"{self.path}:{line}: `{words[0]}`: {reads.__name__}: {error}"
+                    named = ", ".join(map(repr, columns))
+                    in_row = f"{where}, column{'s' * (len(columns) > 1)} {named}: {error}"
+                    wrong.append(in_row if columns else in_script)
             if len(made) == len(readers):
-                found[line] = kind(*made)
-        if wrong:
-            raise Mistakes(wrong)
-        return found
-
-    def shown(self, line: int) -> str:
-        """Returns a line's operation and tag as the script has them, without any value."""
-        words = self.lines[line]
-        return " ".join(words[:2] if words[0] in ("get", "put") else words[:1])
-
-    def hides_headers(self, line: int) -> bool:
-        """Whether a cell may be in the header of a command of this line."""
-        return bool(_COLUMN.search(self.lines[line][1]))
+                shown = " ".join(words[:2] if words[0] in ("get", "put") else words[:1])
+                hides = words[0] != "select" and bool(_COLUMN.search(words[1]))
+                steps.append(Step(line, shown, hides, kind(*made)))
+        return steps
 
 
-def _mistake(word: str, row: Row, fault: str) -> str:
-    """Names the column of a word that can't be read. If there are several, it is the first whose
-    cell alone is at fault."""
-    columns = _COLUMN.findall(word)
-    if len(columns) > 1 and word[0] != "@":
-        for it in columns:
-            if why := fault_of_digits(row[it]):
-                return f"column '{it}': {why}"
-    return f"column{'s' * (len(columns) > 1)} {', '.join(map(repr, columns))}: {fault}"
+def _fault_of_line(words: list[str], columns: list[str]) -> Optional[str]:
+    if (first := words[0]) not in _KINDS:
+        return f"`{first}` is no operation: it is one of {', '.join(_KINDS)}"
+    if len(words) != len(_KINDS[first]):
+        has = counted(len(words) - 1, "word")
+        return f"`{first}` has {has}, not {len(_KINDS[first]) - 1}"
+    for column in _COLUMN.findall(" ".join(words)):
+        if (count := columns.count(column)) != 1:
+            listed = ", ".join(map(repr, filter(None, columns))) or "no columns"
+            what = f"{count} columns" if count else "no column"
+            return f"{what} '{column}': the table has {listed}"
+    return None
 
 
-def check_of(operations: Mapping[int, Operation], key: bytes) -> str:
+def check_of(steps: list[Step], key: str) -> str:
     """Returns a sum of what is sent for a row, under a journal's key."""
-    said = [(type(it).__name__, *sorted(vars(it).items())) for it in operations.values()]
-    return blake2b(repr(said).encode(), key=key, digest_size=8).hexdigest()
+    operations = (it.operation for it in steps)
+    said = [(type(it).__name__, *sorted(vars(it).items())) for it in operations]
+    return blake2b(repr(said).encode(), key=bytes.fromhex(key), digest_size=8).hexdigest()
+
+
+def rows_of(path: str) -> tuple[list[str], dict[str, Row]]:
+    """Returns the columns of a table, which its first line names, and each row by its place."""
+    text, columns, rows, wrong = read(path), list[str](), dict[str, Row](), list[str]()
+    between = max(",;\t", key=text.split("\n", 1)[0].count)
+    source = csv.reader(io.StringIO(text, ""), delimiter=between, strict=True)
+    try:
+        columns = next(source, [])
+        last = source.line_num
+        for cells in source:
+            line, last = last + 1, source.line_num  # a quoted cell may contain lines
+            if cells and len(cells) != len(columns):
+                has = counted(len(cells), "cell")
+                wrong.append(f"{path} line {line}: {has}, but {len(columns)} columns")
+            elif cells:
+                rows[f"{path} line {line}"] = dict(zip(columns, cells))
+    except csv.Error as error:
+        wrong.append(f"{path} line {source.line_num}: {error}")
+    if wrong or not rows:
+        raise ValueError("\n".join(wrong or [f"{path} has no row"]))
+    return columns, rows
+
+
+def doubtful(rows: dict[str, Row], script: Script) -> Iterator[str]:
+    """Yields what --allow-duplicates allows."""
+    words = [it for line in script.lines.values() for it in line if it[0] == "@"]
+    texts = sorted({found[1] for it in words if (found := _COLUMN.fullmatch(it, 1))})
+    seen, ids = dict[tuple[str, ...], str](), dict[tuple[str, str], str]()
+    for where, row in rows.items():
+        yield from (f"{where}, column {it!r}: empty" for it in texts if row[it] == "")
+        if (first := seen.setdefault(tuple(row.values()), where)) != where:
+            yield f"{where}: the same row as {first}"
+            continue
+        for it in [it for it in row.items() if it[0].lower() == "id"]:
+            if (first := ids.setdefault(it, where)) != where:
+                yield f"{where}, column {it[0]!r}: the same as in {first}"
+
+
+def steps_of(given: argparse.Namespace) -> Rows:
+    """Returns the steps for each row. Each file is read once: it may be a pipe, or change."""
+    columns, rows = rows_of(given.rows)
+    script, wrong = Script(given.script, read(given.script), columns), list[str]()
+    steps = [script.steps(row, where, wrong) for where, row in rows.items()]
+    if not given.allow_duplicates:
+        wrong += doubtful(rows, script)
+    if wrong:
+        raise ValueError("\n".join(dict.fromkeys(wrong)))
+    return steps

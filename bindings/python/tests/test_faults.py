@@ -1,0 +1,412 @@
+"""Tests what faults do to whole commands, TPDUs, characters and blocks: each strikes, and a card
+without a struck fault is as the library's. Expected bytes are written from the standard's forms."""
+
+import pytest
+from galliumtoad import T1, Card, Get, Level, Put, Select, Terminal
+from galliumtoad.faults import ECHO, KINDS, LINE, T0, Faults, Gone, Mistake, block, read
+from galliumtoad.faults import T1 as AT_T1
+from galliumtoad.simulate import Blocks, Characters, Simulator
+from galliumtoad.trials import AID, VALUE, trials
+
+FCI = bytes.fromhex("6F098407A0000000031010")
+OBJECT = bytes.fromhex("51820258") + VALUE
+SELECT = bytes.fromhex("00A4040007A0000000031010")
+PUTS = [
+    bytes([cla, 0xDA, 0, 0x51, len(it)]) + it
+    for cla, it in ((0x10, VALUE[:255]), (0x10, VALUE[255:510]), (0, VALUE[510:]))
+]
+GET, REST, LAST = (bytes.fromhex(it) for it in ("00CA005100", "00C0000000", "00C000005C"))
+JOB = [SELECT + b"\x00", *PUTS, GET, REST, LAST]
+ANSWERS = [FCI + b"\x90\x00", *[b"\x90\x00"] * 3, OBJECT[:256] + b"\x61\x00"]
+ANSWERS += [OBJECT[256:512] + b"\x61\x5c", OBJECT[512:] + b"\x90\x00"]
+FIRST = OBJECT[:256]
+
+
+def simulator(text, t=1, carried_out=None, **more):
+    """A card with these faults, and the list of those that struck."""
+    struck = []
+    faults = Faults(read(text.replace("; ", "\n")), **more)
+    atr = bytes.fromhex("3B800181" if t else "3B00")
+    carried_out = carried_out or (lambda command: None)
+    it = Simulator(Card({AID: {0x5F20: b"JOE"}}), atr, faults, carried_out=carried_out)
+    faults.tell = struck.append
+    return it, struck
+
+
+def whole(it, commands=JOB):
+    """What the card answers to whole commands, with None from where it is gone."""
+    answers = []
+    for command in commands:
+        try:
+            answers.append(it.whole(command, it.apdu))
+        except Gone:
+            return [*answers, None]
+    return answers
+
+
+def with_status(number, status):
+    return {number: ANSWERS[number - 1][:-2] + bytes.fromhex(status)}
+
+
+# What a struck trial changes of the answers to whole commands, by the number of the command.
+CHANGES = {
+    "select refused": with_status(1, "6A82"),
+    "select warns": with_status(1, "6283"),
+    "select without answer": {1: None},
+    "select without power": {1: None},
+    "select late": {},
+    "select cut": {1: FCI[:-3] + b"\x90\x00"},
+    "select with a wrong template": {1: b"\x6e" + FCI[1:] + b"\x90\x00"},
+    "select with too much": {1: FCI + b"\x5a\x5a\x5a\x90\x00"},
+    "put refused at the first piece": with_status(2, "6A84"),
+    "put refused in the middle": with_status(3, "6A84"),
+    "put refused at the end": with_status(4, "6581"),
+    "put that must be last": with_status(2, "6883"),
+    "put without chaining": with_status(2, "6884"),
+    "put warns at the first piece": with_status(2, "6200"),
+    "put warns at the end": with_status(4, "6300"),
+    "put with a reserved status": with_status(4, "9001"),
+    "put with a response": with_status(4, "6110"),
+    "put with another length": with_status(4, "6C5A"),
+    # the second piece has the same header, so the card takes it for the first one again
+    "put that asks for a length again and again": {2: b"\x6c\x01", 3: b"\x6c\x01", 5: 90},
+    "put forgotten at the end": {5: b"\x68\x83", 6: b"\x69\x85", 7: b"\x69\x85"},
+    "put forgotten at the first piece": {5: 345},
+    "put forgotten in the middle": {5: 345},
+    "put twice at the first piece": {5: 855},
+    "put twice at the end": {5: 90},
+    "put without answer in the middle": {3: None},
+    "put without answer at the end": {4: None},
+    "put without power at the end": {4: None},
+    "put with a reset in the middle": {3: b"\x69\x85"},
+    "put with a reset at the end": {4: b"\x69\x85"},
+    "put late": {},
+    "put with data": {4: b"\x01\x02\x90\x00"},
+    "get refused": with_status(5, "6A88"),
+    "get with an error": with_status(5, "6F00"),
+    "get that may be damaged": with_status(5, "6281"),
+    "get refused at its second part": {6: ANSWERS[5][:-2] + b"\x6f\x00"},
+    "get cut": {5: FIRST[:-3] + b"\x61\x00"},
+    "get without data": {5: b"\x90\x00"},
+    "get with too much": {5: FIRST + b"\x5a\x5a\x5a\x61\x00"},
+    "get with a wrong tag": {5: b"\x50" + FIRST[1:] + b"\x61\x00"},
+    "get with a wrong length": {5: FIRST[:2] + b"\x03" + FIRST[3:] + b"\x61\x00"},
+    "get with a wrong bit": {5: FIRST[:12] + bytes([FIRST[12] ^ 0x10]) + FIRST[13:] + b"\x61\x00"},
+    "get of another value": {5: bytes.fromhex("51034142439000")},
+    "get that asks for a length again and again": {5: b"\x6c\x01"},
+    "get without an end": {5: FIRST + b"\x61\x10", 6: bytes(256) + b"\x61\x10",
+                           7: bytes(92) + b"\x61\x10"},
+    "get without answer": {5: None},
+}
+ANYWHERE = [it for it in trials() if all(KINDS[each.kind][1] == "anywhere" for each in it.read())]
+
+
+def test_each_trial_has_its_row():
+    assert set(CHANGES) == {it.name for it in ANYWHERE}
+    assert len(trials()) == len({it.name for it in trials()}) == 60
+    assert all(it.says.endswith(".") and len(it.says) > 60 for it in trials())
+
+
+@pytest.mark.parametrize("trial", ANYWHERE, ids=lambda it: it.name)
+def test_whole_commands(trial):
+    it, struck = simulator(trial.faults)
+    it.is_over.set()  # no waiting
+    found, changes = whole(it), CHANGES[trial.name]
+    assert len(struck) == len(trial.read()) + trial.faults.startswith("every")
+    for number, expected in changes.items():
+        if isinstance(expected, int):  # the size of the stored value
+            size = int.from_bytes(found[4][2:4], "big") if found[4][1] == 0x82 else found[4][1]
+            assert size == expected
+        else:
+            assert found[number - 1] == expected
+    before = min(changes, default=8) - 1
+    assert found[:before] == ANSWERS[:before]
+
+
+@pytest.mark.parametrize("trial", ANYWHERE, ids=lambda it: it.name)
+def test_blocks_carry_the_same(trial):
+    """A terminal at T=1 gets the answers of whole commands, over blocks of the card."""
+    it, other = simulator(trial.faults)[0], simulator(trial.faults)[0]
+    for each in (it, other):
+        each.is_over.set()
+    end = Blocks(it)
+
+    def line(data, waits):
+        try:
+            return b"".join(end.take(data[at : at + 1]) for at in range(len(data)))
+        except Gone:
+            return b""
+
+    with T1(line) as terminal:
+        for command, answer in zip(JOB, whole(other)):
+            if answer is None or len(answer) > 258:  # no terminal takes a longer response
+                break
+            assert terminal(command) == answer
+
+
+def said(it, *tpdus):
+    """What the card sends in each TPDU."""
+    end, found = Characters(it), []
+    for tpdu in tpdus:
+        found.append(b"")
+        try:
+            for byte in tpdu:
+                found[-1] += end.take(bytes([byte]))
+        except Gone:
+            found[-1] += b"gone"
+    return found
+
+
+T0_JOB = [SELECT, bytes.fromhex("00C000000B"), *PUTS, GET]
+# What the card sends in a TPDU of the job at T=0, by its place: procedure bytes, data and status.
+AT_T0 = {
+    "nulls before the answer": {2: b"\x60" * 1000 + b"\xda\x90\x00"},
+    "procedure byte that is invalid": {2: b"\x33\x90\x00"},
+    "procedure byte for one byte": {2: b"\x25\x90\x00"},
+    "status before the data": {2: b"\x90\x00"},
+    "status before the last data": {4: b"\x90\x00"},
+    "byte lost at T=0": {5: b"\xca" + FIRST[:8] + FIRST[9:] + b"\x61\x00"},
+    "byte too many at T=0": {5: b"\xca" + FIRST[:8] + b"\x55" + FIRST[8:] + b"\x61\x00"},
+}
+
+
+@pytest.mark.parametrize("name", AT_T0)
+def test_characters(name):
+    trial = next(it for it in trials() if it.name == name)
+    it, struck = simulator(trial.faults, 0)
+    [(number, expected)] = AT_T0[name].items()
+    # a TPDU that ended early takes no data
+    job = list(T0_JOB)
+    if name.startswith("status"):
+        job[number] = job[number][:5]
+    assert said(it, *job)[number] == expected and len(struck) == 1
+
+
+WHOLE_AT_T0 = [
+    ("command 1, status 6F00", 0, b"\xa4\x6f\x00"),
+    ("command 1, cut 3", 1, b"\xc0" + FCI[:-3] + b"\x90\x00"),
+    ("command 1, add 5A", 1, b"\xc0" + FCI + b"\x5a\x90\x00"),
+    ("command 1, wrong tag", 1, b"\xc0\x6e" + FCI[1:] + b"\x90\x00"),
+    ("command 1, data AA", 1, b"\xc0\xaa\x90\x00"),
+    ("command 2, forget", 2, b"\xda\x90\x00"),
+    ("command 2, 6C again", 2, b"\xda\x6c\x01"),
+    ("command 2, mute", 2, b"\xdagone"),
+    ("command 2, power off", 2, b"\xdagone"),
+    ("command 2, reset", 2, b"\x69\x85"),
+    ("command 2, byte 2 flip", 2, b"\xda\x91\x00"),
+    ("command 5, 6C again", 5, b"\x6c\x01"),
+    ("command 5, 61 without end", 5, b"\xca" + FIRST + b"\x61\x10"),
+    ("every C0, flip 7", 1, b"\xc0\xef" + FCI[1:] + b"\x90\x00"),
+]
+
+
+@pytest.mark.parametrize(("fault", "place", "expected"), WHOLE_AT_T0)
+def test_whole_faults_in_characters(fault, place, expected):
+    it, struck = simulator(fault, 0)
+    job = T0_JOB[: place + 1]
+    if fault.endswith("reset"):
+        job[place] = job[place][:5]  # the card refuses the header
+    assert said(it, *job)[place] == expected and len(struck) == 1
+
+
+@pytest.mark.parametrize(
+    ("fault", "size"),
+    [("command 2, forget", 345), ("command 2, twice", 855), ("command 4, twice", 90), ("", 600)],
+)
+def test_what_is_stored_over_a_line(fault, size):
+    for t in (0, 1):
+        it, _ = simulator(fault, t)
+        if t:
+            end = Blocks(it)
+            sent = []
+
+            def line(data, _):
+                sent.append(b"".join(end.take(bytes([it])) for it in data))
+                return sent[-1]
+
+            with T1(line) as terminal:
+                assert [terminal(each)[-2:] for each in JOB[:4]] == [b"\x90\x00"] * 4
+                # IFS, SELECT, and the pieces in fields of 32 bytes: nothing is asked for again
+                assert len(sent) == 1 + 1 + 9 + 9 + 3
+                assert terminal(bytes.fromhex("00CA005F00"))[-2:] != b"\x90\x00"
+        else:
+            said(it, *T0_JOB[:5])
+        assert {each.tag: len(each.value) for each in it.card.entries(AID)}[0x51] == size
+
+
+# What the card's blocks carry for the command at which the fault strikes, in order.
+AT_T1 = {
+    "lrc": lambda b: [b[:-1] + bytes([b[-1] ^ 0xFF]), b],
+    "lose": lambda b: [b"", b],
+    "double": lambda b: [b + b],
+    "nad": lambda b: [block(0x21, b[1], b[3:-1]), b],
+    "byte 2 flip": lambda b: [b[:1] + bytes([b[1] ^ 1]) + b[2:], b],
+    "byte 4 drop": lambda b: [b[:3] + b[4:], b],
+    "byte 1 insert 55": lambda b: [b"\x55" + b, b],
+    "wtx 255": lambda b: [block(0, 0xC3, b"\xff"), b],
+    "ifs 0": lambda b: [block(0, 0xC1, b"\0")] * 4 + [b],
+}
+
+
+@pytest.mark.parametrize("kind", AT_T1)
+def test_blocks(kind):
+    """A line fault at T=1 changes one block, and the terminal gets the answer all the same."""
+    it, struck = simulator(f"command 1, {kind}")
+    end, sent, left = Blocks(it), [], []
+
+    def line(data, waits):
+        if data:
+            came = [end.take(bytes([it])) for it in data]
+            sent.append(b"".join(came))
+            left[:] = [sent[-1]]
+        return left.pop() if left else b""
+
+    with T1(line) as terminal:
+        assert terminal(JOB[0]) == ANSWERS[0]
+        expected = AT_T1[kind](block(0, 0, ANSWERS[0]))
+        assert sent[1 : 1 + len(expected)] == expected and len(struck) == 1
+        for command, answer in zip(JOB[1:], ANSWERS[1:]):
+            assert terminal(command) == answer
+
+
+def test_a_changed_response_goes_in_fields_of_the_terminal_s_size():
+    it, _ = simulator("command 5, flip 100")
+    end, sent = Blocks(it), []
+
+    def line(data, waits):
+        sent.append(b"".join(end.take(bytes([it])) for it in data))
+        return sent[-1]
+
+    with T1(line) as terminal:
+        assert [len(terminal(command)) for command in JOB[:5]][4] == 258
+    assert [len(it) for it in sent[-2:]] == [258, 8] and sent[0] == block(0, 0xE1, b"\xfe")
+
+
+def test_an_abort():
+    it, struck = simulator("command 1, abort")
+    end = Blocks(it)
+    assert b"".join(end.take(bytes([it])) for it in block(0, 0, JOB[0])) == block(0, 0xC2, b"")
+    assert struck
+
+
+def test_an_echo():
+    faults = Faults(read("command 1, wrong echo"), tell=lambda text: None)
+    faults.begin(SELECT)
+    assert [faults.echo(it) for it in (b"\x07", b"\x07")] == [b"\x06", b"\x07"]
+
+
+def test_without_faults_the_library_speaks():
+    """Characters and blocks are those of the card alone."""
+    it, card = simulator("", 0)[0], Card({AID: {0x5F20: b"JOE"}})
+    expected = []
+    for tpdu in T0_JOB:
+        expected.append(b"")
+        for byte in tpdu:
+            card.receive_bytes(bytes([byte]))
+            expected[-1] += card.send_bytes()
+    assert said(it, *T0_JOB) == expected
+
+
+@pytest.mark.parametrize("t", [0, 1])
+def test_a_transport(t):
+    it, struck = simulator("INS DA once, status 6A84", t)
+    assert it.level is (Level.APDU if t else Level.TPDU)
+    with it as reader, Terminal() as terminal:
+        asked = (Select(AID), Put(0x50, b"A"), Put(0x50, b"B"), Get(0x50))
+        answers = [terminal.run(reader, each) for each in asked]
+        assert [each.status for each in answers] == [0x9000, 0x6A84, 0x9000, 0x9000]
+        assert answers[3].object(0x50).value == b"B"
+    assert struck == ["fault at command 2: faults:1: INS DA once, status 6A84"]
+
+
+@pytest.mark.parametrize("text", ["command 1, mute", "command 1, power off"])
+def test_a_transport_that_is_gone(text):
+    it, _ = simulator(text)
+    with it as reader, Terminal() as terminal, pytest.raises(Gone):
+        terminal.run(reader, Select(AID))
+    it, _ = simulator(text)
+    with pytest.raises(Gone):
+        it(SELECT)
+    with pytest.raises(Gone):
+        it(SELECT)
+    it.reset()
+    assert it(SELECT)[-2:] == b"\x61\x0b"
+
+
+def test_when():
+    """Which of eight equal commands each form strikes."""
+    name = bytes.fromhex("00CA5F2000")
+
+    def places(text, seed=0):
+        it, struck = simulator(text, seed=seed)
+        found = [answer[-2:] == b"\x6f\x00" for answer in whole(it, [JOB[0], *[name] * 7])]
+        assert len(struck) == sum(found)
+        return [at for at, each in enumerate(found, 1) if each]
+
+    assert places("command 3, status 6F00") == [3]
+    assert places("every CA, status 6F00") == [2, 3, 4, 5, 6, 7, 8]
+    assert places("INS CA once, status 6F00") == [2]
+    assert places("after 5, status 6F00") == [6, 7, 8]
+    assert places("p 0, status 6F00") == [] and len(places("p 1, status 6F00")) == 8
+    assert places("p 0.5, status 6F00", 1) == places("p 0.5, status 6F00", 1)
+    assert len({tuple(places("p .5, status 6F00", seed)) for seed in range(8)}) > 4
+
+
+@pytest.mark.parametrize(
+    ("what", "expected"),
+    [("wrong tag", "5f21034a4f459000"), ("cut 2", "5f20034a9000"), ("cut 6", "9000"),
+     ("cut 8", "9000"), ("flip 0", "5e20034a4f459000"), ("flip 47", "5f20034a4fc59000"),
+     ("flip 48", "5f20034a4f459000"), ("data 01", "019000"), ("add 01", "5f20034a4f45019000")],
+)
+def test_changes_of_data(what, expected):
+    it, struck = simulator(f"command 2, {what}")
+    answers = whole(it, [JOB[0], bytes.fromhex("00CA5F2000")])
+    assert answers[1].hex() == expected and len(struck) == (what != "flip 48")
+
+
+def test_what_a_repetition_is():
+    """After 6CXX the same header is of the same command, and a fault of bytes waits for it."""
+    get, again = (bytes.fromhex(f"00CA5F20{it}") for it in ("00", "06"))
+    it, struck = simulator("command 2, byte 7 flip; command 3, status 6F00", 0)
+    found = said(it, SELECT, get, again, SELECT)
+    assert [each.hex() for each in found[1:]] == ["6c06", "ca5f20034a4f449000", "a46f00"]
+    it, _ = simulator("", 0)
+    said(it, SELECT, get, SELECT, SELECT, again)
+    assert it.faults.count == 5 and len(struck) == 2
+
+
+def test_forget_sends_no_procedure_byte_if_no_data_follow():
+    it, _ = simulator("command 2, forget", 0)
+    assert said(it, SELECT, bytes.fromhex("00CA5F2006"))[1] == b"\x90\x00"
+
+
+def test_no_command_counts_before_since():
+    it, struck = simulator("command 1, status 6F00", since=SELECT[:5] + AID)
+    other = bytes.fromhex("00A4040006D2760001240100")
+    found = [each[-2:].hex() for each in whole(it, [GET, other, JOB[0], JOB[0]])]
+    assert found[2:] == ["6f00", "9000"]
+    assert len(struck) == 1
+
+
+WRONG = ["command, mute", "command 1", "mute", "every C, mute", "command 1, nonsense", "p 2, mute",
+         "command 1, status 5000", "command 1, cut", "command 1, wtx 256", "command 1, byte 0 flip",
+         "command 1, byte 1 insert", "command 1, data A", "after x, mute", "command 1, delay 5"]
+
+
+@pytest.mark.parametrize("line", WRONG)
+def test_a_wrong_line(line):
+    with pytest.raises(Mistake, match=r"^faults:3: not WHEN, WHAT"):
+        read(f"# a comment\n\n{line}")
+
+
+def test_what_can_not_happen():
+    text = "command 1, byte 1 flip\ncommand 2, mute\ncommand 1, lrc\ncommand 1, nulls 3"
+    faults = Faults([*read(text), *read("command 1, wrong echo")])
+    faults.check([LINE, T0, "a line at T=1", ECHO], "this line")
+    for places, wrong in (([], 4), ([LINE], 3), ([LINE, T0], 2), ([LINE, T0, ECHO], 1)):
+        with pytest.raises(Mistake) as why:
+            faults.check(places, "vpcd")
+        assert len(str(why.value).splitlines()) == wrong and "and vpcd has none" in str(why.value)
+    it, _ = simulator("command 1, lrc")
+    with pytest.raises(Mistake, match="this needs a line at T=1"):
+        it(SELECT)

@@ -1,0 +1,308 @@
+"""Tests a card of an application of your own, by each way to its line. Answers are by ISO/IEC
+7816-3 and 7816-4 and the rules of the card."""
+
+import threading
+
+import pytest
+from galliumtoad import Application, CallError, Command, Exchange, OwnCard, Session, Status
+
+
+def made(count):
+    """The first bytes of each response."""
+    return bytes((at * 7 + at // 256 + 3) % 256 for at in range(count))
+
+
+class Probe(Application):
+    """INS A4, D6 and 20 take data. P1-P2 is the number of bytes of a response: to B0 and A4 9000
+    follows them, to B2 6283. D6 and 20 have none: 9000 and 63C2. Of 5A P1-P2 is the status."""
+
+    def __init__(self):
+        self.log, self.fault, self.answer = [], None, None
+
+    def note(self, *words):
+        self.log.append(words)
+        if self.fault == words[0]:
+            raise KeyboardInterrupt(words[0])
+
+    def takes_data(self, header):
+        if self.fault == "header":
+            raise KeyboardInterrupt("header")
+        return header[1] in (0xA4, 0xD6, 0x20)
+
+    def carry_out(self, command):
+        self.note("did", command.header.hex(), command.data, command.le)
+        if self.answer:
+            return self.answer
+        ins, number = command.header[1], int.from_bytes(command.header[2:], "big")
+        data = made(number) if ins in (0xB0, 0xB2, 0xA4) else b""
+        words = {0xB0: 0x9000, 0xA4: 0x9000, 0xD6: 0x9000, 0xB2: 0x6283, 0x20: 0x63C2, 0x5A: number}
+        return words.get(ins, 0x6D00), data
+
+    def settle(self):
+        self.note("settled")
+
+    def reset(self):
+        self.note("reset")
+
+
+def own():
+    return OwnCard(Probe())
+
+
+def log(card):
+    """What reached the application since the last call."""
+    seen, card.application.log = card.application.log, []
+    return seen
+
+
+def done(header, data=b"", le=0):
+    return [("did", header, data, le), ("settled",)]
+
+
+# What a terminal sends by TPDUs, the card's answer, and the command that it carries out.
+AT_T0 = [
+    ("00B0000505", made(5) + b"\x90\x00", done("00b00005", le=5)),
+    ("00B0000500", b"\x6c\x05", done("00b00005", le=256)),
+    ("00B0000505", made(5) + b"\x90\x00", []),
+    ("00B0000504", made(4) + b"\x61\x01", done("00b00005", le=4)),
+    ("00C0000002", b"\x6c\x01", []),
+    ("A0C0123401", made(5)[4:] + b"\x90\x00", []),
+    ("00C0000001", b"\x69\x85", []),
+    ("80B2000503", made(3) + b"\x61\x02", done("80b20005", le=3)),
+    ("00C0000002", made(5)[3:] + b"\x62\x83", []),
+    ("80B2000503", made(3) + b"\x61\x02", done("80b20005", le=3)),
+    ("00D60000024142", b"\x90\x00", done("00d60000", b"AB")),
+    ("00C0000002", b"\x69\x85", []),
+    ("0060000002", b"\x6d\x00", []),
+    ("00B0025800", made(256) + b"\x61\x00", done("00b00258", le=256)),
+    ("00C0000000", made(512)[256:] + b"\x61\x58", []),
+    ("00C0000058", made(600)[512:] + b"\x90\x00", []),
+    ("00A4001003414243", b"\x61\x10", done("00a40010", b"ABC")),
+    ("00C0000010", made(16) + b"\x90\x00", []),
+    ("00200001020102", b"\x63\xc2", done("00200001", b"\x01\x02")),
+    ("00B0000005", b"\x90\x00", done("00b00000", le=5)),
+    ("00B00005", b"\x6c\x05", done("00b00005", le=256)),
+]
+
+def talk(card, tpdu, send):
+    """Passes a TPDU by characters, as a terminal at T=0 does. Returns data, SW1 and SW2."""
+    tpdu = tpdu if len(tpdu) > 4 else tpdu + b"\x00"
+    assert card.receive_bytes(tpdu[:5]) == 5
+    left, answer, asked = tpdu[5:], b"", tpdu[4] or 256
+    while (byte := send(card)) in (tpdu[1], tpdu[1] ^ 0xFF):
+        count = (len(left) or asked) if byte == tpdu[1] else 1
+        if left:
+            assert card.receive_bytes(left[:count]) == count
+            left = left[count:]
+        else:
+            answer += bytes(send(card) for _ in range(count))
+            asked -= count
+    return answer + bytes([byte, send(card)])
+
+
+def talked(card, digits):
+    return talk(card, bytes.fromhex(digits), by_ones)
+
+
+def by_ones(card):
+    [byte] = card.send_bytes(1)
+    return byte
+
+
+class Buffered:
+    """The card's characters, from buffers of this size."""
+
+    def __init__(self, room):
+        self.room, self.left = room, b""
+
+    def __call__(self, card):
+        self.left = self.left or card.send_bytes(self.room)
+        byte, self.left = self.left[0], self.left[1:]
+        return byte
+
+
+@pytest.mark.parametrize("room", [1, 2, 3, 7, 300])
+def test_at_t0(room):
+    with own() as card:
+        for sent, answer, seen in AT_T0:
+            assert talk(card, bytes.fromhex(sent), Buffered(room)) == answer, sent
+            assert (card.send_bytes(), log(card)) == (b"", seen), sent
+
+
+def each_way(command):
+    """The answer of a terminal to a command from buffers, and what reached the application."""
+    for room in (1, 10, 1024):
+        with own() as card, Exchange(command) as exchange:
+            while exchange.answer() is None:
+                card.receive_bytes(exchange.send_bytes())
+                exchange.receive_bytes(card.send_bytes(room))
+            yield exchange.answer(), log(card)
+
+
+@pytest.mark.parametrize("count", [0, 1, 5, 255, 256, 257, 511, 512, 4095, 4096])
+@pytest.mark.parametrize("le", [0, 1, 5, 255])
+def test_each_way_has_the_same_answers(count, le):
+    """The terminal gathers the first Le bytes of the response, and the status behind the last."""
+    header = bytes([0, 0xB2]) + count.to_bytes(2, "big")
+    most = min(count, le) if le else count
+    for answer, seen in each_way(header + bytes([le])):
+        assert answer.data == made(most)
+        assert answer.status == 0x6283 if most == count else answer.status >> 8 == 0x61
+        assert seen == done(header.hex(), le=le or 256)
+
+
+@pytest.mark.parametrize("size", [1, 2, 255])
+def test_each_way_takes_the_same_data(size):
+    for header, count, status in (("00a4012c", 300, 0x9000), ("00200000", 0, 0x63C2)):
+        command = bytes.fromhex(header) + bytes([size]) + made(size) + b"\x00"
+        for answer, seen in each_way(command):
+            assert answer == (Status(status), made(count)) and seen == done(header, made(size))
+
+
+READS = [
+    ("00B0000202", 2, b"\xb0" + made(2) + b"\x90\x00"),
+    ("00B0000201", 1, b"\xb0" + made(1) + b"\x61\x01"),
+    ("00B0000203", 3, b"\x6c\x02"),
+]
+
+
+@pytest.mark.parametrize(("tpdu", "le", "sent"), READS)
+def test_a_command_settles_with_its_last_byte(tpdu, le, sent):
+    """A reset before SW2 drops it."""
+    for passed in range(len(sent) + 1):
+        with own() as card:
+            assert card.receive_bytes(bytes.fromhex(tpdu) + b"\x00") == 5
+            assert log(card) == []
+            assert card.send_bytes(passed) == sent[:passed]
+            seen = done("00b00002", le=le)
+            assert log(card) == seen[: (passed > 0) + (passed == len(sent))]
+            card.reset()
+            assert log(card) == [("reset",)]
+            assert talked(card, "00C0000001") == b"\x69\x85"
+            assert talked(card, "00D600000141") == b"\x90\x00"
+            assert log(card) == done("00d60000", b"A")
+
+
+WAYS = {"characters": 1, "buffers": 1024}
+
+
+def is_as_after_a_reset(card):
+    """The application was reset once, nothing waits, and the next command is carried out."""
+    assert [it for it in log(card) if it[0] == "reset"] == [("reset",)]
+    card.application.fault = card.application.answer = None
+    assert talked(card, "00C0000002") == b"\x69\x85"
+    assert talked(card, "00D600000141") == b"\x90\x00"
+    assert log(card) == done("00d60000", b"A")
+
+
+@pytest.mark.parametrize("way", WAYS)
+@pytest.mark.parametrize("fault", ["header", "did", "settled"])
+def test_an_exception_resets_the_card(way, fault):
+    with own() as card:
+        assert talked(card, "00B0000503")[3:] == b"\x61\x02"
+        log(card)
+        card.application.fault = fault
+        with pytest.raises(KeyboardInterrupt, match=fault):
+            card.receive_bytes(bytes.fromhex("00B0000505"))
+            while card.send_bytes(WAYS[way]):
+                pass
+        is_as_after_a_reset(card)
+
+
+WRONG = [((word, b""), CallError) for word in (0x6100, 0x61FF, 0x6C05, 0x60FF, 0x5FFF, 0xA000)]
+WRONG += [((0x9000, bytes(4097)), CallError), ((0x10000, b""), ValueError)]
+WRONG += [((-1, b""), ValueError), ((0x9000, "text"), TypeError), (("9000", b""), TypeError)]
+WRONG += [((0x9000,), ValueError), (0x9000, TypeError)]
+
+
+@pytest.mark.parametrize("way", WAYS)
+@pytest.mark.parametrize(("answer", "error"), WRONG)
+def test_what_no_application_answers(way, answer, error):
+    with own() as card:
+        card.application.answer = answer
+        with pytest.raises(error) as found:
+            card.receive_bytes(bytes.fromhex("00B0000505"))
+            while card.send_bytes(WAYS[way]):
+                pass
+        assert error is not CallError or found.value.name == "GT_ARGUMENT"
+        is_as_after_a_reset(card)
+
+
+def test_what_an_application_answers():
+    for word in (0x6200, 0x6BFF, 0x6D00, 0x6FFF, 0x9000, 0x9FFF):
+        for data in (b"AB", bytearray(b"AB"), memoryview(b"AB")):
+            with own() as card:
+                card.application.answer = (Status(word), data)
+                assert talked(card, "0010000002") == b"AB" + word.to_bytes(2, "big")
+
+
+def test_a_refused_call_changes_nothing():
+    with own() as card:
+        assert card.receive_bytes(bytes.fromhex("00B000050512")) == 5
+        for call, data, error in (
+            (card.receive_bytes, "text", TypeError),
+            (card.send_bytes, -1, ValueError),
+            (card.send_bytes, (1 << 30) + 1, ValueError),
+            (Session, card, TypeError),
+        ):
+            with pytest.raises(error):
+                call(data)
+        assert (card.receive_bytes(b"A"), card.send_bytes(0), log(card)) == (0, b"", [])
+        assert card.send_bytes() == b"\xb0" + made(5) + b"\x90\x00"
+
+
+def test_a_closed_card():
+    card = own()
+    card.close()
+    for call in (lambda: card.receive_bytes(bytes(5)), card.send_bytes, card.reset):
+        with pytest.raises(CallError) as found:
+            call()
+        assert found.value.name == "GT_EMPTY"
+    assert log(card) == []
+
+
+@pytest.mark.parametrize("where", ["here", "in another thread"])
+def test_the_application_has_the_card_alone(where):
+    """A call of the card from its application, or meanwhile from another thread, is refused."""
+    with own() as card:
+        found = []
+
+        def use():
+            for call in (card.reset, card.send_bytes, card.close):
+                try:
+                    call()
+                except RuntimeError as error:
+                    found.append(str(error))
+
+        def settle():
+            thread = threading.Thread(target=use)
+            thread.start() if where != "here" else use()
+            thread.join() if where != "here" else None
+
+        card.application.settle = settle
+        assert talked(card, "00B0000505") == made(5) + b"\x90\x00"
+        assert found == ["another thread is in a call of this handle"] * 3
+
+
+def test_what_shows():
+    command = Command(bytes.fromhex("00200081"), b"1234", 0)
+    assert repr(command) == f"{command}" == "Command(00200081, <4 bytes>, le=0)"
+    assert "1234" not in repr([command])
+
+
+def test_an_application_needs_two_functions():
+    class Half(Application):
+        def takes_data(self, header):
+            return True
+
+    with pytest.raises(TypeError, match="carry_out"):
+        Half()
+
+    class Two(Half):
+        def carry_out(self, command):
+            return 0x9000, command.data
+
+    with OwnCard(Two()) as card:
+        assert talked(card, "00100000024142") == b"\x61\x02"
+        card.reset()
+        assert card.application.settle() is card.application.reset() is None

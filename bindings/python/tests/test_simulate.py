@@ -1,0 +1,299 @@
+"""Tests the program `galliumtoad.simulate`: tables, a pseudo terminal, a tty, and vpcd, whose part
+a socket plays here."""
+
+import os
+import pty
+import select
+import socket
+import subprocess
+import sys
+import threading
+import time
+import tty
+from pathlib import Path
+
+import pytest
+from galliumtoad import Card, simulate
+from galliumtoad.faults import Faults, Mistake, block, read
+from galliumtoad.simulate import Simulator, main, read_table, serve_vpcd
+
+SOURCE = str(Path(simulate.__file__).parent.parent)
+AID = "A0000000031010"
+TABLE = f"app {AID}\nobject 5F20 4A4F45\nlocked 50 -\n"
+SELECT = bytes.fromhex(f"00A4040007{AID}")
+
+
+class Card_at_pty:
+    """The program at a pseudo terminal, and this end of it."""
+
+    def __init__(self, folder, table=TABLE, faults="", words=()):
+        (folder / "table").write_text(table)
+        (folder / "faults").write_text(faults)
+        program = [sys.executable, "-m", "galliumtoad.simulate", "--table", folder / "table"]
+        program += ["--pty", "--faults", folder / "faults", *words]
+        self.program = subprocess.Popen(
+            program, stdout=subprocess.PIPE, text=True, env={**os.environ, "PYTHONPATH": SOURCE}
+        )
+        self.name = self.program.stdout.readline().strip()
+        self.line = -1
+
+    def open(self):
+        self.line = os.open(self.name, os.O_RDWR | os.O_NOCTTY)
+
+    def close(self):
+        os.close(self.line)
+        time.sleep(0.3)
+
+    def read(self, count, seconds=10):
+        found = b""
+        while len(found) < count and select.select([self.line], [], [], seconds)[0]:
+            found += os.read(self.line, 1)
+        return found
+
+    def talk(self, sent, count, has_echo=True):
+        """Sends characters, and returns `count` of the card."""
+        for byte in sent:
+            os.write(self.line, bytes([byte]))
+            if has_echo:
+                assert self.read(1) == bytes([byte])
+        return self.read(count)
+
+    def end(self):
+        if self.program.returncode is None:
+            self.program.kill()
+            self.lines = self.program.communicate()[0].splitlines()
+        return self.lines
+
+
+@pytest.fixture
+def at_pty(tmp_path):
+    made = []
+
+    def start(*words, **more):
+        made.append(Card_at_pty(tmp_path, *words, **more))
+        return made[-1]
+
+    yield start
+    for it in made:
+        it.end()
+
+
+def test_a_line_at_t0(at_pty, tmp_path):
+    """Each opening resets the card, and the trace is that of the line."""
+    card = at_pty(faults="INS CA once, status 6F00", words=["-v"])
+    for status in ("6f00", "6985"):
+        card.open()
+        assert card.read(2).hex() == "3b00"
+        assert card.talk(bytes.fromhex("00CA5F2006"), 2).hex() == status
+        assert card.talk(SELECT[:5], 1).hex() == "a4"
+        assert card.talk(SELECT[5:], 2).hex() == "610b"
+        found = card.talk(bytes.fromhex("00CA5F2006"), 9)
+        assert found.hex() == "ca5f20034a4f459000"
+        card.close()
+    struck = f"fault at command 1: {tmp_path}/faults:1: INS CA once, status 6F00"
+    assert card.end()[:5] == ["reset", "< 3B00", "> 00CA5F2006", struck, "< 6F00"]
+
+
+def test_a_line_at_t1(at_pty):
+    card = at_pty(TABLE + "atr 3B800181\n", words=["--no-echo"])
+    card.open()
+    assert card.read(4).hex() == "3b800181"
+    command = block(0, 0, SELECT + b"\x00")
+    assert card.talk(command, 17, False)[3:-1].hex() == "6f098407a00000000310109000"
+    os.write(card.line, command[:7])  # and then it stops: the card asks for the block again
+    assert card.read(4).hex() == "00920092"
+    card.close()
+
+
+@pytest.mark.parametrize(
+    ("atr", "request_", "response"),
+    [("3B800181", "FF01FE", "ff01fe"), ("3B80800101", "FF01FE", "ff01fe"),
+     ("3B80800101", "FF00FF", "ff00ff"), ("3B800181", "FF1111FF", "ff1111ff"),
+     ("3B800181", "FF11957B", "ff01fe"), ("3B800181", "FF00FF", ""), ("3B800181", "FF01FF", "")],
+)
+def test_pps(at_pty, atr, request_, response):
+    card = at_pty(TABLE + f"atr {atr}\n")
+    card.open()
+    card.read(len(atr) // 2)
+    assert card.talk(bytes.fromhex(request_), len(response) // 2).hex() == response
+    assert card.read(1, 0.3) == b""
+    if response == "ff01fe":
+        assert card.talk(block(0, 0xC1, b"\x20"), 5) == block(0, 0xE1, b"\x20")
+    if response == "ff00ff":
+        assert card.talk(SELECT[:5], 1).hex() == "a4"
+    card.close()
+
+
+def test_inverse_convention(at_pty):
+    card = at_pty(TABLE + "atr 3F00\n")
+    card.open()
+    # TS of the inverse convention, as a line in the direct one shows it
+    assert card.read(2).hex() == "03ff"
+    turned = bytes(int(f"{it:08b}"[::-1], 2) ^ 0xFF for it in SELECT[:5])
+    assert card.talk(turned, 1) == bytes([int(f"{0xA4:08b}"[::-1], 2) ^ 0xFF])
+    card.close()
+
+
+@pytest.mark.parametrize("fault", ["mute", "power off"])
+def test_silence_until_the_next_reset(at_pty, fault):
+    card = at_pty(faults=f"command 1, {fault}")
+    for is_gone in (True, False):
+        card.open()
+        assert card.read(2).hex() == "3b00"
+        assert card.talk(bytes.fromhex("00CA5F2006"), 0) == b""
+        assert card.read(2, 0.5 if is_gone else 10).hex() == ("" if is_gone else "6985")
+        card.close()
+
+
+def test_a_tty(tmp_path):
+    """The other end of a pseudo terminal stands for the terminal of a tty. If that closes, the
+    program ends."""
+    ours, theirs = pty.openpty()
+    tty.setraw(theirs)
+    (tmp_path / "table").write_text(TABLE)
+    words = ["--table", str(tmp_path / "table"), "--tty", os.ttyname(theirs), "--baud", "19200"]
+    program = subprocess.Popen(
+        [sys.executable, "-m", "galliumtoad.simulate", *words],
+        env={**os.environ, "PYTHONPATH": SOURCE},
+        stderr=subprocess.PIPE,
+    )
+    found = b""
+    while len(found) < 2 and select.select([ours], [], [], 20)[0]:
+        found += os.read(ours, 2)
+    assert found.hex() == "3b00"
+    os.write(ours, SELECT[:5])
+    assert os.read(ours, 1).hex() == "a4"
+    os.close(theirs)
+    os.close(ours)
+    assert program.wait(20) == 1
+
+
+class Vpcd:
+    """What vpcd does with a card: messages with their lengths, over a socket."""
+
+    def __init__(self, faults="", of=None):
+        self.server = socket.create_server(("localhost", 0))
+        self.server.settimeout(20)
+        found = Faults(read(faults))
+        self.struck = []
+        card = Card({bytes.fromhex(AID): {0x5F20: b"JOE"}})
+        self.simulator = of or Simulator(card, faults=found)
+        found.tell = self.struck.append
+        address = f"localhost:{self.server.getsockname()[1]}"
+        self.thread = threading.Thread(target=serve_vpcd, args=(self.simulator, address))
+        self.thread.start()
+        self.accept()
+
+    def accept(self):
+        self.line = self.server.accept()[0]
+        self.line.settimeout(20)
+
+    def say(self, data):
+        self.line.sendall(len(data).to_bytes(2, "big") + data)
+
+    def ask(self, data):
+        """The answer, or None if the connection has ended."""
+        self.say(data)
+        size = self.line.recv(2)
+        return self.line.recv(int.from_bytes(size, "big")) if size else None
+
+    def end(self):
+        self.simulator.is_over.set()
+        self.line.close()
+        self.server.close()
+        self.thread.join()
+
+
+@pytest.fixture
+def vpcd():
+    made = []
+
+    def start(*words):
+        made.append(Vpcd(*words))
+        return made[-1]
+
+    yield start
+    for it in made:
+        it.end()
+
+
+def test_vpcd(vpcd):
+    it = vpcd("")
+    it.say(b"\x01")
+    assert it.ask(b"\x04").hex() == "3b00"
+    assert it.ask(SELECT).hex() == "610b"
+    assert it.ask(bytes.fromhex("00CA5F2000")).hex() == "5f20034a4f459000"
+    assert it.ask(bytes.fromhex("00CA")).hex() == "6700"
+    assert it.ask(bytes.fromhex("006A000000")).hex() == "6d00"
+    it.say(b"\x02")
+    assert it.ask(bytes.fromhex("00CA5F2000")).hex() == "6985"
+    it.ask(SELECT)
+    it.say(b"\x00")
+    assert it.ask(bytes.fromhex("00CA5F2000")).hex() == "6985"
+
+
+@pytest.mark.parametrize(("fault", "least"), [("mute", 5), ("power off", 0)])
+def test_vpcd_loses_the_card(vpcd, monkeypatch, fault, least):
+    """A mute card leaves later than one without power. Both come again, reset."""
+    monkeypatch.setattr(simulate, "MUTE_FOR", 5.0)
+    it = vpcd(f"command 2, {fault}")
+    it.ask(SELECT)
+    begun = time.monotonic()
+    assert it.ask(bytes.fromhex("00CA5F2000")) is None
+    assert least <= time.monotonic() - begun < least + 4.5
+    it.line.close()
+    it.accept()
+    assert it.ask(bytes.fromhex("00CA5F2000")).hex() == "6985" and len(it.struck) == 1
+
+
+def test_a_delay(vpcd):
+    it = vpcd("command 1, delay 0.5s")
+    begun = time.monotonic()
+    assert it.ask(SELECT).hex() == "610b" and time.monotonic() - begun >= 0.5
+
+
+@pytest.mark.parametrize(
+    ("table", "line"),
+    [("object 50 AA", 1), ("app A0", 1), (f"app {AID}\napp {AID}", 2), ("\n# a\nnonsense", 3),
+     (f"app {AID}\nobject 50", 2), (f"app {AID}\nobject 50 A", 2), ("atr 3B00\natr 3B00", 2),
+     (f"app {AID}\nobject 5F 00", 2)],
+)
+def test_a_wrong_table(tmp_path, table, line):
+    (tmp_path / "table").write_text(table)
+    with pytest.raises(Mistake, match=f"table: line {line}: "):
+        read_table(str(tmp_path / "table"))
+
+
+def test_a_table(tmp_path):
+    (tmp_path / "table").write_text(f"# cards\n\n{TABLE}atr 3B800181\n")
+    card, atr = read_table(str(tmp_path / "table"))
+    found = [(it.tag, it.value, it.is_locked) for it in card.entries(bytes.fromhex(AID))]
+    assert found == [(0x5F20, b"JOE", False), (0x50, b"", True)] and atr.hex() == "3b800181"
+
+
+@pytest.mark.parametrize(
+    ("words", "faults", "text"),
+    [(["--vpcd"], "after 1, mute\nafter 2, lrc", "faults:2: after 2, lrc: this needs a line at"),
+     (["--vpcd"], "command 1, byte 3 drop", "needs a line, and vpcd has none"),
+     (["--pty"], "command 1, lrc", "needs a line at T=1, and this line has none"),
+     (["--pty", "--no-echo"], "command 1, wrong echo", "needs an echo, and this line has none"),
+     (["--pty", "--atr", "3B800181"], "command 1, nulls 3", "needs a line at T=0"),
+     (["--pty", "--atr", "3B800E8E"], "", "a line needs an answer to reset that"),
+     (["--pty"], "nonsense", "faults:1: not WHEN, WHAT of a fault: nonsense")],
+)
+def test_errors_before_anything_runs(tmp_path, capsys, words, faults, text):
+    (tmp_path / "table").write_text(TABLE)
+    (tmp_path / "faults").write_text(faults)
+    files = ["--table", str(tmp_path / "table"), "--faults", str(tmp_path / "faults")]
+    assert main([*files, *words]) == 2
+    out, error = capsys.readouterr()
+    assert text in error and out == ""
+
+
+def test_files_that_are_missing(tmp_path, capsys):
+    table = str(tmp_path / "table")
+    assert main(["--table", table, "--pty"]) == 2 and "No such file" in capsys.readouterr().err
+    (tmp_path / "table").write_text(TABLE)
+    assert main(["--table", table, "--pty", "--faults", "/none"]) == 2
+    assert main(["--table", table, "--tty", "/none"]) == 1
+    assert capsys.readouterr().err.count("No such file") == 2

@@ -1,0 +1,88 @@
+"""Tests the program `galliumtoad.trials` with terminals that are good, or bad in a known way."""
+
+import json
+import sys
+from pathlib import Path
+
+import pytest
+from galliumtoad import trials
+from galliumtoad.trials import VALUE, Run, main
+
+JOB = [sys.executable, str(Path(__file__).with_name("job.py"))]
+JOB += ["{tty}", "{aid}", "{tag}", "{value}"]
+
+
+def run(tmp_path, only, *ways, limit=20):
+    """The verdicts of a terminal, the exit status, and the page."""
+    made = tmp_path / "made.json"
+    words = ["--only", only, "--limit", str(limit), "--json", str(made)]
+    status = main([*words, "--html", str(tmp_path / "made.html"), "--", *JOB, *ways])
+    found = {it["name"]: it["verdict"] for it in json.loads(made.read_text())}
+    return found, status, (tmp_path / "made.html").read_text()
+
+
+@pytest.mark.parametrize(
+    ("only", "verdict"),
+    [("put refused in the middle", "told"), ("put without answer at the end", "told"),
+     ("select with a wrong template", "right"), ("nulls before", "right"),
+     ("status before the data", "told"), ("byte lost", "told"), ("get with a wrong tag", "told")],
+)
+def test_a_good_terminal(tmp_path, only, verdict):
+    found, status, page = run(tmp_path, only)
+    assert list(found.values()) == [verdict] and status == 0
+    assert f"<td>{verdict}<td>" in page and "ISO/IEC" in page or "EMV" in page
+
+
+@pytest.mark.parametrize(
+    ("only", "way", "verdict", "limit"),
+    [("put forgotten at the end", "blind", "wrong", 20),
+     ("put warns at the end", "again", "told", 20),
+     ("select with a wrong template", "again", "twice", 20),
+     ("select refused", "hangs", "hung", 2), ("select refused", "crashes", "crashed", 20)],
+)
+def test_a_bad_terminal(tmp_path, capsys, only, way, verdict, limit):
+    found, status, _ = run(tmp_path, only, way, limit=limit)
+    assert list(found.values()) == [verdict] and status == (verdict != "told")
+    assert f"1 {verdict}\n" in capsys.readouterr().out
+
+
+def test_what_no_terminal_sees_does_not_count(tmp_path, capsys):
+    found, status, _ = run(tmp_path, "put forgotten in the middle")
+    assert list(found.values()) == ["wrong"] and status == 0
+    assert "wrong  *" in capsys.readouterr().out
+
+
+def test_verdicts():
+    trial = next(it for it in trials.trials() if it.name == "select late")
+    for value, output, is_struck, verdict in [
+        (VALUE, VALUE.hex(), True, "right"), (VALUE, VALUE.hex(" ").upper(), True, "right"),
+        (VALUE, VALUE.hex(), False, "unmet"), (VALUE, VALUE[:-1].hex(), True, "wrong"),
+        (VALUE[:-1], VALUE.hex(), True, "wrong"), (VALUE, "", True, "wrong"),
+    ]:
+        it = Run(trial, 0)
+        it.simulator.apdu(bytes.fromhex("00A4040007A0000000031010"))
+        pieces = [value[at : at + 255] for at in range(0, len(value), 255)]
+        for at, piece in enumerate(pieces, 1):
+            cla = 0 if at == len(pieces) else 16
+            it.simulator.apdu(bytes([cla, 0xDA, 0, 0x51, len(piece)]) + piece)
+        it.struck += ["struck"] * is_struck
+        assert it.verdict(0, output) == verdict
+        assert it.verdict(None, output) == "hung" and it.verdict(-11, output) == "crashed"
+        assert it.verdict(1, output) == ("told" if is_struck else "unmet")
+        assert it.verdict(139, output) == "crashed"
+
+
+def test_what_can_be_tried():
+    """A reader gets whole commands, a line all."""
+    parsed = trials.parser().parse_args(["--", "x", "{reader}"])
+    assert len(trials.possible(parsed)) == 45
+    parsed = trials.parser().parse_args(["--", "x", "{tty}"])
+    assert len(trials.possible(parsed)) == 60
+    assert {Run(it, 1).simulator.atr[1] for it in trials.possible(parsed)} == {0, 0x80}
+
+
+def test_other_words(capsys):
+    assert main(["--", "true"]) == 2 and "neither" in capsys.readouterr().err
+    assert main(["--list"]) == 0 and capsys.readouterr().out.count("\n\n") == 59
+    assert main(["--vpcd", "localhost:1", "--", "{reader}"]) == 2
+    assert main(["--only", "late", "--", "/none/at/all", "{tty}"]) == 2

@@ -8,7 +8,8 @@
  * - characters: the same, one character at a time.
  * - tpdus: the same, by whole TPDUs.
  * - apdus: the same, by whole commands. The characters are those of the TPDUs.
- * - by_hand: both ends of ends_by_hand.c, one character at a time. */
+ * - by_hand: both ends of ends_by_hand.c, one character at a time.
+ * - hand_buffers: the same by buffers. */
 #define _POSIX_C_SOURCE 199309L
 
 #include "ends_by_hand.h"
@@ -210,6 +211,7 @@ static size_t passed;
 static void hand_start(void)
 {
     size_t i;
+    terminal_new(&hand_terminal);
     card_begin(&hand_card, AID, sizeof AID);
     for (i = 0; i < 2; i++)
         need(card_object(&hand_card, LOADS[i].tag, value, LOADS[i].size) == NO_FAULT, "an object");
@@ -246,6 +248,22 @@ static uint16_t hand_carry_out(const struct load *load, size_t *len)
     return terminal_answer(&hand_terminal, data, sizeof data, len);
 }
 
+static uint16_t hand_buffers(const struct load *load, size_t *len)
+{
+    static uint8_t buffer[BUFFER];
+    size_t n, taken;
+    hand_begin(load);
+    for (;;) {
+        enum turn turn = terminal_send_bytes(&hand_terminal, buffer, sizeof buffer, &n);
+        need(card_receive_bytes(&hand_card, buffer, n, &taken) == NO_FAULT, "the card listens");
+        if (turn == DONE)
+            return terminal_answer(&hand_terminal, data, sizeof data, len);
+        need(turn == LISTENS && card_send_bytes(&hand_card, buffer, sizeof buffer, &n) == LISTENS
+             && terminal_receive_bytes(&hand_terminal, buffer, n, &taken) == NO_FAULT,
+             "the terminal listens");
+    }
+}
+
 /* ---- What is measured ------------------------------------------------------------------------ */
 
 static const struct way {
@@ -260,6 +278,7 @@ static const struct way {
     { "tpdus", ends_start, tpdus_carry_out },
     { "apdus", ends_start, apdus_carry_out },
     { "by_hand", hand_start, hand_carry_out },
+    { "hand_buffers", hand_start, hand_buffers },
 };
 
 /* The processor time of this program, so that other work of the machine matters less. */
@@ -288,7 +307,7 @@ static void check_characters(const struct way *way, const struct load *load)
     carry_out(way, load);
     if (way->start == heard_start)
         need(gt_session_heard(&session, NULL, 0, &count) == GT_BUFFER, "characters");
-    else if (way->start == hand_start)
+    else if (way->carry_out == hand_carry_out)
         count = passed;
     need(count == 0 || count == load->characters, "another number of characters");
 }
@@ -343,6 +362,7 @@ int main(int argc, char **argv)
                 measure(&WAYS[i], &LOADS[j]);
         return 0;
     }
-    fail("one word: session, heard, buffers, characters, tpdus, apdus or by_hand");
+    fail("one word: session, heard, buffers, characters, tpdus, apdus, by_hand or "
+         "hand_buffers");
     return 1;
 }

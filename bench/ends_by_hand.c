@@ -34,23 +34,44 @@ static void begin_piece(struct terminal *terminal)
     terminal->gathered = 0;
 }
 
+/* A call by pointer, so that a compiler does not drop it. */
+static void *(*const volatile wipe)(void *, int, size_t) = memset;
+
+void terminal_new(struct terminal *terminal)
+{
+    memset(terminal, 0, sizeof *terminal);
+    terminal->live = true;
+    terminal->stage = HOST_ENDED;
+}
+
 static enum fault begin(struct terminal *terminal, uint8_t ins, uint8_t p1, uint8_t p2,
                         const uint8_t *content, size_t n, size_t wanted)
 {
-    uint8_t *response = malloc(RESPONSE_LIMIT);
-    uint8_t *copy = malloc(n > 0 ? n : 1);
-    if (response == NULL || copy == NULL) {
-        free(response);
-        free(copy);
+    if (!terminal->live)
+        return EMPTY;
+    if (terminal->stage != HOST_ENDED)
+        return STALLED;
+    if (terminal->response == NULL && (terminal->response = malloc(RESPONSE_LIMIT)) == NULL)
         return OUT_OF_MEMORY;
+    if (n > terminal->capacity) {
+        uint8_t *more = malloc(n);
+        if (more == NULL)
+            return OUT_OF_MEMORY;
+        if (terminal->content != NULL) {
+            wipe(terminal->content, 0, terminal->capacity);
+            free(terminal->content);
+        }
+        terminal->content = more;
+        terminal->capacity = n;
     }
-    terminal_free(terminal);
+    if (terminal->gathered > 0)
+        memset(terminal->response, 0, terminal->gathered);
     if (n > 0)
-        memcpy(copy, content, n);
-    memset(terminal, 0, sizeof *terminal);
-    terminal->content = copy;
+        memcpy(terminal->content, content, n);
     terminal->size = n;
-    terminal->response = response;
+    terminal->from = 0;
+    terminal->fetches = terminal->repeats = false;
+    terminal->before = 0;
     terminal->wanted = wanted;
     terminal->asks = n == 0 && wanted > 0;
     terminal->header[1] = ins;
@@ -77,16 +98,36 @@ enum fault terminal_put(struct terminal *terminal, uint16_t tag, const uint8_t *
     return begin(terminal, PUT_DATA, (uint8_t)(tag >> 8), (uint8_t)tag, value, n, 0);
 }
 
+static void end_out(struct terminal *terminal)
+{
+    terminal->moved = terminal->until;
+    terminal->stage = HOST_AWAITING;
+}
+
+static void end_in(struct terminal *terminal)
+{
+    const size_t gathered = (size_t)(terminal->in - terminal->response);
+    terminal->moved += gathered - terminal->gathered;
+    terminal->gathered = gathered;
+    if (terminal->moved == terminal->until)
+        terminal->stage = HOST_AWAITING;
+}
+
 enum turn terminal_next(struct terminal *terminal, uint8_t *byte)
 {
+    if (terminal->outs > 0) {
+        *byte = *terminal->out++;
+        if (--terminal->outs == 0)
+            end_out(terminal);
+        return SENDS;
+    }
+    if (terminal->ins > 0)
+        return LISTENS;
+    if (!terminal->live)
+        return DONE;
     switch (terminal->stage) {
     case HOST_MOVING:
-        if (terminal->asks)
-            return LISTENS;
-        *byte = terminal->content[terminal->from + terminal->moved];
-        if (++terminal->moved == terminal->until)
-            terminal->stage = HOST_AWAITING;
-        return SENDS;
+        return LISTENS;
     case HOST_OPENING:
         *byte = terminal->header[terminal->sent];
         if (++terminal->sent == sizeof terminal->header) {
@@ -125,6 +166,13 @@ static enum fault take_procedure_byte(struct terminal *terminal, uint8_t byte)
     if (terminal->moved < until) {
         terminal->until = until;
         terminal->stage = HOST_MOVING;
+        if (terminal->asks) {
+            terminal->in = terminal->response + terminal->gathered;
+            terminal->ins = less(until - terminal->moved, RESPONSE_LIMIT - terminal->gathered);
+        } else {
+            terminal->out = terminal->content + terminal->from + terminal->moved;
+            terminal->outs = until - terminal->moved;
+        }
     }
     return NO_FAULT;
 }
@@ -168,16 +216,17 @@ static enum fault follow(struct terminal *terminal)
 
 enum fault terminal_take(struct terminal *terminal, uint8_t byte)
 {
+    if (terminal->ins > 0) {
+        *terminal->in++ = byte;
+        if (--terminal->ins == 0)
+            end_in(terminal);
+        return NO_FAULT;
+    }
+    if (!terminal->live)
+        return EMPTY;
     switch (terminal->stage) {
     case HOST_MOVING:
-        if (!terminal->asks)
-            return NOT_LISTENING;
-        if (terminal->gathered == RESPONSE_LIMIT)
-            return TOO_LONG;
-        terminal->response[terminal->gathered++] = byte;
-        if (++terminal->moved == terminal->until)
-            terminal->stage = HOST_AWAITING;
-        return NO_FAULT;
+        return terminal->asks ? TOO_LONG : NOT_LISTENING;
     case HOST_AWAITING:
         return take_procedure_byte(terminal, byte);
     case HOST_SECOND_STATUS:
@@ -200,6 +249,10 @@ uint16_t terminal_answer(const struct terminal *terminal, uint8_t *data, size_t 
 
 void terminal_free(struct terminal *terminal)
 {
+    if (terminal->content != NULL)
+        wipe(terminal->content, 0, terminal->capacity);
+    if (terminal->response != NULL)
+        wipe(terminal->response, 0, RESPONSE_LIMIT);
     free(terminal->content);
     free(terminal->response);
     terminal->content = NULL;
@@ -222,6 +275,7 @@ void card_begin(struct card *card, const uint8_t *aid, size_t n)
     memset(card, 0, sizeof *card);
     memcpy(card->aid, aid, n);
     card->aid_size = n;
+    card->live = true;
 }
 
 static uint8_t *copy_of(const uint8_t *value, size_t n)
@@ -237,8 +291,10 @@ static void store(struct card *card, uint16_t tag, uint8_t *value, size_t n)
     struct entry *entry = place_of(card, tag);
     if (entry->tag == 0)
         card->entry_count++;
-    else
+    else {
+        wipe(entry->value, 0, entry->size);
         free(entry->value);
+    }
     entry->tag = tag;
     entry->value = value;
     entry->size = n;
@@ -255,10 +311,14 @@ enum fault card_object(struct card *card, uint16_t tag, const uint8_t *value, si
 
 enum fault card_take(struct card *card, uint8_t byte)
 {
-    if (card->stage == CARD_RECEIVING && card->moved < card->opening[4]) {
-        card->came[card->moved++] = byte;
+    if (card->ins > 0) {
+        *card->in++ = byte;
+        if (--card->ins == 0)
+            card->moved = card->opening[4];
         return NO_FAULT;
     }
+    if (!card->live)
+        return EMPTY;
     if (card->stage == CARD_OPENING && card->taken < sizeof card->opening) {
         card->opening[card->taken++] = byte;
         return NO_FAULT;
@@ -475,12 +535,31 @@ static void settle(struct card *card)
         card->is_selected = true;
     if (card->outcome != JOINS) {
         card->chains = false;
+        memset(card->chained, 0, card->chained_size);
         card->chained_size = 0;
     }
     card->stored = NULL;
     card->has_response = is_pending;
     if (is_pending)
         card->response = card->sends;
+}
+
+/* Finds the next run of data to send. */
+static void next_run(struct card *card)
+{
+    const struct response *response = &card->sends;
+    const size_t place = response->sent + card->moved;
+    const size_t left = count_of(card->opening[4]) - card->moved;
+    if (left == 0)
+        return;
+    if (place < response->len) {
+        card->out = response->front + place;
+        card->outs = less(response->len - place, left);
+    } else {
+        card->out = response->entry->value + place - response->len;
+        card->outs = left;
+    }
+    card->moved += card->outs;
 }
 
 static uint8_t first_status(struct card *card)
@@ -498,6 +577,7 @@ static uint8_t first_character(struct card *card)
     card->moved = 0;
     if (ins == GET_DATA || ins == GET_RESPONSE) {
         card->stage = CARD_SENDING;
+        next_run(card);
         return ins;
     }
     if (card->opening[4] == 0) {
@@ -505,26 +585,25 @@ static uint8_t first_character(struct card *card)
         return first_status(card);
     }
     card->stage = CARD_RECEIVING;
+    card->in = card->came;
+    card->ins = card->opening[4];
     return ins;
-}
-
-static uint8_t byte_of(const struct response *response, size_t at)
-{
-    const size_t place = response->sent + at;
-    return place < response->len ? response->front[place]
-                                 : response->entry->value[place - response->len];
 }
 
 enum turn card_turn(struct card *card, uint8_t *byte)
 {
+    if (card->outs > 0) {
+        *byte = *card->out++;
+        if (--card->outs == 0)
+            next_run(card);
+        return SENDS;
+    }
+    if (!card->live)
+        return DONE;
     switch (card->stage) {
     case CARD_SENDING:
-        if (card->moved < count_of(card->opening[4])) {
-            *byte = byte_of(&card->sends, card->moved++);
-        } else {
-            answer_sent(card);
-            *byte = first_status(card);
-        }
+        answer_sent(card);
+        *byte = first_status(card);
         return SENDS;
     case CARD_RECEIVING:
         if (card->moved < card->opening[4])
@@ -540,6 +619,7 @@ enum turn card_turn(struct card *card, uint8_t *byte)
     default:
         *byte = card->sw2;
         settle(card);
+        memset(card->came, 0, sizeof card->came);
         card->stage = CARD_OPENING;
         card->taken = 0;
         return SENDS;
@@ -549,8 +629,107 @@ enum turn card_turn(struct card *card, uint8_t *byte)
 void card_free(struct card *card)
 {
     size_t i;
-    for (i = 0; i < 2 * ENTRY_LIMIT; i++)
+    for (i = 0; i < 2 * ENTRY_LIMIT; i++) {
+        if (card->entries[i].value != NULL)
+            wipe(card->entries[i].value, 0, card->entries[i].size);
         free(card->entries[i].value);
+    }
     free(card->stored);
     memset(card, 0, sizeof *card);
+}
+
+/* ---- By buffers ------------------------------------------------------------------------------ */
+
+enum turn terminal_send_bytes(struct terminal *terminal, uint8_t *bytes, size_t room, size_t *n)
+{
+    size_t at = 0;
+    enum turn turn = SENDS;
+    *n = 0;
+    while (at < room) {
+        if (terminal->outs > 0) {
+            const size_t run = less(terminal->outs, room - at);
+            memcpy(bytes + at, terminal->out, run);
+            terminal->out += run;
+            at += run;
+            if ((terminal->outs -= run) == 0)
+                end_out(terminal);
+        } else {
+            turn = terminal_next(terminal, bytes + at);
+            if (turn != SENDS)
+                break;
+            at++;
+        }
+    }
+    *n = at;
+    return turn;
+}
+
+enum fault terminal_receive_bytes(struct terminal *terminal, const uint8_t *bytes, size_t n,
+                                  size_t *taken)
+{
+    size_t at = 0;
+    enum fault fault = NO_FAULT;
+    while (at < n) {
+        if (terminal->ins > 0) {
+            const size_t run = less(terminal->ins, n - at);
+            memcpy(terminal->in, bytes + at, run);
+            terminal->in += run;
+            at += run;
+            if ((terminal->ins -= run) == 0)
+                end_in(terminal);
+        } else {
+            fault = terminal_take(terminal, bytes[at]);
+            if (fault != NO_FAULT)
+                break;
+            at++;
+        }
+    }
+    *taken = at;
+    return fault;
+}
+
+enum turn card_send_bytes(struct card *card, uint8_t *bytes, size_t room, size_t *n)
+{
+    size_t at = 0;
+    enum turn turn = SENDS;
+    while (at < room) {
+        if (card->outs > 0) {
+            const size_t run = less(card->outs, room - at);
+            memcpy(bytes + at, card->out, run);
+            card->out += run;
+            at += run;
+            if ((card->outs -= run) == 0)
+                next_run(card);
+        } else {
+            turn = card_turn(card, bytes + at);
+            if (turn != SENDS)
+                break;
+            at++;
+        }
+    }
+    *n = at;
+    return turn;
+}
+
+enum fault card_receive_bytes(struct card *card, const uint8_t *bytes, size_t n, size_t *taken)
+{
+    size_t at = 0;
+    enum fault fault = NO_FAULT;
+    while (at < n) {
+        if (card->ins > 0) {
+            const size_t run = less(card->ins, n - at);
+            memcpy(card->in, bytes + at, run);
+            card->in += run;
+            at += run;
+            if ((card->ins -= run) == 0)
+                card->moved = card->opening[4];
+        } else {
+            fault = card_take(card, bytes[at]);
+            if (fault != NO_FAULT)
+                break;
+            at++;
+        }
+    }
+    *taken = at;
+    return fault;
 }

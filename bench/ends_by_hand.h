@@ -1,5 +1,7 @@
 /* A terminal and a card of data objects written by hand in C: two state machines that hand
- * characters out and take them, one at a time, by the rules of session_by_hand.rs. */
+ * characters out and take them, one at a time or by buffers. They have duties of the library: they
+ * refuse a handle that holds nothing, clear the received data after each TPDU, and wipe values
+ * before they free them. They have no plans, and test no pointer for NULL. */
 #ifndef ENDS_BY_HAND_H
 #define ENDS_BY_HAND_H
 
@@ -25,7 +27,8 @@ enum fault {
     NOT_LISTENING,
     AFTER_END,
     STALLED,
-    OUT_OF_MEMORY
+    OUT_OF_MEMORY,
+    EMPTY
 };
 
 /* The progress of a TPDU at the terminal. */
@@ -46,6 +49,12 @@ struct terminal {
     size_t size, from, piece;   /* of all these, those sent, and those of this command */
     uint8_t *response;
     size_t gathered;
+    size_t capacity;            /* of content */
+    /* the rest of the data that move in one run: places, and how many characters */
+    const uint8_t *out;
+    uint8_t *in;
+    size_t outs, ins;
+    bool live;                  /* it is in use */
 };
 
 enum fault terminal_select(struct terminal *terminal, const uint8_t *aid, size_t n);
@@ -102,12 +111,23 @@ struct card {
     uint8_t sw1, sw2;
     uint16_t stored_tag;
     uint8_t *stored;
+    const uint8_t *out;         /* as of a terminal */
+    uint8_t *in;
+    size_t outs, ins;
+    bool live;
 };
 
 void card_begin(struct card *card, const uint8_t *aid, size_t n);
 enum fault card_object(struct card *card, uint16_t tag, const uint8_t *value, size_t n);
 enum fault card_take(struct card *card, uint8_t byte);
 enum turn card_turn(struct card *card, uint8_t *byte);
+/* The same by buffers: characters until the end listens or the buffer is full, and their number. */
+enum turn terminal_send_bytes(struct terminal *terminal, uint8_t *bytes, size_t room, size_t *n);
+enum fault terminal_receive_bytes(struct terminal *terminal, const uint8_t *bytes, size_t n,
+                                  size_t *taken);
+enum turn card_send_bytes(struct card *card, uint8_t *bytes, size_t room, size_t *n);
+enum fault card_receive_bytes(struct card *card, const uint8_t *bytes, size_t n, size_t *taken);
+void terminal_new(struct terminal *terminal);
 void card_free(struct card *card);
 
 #endif

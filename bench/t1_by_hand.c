@@ -44,6 +44,16 @@ static size_t least(size_t one, size_t other)
     return one < other ? one : other;
 }
 
+/* A call by pointer, so that a compiler does not drop it. */
+static void *(*const volatile wipe)(void *, int, size_t) = memset;
+
+/* Clears what a buffer holds, as the library does where it drops or replaces it. */
+static void clear(struct t1_buffer *buffer)
+{
+    wipe(buffer->bytes, 0, buffer->n);
+    buffer->n = 0;
+}
+
 static bool add(struct t1_buffer *to, const uint8_t *bytes, size_t n)
 {
     if (n > sizeof to->bytes - to->n)
@@ -65,15 +75,18 @@ static size_t send_next(struct t1_card *c, uint8_t *answer)
 static size_t carry_out(struct t1_card *c, uint8_t *answer)
 {
     size_t n = 0;
-    const int32_t code = gt_card_apdu(c->card, c->command.bytes, c->command.n, c->response.bytes,
-                                      GT_ANSWER_LIMIT, &n);
+    int32_t code;
+    clear(&c->response);
+    code = gt_card_apdu(c->card, c->command.bytes, c->command.n, c->response.bytes, GT_ANSWER_LIMIT,
+                        &n);
     if (code != GT_OK) {
         c->response.bytes[0] = code == GT_INVALID_INS ? 0x6D : 0x67;
         c->response.bytes[1] = 0x00;
         n = 2;
     }
     c->response.n = n;
-    c->command.n = c->until = 0;
+    clear(&c->command);
+    c->until = 0;
     return send_next(c, answer);
 }
 
@@ -110,7 +123,9 @@ static size_t send_field(struct t1_terminal *t, uint8_t *block)
 size_t t1_terminal_begins(struct t1_terminal *t, const uint8_t *apdu, size_t n,
                           uint8_t block[GT_BLOCK_LIMIT])
 {
-    t->command.n = t->response.n = t->from = 0;
+    clear(&t->command);
+    clear(&t->response);
+    t->from = 0;
     return add(&t->command, apdu, n) ? send_field(t, block) : 0;
 }
 

@@ -1,5 +1,5 @@
 /* Both ends of T=1, written by hand without a proof, as in firmware: with R-blocks and chains, but
- * without S(WTX), S(ABORT) and S(RESYNCH). */
+ * without S(WTX), S(ABORT) and S(RESYNCH). Commands and responses are cleared where they end. */
 #ifndef T1_BY_HAND_H
 #define T1_BY_HAND_H
 

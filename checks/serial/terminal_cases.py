@@ -58,6 +58,8 @@ class Case:
     baud: int = None
     # the least time before each of the terminal's characters
     gap: float = 0.0
+    # what the program sends after the dialogue
+    left: str = ""
     # the case measures short times, and is run again if a busy machine was late
     quick: bool = False
 
@@ -90,6 +92,8 @@ def run(case):
         last = other.sent_at
         status = program.end()
         look(program, status, case.output, case.fault, case.status, played)
+        left = line.read(300, 0).hex()
+        assert left == case.left, f"{left} is on the line after the dialogue"
         waited = program.began + program.seconds - last
         least = 0 if case.waits is None else case.waits + (case.slack or 200) / 1000
         must_end(waited, least, least + LATE)
@@ -183,7 +187,6 @@ def cut_short():
         ("> 10DA5F20FF ", "< DA > " + "00" * 255 + " < 9000 "),
         ("> 00DA5F205A ", "< DA > " + "00" * 90 + " < 9000 "),
     ]
-    selected = "> 00C000000B < C06F098407A00000000310109000 "
     for echo in (True, False):
         for status in ("9000", "9101", "6105", "6200", "63C1"):
             yield Case(f"{status} before the data, echo {echo}", f"{header}< {status} ", put,
@@ -192,15 +195,16 @@ def cut_short():
                        f"{header}{one_byte}< {status} ", put, f"= {status}\n", cut, 1, echo=echo)
         yield Case(f"9000 before an identifier, echo {echo}", "< 3B00 > 00A4040007 < 9000 ",
                    SELECT, "= 9000\n", cut, 1, echo=echo)
-        yield Case(f"610B before an identifier, echo {echo}",
-                   "< 3B00 > 00A4040007 < 610B " + selected, SELECT, SELECTED, cut, 1, echo=echo)
+        yield Case(f"610B before an identifier, echo {echo}", "< 3B00 > 00A4040007 < 610B ",
+                   SELECT, "= 610B\n", cut, 1, echo=echo)
         for place in range(3):
-            dialogue = "".join(
-                head + ("< 9000 " if place == at else rest)
-                for at, (head, rest) in enumerate(pieces)
-            )
-            yield Case(f"9000 before piece {place + 1}, echo {echo}", "< 3B00 " + dialogue,
-                       long_put, "= 9000\n", cut, 1, echo=echo)
+            before = "".join(head + rest for head, rest in pieces[:place])
+            yield Case(f"9000 before piece {place + 1}, echo {echo}",
+                       f"< 3B00 {before}{pieces[place][0]}< 9000 ", long_put, "= 9000\n", cut, 1,
+                       echo=echo)
+            yield Case(f"9000 within piece {place + 1}, and -k, echo {echo}",
+                       f"< 3B00 {before}{pieces[place][0]}< 25 > 00 < 9000 ", [*long_put, *GET],
+                       "= 9000\n", cut, 1, options=["-k"], echo=echo)
     yield Case("9000 before the data, and -k", header + "< 9000 ", [*put, *GET], "= 9000\n", cut, 1,
                options=["-k"])
     yield Case("9000 before the data, and --verify", header + "< 9000 ", put, "= 9000\n", cut, 1,
@@ -360,7 +364,7 @@ def waiting():
     yield Case("a longer slack", quick + SHORT_WORDS, SHORT, fault=fault, status=1, slack=1200,
                waits=0.2)
     yield Case("the slack where nothing is said", "< 3B00 ", SHORT, echo=True, slack=None, status=1,
-               fault="operation 1: there is no echo\n", waits=0.0)
+               fault="operation 1: there is no echo\n", waits=0.0, left="0020000000")
     yield Case("a card that takes its slack", quick + SHORT_WORDS + "~ 0.5 " + DONE, SHORT,
                "= 9000\n", slack=1500)
     yield Case("an answer that takes its time", "~ 0.2 < 3B ~ 1.2 < 80 ~ 0.5 < 4002 " + SHORT_WORDS
@@ -400,7 +404,7 @@ def noise():
     yield Case("an echo of 255 characters", f"< 3B00 > 00DA5F20FF < DA > {'41' * 255} < 9000",
                ["put", "5F20", "41*255"], "= 9000\n", options=["--baud", "1200"])
     yield Case("no echo", "< 3B00 ", SHORT, fault="operation 1: there is no echo\n",
-               status=1, waits=0.0)
+               status=1, waits=0.0, left="0020000000")
     yield Case("GET RESPONSE that brings nothing",
                "< 3B00 > 00CA5F2000 < 6105 > 00C0000005 < 6105 ", GET,
                fault="operation 1: stalled\n", status=1)

@@ -552,8 +552,10 @@ def card_resets():
     def quick(tty, other):
         tty.await_note(EVEN)
         other.take_nothing(0.2)
-        pulse(tty, "cts", seconds=0.05)
-        play(other, f"< 3B00 {ask}", card=False)
+        # a card that looks seldom sees one by luck
+        for _ in range(3):
+            pulse(tty, "cts", seconds=0.05)
+            play(other, f"< 3B00 {ask}", card=False)
 
     yield ("a card that is reset for 50 ms",
            lambda: in_time(lambda: card(quick, ["--reset", "cts"])))

@@ -5,3 +5,4 @@ mod echo;
 mod line;
 mod random;
 mod random_tests;
+mod tap_tests;

@@ -29,10 +29,10 @@ fn sent(rt: &impl Abort, alloc: Global, end: &mut End, cut: u16, tpdu: &[u8]) ->
 }
 
 /// A TPDU, its cut, what `sent` returns, and the count afterwards.
-type Row = (&'static [u8], u16, (usize, u8, u16), u8);
+pub type Row = (&'static [u8], u16, (usize, u8, u16), u8);
 
 /// Expected values are from docs/RULES.md.
-const ROWS: &[Row] = &[
+pub const ROWS: &[Row] = &[
     // As many bytes as there are.
     (&[0, 0x20, 0, 3, 3], 256, (3, 1, 0x9000), 1),
     // More than there are: 6CXX. The repetition is no new command, the next one is.

@@ -22,7 +22,7 @@ fn carried(
 
 /// A command, what `carried` returns, and the count afterwards. Expected values are from
 /// docs/RULES.md.
-const ROWS: &[(&'static [u8], (usize, u16), u8)] = &[
+pub const ROWS: &[(&'static [u8], (usize, u16), u8)] = &[
     (&[0, 0x20, 0, 3, 0], (5, 0x9000), 1),
     (&[0, 0x20, 0, 3, 2], (4, 0x6101), 2),
     (&[0, 0xC0, 0, 0, 0], (3, 0x9000), 2),

@@ -128,10 +128,12 @@ fn hands_out<A: Allocator>(
     data: &[u8],
 ) {
     pass(rt, end, gather, &[run]);
-    for byte in data {
-        assert!(rt; end.next_data() == Some(*byte));
+    if let Some((first, rest)) = data.split_first() {
+        assert!(rt; end.next_data() == Some(*first));
+        assert!(rt; end.next_data_run() == rest);
     }
     assert!(rt; end.next_data() == None);
+    assert!(rt; end.next_data_run().is_empty());
 }
 
 #[test]

@@ -30,10 +30,11 @@ namespace galliumtoad {
 
 /* The codes of galliumtoad.h. */
 enum class Code : int32_t {
-    Ok = GT_OK, Sends = GT_SENDS, Done = GT_DONE, AllSent = GT_ALL_SENT,
-    NotAllSent = GT_NOT_ALL_SENT, SentUnknown = GT_SENT_UNKNOWN, Null = GT_NULL, Empty = GT_EMPTY,
-    State = GT_STATE, Memory = GT_MEMORY, Argument = GT_ARGUMENT, Buffer = GT_BUFFER,
-    Busy = GT_BUSY, NotFound = GT_NOT_FOUND, Failed = GT_FAILED, Plans = GT_PLANS,
+    Ok = GT_OK, Sends = GT_SENDS, Done = GT_DONE, Command = GT_COMMAND, Header = GT_HEADER,
+    AllSent = GT_ALL_SENT, NotAllSent = GT_NOT_ALL_SENT, SentUnknown = GT_SENT_UNKNOWN,
+    Null = GT_NULL, Empty = GT_EMPTY, State = GT_STATE, Memory = GT_MEMORY,
+    Argument = GT_ARGUMENT, Buffer = GT_BUFFER, Busy = GT_BUSY, NotFound = GT_NOT_FOUND,
+    Failed = GT_FAILED, Plans = GT_PLANS,
     AppTwice = GT_APP_TWICE, TooManyApps = GT_TOO_MANY_APPS, NoApp = GT_NO_APP,
     ValueTooLong = GT_VALUE_TOO_LONG, NotObjects = GT_NOT_OBJECTS, TableFull = GT_TABLE_FULL,
     NotListening = GT_NOT_LISTENING, BadProcedure = GT_BAD_PROCEDURE, TooLong = GT_TOO_LONG,
@@ -85,6 +86,9 @@ using Apdu = Buffer<GT_APDU_LIMIT>;
 using Aid = Buffer<GT_AID_LIMIT>;
 using Pps = Buffer<GT_PPS_LIMIT>;
 using Head = Buffer<6>;
+
+/* Which way the data of each INS go, as `gt_card_own` has them. */
+using Directions = uint8_t[32];
 
 /* A data object of a card, and the number of bytes of its value. */
 struct Entry { uint32_t tag = 0; int32_t locked = 0; size_t count = 0; };
@@ -224,6 +228,13 @@ class Card {
     GT_CODE app_at(size_t app, Aid &to) GT_OVER(gt_card_app_at(&held, app, to.bytes, &to.count))
     GT_CODE entry_at(size_t app, size_t at, Entry &it, Room to)
     GT_OVER(gt_card_entry_at(&held, app, at, &it.tag, &it.locked, GT_SPAN(to), &it.count))
+    GT_CODE own(const Directions *directions = nullptr)
+    GT_OVER(gt_card_own(&held, directions ? *directions : nullptr))
+    GT_CODE command(gt_command &it) GT_OVER(gt_card_command(&held, &it))
+    GT_CODE direction(bool to_card) GT_OVER(gt_card_direction(&held, to_card))
+    GT_CODE respond(Bytes data, uint16_t status)
+    GT_OVER(gt_card_respond(&held, GT_SPAN(data), status))
+    GT_CODE settled(bool &is) GT_OVER(whether(gt_card_settled(&held), is))
 };
 
 class Session {

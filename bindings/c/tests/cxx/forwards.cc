@@ -171,6 +171,20 @@ static void of_card() {
           TO, P(&it.count));
 }
 
+static void of_own_card() {
+    Card c;
+    gt_command it;
+    const Directions ways = GT_ISO_DIRECTIONS;
+    bool is;
+    HANDS(c.own(&ways), "card_own", P(c.handle()), P(ways), 32);
+    HANDS(c.own(), "card_own", P(c.handle()), ANY, 0);
+    HANDS(c.command(it), "card_command", P(c.handle()), P(&it));
+    HANDS(c.direction(true), "card_direction", P(c.handle()), 1);
+    HANDS(c.direction(false), "card_direction", P(c.handle()), 0);
+    HANDS(c.respond(in, 0x63C2), "card_respond", P(c.handle()), IN, 0x63C2);
+    ASKS(c.settled(is), is, "card_settled", P(c.handle()));
+}
+
 static void of_session() {
     Session s;
     Card c;
@@ -262,6 +276,7 @@ int main() {
     of_terminal();
     of_t1();
     of_card();
+    of_own_card();
     of_session();
     is_handle<Exchange>("galliumtoad_exchange_free");
     is_handle<Terminal>("galliumtoad_terminal_free");

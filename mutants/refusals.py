@@ -3,7 +3,8 @@
 An edit changes the body of a function, and no contract. So what the prover says of that function
 depends on no other edit in the copy. `rt check --only` proves the changed functions and what they
 call, and names those without a proof. An edit is refused if its function has none of its own: a
-function that only calls one without a proof is tried again without it."""
+function that only calls one without a proof is tried again without it. The crate itself must be
+proved: nothing here looks at that."""
 
 import os
 import re
@@ -12,6 +13,7 @@ import subprocess
 from pathlib import Path
 
 FUNCTION = re.compile(r'( *)(?:pub(?:\([^)]*\))? )?(?:(?:const|unsafe|extern "C") )*fn (\w+)')
+UNPROVED = re.compile(r"^fn \w+::(\S+): (?:no proof|not proved)(?:: )?(.*)", re.M)
 PARTS = ("src", "specs", "proofs")
 
 
@@ -60,18 +62,17 @@ class Edit:
 
     def refusal(self, said):
         """Why its function has no proof of its own, or None."""
-        for name, why in re.findall(r"^fn \w+::(\S+): (?:no proof|not proved)(?:: )?(.*)", said, re.M):
-            if why.startswith("it calls ") or not any(self.is_of(name, it) for it in self.functions):
-                continue
-            return f"{name} has no proof: {why}"
+        for name, why in UNPROVED.findall(said):
+            if not why.startswith("it calls ") and any(is_in(name, it) for it in self.functions):
+                return f"{name} has no proof: {why}"
         return None
 
-    @staticmethod
-    def is_of(name, path):
-        """Whether this is the function, one in its module, or a closure in it."""
-        return name == path or name.startswith(f"{path}::") or (
-            "fn" in name.split("::") and "::".join(
-                it for it in name.split("::") if it != "fn").startswith(f"{path}::"))
+
+def is_in(name, path):
+    """Whether this is the function or module of the path, or in it. All is in the crate, whose path
+    is empty. A closure has a `fn::` before its function's path."""
+    parts = [it for it in name.split("::") if it != "fn"]
+    return not path or parts[: path.count("::") + 1] == path.split("::")
 
 
 def together(edits):
@@ -108,7 +109,7 @@ class Copy:
                 before.setdefault(file, text)
                 file.write_text(it.fault.put(text), encoding="utf-8")
             paths = sorted({path for it in edits for path in it.functions})
-            only = [word for path in paths for word in ("--only", path)]
+            only = [word for path in paths for word in ("--only", path)] if all(paths) else []
             done = subprocess.run(["rt", "check", "--jobs", "1", *only], cwd=folder, text=True,
                                   stdout=subprocess.PIPE, stderr=subprocess.STDOUT,
                                   stdin=subprocess.DEVNULL, errors="replace")

@@ -41,15 +41,15 @@ def owner(lines, at):
 
 
 def function_at(file, text, place):
-    """The path of the function at this place of a source file."""
-    names = Path(file).with_suffix("").parts[1:]
-    path = [it for it in names if it not in ("lib", "main", "mod")]
+    """The end of the name of the function at this place of a source file: that of a method begins
+    with its type, since the `impl` may be in another module."""
+    modules = [it for it in Path(file).with_suffix("").parts[1:] if it not in ("lib", "main")]
     lines, at = text.split("\n"), text.count("\n", 0, place)
     found = enclosing(lines, at)
-    if found:
-        name, indent, start = found
-        path += [owner(lines, start), name] if indent else [name]
-    return "::".join(path)
+    if found is None:
+        return "::".join(modules)
+    name, indent, start = found
+    return "::".join([owner(lines, start), name] if indent else [*modules, name])
 
 
 class Edit:
@@ -71,8 +71,8 @@ class Edit:
 def is_in(name, path):
     """Whether this is the function or module of the path, or in it. All is in the crate, whose path
     is empty. A closure has a `fn::` before its function's path."""
-    parts = [it for it in name.split("::") if it != "fn"]
-    return not path or parts[: path.count("::") + 1] == path.split("::")
+    plain = "::".join(it for it in name.split("::") if it != "fn")
+    return not path or f"::{path}::" in f"::{plain}::"
 
 
 def together(edits):

@@ -2,9 +2,9 @@
 
 An edit changes the body of a function, and no contract. So what the prover says of that function
 depends on no other edit in the copy. `rt check --only` proves the changed functions and what they
-call, and names those without a proof. An edit is refused if its function has none of its own: a
-function that only calls one without a proof is tried again without it. The crate itself must be
-proved: nothing here looks at that."""
+call, and names those without a proof. An edit is refused if its function has none and calls none
+without one. If it calls one, it is tried again alone. The crate itself must be proved: nothing here
+looks at that."""
 
 import os
 import re
@@ -63,7 +63,7 @@ class Edit:
     def refusal(self, said):
         """Why its function has no proof of its own, or None."""
         for name, why in UNPROVED.findall(said):
-            if not why.startswith("it calls ") and any(is_in(name, it) for it in self.functions):
+            if "it calls `" not in why and any(is_in(name, it) for it in self.functions):
                 return f"{name} has no proof: {why}"
         return None
 

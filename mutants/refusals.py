@@ -6,6 +6,7 @@ call, and names those without a proof. An edit is refused if its function has no
 without one. If it calls one, it is tried again alone. The crate itself must be proved: nothing here
 looks at that."""
 
+import contextlib
 import os
 import re
 import shutil
@@ -85,6 +86,14 @@ def together(edits):
     return chosen, left
 
 
+def link(source, target):
+    """Links a file, or copies it to another file system."""
+    try:
+        os.link(source, target)
+    except OSError:
+        shutil.copy2(source, target)
+
+
 class Copy:
     """A copy of the crates, with the libraries that are built."""
 
@@ -97,17 +106,19 @@ class Copy:
                     shutil.copytree(crate / part, room / "crates" / crate.name / part)
             if (crate / "out/rlib/stamp").is_file():
                 shutil.copytree(crate / "out/rlib", room / "crates" / crate.name / "out/rlib",
-                                copy_function=os.link)
+                                copy_function=link)
 
     def check(self, crate, edits):
-        """What the prover says of the functions of these edits, with the edits made."""
+        """What the prover says of the functions of these edits, with the edits made. An edit that
+        doesn't fit beside the others is left out."""
         folder, before = self.room / "crates" / crate, {}
         try:
             for it in edits:
                 file = folder / it.fault.file
                 text = file.read_text(encoding="utf-8")
                 before.setdefault(file, text)
-                file.write_text(it.fault.put(text), encoding="utf-8")
+                with contextlib.suppress(ValueError):
+                    file.write_text(it.fault.put(text), encoding="utf-8")
             paths = sorted({path for it in edits for path in it.functions})
             only = [word for path in paths for word in ("--only", path)] if all(paths) else []
             done = subprocess.run(["rt", "check", "--jobs", "1", *only], cwd=folder, text=True,

@@ -1,6 +1,6 @@
 //! Prints what one answer to reset means.
 
-use atr_core::{Atr, Classes, ClockStop, Group, Mode, block_guard_time};
+use atr_core::{Atr, CardStatus, Classes, ClockStop, Group, Mode, block_guard_time};
 use hex::FromHexError;
 use std::alloc::{AllocError, Global};
 use std::io;
@@ -54,6 +54,22 @@ fn say_groups<W: Write>(answer: &Atr, output: &mut W) -> io::Result<()> {
     }
     for byte in answer.historical() {
         write!(output, "{byte:02X}")?;
+    }
+    writeln!(output)?;
+    match answer.card_status() {
+        Some(status) => say_card_status(status, output),
+        None => Ok(()),
+    }
+}
+
+/// Prints the life cycle and the status word that the historical bytes end with.
+fn say_card_status<W: Write>(status: CardStatus, output: &mut W) -> io::Result<()> {
+    write!(output, "  card status  ")?;
+    if let Some(life_cycle) = status.life_cycle {
+        write!(output, " life cycle {life_cycle:02X}")?;
+    }
+    if let Some((sw1, sw2)) = status.sw {
+        write!(output, " {sw1:02X}{sw2:02X}")?;
     }
     writeln!(output)
 }

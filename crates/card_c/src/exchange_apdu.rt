@@ -45,7 +45,7 @@ fn due(side: &mut ExchangeSide, apdu: &mut [u8], len: &mut usize, most: &mut usi
     told(side.apdus.terminal.apdu(), apdu, len, most)
 }
 
-/// Takes the response to that command. From the first one on, the exchange goes by commands.
+/// Takes the response to that command. Once it accepts one, the exchange goes by commands.
 #[unsafe(no_mangle)]
 pub extern "C" fn galliumtoad_exchange_responded(
     alloc: Global,

@@ -46,7 +46,7 @@ fn due(side: &mut TerminalSide, apdu: &mut [u8], len: &mut usize, most: &mut usi
     told(side.apdus.terminal.apdu(), apdu, len, most)
 }
 
-/// Takes the response to that command. From the first one on, the operation goes by commands.
+/// Takes the response to that command. Once it accepts one, the operation goes by commands.
 #[unsafe(no_mangle)]
 pub extern "C" fn galliumtoad_terminal_responded(
     alloc: Global,

@@ -74,7 +74,7 @@ fn mask(alloc: Global, matches: &ArgMatches<'_>) -> Result<Mask, Error> {
                 "invalid value '{tags}' for '--mask [<TAGS>]': not tags of one to three bytes \
                  with commas between them"
             )?;
-            Err(command(alloc, &[])?.error(ErrorKind::ValueValidation, text.as_str())?)
+            Err(invalid(alloc, text.as_str())?)
         }
     }
 }
@@ -91,71 +91,102 @@ fn ways(alloc: Global, matches: &ArgMatches<'_>) -> Result<Ways, Error> {
             && let Err(why) = ways.give(way, words)
         {
             let text = format!(in alloc; "invalid value '{words}' for '--{name} <INS>': {why}")?;
-            return Err(command(alloc, &[])?.error(ErrorKind::ValueValidation, text.as_str())?);
+            return Err(invalid(alloc, text.as_str())?);
         }
     }
     Ok(ways)
 }
 
+/// The error of an option's invalid value.
+fn invalid(alloc: Global, text: &str) -> Result<Error, AllocError> {
+    command(alloc, &[])?.error(ErrorKind::ValueValidation, text)
+}
+
 /// The program with its options. `--form` takes the names in `forms`.
 fn command<'a>(alloc: Global, forms: &'a [&'a str]) -> Result<Command<'a>, AllocError> {
+    let mut options = Vec::new(alloc);
+    for row in &OPTIONS {
+        options.push(option(alloc, row, forms)?)?;
+    }
     Command::new(alloc, "trace_explain")
         .version(help::VERSION)
         .about(help::PROGRAM)
         .after_help(help::TRACE)
-        .arg(
-            valued(alloc, "diff", help::DIFF)
-                .value_names(["A", "B"].as_slice())
-                .num_args(2..=2)
-                .conflicts_with("html")?
-                .conflicts_with("summary")?,
-        )?
-        .arg(flag(alloc, "html", help::HTML))?
-        .arg(
-            valued(alloc, "mask", help::MASK)
+        .args(options)
+}
+
+/// An option's name, its help, what it takes, and the options that it excludes.
+struct Row(&'static str, &'static str, Takes, &'static [&'static str]);
+
+/// What an option takes.
+#[derive(Clone, Copy)]
+enum Takes {
+    Nothing,
+    Paths,
+    Tags,
+    Form,
+    Instructions,
+}
+
+/// The options, in the order of the help.
+static OPTIONS: [Row; 11] = [
+    Row("diff", help::DIFF, Takes::Paths, &["html", "summary"]),
+    Row("html", help::HTML, Takes::Nothing, &[]),
+    Row("mask", help::MASK, Takes::Tags, &[]),
+    Row("resume", help::RESUME, Takes::Nothing, &[]),
+    Row("form", help::FORM, Takes::Form, &[]),
+    Row("swap", help::SWAP, Takes::Nothing, &[]),
+    Row(
+        "unsigned",
+        help::UNSIGNED,
+        Takes::Nothing,
+        &["form", "swap"],
+    ),
+    Row("to-card", help::TO_CARD, Takes::Instructions, &[]),
+    Row("from-card", help::FROM_CARD, Takes::Instructions, &[]),
+    Row("summary", help::SUMMARY, Takes::Nothing, &[]),
+    Row(
+        "tpdu",
+        help::TPDU,
+        Takes::Nothing,
+        &["form", "resume", "swap", "unsigned"],
+    ),
+];
+
+/// The option of a row.
+fn option<'a>(
+    alloc: Global,
+    row: &'static Row,
+    forms: &'a [&'a str],
+) -> Result<Arg<'a>, AllocError> {
+    let Row(name, help, takes, others) = row;
+    let mut option = taking(*takes, Arg::new(alloc, name).long(name).help(help), forms)?;
+    for other in *others {
+        option = option.conflicts_with(other)?;
+    }
+    Ok(option)
+}
+
+/// The option, which takes this.
+fn taking<'a>(takes: Takes, option: Arg<'a>, forms: &'a [&'a str]) -> Result<Arg<'a>, AllocError> {
+    match takes {
+        Takes::Nothing => Ok(option.action(ArgAction::SetTrue)),
+        Takes::Paths => Ok(option.value_names(["A", "B"].as_slice()).num_args(2..=2)),
+        Takes::Tags => Ok(
+            option
                 .value_name("TAGS")
                 .num_args(0..=1)
                 .default_missing_value(""),
-        )?
-        .arg(flag(alloc, "resume", help::RESUME))?
-        .arg(
-            valued(alloc, "form", help::FORM)
+        ),
+        Takes::Form => Ok(
+            option
                 .action(ArgAction::Set)
                 .value_name("FORM")
                 .value_parser(forms),
-        )?
-        .arg(flag(alloc, "swap", help::SWAP))?
-        .arg(
-            flag(alloc, "unsigned", help::UNSIGNED)
-                .conflicts_with("form")?
-                .conflicts_with("swap")?,
-        )?
-        .arg(way(alloc, "to-card", help::TO_CARD)?)?
-        .arg(way(alloc, "from-card", help::FROM_CARD)?)?
-        .arg(flag(alloc, "summary", help::SUMMARY))?
-        .arg(
-            flag(alloc, "tpdu", help::TPDU)
-                .conflicts_with("form")?
-                .conflicts_with("resume")?
-                .conflicts_with("swap")?
-                .conflicts_with("unsigned")?,
-        )
-}
-
-/// An option that lists instructions.
-fn way<'a>(alloc: Global, name: &'a str, help: &'a str) -> Result<Arg<'a>, AllocError> {
-    valued(alloc, name, help)
-        .action(ArgAction::Set)
-        .value_name("INS")
-        .requires_arg("unsigned")
-}
-
-/// An option without a value.
-fn flag<'a>(alloc: Global, name: &'a str, help: &'a str) -> Arg<'a> {
-    valued(alloc, name, help).action(ArgAction::SetTrue)
-}
-
-/// An option with its help.
-fn valued<'a>(alloc: Global, name: &'a str, help: &'a str) -> Arg<'a> {
-    Arg::new(alloc, name).long(name).help(help)
+        ),
+        Takes::Instructions => option
+            .action(ArgAction::Set)
+            .value_name("INS")
+            .requires_arg("unsigned"),
+    }
 }

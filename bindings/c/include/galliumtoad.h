@@ -554,11 +554,11 @@ typedef struct gt_atr {
  *
  * - an exchange   272 and its limit on the response, which is 16,384 if none is given, and the
  *                 bytes of the command's data: at most 16,911
- * - a terminal    312. The first operation adds its limit on a response, 16,384 if none is given,
+ * - a terminal    464. The first operation adds its limit on a response, 16,384 if none is given,
  *                 and the data that it sends: an identifier, a value or a command. That part grows
  *                 with the longest data so far; the old copy stays until the new one is made
  * - by commands   an exchange and a terminal take room for the response and the data once more. A
- *                 terminal frees the other room with the first response
+ *                 terminal keeps both
  * - a card        10,299 with one application and one object of 3 bytes, and 26,962 together with a
  *                 gt_exchange of SELECT or GET DATA; 4,240,928 with all that a card can hold. At
  *                 T=1 a command adds at most 770, the bytes of the value that it stores, and twice

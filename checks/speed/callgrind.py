@@ -57,14 +57,25 @@ def of_all(words, folder):
     return costs(file)
 
 
+def dumps(file):
+    """The costs that a run has written, in their order."""
+    file = Path(file)
+    files = sorted(file.parent.glob(f"{file.name}.[0-9]*"), key=lambda it: int(it.suffix[1:]))
+    return [costs(one) for one in files]
+
+
+def of_marks(words, times, folder):
+    """The cost of one operation, for each pair of calls of getppid, between which a program carries
+    it out `times` times."""
+    file = Path(folder) / "marks"
+    run(words, file, "--dump-before=getppid")
+    return [Counter({key: cost / times for key, cost in found.items()})
+            for found in dumps(file)[1::2]]
+
+
 def of_repeat(program, way, times, folder):
     """The cost of one operation, for each call of `repeat`, which carries it out `times` times."""
     file = Path(folder) / f"{Path(program).name}.{way}"
     run([program, way, str(times)], file, "--zero-before=repeat", "--dump-after=repeat")
-    files = sorted(file.parent.glob(f"{file.name}.[0-9]*"), key=lambda it: int(it.suffix[1:]))
-    each = []
-    for one in files:
-        found = costs(one)
-        if any(function == "repeat" for _, function in found):
-            each.append(Counter({key: cost / times for key, cost in found.items()}))
-    return each
+    return [Counter({key: cost / times for key, cost in found.items()})
+            for found in dumps(file) if any(function == "repeat" for _, function in found)]

@@ -554,11 +554,11 @@ typedef struct gt_atr {
  *
  * - an exchange   272 and its limit on the response, which is 16,384 if none is given, and the
  *                 bytes of the command's data: at most 16,911
- * - a terminal    312. The first operation adds its limit on a response, 16,384 if none is given,
+ * - a terminal    464. The first operation adds its limit on a response, 16,384 if none is given,
  *                 and the data that it sends: an identifier, a value or a command. That part grows
  *                 with the longest data so far; the old copy stays until the new one is made
  * - by commands   an exchange and a terminal take room for the response and the data once more. A
- *                 terminal frees the other room with the first response
+ *                 terminal keeps both
  * - a card        10,299 with one application and one object of 3 bytes, and 26,962 together with a
  *                 gt_exchange of SELECT or GET DATA; 4,240,928 with all that a card can hold. At
  *                 T=1 a command adds at most 770, the bytes of the value that it stores, and twice
@@ -724,15 +724,19 @@ GT_INLINE int32_t gt_pass_(int32_t (*carry_out)(gt_card *, const uint8_t *, size
                                                 size_t, size_t *),
                            gt_card *c, const uint8_t *bytes, size_t n, uint8_t *answer,
                            size_t room, size_t *len) {
-    uint8_t copy[GT_APDU_LIMIT + 1] = { 0 }, none = 0;
-    volatile uint8_t *wiped = copy;
+    union {
+        uint8_t bytes[GT_APDU_LIMIT + 1];
+        uint64_t words[GT_APDU_LIMIT / 8 + 1];
+    } copy = { { 0 } };
+    volatile uint64_t *wiped = copy.words;
+    uint8_t none = 0;
     int32_t code;
     size_t i;
     if (!c || (!bytes && n) || (!answer && room) || !len) return GT_NULL;
-    if (n > sizeof copy) n = sizeof copy;
-    for (i = 0; i < n; i++) copy[i] = bytes[i];
-    code = carry_out(c, copy, n, answer ? answer : &none, room, len);
-    for (i = 0; i < n; i++) wiped[i] = 0;
+    if (n > sizeof copy.bytes) n = sizeof copy.bytes;
+    for (i = 0; i < n; i++) copy.bytes[i] = bytes[i];
+    code = carry_out(c, copy.bytes, n, answer ? answer : &none, room, len);
+    for (i = 0; i < (n + 7) / 8; i++) wiped[i] = 0;
     return code;
 }
 

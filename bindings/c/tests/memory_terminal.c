@@ -94,7 +94,7 @@ static void fewer_data(size_t alone) {
 }
 
 /* By commands the first call takes room for the response and another copy; a refused request
- * changes nothing. The first response frees the other room. The next operation takes it again. */
+ * changes nothing. All of it stays: the next operation takes none. A reset frees it. */
 static void by_commands(void) {
     static const uint8_t absent[] = { 0x6A, 0x82 };
     uint8_t apdu[GT_APDU_LIMIT];
@@ -105,6 +105,7 @@ static void by_commands(void) {
         int32_t code = GT_MEMORY;
         refused = 0;
         CHECK(gt_terminal_new(&t), GT_OK);
+        const size_t alone = taken;
         CHECK(begin(&t, kind), GT_OK);
         const size_t before = taken, times = copies[kind] ? 2 : 1;
         for (refused = 1; code == GT_MEMORY; refused++) {
@@ -118,18 +119,23 @@ static void by_commands(void) {
             CHECK(n, 7);
             CHECK(most, 8);
         }
+        const size_t kept = taken;
         refused = 1;
+        requests = 0;
         CHECK(gt_terminal_answer(&t, &status, NULL, 0, &n), GT_OK);
         CHECK(status, 0x6A82);
+        for (int again = 0; again < 3; again++) {
+            CHECK(begin(&t, kind), GT_OK);
+            CHECK(gt_terminal_apdu(&t, apdu, &n, &most), GT_OK);
+            CHECK(gt_terminal_responded(&t, absent, 2), GT_OK);
+        }
+        CHECK(requests, 0);
+        CHECK(taken, kept);
         refused = 0;
-        requests = 0;
+        CHECK(gt_terminal_reset(&t), GT_OK);
+        CHECK(taken, alone);
         CHECK(begin(&t, kind), GT_OK);
         CHECK(requests, times);
-        refused = 1;
-        requests = 0;
-        CHECK(gt_terminal_apdu(&t, apdu, &n, &most), GT_OK);
-        CHECK(requests, 0);
-        refused = 0;
         gt_terminal_free(&t);
         CHECK(taken, 0);
     }
@@ -150,7 +156,7 @@ int main(void) {
     CHECK(gt_terminal_new(&t), GT_OK);
     CHECK(requests, 1);
     const size_t alone = taken;
-    CHECK(alone, 312); /* as the header says */
+    CHECK(alone, 464); /* as the header says */
     for (int kind = 0; kind < 4; kind++) {
         const size_t times = copies[kind] ? 2 : 1;
         for (refused = 1; refused <= times; refused++) {

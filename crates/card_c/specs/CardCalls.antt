@@ -109,11 +109,16 @@ HandsOutCharacter end plans byte next left = (listens end.stage ≡ false)
     (if takes_plan end.stage then taken ++ plan_kept left ∷ [] else taken) next)
 
 -- The card's next character, if it does not listen.
+abbrev pub TurnsEnd : EndOf CardView → Cursor → ℕ → ℕ → ℤ → EndOf CardView → Cursor → Type 0
+TurnsEnd end plans before byte code next left =
+    ((listens end.stage ≡ true) × (code ≡ gt_ok) × (next ≡ end) × (left ≡ plans)
+    × (byte ≡ before))
+    ⊎ ((code ≡ gt_sends) × HandsOutCharacter end plans byte next left)
+
 abbrev pub Turns : ℕ → ℕ → CardSide → ℤ → CardSide → Type 0
 Turns before byte (Standing end plans) code new =
-    ((listens end.stage ≡ true) × (code ≡ gt_ok) × (new ≡ Standing end plans) × (byte ≡ before))
-    ⊎ ((next : EndOf CardView) × (left : Cursor) × (code ≡ gt_sends) × (new ≡ Standing next left)
-    × HandsOutCharacter end plans byte next left)
+    (next : EndOf CardView) × (left : Cursor) × (new ≡ Standing next left)
+    × TurnsEnd end plans before byte code next left
 Turns before byte side code new = OwnTurns before byte side code new
 
 -- The card is reset, and speaks T=0; the plans stay.

@@ -3,7 +3,7 @@ ghost use Rattle.std.specs.Prelude.{◌≡◌, true, None, MatchOption};
 ghost use Rattle.t0_core.specs.CardSide.{listens};
 ghost use Rattle.card_c.specs.Handles.{held_by, OnHandle, OnHandleOr};
 ghost use Rattle.card_c.specs.CardT1Calls.{at_t0};
-ghost use Rattle.card_c.specs.CardCalls.{Begins, AddsApplication, AddsObject, Finishes, TakesOne, HandsOutCharacter, Turns, Resets};
+ghost use Rattle.card_c.specs.CardCalls.{Begins, AddsApplication, AddsObject, Finishes, TakesOne, HandsOutCharacter, Turns, TurnsEnd, Resets};
 
 use crate::card_held::GtCard;
 use crate::card_side::CardSide;
@@ -155,6 +155,20 @@ fn turn(side: &mut CardSide, byte: &mut u8) -> i32
     let CardSide::Standing(end, plans) = side else {
         return own::turn_own(side, byte);
     };
+    // Data first: they are most of the characters.
+    if let Some(sent) = end.next_data() {
+        *byte = sent;
+        return code::SENDS;
+    }
+    turn_other(end, plans, byte)
+}
+
+/// Takes the turn of a card's end, with any character. It is not inlined, so that the path of data
+/// stays short.
+#[inline(never)]
+fn turn_other(end: &mut CardEnd<ObjectCard>, plans: &mut PlanQueue, byte: &mut u8) -> i32
+    ensures { TurnsEnd end.old plans.old byte.old byte.new result end.new plans.new }
+{
     let Some(sent) = next_of(end, plans) else {
         return code::OK;
     };

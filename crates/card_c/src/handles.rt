@@ -37,8 +37,8 @@ impl Handle for GtCard {
         requires { held_by self.old ≡ None }
         ensures { held_by self.new ≡ Some value.value }
     {
-        let held = CardHeld::of(Loose::of(value));
-        *self = GtCard { live: true, held };
+        self.held = CardHeld::of(Loose::of(value));
+        self.live = true;
     }
 }
 
@@ -64,8 +64,8 @@ impl Handle for ExchangeHandle {
         requires { exchange_in self.old ≡ None }
         ensures { exchange_in self.new ≡ Some value.value }
     {
-        let held = HeldExchange::of(Loose::of(value));
-        *self = ExchangeHandle { live: true, held };
+        self.held = HeldExchange::of(Loose::of(value));
+        self.live = true;
     }
 }
 
@@ -91,8 +91,8 @@ impl Handle for TerminalHandle {
         requires { terminal_in self.old ≡ None }
         ensures { terminal_in self.new ≡ Some value.value }
     {
-        let held = HeldTerminal::of(Loose::of(value));
-        *self = TerminalHandle { live: true, held };
+        self.held = HeldTerminal::of(Loose::of(value));
+        self.live = true;
     }
 }
 
@@ -118,7 +118,7 @@ impl Handle for T1Handle {
         requires { t1_in self.old ≡ None }
         ensures { t1_in self.new ≡ Some value.value }
     {
-        let held = HeldT1::of(Loose::of(value));
-        *self = T1Handle { live: true, held };
+        self.held = HeldT1::of(Loose::of(value));
+        self.live = true;
     }
 }

@@ -59,7 +59,7 @@ pub extern "C" fn galliumtoad_terminal_responded(
     with(alloc, terminal, |side| {
         let answer = passed_on(side, response);
         if side.apdus.leads {
-            side.terminal.reset();
+            side.terminal.rest();
         }
         answer
     })

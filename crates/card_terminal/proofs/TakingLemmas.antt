@@ -185,7 +185,19 @@ module _ (attempt : Attempt) (wanted : Wanted) (stalled : Bool) where
         sym is.fault ∙ after_done old.host old.room byte done.0 done.1 in absurd (cc);
   }
 
-  data_taken : (old new : Taker) (byte : ℕ) → IsKept (exchange_of old)
+  -- the same if it may be none
+  pub kept_either : (does : Bool) (old new : Taker) (byte : ℕ) → IsKept (exchange_of old)
+      → (does ≡ true → IsDataTaken old byte new)
+      → (does ≡ false → (new.host ≡ old.host) × (new.room ≡ old.room))
+      → IsKept (exchange_of new)
+  kept_either true old new byte kept taken stays = data_kept old new byte kept (taken refl)
+  kept_either false old new byte kept taken stays =
+      let same = stays refl in
+      subst (λ (h : Hosting). IsKept (of_parts h new.room attempt wanted stalled)) (sym same.0)
+      (subst (λ (r : Room). IsKept (of_parts old.host r attempt wanted stalled)) (sym same.1)
+      kept)
+
+  pub data_taken : (old new : Taker) (byte : ℕ) → IsKept (exchange_of old)
       → IsDataTaken old byte new → IsTaking (exchange_of old) byte (Ok tt) (exchange_of new)
   data_taken old new byte kept is =
       let more = longer old new byte is in

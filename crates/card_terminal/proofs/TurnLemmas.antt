@@ -6,7 +6,8 @@ use Rattle.t0_core.specs.declared.direction.Direction.{Direction}
 use Rattle.t0_core.specs.declared.direction.Direction.TheVariants.{ToCard, FromCard}
 use Rattle.t0_core.specs.declared.host_end.HostStage.{HostStage}
 use Rattle.t0_core.specs.declared.host_end.HostStage.TheVariants.{SendingHeader, Awaiting, Moving, AwaitingSecond, Ended, Broken}
-use Rattle.t0_core.specs.declared.host_end.HostTurn.TheVariants.{Sends, Done, Failed}
+use Rattle.t0_core.specs.declared.host_end.HostTurn.{HostTurn}
+use Rattle.t0_core.specs.declared.host_end.HostTurn.TheVariants.{Sends, Listens, Done, Failed}
 use Rattle.t0_core.specs.declared.line_fault.LineFault.TheVariants.{NotListening}
 use Rattle.t0_core.specs.Front.{fresh}
 use Rattle.t0_core.specs.Room.{Room}
@@ -55,6 +56,12 @@ over_by_turn ex seen host status is going after done =
     let ended : turn_of (at_stage ex.host (after_turn ex.host)) ≡ Done status =
     ap turn_of (sym after) ∙ ap (λ v. if v then Failed else turn_of host) (sym going) ∙ done in
     ap (λ h. record ex { host = h }) (after ∙ over_at ex.host ex.host.stage status ended) ∙ is
+
+-- an exchange whose end listens continues, or has stalled
+pub still_going : (stalled : Bool) (turn : HostTurn) (status : StatusWord) → turn ≡ Listens
+    → (if stalled then Failed else turn) ≡ Done status → ⊥
+still_going true turn status listens done = absurd (cc)
+still_going false turn status listens done = absurd (cc)
 
 -- ---- if the terminal sends
 

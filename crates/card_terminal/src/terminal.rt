@@ -1,5 +1,5 @@
 //! A terminal that runs operations over any line, whose characters its caller passes.
-ghost use Rattle.std.specs.Prelude.{◌≡◌, ◌≤◌, ◌<◌, ℕ, List, [], ◌∷◌, ◌++◌, None, MatchResult, Some, true, false};
+ghost use Rattle.std.specs.Prelude.{◌≡◌, ◌≤◌, ◌<◌, ℕ, List, [], ◌∷◌, ◌++◌, None, MatchResult, IfOk, Some, true, false};
 ghost use Rattle.std.specs.Option.{option_map};
 ghost use Rattle.apdu_core.specs.CommandBytes as spec;
 ghost use Rattle.object_card.specs.OneStep.{Select, Get, Put};
@@ -48,16 +48,18 @@ pub struct Terminal<A: Allocator + Copy = Global> {
     alloc: A,
     limit: usize,
     operation: Option<Operation<A>>,
+    /// The memory of the last operation, which the next one uses.
+    spare: Option<Operation<A>>,
 }
 
 impl<A: Allocator + Copy> Model for Terminal<A> {
-    ghost use Rattle.card_terminal.specs.TerminalSide.{TerminalOf, IsSet};
+    ghost use Rattle.card_terminal.specs.TerminalSide.{TerminalOf, HasRoomFor, IsSet};
 
     ghost Value = { TerminalOf };
 
     ghost view = { λ t. record { limit = t.limit; operation = t.operation } };
 
-    ghost invariant = { λ t. IsSet t.limit t.operation };
+    ghost invariant = { λ t. IsSet t.limit t.operation × HasRoomFor t.limit t.spare };
 }
 
 impl<A: Allocator + Copy> Terminal<A> {
@@ -70,6 +72,7 @@ impl<A: Allocator + Copy> Terminal<A> {
             alloc,
             limit: RESPONSE_LIMIT,
             operation: None,
+            spare: None,
         }
     }
 
@@ -90,6 +93,7 @@ impl<A: Allocator + Copy> Terminal<A> {
             alloc,
             limit,
             operation: None,
+            spare: None,
         })
     }
 
@@ -167,8 +171,31 @@ impl<A: Allocator + Copy> Terminal<A> {
         if let Some(operation) = &mut self.operation {
             return operation.again(first, content);
         }
-        self.operation = Some(Operation::start(self.alloc, self.limit, first, content)?);
+        self.operation = Some(self.first_operation(first, content)?);
         Ok(())
+    }
+
+    /// Makes an operation in the memory of the last one, if that was kept, or in its own.
+    fn first_operation(
+        &mut self,
+        first: Command<'_>,
+        content: &[u8],
+    ) -> Result<Operation<A>, AllocError>
+        requires front { (more : List ℕ) × (content.now ≡ first.content ++ more) }
+        ensures begins { IfOk result (λ o. BeginsWith first.entry content.now o) }
+        ensures room { IfOk result (λ o. o.exchange.gather.limit ≡ self.old.limit) }
+        ensures stays { self.new ≡ self.old }
+    {
+        match self.spare.take() {
+            None => Operation::start(self.alloc, self.limit, first, content),
+            Some(mut kept) => match kept.again(first, content) {
+                Ok(()) => Ok(kept),
+                Err(fault) => {
+                    self.spare = Some(kept);
+                    Err(fault)
+                }
+            },
+        }
     }
 
     /// Whether an operation is in progress: it has neither ended nor failed. No other may begin
@@ -337,6 +364,17 @@ impl<A: Allocator + Copy> Terminal<A> {
         ensures { self.new ≡ at_rest self.old.limit }
     {
         self.operation = None;
+        self.spare = None;
+    }
+
+    /// Drops the last operation, in any state, with its answer, as `reset`. Its memory stays for
+    /// the next one, with a copy of its data, until that overwrites it or `reset` or drop frees it.
+    pub fn rest(&mut self)
+        ensures { self.new ≡ at_rest self.old.limit }
+    {
+        if self.operation.is_some() {
+            self.spare = self.operation.take();
+        }
     }
 }
 

@@ -82,6 +82,23 @@ one_is_run Nothing at byte is = absurd is
 one_is_run (Receiving ask) at byte is = absurd is
 one_is_run (Decided next) at byte is = absurd is
 
+no_wait : (d : Direction) (m u : ℕ) → (left_to_send d m u ≡ 0 → ⊥) → (d ≡ FromCard) × (m < u)
+no_wait ToCard m u some = absurd (some refl)
+no_wait FromCard m u some = (refl, omega (arith, some))
+
+-- the data character at this place is next
+pub one_due : {C : Type 0} (card : Ghosts C) (e : C) (phase : Phase) (s : Service)
+    (came : List ℕ) (at byte : ℕ) → phase ≡ Accepted s
+    → (left_to_send s.direction s.moved s.until ≡ 0 → ⊥) → at ≡ s.moved
+    → IsSending (card.prepared e) (λ ask bytes. slice_get bytes at ≡ Some byte)
+    → AreDue card (end_at e (stage_of phase came)) (byte ∷ [])
+one_due card e phase s came at byte is some place sends =
+    let (way, below) = no_wait s.direction s.moved s.until some in
+    let run = subst (λ k. IsSending (card.prepared e) (λ ask bytes. IsRunAt bytes k (byte ∷ [])))
+    place (one_is_run (card.prepared e) at byte sends) in
+    subst (λ (p : Phase). AreDue card (end_at e (stage_of p came)) (byte ∷ [])) (sym is)
+    (way, omega (arith, below), run)
+
 -- ---- its characters
 
 from_card : (d : Direction) (due : Bool) → d ≡ FromCard → (comes_from_terminal d && due) ≡ false
@@ -191,6 +208,16 @@ module _ {C : Type 0} (card : Ghosts C) (e : C) where
       (end_at e (stage_of (skipped phase n) came))) is
       (due_steps phase came run n fits
       (subst (λ (x : EndOf C). AreDue card x run) (sym is) due) le))
+
+  -- the character that the end skips is sent
+  pub one_skipped : (phase next : Phase) (came : List ℕ) (byte : ℕ) (seen : EndOf C)
+      → Fits (card.prepared e) phase → end_at e (stage_of phase came) ≡ seen
+      → next ≡ skipped phase 1 → AreDue card (end_at e (stage_of phase came)) (byte ∷ [])
+      → IsHandedOut card seen byte (end_at e (stage_of next came))
+  one_skipped phase next came byte seen fits is next_is due =
+      let one = skip_steps phase next came (byte ∷ []) 1 seen fits is next_is
+      (subst (λ (x : EndOf C). AreDue card x (byte ∷ [])) is due) (omega arith) in
+      subst (λ (x : EndOf C). IsHandedOut card seen byte x) (sym one.2) one.1
 
 -- what the card has prepared still suits the phase
 not_past : (d : Direction) (m u n : ℕ) → m ≤ u → m + min n (left_to_send d m u) ≤ u

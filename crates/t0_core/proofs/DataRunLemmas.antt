@@ -8,7 +8,7 @@ use Rattle.t0_core.specs.declared.host_end.HostStage.TheVariants.{Moving}
 use Rattle.t0_core.specs.declared.direction.Direction.{Direction}
 use Rattle.t0_core.specs.declared.direction.Direction.TheVariants.{ToCard}
 use Rattle.t0_core.specs.Dialogue.{foreseen}
-use Rattle.t0_core.specs.HostSide.{IsInRange, IsRequest, moving}
+use Rattle.t0_core.specs.HostSide.{Hosting, IsInRange, IsRequest, moving}
 use Rattle.t0_core.specs.Buffers.{Steps, HandsOut, IsDataTurn}
 use Rattle.t0_core.proofs.HostLemmas.{host_at, host_sends}
 
@@ -119,3 +119,11 @@ run_in h p3 d own content stage last m u n before after way same at range within
           (sent_in h p3 d own content stage last m u n way same at range within ends);
       behind = ap (λ bs. drop n bs) is ∙ drop_at (take n (drop m content)) (drop n before) n len;
     }
+
+-- the same for equal ends
+pub handed_as : (old old' new new' : Hosting) (before after : List ℕ) (n : ℕ) → old ≡ old'
+    → new ≡ new' → HandsOut IsDataTurn old before after n new
+    → HandsOut IsDataTurn old' before after n new'
+handed_as old old' new new' before after n was is handed =
+    subst (λ (h : Hosting). HandsOut IsDataTurn h before after n new') was
+    (subst (λ (h : Hosting). HandsOut IsDataTurn old before after n h) is handed)

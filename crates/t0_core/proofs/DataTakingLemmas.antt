@@ -1,6 +1,6 @@
 -- A terminal's end takes a run of the card's data, which is one character after another.
 use Rattle.std.proofs.Common.{◌≡◌, ℕ, ◌-◌, zero, suc, add-zero, ◌+◌, ◌<◌, ◌≤◌, List, [], ◌∷◌, ◌++◌, length, take, refl, sym, subst, ap, ◌∙◌, arith, append-nil, append_assoc, length-append, ◌==◌, Bool, true, false, Some, None, if◌then◌else◌, ◌⊎◌, inl, inr}
-use Rattle.std.proofs.lemmas.Bool.{ne_eqb, eq-eqb, lt-ltb, le-ltb}
+use Rattle.std.proofs.lemmas.Bool.{ne_eqb, eq-eqb, eqb-false, lt-ltb, le-ltb}
 use Rattle.std.proofs.lemmas.List.{length-take-le}
 use Rattle.apdu_core.specs.declared.header.Header.{Header}
 use Rattle.t0_core.specs.declared.end.End.TheVariants.{Card}
@@ -11,15 +11,18 @@ use Rattle.t0_core.specs.declared.direction.Direction.{Direction}
 use Rattle.t0_core.specs.declared.direction.Direction.TheVariants.{ToCard, FromCard}
 use Rattle.t0_core.specs.Dialogue.{Dialogue, data_sender, foreseen}
 use Rattle.t0_core.specs.Front.{Front, In_header, In_body, After_first, GoesOn, Ends, with_moved}
-use Rattle.t0_core.specs.HostSide.{HostStandsAt, IsInRange, IsRequest, fault_of, moving}
+use Rattle.t0_core.specs.HostSide.{Hosting, HostStandsAt, IsInRange, IsRequest, fault_of, moving}
 use Rattle.t0_core.specs.Buffers.{Steps, IsDataTaken, Taker, TakesNoData}
 use Rattle.t0_core.specs.Room.{Room}
 use Rattle.t0_core.proofs.HostLemmas.{host_at, host_takes}
 use Rattle.t0_core.proofs.HostTook.{brings}
 
 -- data move until all have moved
-still_moving : (m u : ℕ) → m < u → moving m u ≡ Moving m u
+pub still_moving : (m u : ℕ) → m < u → moving m u ≡ Moving m u
 still_moving m u below = rw (lt-ltb m u below) refl
+
+pub none_moving : (m u : ℕ) → u ≤ m → moving m u ≡ Awaiting m
+none_moving m u beyond = rw (le-ltb m u beyond) refl
 
 abbrev taker : Header → ℕ → Direction → List ℕ → HostStage → List ℕ → ℕ → Taker
 taker h p3 d own stage bytes limit = record {
@@ -120,6 +123,36 @@ run_in h p3 d own stage last m u n came room after way is range within fits has 
     (subst (λ r. P FromCard (moving m u) (moving (m + n) u) r) (sym gathers)
     (run_of h p3 own u n m room.limit room.bytes came at.0 at.1.1 fits
     (omega (arith, within, at.1.0)) has))))
+
+-- one character is such a run
+pub one_in : (h : Header) (p3 : ℕ) (d : Direction) (own : List ℕ) (stage last : HostStage)
+    (m u byte : ℕ) (room after : Room) → d ≡ FromCard → stage ≡ Moving m u
+    → IsInRange (host_at h p3 d own stage) → (length room.bytes == room.limit) ≡ false
+    → length room.bytes ≤ room.limit
+    → after ≡ (record { bytes = room.bytes ++ byte ∷ []; limit = room.limit })
+    → last ≡ moving (m + 1) u
+    → IsDataTaken (record { host = host_at h p3 d own stage; room = room }) byte
+    (record { host = host_at h p3 d own last; room = after })
+one_in h p3 d own stage last m u byte room after way is range some fits gathers ends =
+    let below = is_below h p3 d own stage m u is range in
+    let has : length room.bytes + 1 ≤ room.limit =
+    omega (arith, fits, eqb-false (length room.bytes) room.limit some) in
+    let run = run_in h p3 d own stage last m u 1 (byte ∷ []) room after way is range
+    (omega (arith, below)) (omega arith) has gathers ends in
+    subst (λ (t : Taker). IsDataTaken (record { host = host_at h p3 d own stage; room = room })
+    byte t) (sym run.2) run.1
+
+-- the same for equal ends
+pub taken_as : (old old' new new' : Hosting) (byte : ℕ) (room after : Room) → old ≡ old'
+    → new ≡ new' → IsDataTaken (record { host = old; room = room }) byte
+    (record { host = new; room = after })
+    → IsDataTaken (record { host = old'; room = room }) byte
+    (record { host = new'; room = after })
+taken_as old old' new new' byte room after was is taken =
+    subst (λ (h : Hosting). IsDataTaken (record { host = h; room = room }) byte
+    (record { host = new'; room = after })) was
+    (subst (λ (h : Hosting). IsDataTaken (record { host = old; room = room }) byte
+    (record { host = h; room = after })) is taken)
 
 -- ---- no data follow
 

@@ -320,6 +320,20 @@ impl<C: TpduCard> CardEnd<C> {
         run_due(&self.card, &self.phase)
     }
 
+    /// Returns the card's next character, as `turn` does, if it is data. Otherwise returns `None`,
+    /// and nothing changes.
+    #[inline(always)]
+    pub fn next_data(&mut self) -> Option<u8>
+        ensures { MatchOption result ((due_in self.old.stage ≡ 0) × (self.new ≡ self.old))
+            (λ byte. IsHandedOut C.TpduCard self.old byte self.new) }
+    {
+        let Some(byte) = byte_due(&self.card, &self.phase) else {
+            return None;
+        };
+        skip_in(&mut self.phase, 1);
+        Some(byte)
+    }
+
     /// Counts the first `count` characters of `data_due` as sent, as `turn` does for each. If
     /// `count` is more than the card sends next, it counts all of these.
     #[inline(always)]
@@ -438,6 +452,23 @@ fn run_due<'a, C: TpduCard>(card: &'a C, phase: &Phase) -> Option<DataRun<'a>>
         return None;
     }
     Some(card.run(service.moved() as u16).up_to(due))
+}
+
+/// The data character that the card sends next.
+#[inline(always)]
+fn byte_due<C: TpduCard>(card: &C, phase: &Phase) -> Option<u8>
+    requires { Fits (C.prepared card.now) phase.now }
+    ensures { (came : List ℕ) → MatchOption result (due_in (stage_of phase.now came) ≡ 0)
+        (λ byte. AreDue C.TpduCard (record { card = card.now; stage = stage_of phase.now came })
+        (byte ∷ [])) }
+{
+    let Phase::Accepted { service } = phase else {
+        return None;
+    };
+    if service.due() == 0 {
+        return None;
+    }
+    Some(card.byte(service.moved() as u16))
 }
 
 /// Counts data characters of the card, at most as many as it sends next.

@@ -76,7 +76,8 @@ impl<A: Allocator> Gather<A> {
     /// Whether the buffer is full.
     #[inline(always)]
     pub(crate) fn is_full(&self) -> bool
-        ensures { result ≡ (length self.now.bytes == self.now.limit) }
+        ensures full { result ≡ (length self.now.bytes == self.now.limit) }
+        ensures fits { length self.now.bytes ≤ self.now.limit }
     {
         self.bytes.len() == self.limit
     }

@@ -1,5 +1,5 @@
 //! The terminal's end of one TPDU, which opens it and follows the card's procedure bytes.
-ghost use Rattle.std.specs.Prelude.{◌≡◌, ℕ, ◌+◌, ◌≤◌, ◌<◌, List, [], ◌∷◌, ◌++◌, true, OnOk, OnErr, IfErr, IsErrOf, MatchResult, IsOk, length, take, drop, IfOk, is_ok, if◌then◌else◌, ◌⊎◌, ◌↔◌, Some, None};
+ghost use Rattle.std.specs.Prelude.{◌≡◌, ℕ, ◌+◌, ◌≤◌, ◌<◌, List, [], ◌∷◌, ◌++◌, true, OnOk, OnErr, IfErr, IsErrOf, MatchResult, IsOk, length, take, drop, IfOk, is_ok, false, if◌then◌else◌, ◌⊎◌, ◌↔◌, Some, None};
 ghost use Rattle.std.specs.Option.{option_map};
 ghost use Rattle.std.specs.Result.{result_err};
 ghost use Rattle.apdu_core.specs.HeaderBytes.{ins_is_valid};
@@ -13,6 +13,8 @@ ghost use Rattle.t0_core.specs.HostMark.{HasOnly, with_data};
 ghost use Rattle.t0_core.specs.TpduBytes.{asked_by, asked_of, due_by};
 ghost use Rattle.t0_core.specs.Buffers.{HandsOut, IsDataTurn, IsDataTaken, Steps, Taker, TakesNoData};
 ghost use Rattle.t0_core.specs.HostAnswer.{is_start, may_come, excess, answer_fault, after_answer_fault, Gives};
+
+mod in_place;
 
 use crate::answer_fault::AnswerFault;
 use crate::data_sent::DataSent;
@@ -538,7 +540,11 @@ fn data_at(request: &Request, stage: &mut HostStage) -> Option<u8>
         HostStage::Moving { moved, until } => match request.transfer {
             Transfer::Sending(content) => {
                 let (place, end) = (*moved, *until);
-                *stage = stage_moving(place + 1, end);
+                if place + 1 < end {
+                    *moved = place + 1;
+                } else {
+                    *stage = HostStage::Awaiting { moved: place + 1 };
+                }
                 Some(content[usize::from(place)])
             }
             Transfer::Asking => None,
@@ -745,6 +751,48 @@ fn take_run_at<A: Allocator>(
             Transfer::Sending(_) => 0,
         },
         _ => 0,
+    }
+}
+
+/// Takes a character of the card and moves the stage past it, if it is data and there is room.
+/// Returns whether it has; if not, nothing changes.
+#[inline(always)]
+fn take_data_at<A: Allocator>(
+    request: &Request,
+    stage: &mut HostStage,
+    byte: u8,
+    gather: &mut Gather<A>,
+) -> bool
+    requires { IsInRange (host_of request.now stage.old) }
+    ensures taken { result ≡ true → IsDataTaken
+        (record { host = host_of request.now stage.old; room = gather.old }) byte
+        (record { host = host_of request.now stage.new; room = gather.new }) }
+    ensures none { result ≡ false → TakesNoData
+        (record { host = host_of request.now stage.old; room = gather.old }) }
+    ensures listens { result ≡ true →
+        turn_of (host_of request.now stage.new) ≡ HostTurn.Listens }
+    ensures stays { result ≡ false → (stage.new ≡ stage.old) × (gather.new ≡ gather.old) }
+    ensures range { IsInRange (host_of request.now stage.new) }
+    ensures limit { gather.new.limit ≡ gather.old.limit }
+{
+    match stage {
+        HostStage::Moving { moved, until } => match request.transfer {
+            Transfer::Asking => {
+                let (place, end) = (*moved, *until);
+                if gather.is_full() {
+                    return false;
+                }
+                gather.push(byte);
+                if place + 1 < end {
+                    *moved = place + 1;
+                } else {
+                    *stage = HostStage::Awaiting { moved: place + 1 };
+                }
+                true
+            }
+            Transfer::Sending(_) => false,
+        },
+        _ => false,
     }
 }
 

@@ -94,7 +94,8 @@ impl<A: Allocator + Copy> PlanQueue<A> {
     pub fn advance_if(&mut self, takes_plan: bool)
         ensures { self.new ≡ (if takes_plan then advanced self.old else self.old) }
     {
-        if takes_plan {
+        // Most queues hold no plan.
+        if takes_plan && (self.len() != 0 || self.kept.is_some()) {
             self.advance();
         }
     }

@@ -182,6 +182,40 @@ fn no_memory_for_a_longer_value(rt: HostRuntime) {
     assert!(rt; heap.used() == SHORT);
 }
 
+/// A terminal at rest has no answer, and its memory is for the next operation, of each kind.
+#[test]
+fn a_terminal_at_rest_keeps_its_memory(rt: HostRuntime) {
+    let heap = heap_of(&rt, SHORT);
+    let mut terminal = has_put(&rt, &heap, "41*20");
+    for _ in 0..3 {
+        terminal.rest();
+        terminal.rest();
+        assert!(rt; terminal.answer().is_none());
+        assert!(rt; terminal.next().is_none());
+        assert!(rt; !terminal.is_going());
+        assert!(rt; heap.used() == SHORT);
+        assert!(rt; put(&rt, &mut terminal, "42*20").is_none());
+        carries_out(&rt, &mut terminal, "42*20");
+        assert!(rt; get(&rt, &mut terminal).is_none());
+    }
+    terminal.rest();
+    terminal.reset();
+    assert!(rt; heap.used() == 0);
+}
+
+/// Memory runs out for the longer value of an operation after a rest; a shorter one still has room.
+#[test]
+fn no_memory_after_a_rest(rt: HostRuntime) {
+    let heap = heap_of(&rt, SHORT);
+    let mut terminal = has_put(&rt, &heap, "41*20");
+    terminal.rest();
+    assert!(rt; put(&rt, &mut terminal, "42*300") == Some(BeginFault::OutOfMemory));
+    assert!(rt; terminal.next().is_none());
+    assert!(rt; put(&rt, &mut terminal, "43*20").is_none());
+    carries_out(&rt, &mut terminal, "43*20");
+    assert!(rt; heap.used() == SHORT);
+}
+
 /// The fault of a put of 300 bytes after one of 20, with a heap of `size` bytes. If the put begins,
 /// the terminal has freed the shorter copy.
 fn longer_over(rt: &(impl Abort + AllocGlobal), size: usize) -> Option<BeginFault> {

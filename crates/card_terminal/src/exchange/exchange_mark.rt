@@ -1,5 +1,5 @@
 //! An exchange without its command's data, which its owner passes to each call.
-ghost use Rattle.std.specs.Prelude.{◌≡◌, ◌≤◌, ℕ, List, [], None, Some, IfOk, IfSome};
+ghost use Rattle.std.specs.Prelude.{◌≡◌, ◌≤◌, ℕ, List, [], None, Some, IfOk, IfSome, true, false};
 ghost use Rattle.std.specs.Option.{option_map};
 ghost use Rattle.apdu_core.specs.StatusWord.{StatusWord};
 ghost use Rattle.t0_core.specs.Front.{fresh};
@@ -9,14 +9,14 @@ ghost use Rattle.t0_core.specs.TpduBytes.{asked_of, due_by};
 ghost use Rattle.card_terminal.specs.ExchangeSide.{UnderWay, GoesByCharacters, exchange_turn, response_limit};
 ghost use Rattle.card_terminal.specs.ExchangeHistory.{ComesTo};
 ghost use Rattle.card_terminal.specs.Buffers.{IsHandingOut, IsTakingAll};
-ghost use Rattle.card_terminal.specs.ExchangeSteps.{IsTurn, IsTaking, IsAnswering, IsAnswer};
+ghost use Rattle.card_terminal.specs.ExchangeSteps.{IsTurn, IsTaking, IsAnswering, IsAnswer, TakesOne};
 ghost use Rattle.card_terminal.specs.OwnedExchange.{over_data, IsSound};
 ghost use Rattle.card_terminal.specs.Unsent.{IsFirst};
 ghost use Rattle.card_terminal.specs.SentData.{TellsSent};
 
 use crate::attempt::Attempt;
 use crate::exchange::Exchange;
-use crate::exchange::handing::handed_by;
+use crate::exchange::handing::handed_in;
 use crate::exchange::taking::{all_taken_by, taken_by};
 use crate::handed_out::HandedOut;
 use crate::taken::Taken;
@@ -145,10 +145,7 @@ impl<A: Allocator + Copy> ExchangeMark<A> {
         if self.stalled {
             return HostTurn::Failed;
         }
-        let mut end = HostEnd::at(self.end, content);
-        let turn = end.next();
-        self.end = end.mark();
-        turn
+        self.end.next(content)
     }
 
     /// Returns the next character of the command's data, as `Exchange::next_data`.
@@ -173,8 +170,23 @@ impl<A: Allocator + Copy> ExchangeMark<A> {
         Some(byte)
     }
 
-    /// Takes a character of the card, as `Exchange::take`.
+    /// Takes a character of the card, as `take`, if it is data and there is room. Returns whether
+    /// it has; if not, nothing changes. The exchange continues after it.
     #[inline(always)]
+    pub fn take_data(&mut self, byte: u8, content: &[u8]) -> bool
+        requires { IsSound (over_data self.old content.now) }
+        ensures taken { result ≡ true → TakesOne (over_data self.old content.now) byte
+            (over_data self.new content.now) }
+        ensures continues { result ≡ true → (status : StatusWord)
+            → exchange_turn (over_data self.new content.now) ≡ HostTurn.Done status → ⊥ }
+        ensures stays { result ≡ false → self.new ≡ self.old }
+        ensures sound { IsSound (over_data self.new content.now) }
+        ensures limit { self.new.gather.limit ≡ self.old.gather.limit }
+    {
+        self.end.take_data(byte, content, &mut self.gather)
+    }
+
+    /// Takes a character of the card, as `Exchange::take`.
     pub fn take(&mut self, byte: u8, content: &[u8]) -> Result<(), LineFault>
         requires { IsSound (over_data self.old content.now) }
         ensures taking { IsTaking (over_data self.old content.now) byte result
@@ -206,10 +218,7 @@ impl<A: Allocator + Copy> ExchangeMark<A> {
         ensures sound { IsSound (over_data self.new content.now) }
         ensures limit { self.new.gather.limit ≡ self.old.gather.limit }
     {
-        let mut end = HostEnd::at(self.end, content);
-        let handed = handed_by(&mut end, self.stalled, bytes);
-        self.end = end.mark();
-        handed
+        handed_in(&mut self.end, content, self.stalled, bytes)
     }
 
     /// Takes the characters of a buffer, as `Exchange::take_bytes`.

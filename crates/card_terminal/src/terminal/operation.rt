@@ -166,9 +166,23 @@ impl<A: Allocator + Copy> Operation<A> {
             × GoesOver (with_exchange self.old ex) self.new }
         ensures limit { self.new.exchange.gather.limit ≡ self.old.exchange.gather.limit }
     {
-        let taken = self
-            .exchange
-            .take(byte, &self.content[self.from..self.until]);
+        // Data first: they are most of the characters.
+        let content = &self.content[self.from..self.until];
+        if self.exchange.take_data(byte, content) {
+            return Ok(());
+        }
+        self.take_other(byte)
+    }
+
+    /// Takes any character, as `take`. It is not inlined, so that the path of data stays short.
+    #[inline(never)]
+    fn take_other(&mut self, byte: u8) -> Result<(), LineFault>
+        ensures taking { (ex : ExchangeOf) × IsTaking self.old.exchange byte result ex
+            × GoesOver (with_exchange self.old ex) self.new }
+        ensures limit { self.new.exchange.gather.limit ≡ self.old.exchange.gather.limit }
+    {
+        let content = &self.content[self.from..self.until];
+        let taken = self.exchange.take(byte, content);
         self.go_on();
         taken
     }

@@ -12,7 +12,7 @@ returns-clause-answering g c = elim c.match-self.branch [
       (idle_answered c.args.bytes.now c.args.status)
   | in-Some w ↦
       let settled = settled_at c.self.inside.operation w.in-Some.operation
-      c.self.invariant.settled w.in-Some.is in
+      c.self.invariant.0.settled w.in-Some.is in
       answering_as _ _ c.args.bytes.now c.args.status _ _ _ _
       (sym w.in-Some.is ∙ held c.self.view_is) w.result-is
       (ap (λ (i : Inside g.row.A.Denot). i.operation) w.self-inside-is)

@@ -11,7 +11,7 @@ returns-clause-turn g c = elim c.match-self.branch [
       idle_turn
   | in-Some w ↦
       let settled = settled_at c.self.inside.operation w.in-Some.operation
-      c.self.invariant.settled w.in-Some.is in
+      c.self.invariant.0.settled w.in-Some.is in
       turn_as _ _ _ _ _ _ (sym w.in-Some.is ∙ held c.self.view_is) w.result-is
       (ap (λ (i : Inside g.row.A.Denot). i.operation) w.self-inside-is)
       (turns w.in-Some.operation w.next.new.self w.next.result w.next.ensures.turn

@@ -12,7 +12,7 @@ returns-clause-handed g c = elim c.match-self.branch [
       (ap (λ (i : Inside g.row.A.Denot). i.operation) w.self-inside-is ∙ w.in-None.is)
   | in-Some w ↦
       let settled = settled_at c.self.inside.operation w.in-Some.operation
-      c.self.invariant.settled w.in-Some.is in
+      c.self.invariant.0.settled w.in-Some.is in
       handed_out _ _ w.in-Some.operation w.next_bytes.new.self c.args.bytes.now c.match-self.bytes
       w.next_bytes.new.bytes w.next_bytes.result c.match-self.result _
       (held c.self.view_is)

@@ -10,7 +10,7 @@ returns-clause-turn g c = elim c.match-self.branch [
   | in-None w ↦ λ byte is. let e : None ≡ Some byte = sym w.result-is ∙ is in absurd (cc)
   | in-Some w ↦ λ byte is.
       let settled = settled_at c.self.inside.operation w.in-Some.operation
-      c.self.invariant.settled w.in-Some.is in
+      c.self.invariant.0.settled w.in-Some.is in
       let step = w.next_data.ensures.turn byte (sym w.result-is ∙ is) in
       turn_as _ _ _ _ _ _ (sym w.in-Some.is ∙ held c.self.view_is) refl
       (ap (λ (i : Inside g.row.A.Denot). i.operation) w.self-inside-is)

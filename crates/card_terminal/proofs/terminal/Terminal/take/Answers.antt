@@ -11,7 +11,7 @@ returns-clause-taking g c = elim c.match-self.branch [
       (idle_take c.args.byte)
   | in-Some w ↦
       let settled = settled_at c.self.inside.operation w.in-Some.operation
-      c.self.invariant.settled w.in-Some.is in
+      c.self.invariant.0.settled w.in-Some.is in
       taking_as _ _ c.args.byte _ _ _ _ (sym w.in-Some.is ∙ held c.self.view_is) w.result-is
       (ap (λ (i : Inside g.row.A.Denot). i.operation) w.self-inside-is)
       (takes w.in-Some.operation w.take.new.self w.take.ensures.taking.0 settled

@@ -12,7 +12,7 @@ returns-clause-taking g c = elim c.match-self.branch [
       w.none_taken.ensures
   | in-Some w ↦
       let settled = settled_at c.self.inside.operation w.in-Some.operation
-      c.self.invariant.settled w.in-Some.is in
+      c.self.invariant.0.settled w.in-Some.is in
       taking_all_as _ _ c.args.bytes.now _ _ _ _ (sym w.in-Some.is ∙ held c.self.view_is)
       w.result-is (ap (λ (i : Inside g.row.A.Denot). i.operation) w.self-inside-is)
       (w.take_bytes.ensures.taking settled)

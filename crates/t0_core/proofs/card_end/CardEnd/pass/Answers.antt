@@ -30,7 +30,7 @@ returns-in-Some-data_due-clause-passes g c = λ first before on.
     let due = subst (λ bs. AreDue card old bs) (sym c.bytes.ensures) c.in-Some-data_due.ensures in
     let some = some_taken run.result (length all) _ (length c.args.gather.now.bytes)
     c.args.gather.now.limit (some_due card old all due) (omega (arith, c.if-place-from.false))
-    (sym c.is_full.ensures ∙ c.if-is_full.false) run.ensures.all in
+    (sym c.is_full.ensures.full ∙ c.if-is_full.false) run.ensures.all in
     let len = length-take-le run.result all run.ensures.fits in
     let P : List ℕ → Type 0 = λ got. GoesFurther card first plan asked before got old new in
     subst P (sym (ap (λ (r : Room). r.bytes) run.ensures.gathered))

@@ -1,21 +1,32 @@
 use Rattle.std.proofs.Common.{sym, subst, ap}
-use Rattle.t0_core.specs.HostSide.{Hosting}
-use Rattle.t0_core.specs.HostMark.{HasOnly}
-use Rattle.card_terminal.specs.OwnedExchange.{ExchangeMarkOf, over_data, IsSound}
-use Rattle.card_terminal.proofs.OwnedLemmas.{same_parts, end_has_only, turned}
+use Rattle.t0_core.specs.HostMark.{with_data}
+use Rattle.card_terminal.specs.OwnedExchange.{ExchangeMarkOf, of_parts, over_data, IsSound}
+use Rattle.card_terminal.proofs.OwnedLemmas.{turned}
+use Rattle.card_terminal.proofs.TurnLemmas.{over_by_turn}
 use Rattle.card_terminal.proofs.exchange.exchange_mark.ExchangeMark.next.Goals as goal
+
+pub next-requires : goal.next-requires
+next-requires g c = (subst IsSound
+    (sym (ap (λ (m : ExchangeMarkOf). over_data m c.args.content.now) c.self.view_is))
+    c.requires).0
 
 pub returns-clause-turn : goal.returns-clause-turn
 returns-clause-turn g c =
     let content = c.args.content.now in
     let i = c.self.inside in
-    let begun = same_parts i.end i.gather i.attempt i.wanted i.stalled content _ _ c.at-end.ensures
-    (ap (λ (m : ExchangeMarkOf). over_data m content) c.self.view_is) in
-    let sound = subst IsSound (sym begun) c.requires in
-    let turn = c.next-turn.result in
-    let step = turned _ turn c.next-turn.new.self sound.1 c.if-self.false c.next-turn.ensures.turn
-    c.next-turn.ensures.after c.next-turn.ensures.keeps c.next-turn.ensures.stays
-    c.next-turn.ensures.goes_on in
-    let only = subst (λ (h : Hosting). HasOnly content h) (sym c.next-turn.ensures.after)
-    (end_has_only _ _ _ c.at-end.ensures) in
-    rw (c.mark-self-inside.ensures.again content only, sym begun) step
+    let seen = ap (λ (m : ExchangeMarkOf). over_data m content) c.self.view_is in
+    let sound = subst IsSound (sym seen) c.requires in
+    let turn = c.next.ensures in
+    rw (sym seen) (turned
+    (of_parts (with_data i.end content) i.gather i.attempt i.wanted i.stalled) c.next.result
+    (with_data c.next.new.self content) sound.1 c.if-self.false turn.turn turn.after turn.range.0
+    turn.stays turn.goes_on)
+
+pub returns-clause-over : goal.returns-clause-over
+returns-clause-over g c = λ status done.
+    let content = c.args.content.now in
+    let i = c.self.inside in
+    over_by_turn (of_parts (with_data i.end content) i.gather i.attempt i.wanted i.stalled) _
+    (with_data c.next.new.self content) status
+    (ap (λ (m : ExchangeMarkOf). over_data m content) c.self.view_is) c.if-self.false
+    c.next.ensures.after done

@@ -1,5 +1,5 @@
 -- The commands and responses that the items of a tap make up.
-use Rattle.std.specs.Prelude.{ℕ, Bool, true, false, List, [], ◌∷◌, ◌++◌, length, take, cond}
+use Rattle.std.specs.Prelude.{ℕ, Bool, true, false, List, [], ◌++◌, length, take, cond}
 use Rattle.t1_core.specs.declared.block.Control.TheVariants.{Resynch, Abort}
 use Rattle.t1_core.specs.declared.gathered.Progress.{Progress}
 use Rattle.t1_core.specs.declared.gathered.Progress.TheVariants.{Nothing, Begun, Whole, Unknown}

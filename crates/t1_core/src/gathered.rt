@@ -16,7 +16,7 @@ use std::marker::Model;
 /// How much of a command or response a tap has heard.
 #[derive(Clone, Copy, Debug, PartialEq, Eq)]
 pub enum Progress {
-    /// None of it: after a reset, S(RESYNCH response) or S(ABORT response).
+    /// Nothing, after a reset, S(RESYNCH response) of the card, or S(ABORT response).
     Nothing,
     /// The first fields.
     Begun,

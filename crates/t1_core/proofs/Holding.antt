@@ -74,7 +74,7 @@ module _ (m : Meaning) (before commands : List (List ℕ)) where
   responses_many does past [] = refl
   responses_many does past (c ∷ cs) = ap suc (responses_many does (past ++ c ∷ []) cs)
 
-  many : {done todo answers sends responds : List (List ℕ)}
+  pub many : {done todo answers sends responds : List (List ℕ)}
       → AddsUp done todo answers sends responds
       → length answers + length responds ≡ length done
   many {done} {todo} {answers} {sends} {responds} h =

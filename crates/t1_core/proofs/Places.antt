@@ -317,7 +317,7 @@ module _ (m : Meaning) (before : List (List ℕ)) where
   arrived out Loses k s tries extensions = misses Other out k s tries extensions
 
   -- the error of a block that brings no progress
-  abbrev error_of : Fate → Reason
+  abbrev pub error_of : Fate → Reason
   error_of Damages = Edc
   error_of _ = Other
 

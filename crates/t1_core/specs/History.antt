@@ -1,5 +1,5 @@
 -- All that has happened to a terminal's end, from any peer, and the resulting fault.
-use Rattle.std.specs.Prelude.{◌≡◌, ◌≤◌, ℕ, ◌+◌, ◌==◌, Bool, true, false, List, [], ◌∷◌, length, Option, Some, None, nat_lt, cond, if◌then◌else◌}
+use Rattle.std.specs.Prelude.{◌≡◌, ◌≤◌, ℕ, ◌+◌, Bool, true, false, List, [], ◌∷◌, length, Option, Some, None, nat_lt, cond, if◌then◌else◌}
 use Rattle.t1_core.specs.declared.block.Control.TheVariants.{Ifs, Abort, Wtx}
 use Rattle.t1_core.specs.declared.settings.Settings.{Settings}
 use Rattle.t1_core.specs.declared.terminal.Cause.{Cause}

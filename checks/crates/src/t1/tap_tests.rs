@@ -1,8 +1,9 @@
 //! A tap, with worked dialogues and with any bytes.
 
 use super::random::Random;
+use std::alloc::{AllocGlobal, Global};
 use std::process::Abort;
-use t1_core::{Damage, Edc, End, Found, Role, Tap};
+use t1_core::{Damage, Edc, End, Found, Gathered, Progress, Role, Tap};
 
 const T: End = End::Terminal;
 
@@ -123,6 +124,166 @@ fn what_was_missed_is_unknown(rt: HostRuntime) {
         &[
             (T, b"\x00\x00\x01\x0A\x0B", ONLY),
             (C, b"\x00\x00\x01\x6A\x6B", ONLY),
+        ],
+    );
+}
+
+/// The runs are one item each, and after each the newest command or response is as in its row.
+fn messages_are(
+    rt: &impl Abort,
+    tap: &mut Tap,
+    gathered: &mut Gathered,
+    rows: &[(End, &[u8], (End, Progress, &[u8]))],
+) {
+    for (from, bytes, (sender, progress, message)) in rows {
+        let taken = tap.hear_run(*from, bytes);
+        assert_eq!(rt; taken, bytes.len());
+        gathered
+            .add(tap.item().expect(rt, "item"))
+            .expect(rt, "memory");
+        assert_eq!(rt; gathered.from(), *sender);
+        assert_eq!(rt; gathered.progress(), *progress);
+        assert!(rt; gathered.bytes() == *message);
+    }
+}
+
+#[test]
+fn chains_are_gathered(rt: HostRuntime) {
+    let mut gathered = Gathered::new(rt.alloc());
+    assert_eq!(&rt; gathered.progress(), Progress::Nothing);
+    messages_are(
+        &rt,
+        &mut Tap::new(Edc::Lrc),
+        &mut gathered,
+        &[
+            (
+                T,
+                b"\x00\x20\x02\x0A\x0B\x23",
+                (T, Progress::Begun, b"\x0A\x0B"),
+            ),
+            (C, b"\x00\x90\x00\x90", (T, Progress::Begun, b"\x0A\x0B")),
+            // The terminal announces IFSD late, from another NAD; R has an error bit.
+            (
+                T,
+                b"\x21\xC1\x01\xFE\x1F",
+                (T, Progress::Begun, b"\x0A\x0B"),
+            ),
+            (
+                C,
+                b"\x12\xE1\x01\xFE\x0C",
+                (T, Progress::Begun, b"\x0A\x0B"),
+            ),
+            (
+                T,
+                b"\x21\x60\x01\x0C\x4C",
+                (T, Progress::Begun, b"\x0A\x0B\x0C"),
+            ),
+            (
+                C,
+                b"\x12\x82\x00\x90",
+                (T, Progress::Begun, b"\x0A\x0B\x0C"),
+            ),
+            // The last field is empty.
+            (
+                T,
+                b"\x21\x00\x00\x21",
+                (T, Progress::Whole, b"\x0A\x0B\x0C"),
+            ),
+            (
+                C,
+                b"\x12\xC3\x01\x02\xD2",
+                (T, Progress::Whole, b"\x0A\x0B\x0C"),
+            ),
+            (
+                T,
+                b"\x21\xE3\x01\x02\xC1",
+                (T, Progress::Whole, b"\x0A\x0B\x0C"),
+            ),
+            (C, b"\x12\x20\x01\x61\x52", (C, Progress::Begun, b"\x61")),
+            // A damaged block adds nothing.
+            (T, b"\x21\x90\x00\xB0", (C, Progress::Begun, b"\x61")),
+            (T, b"\x21\x90\x00\xB1", (C, Progress::Begun, b"\x61")),
+            (
+                C,
+                b"\x12\x40\x02\x90\x00\xC0",
+                (C, Progress::Whole, b"\x61\x90\x00"),
+            ),
+            (
+                C,
+                b"\x12\x40\x02\x90\x00\xC0",
+                (C, Progress::Whole, b"\x61\x90\x00"),
+            ),
+            (T, b"\x00\x40\x01\x0A\x4B", (T, Progress::Whole, b"\x0A")),
+        ],
+    );
+}
+
+#[test]
+fn a_repeated_field_replaces_the_newest(rt: HostRuntime) {
+    messages_are(
+        &rt,
+        &mut Tap::new(Edc::Lrc),
+        &mut Gathered::new(rt.alloc()),
+        &[
+            (T, b"\x00\x20\x01\x01\x20", (T, Progress::Begun, b"\x01")),
+            (C, b"\x00\x90\x00\x90", (T, Progress::Begun, b"\x01")),
+            (
+                T,
+                b"\x00\x40\x02\x0A\x0B\x43",
+                (T, Progress::Whole, b"\x01\x0A\x0B"),
+            ),
+            (
+                C,
+                b"\x00\x91\x00\x91",
+                (T, Progress::Whole, b"\x01\x0A\x0B"),
+            ),
+            // Cut again, by a smaller IFSC.
+            (
+                T,
+                b"\x00\x60\x01\x0A\x6B",
+                (T, Progress::Begun, b"\x01\x0A"),
+            ),
+            (C, b"\x00\x80\x00\x80", (T, Progress::Begun, b"\x01\x0A")),
+            (
+                T,
+                b"\x00\x00\x01\x0B\x0A",
+                (T, Progress::Whole, b"\x01\x0A\x0B"),
+            ),
+            (
+                C,
+                b"\x00\x00\x02\x90\x00\x92",
+                (C, Progress::Whole, b"\x90\x00"),
+            ),
+            // The terminal has not heard it, and its block goes again. That is no new command.
+            (
+                T,
+                b"\x00\x00\x01\x0B\x0A",
+                (C, Progress::Whole, b"\x90\x00"),
+            ),
+        ],
+    );
+}
+
+#[test]
+fn what_was_missed_is_not_gathered(rt: HostRuntime) {
+    let mut tap = Tap::new(Edc::Lrc);
+    let mut gathered = Gathered::new(rt.alloc());
+    messages_are(
+        &rt,
+        &mut tap,
+        &mut gathered,
+        &[
+            (T, b"\x00\x40\x01\x0A\x4B", (T, Progress::Unknown, b"")),
+            (C, b"\x00\x80\x00\x80", (T, Progress::Unknown, b"")),
+            (C, b"\x00\x00\x02\x90\x00\x92", (C, Progress::Unknown, b"")),
+            (T, b"\x00\x20\x01\x0A\x2B", (T, Progress::Begun, b"\x0A")),
+            (T, b"\x00\xC0\x00\xC0", (T, Progress::Begun, b"\x0A")),
+            // RESYNCH is the terminal's to request: its own response ends nothing.
+            (T, b"\x00\xE0\x00\xE0", (T, Progress::Begun, b"\x0A")),
+            (C, b"\x00\xE0\x00\xE0", (C, Progress::Nothing, b"")),
+            (T, b"\x00\x20\x01\x0A\x2B", (T, Progress::Begun, b"\x0A")),
+            (C, b"\x00\xC2\x00\xC2", (T, Progress::Begun, b"\x0A")),
+            (T, b"\x00\xE2\x00\xE2", (T, Progress::Nothing, b"")),
         ],
     );
 }

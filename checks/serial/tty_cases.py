@@ -633,6 +633,18 @@ def card_settings():
             play(other, f"< 00810081 > {get} < 0000026985EE", card=False)
         return session
 
+    def never_stops(tty, other):
+        play(other, "< 3B8081210323 > 00C101FE3E < 00E101FE1E", card=False)
+        other.send("0000")
+        other.sends_marked("05")
+        for _ in range(10000):
+            if BEFORE in tty.noted():
+                break
+            other.send("00")
+            time.sleep(0.0005)
+
+    yield ("a card at T=1, a wrong parity and bytes without end", lambda: card(
+        never_stops, answer="3B8081210323", fault="the other end does not stop sending\n"))
     # a pause is longer than BGT, 2.3 ms, and shorter than CWT
     for place, pause in ((0, 0), (2, 0), (8, 0), (0, 0.05), (2, 0.05)):
         yield (f"a card at T=1, a wrong parity of byte {place}, pause {pause}",

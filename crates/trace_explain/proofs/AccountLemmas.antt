@@ -8,7 +8,6 @@ use Rattle.std.specs.String.{string_bytes}
 use Rattle.trace_explain.specs.declared.explainer.Explainer.{Explainer}
 use Rattle.trace_explain.specs.declared.write.layout.Layout.{Layout}
 use Rattle.trace_explain.specs.declared.write.layout.Medium.{Medium}
-use Rattle.trace_explain.specs.declared.follow.listener.Listener.{Listener}
 use Rattle.trace_explain.specs.declared.describe.mask.Mask.{Mask}
 use Rattle.trace_explain.specs.declared.write.sheet.Sheet.{Sheet}
 use Rattle.trace_explain.specs.Account.{Account, AddsBox, AddsBoxes, AddsText, AreBoxes, Boxed, HasWritten, InTurn, Manner, Out, Shows, ShowsReports, Writes, WritesOut, WritesReports, account_of, first_out, manner_of, number_after, out_with, reports_in, writing}
@@ -16,6 +15,7 @@ use Rattle.trace_explain.specs.Boxes.{PutsBox}
 use Rattle.trace_explain.specs.Noted.{as_ended, bared, ended_by, is_bare}
 use Rattle.trace_explain.specs.Sheets.{Joins}
 use Rattle.trace_explain.specs.Reports.{Report, one_more, report_of}
+use Rattle.trace_explain.specs.Trace.{HasLeft}
 use Rattle.trace_explain.specs.Words.{IsWords}
 use Rattle.trace_explain.proofs.SheetLemmas.{adds_nothing, words_both}
 
@@ -128,22 +128,15 @@ none_written layout mask e hears manner number text = record {
 }
 
 -- one box, after it was counted
-pub boxes_one : (t : Report) (is_loose : Bool) (number line n : ℕ) (answer : List ℕ)
-    {a c : Account} → n ≡ one_more a.number → number ≡ n
-    → AddsBox is_loose number line t answer (record a { number = n }) c → Shows (t ∷ []) a c
-boxes_one t is_loose number line n answer {a} {c} counted number_is h = record {
+pub boxes_one : (t : Report) (number line n : ℕ) {a c : Account} → n ≡ one_more a.number
+    → number ≡ n → AddsBox number line t (record a { number = n }) c → Shows (t ∷ []) a c
+boxes_one t number line n {a} {c} counted number_is h = record {
   manner = h.manner;
   adds = λ writes w.
-      let P : ℕ → Type 0 = λ k. PutsBox a.mask is_loose k line t answer a.sheet c.sheet in
+      let P : ℕ → Type 0 = λ k. PutsBox a.mask k line t a.sheet c.sheet in
       let (more, (before, rest, is, words, (text, none, rest_is, is_box, none_is)), adds) =
       subst P (number_is ∙ counted) (h.box writes) in
-      let one : Boxed = record {
-        report = t;
-        is_loose = is_loose;
-        line = line;
-        answer = answer;
-        text = text;
-      } in
+      let one : Boxed = record { report = t; line = line; text = text } in
       record {
         whole = adds.whole w;
         more = more;
@@ -239,26 +232,26 @@ written_out front ts a s k h =
     }
 
 -- at the end of a trace
-pub writes_reports : (front : Out) (reports : List Report) (l : Listener) (layout : Layout)
-    (mask : Mask) (old mid new : Option (List ℕ)) (a b : Explainer)
-    → front.manner ≡ writing layout mask → Appends old mid front.text
-    → Appends mid new (string_bytes b.teller.output.sheet.text) → HasWritten front reports a
-    → l ≡ a.listener
+pub writes_reports : (front : Out) (all : List Report) (t : Report) (layout : Layout) (mask : Mask)
+    (old mid new : Option (List ℕ)) (a b : Explainer) → front.manner ≡ writing layout mask
+    → Appends old mid front.text → Appends mid new (string_bytes b.teller.output.sheet.text)
+    → HasLeft front a all t
     → (a.reading.of_tpdus ≡ false
     → AddsBoxes (ended_by (report_of a.listener.under_way)) a.teller b.teller)
-    → b.teller.output.sheet.is_cut ≡ false
-    → b.reading.of_tpdus ≡ a.reading.of_tpdus → WritesReports layout mask old new reports l
-writes_reports front reports l layout mask old mid new a b manner_is first next h same adds whole
-    reads = λ all.
-    let ends : Listener → List Report = λ x. reports ++ ended_by (report_of x.under_way) in
-    let last = written_more front reports (ended_by (report_of a.listener.under_way)) a b
-    (reads ∙ h.hears) h (adds h.hears) in
+    → b.teller.output.sheet.is_cut ≡ false → b.reading.of_tpdus ≡ a.reading.of_tpdus
+    → WritesReports layout mask old new all t
+writes_reports front all t layout mask old mid new a b manner_is first next h adds whole reads =
+    λ boxes.
+    let hears = h.written.hears in
+    let last = written_more front h.reports (ended_by (report_of a.listener.under_way)) a b
+    (reads ∙ hears) h.written (adds hears) in
     let text : List ℕ = front.text ++ string_bytes b.teller.output.sheet.text in
     let n : ℕ = b.teller.story.number in
-    let P : Manner → Type 0 = λ m. Writes m → ShowsReports m 0 (ends a.listener) text n in
-    let Q : Listener → Type 0 = λ x. ShowsReports (writing layout mask) 0 (ends x) text n in (
+    let P : Manner → Type 0 = λ m. Writes m
+    → ShowsReports m 0 (h.reports ++ ended_by (report_of a.listener.under_way)) text n in
+    let Q : List Report → Type 0 = λ ts. ShowsReports (writing layout mask) 0 ts text n in (
       text,
       n,
       Appends-trans old mid new front.text (string_bytes b.teller.output.sheet.text) first next,
-      subst Q (sym same) (subst P manner_is (λ x. last.shows x whole) (refl, all)),
+      subst Q (sym h.all_are) (subst P manner_is (λ x. last.shows x whole) (refl, boxes)),
     )

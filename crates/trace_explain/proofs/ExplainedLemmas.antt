@@ -1,11 +1,11 @@
 -- What an explainer has explained after one more character or line.
-use Rattle.std.proofs.Common.{◌≡◌, ℕ, List, [], ◌∷◌, ◌++◌, length, sym, subst, ◌∙◌, ap, true, false, ◌==◌, refl, append-nil, Result, Ok, Err, OnOk, arith, ◌+◌, ◌<◌, take, append_assoc, get_or}
-use Rattle.std.specs.List.{flat_map}
+use Rattle.std.proofs.Common.{◌≡◌, ℕ, List, [], ◌∷◌, ◌++◌, length, sym, subst, ◌∙◌, ap, true, false, ◌==◌, refl, append-nil, Result, Ok, Err, OnOk, arith, ◌+◌, ◌<◌, take, append_assoc, get_or, map, Bool, Option, Some, None}
 use Rattle.std.proofs.lemmas.Bool.{eqb-true}
 use Rattle.std.proofs.lemmas.List.{nil_from_length, take_more}
 use Rattle.t0_core.specs.declared.end.End.{End}
 use Rattle.t0_core.specs.Front.{Front, In_header, In_body, After_first, front_characters}
-use Rattle.t0_core.specs.History.{Event, events_of, passed}
+use Rattle.t0_core.specs.History.{passed}
+use Rattle.trace_explain.specs.declared.describe.complaint.Complaint.{Complaint}
 use Rattle.trace_explain.specs.declared.explain_fault.ExplainFault.{ExplainFault}
 use Rattle.trace_explain.specs.declared.explain_fault.ExplainFault.TheVariants as fault
 use Rattle.trace_explain.specs.declared.explainer.Explainer.{Explainer}
@@ -13,13 +13,14 @@ use Rattle.trace_explain.specs.declared.follow.listener.Listener.{Listener}
 use Rattle.trace_explain.specs.declared.read.reading.Reading.{Reading}
 use Rattle.trace_explain.specs.declared.read.trace_line.LineFault.{LineFault}
 use Rattle.trace_explain.specs.declared.read.trace_line.LineFault.TheVariants as bad
+use Rattle.trace_explain.specs.declared.write.teller.Teller.{Teller}
 use Rattle.trace_explain.specs.declared.read.entry.Source.{Source}
 use Rattle.trace_explain.specs.declared.read.entry.Source.TheVariants.{Sign, Turn}
 use Rattle.trace_explain.specs.Reports.{Report, report_of, ReportsFront}
 use Rattle.trace_explain.specs.Openings.{opening_of}
 use Rattle.trace_explain.specs.Lines.{AreOver, IsBadLine, Says, Position, TakesCharacters, read_on, IsSent, TakesCharacter}
-use Rattle.trace_explain.specs.Noted.{HasNoted}
-use Rattle.trace_explain.specs.Explained.{HasExplained, ExplainsMore, ExplainsCharacter, ExplainsCharacters, StopsAmong, StopsAtLine, next_line, refused, position_of}
+use Rattle.trace_explain.specs.Noted.{Event, HasNoted, are_loose, ended_by, events_in, on_line}
+use Rattle.trace_explain.specs.Explained.{HasExplained, ExplainsMore, ExplainsCharacter, ExplainsCharacters, IsRight, Leaves, StopsAmong, StopsAtLine, StopsIfAt, StopsRightly, line_of, next_line, refused, position_of}
 use Rattle.trace_explain.specs.Account.{AddsBoxes}
 use Rattle.trace_explain.proofs.AccountLemmas.{boxes_both}
 use Rattle.trace_explain.specs.Turns.{source_at}
@@ -45,21 +46,27 @@ explains_from begins h =
     record { reports = h.reports; explained = h.explained; boxes = boxes_both begins h.boxes }
 
 -- If no character of a header is reported, no dialogue has started.
-front_of_none : (t : Report) (front : Front) → ReportsFront t front → length t.header ≡ 0
-    → passed (front_characters front) ≡ []
-front_of_none t (In_header bytes) reports none = grind (arith, nil_from_length, size_of)
-front_of_none t (In_body b) reports none = absurd (omega (arith, none, size_of reports))
-front_of_none t (After_first b sw1) reports none = absurd (omega (arith, none, size_of reports))
+front_of_none : (t : Report) (loose : Bool) (front : Front) → ReportsFront t loose front
+    → length t.header ≡ 0 → passed (front_characters front) ≡ []
+front_of_none t loose (In_header bytes) reports none = grind (arith, nil_from_length, size_of)
+front_of_none t loose (In_body b) reports none = absurd (omega (arith, none, size_of reports))
+front_of_none t loose (After_first b sw1) reports none =
+    absurd (omega (arith, none, size_of reports))
+
+none_on_line : (events : List Event) → map on_line events ≡ [] → events ≡ []
+none_on_line [] is = refl
+none_on_line (e ∷ events) is = absurd (cc)
 
 pub over_behind : {events : List Event} {reports : List Report} (l : Listener)
     → HasNoted events reports l → (length (report_of l.under_way).header == 0) ≡ true
     → AreOver events
 over_behind l noted none = record {
-  items = noted.items;
+  parts = noted.parts;
   events_are = noted.events_are
-      ∙ ap (λ es. flat_map events_of noted.items ++ es)
-      (front_of_none (report_of l.under_way) noted.front noted.under_way (eqb-true _ 0 none))
-      ∙ append-nil (flat_map events_of noted.items);
+      ∙ ap (λ es. events_in noted.parts ++ es) (none_on_line noted.last (noted.last_are
+      ∙ front_of_none (report_of l.under_way) (are_loose noted.last) noted.front noted.under_way
+      (eqb-true _ 0 none)))
+      ∙ append-nil (events_in noted.parts);
   are_noted = noted.are_noted;
 }
 
@@ -69,26 +76,93 @@ pub read_on_hears : (source : Source) (reading : Reading) {r : Reading}
 read_on_hears (Sign form from) reading is none = ap (λ (x : Reading). x.of_tpdus) is ∙ none
 read_on_hears Turn reading is none = ap (λ (x : Reading). x.of_tpdus) is ∙ none
 
+-- What is shown when it stops.
+right_as : (P Q : List Report → Report → Type 0) {c : Complaint} {source : Source} {at : Position}
+    {bytes : List ℕ} {events : List Event} {before : List Report}
+    → ((all : List Report) (t : Report) → P all t → Q all t)
+    → IsRight P c source at bytes events before → IsRight Q c source at bytes events before
+right_as P Q so h = record {
+  here = h.here;
+  sent = h.sent;
+  is_of_dialogue = h.is_of_dialogue;
+  none = h.none;
+  not_again = h.not_again;
+  expected_is = h.expected_is;
+  byte_is = h.byte_is;
+  shown = so _ _ h.shown;
+}
+
+pub rightly_as : (P Q : List Report → Report → Type 0) (f : ExplainFault) (at : Position)
+    (line : List ℕ) (events : List Event) (before : List Report) (t : Report)
+    → ((all : List Report) (u : Report) → P all u → Q all u)
+    → StopsRightly P f at line events before t → StopsRightly Q f at line events before t
+rightly_as P Q (fault.NoDialogue c) at line events before t so (source, bytes, says, h) =
+    (source, bytes, says, right_as P Q so h)
+rightly_as P Q (fault.NoTurn n m why) at line events before t so (source, bytes, says, h) =
+    (source, bytes, says, record { here = h.here; unsent = h.unsent; shown = so _ _ h.shown })
+rightly_as P Q (fault.BadLine n bad.OutOfMemory) at line events before t so h = absurd h
+rightly_as P Q (fault.BadLine n why) at line events before t so (is, h) = (is, so before t h)
+rightly_as P Q (fault.LineTooLong n) at line events before t so (is, h) = (is, so before t h)
+rightly_as P Q other at line events before t so h = absurd h
+
+at_line_as : (P Q : List Report → Report → Type 0) (f : ExplainFault) (found : Option ℕ) (n : ℕ)
+    (at : Position) (line : List ℕ) (events : List Event) (before : List Report) (t : Report)
+    → ((all : List Report) (u : Report) → P all u → Q all u)
+    → StopsIfAt P found f n line at events before t
+    → StopsIfAt Q found f n line at events before t
+at_line_as P Q f None n at line events before t so h = tt
+at_line_as P Q f (Some m) n at line events before t so (number, h) =
+    (number, rightly_as P Q f at line events before t so h)
+
+-- What was shown before stays.
+pub leaves_from : (f : ExplainFault) (n : ℕ) (at : Position) (line : List ℕ)
+    (events : List Event) (before : List Report) (t : Report) (old mid : Teller) (new : Explainer)
+    → AddsBoxes [] old mid → StopsAtLine (Leaves before mid new) f n line at events before t
+    → StopsAtLine (Leaves before old new) f n line at events before t
+leaves_from f n at line events before t old mid new begins h =
+    at_line_as (Leaves before mid new) (Leaves before old new) f (line_of f) n at line events before
+    t (λ all u l. record {
+      reports = l.reports;
+      boxes = boxes_both begins l.boxes;
+      hears = l.hears;
+      all_are = l.all_are;
+    }) h
+
 -- A line is refused for what it is.
 pub line_refused : (why : LineFault) (line : List ℕ) (n : ℕ) (events : List Event)
-    (before : List Report) (old : Explainer) → IsBadLine why old.reading line → n ≡ next_line old
-    → StopsAtLine (refused n why) (next_line old) line (position_of old) events before
-line_refused bad.OutOfMemory line n events before old h n_is = tt
-line_refused other line n events before old h n_is = (n_is, h)
+    (before : List Report) (old new : Explainer) → HasExplained events before old
+    → IsBadLine why old.reading line → n ≡ next_line old → AddsBoxes [] old.teller new.teller
+    → new.listener ≡ old.listener → new.reading ≡ old.reading
+    → StopsAtLine (Leaves before old.teller new) (refused n why) (next_line old) line
+    (position_of old) events before (report_of old.listener.under_way)
+line_refused bad.OutOfMemory line n events before old new has h n_is boxes same reads = tt
+line_refused other line n events before old new has h n_is boxes same reads = (
+  n_is,
+  (
+    h,
+    record {
+      reports = [];
+      boxes = boxes;
+      hears = ap (λ (x : Reading). x.of_tpdus) reads ∙ has.1.2;
+      all_are = ap (λ (l : Listener). before ++ ended_by (report_of l.under_way)) (sym same);
+    },
+  ),
+)
 
 -- What stops it among the characters of a line stops it in that line.
-pub line_stops : (f : ExplainFault) (line : List ℕ) (n : ℕ) (source : Source) (bytes : Vec ℕ)
-    {r : Reading} {bs : List ℕ} (events : List Event) (before : List Report) (old : Explainer)
+pub line_stops : (IsShown : List Report → Report → Type 0) (f : ExplainFault) (line : List ℕ)
+    (n : ℕ) (source : Source) (bytes : Vec ℕ) {r : Reading} {bs : List ℕ} (t : Report)
+    (events : List Event) (before : List Report) (old : Explainer)
     → Says old.reading line (entry.Characters source bytes)
     → r ≡ read_on source old.reading → bs ≡ bytes.items
-    → StopsAmong f source n (record (position_of old) { reading = r }) bs events before
-    → StopsAtLine f n line (position_of old) events before
-line_stops (fault.NoDialogue c) line n source bytes events before old says on are
+    → StopsAmong IsShown f source n (record (position_of old) { reading = r }) bs events before
+    → StopsAtLine IsShown f n line (position_of old) events before t
+line_stops IsShown (fault.NoDialogue c) line n source bytes t events before old says on are
     (number, right) = (number, (source, bytes, says, rw (on, are) at right))
-line_stops (fault.NoTurn m k why) line n source bytes events before old says on are
+line_stops IsShown (fault.NoTurn m k why) line n source bytes t events before old says on are
     (number, unsent) = (number, (source, bytes, says, rw (on, are) at unsent))
-line_stops fault.OutOfMemory line n source bytes events before old says on are h = tt
-line_stops other line n source bytes events before old says on are h = absurd h
+line_stops IsShown fault.OutOfMemory line n source bytes t events before old says on are h = tt
+line_stops IsShown other line n source bytes t events before old says on are h = absurd h
 
 -- One more character follows the others.
 taken_more : (source : Source) (so_far : List Event) (at mid after : Position) (front : List ℕ)

@@ -1,20 +1,21 @@
 -- The reports of dialogues after one more character or reset.
-use Rattle.std.proofs.Common.{◌≡◌, ◌<◌, ℕ, List, [], ◌∷◌, ◌++◌, ◌==◌, if◌then◌else◌, Option, Some, refl, sym, subst, ◌∙◌, ap, inl, inr, lit<, true, false, append_assoc, append-nil, length, arith, ◌≤◌, slice_index, fold, Bool, None, ◌&&◌}
+use Rattle.std.proofs.Common.{◌≡◌, ◌<◌, ℕ, List, [], ◌∷◌, ◌++◌, ◌==◌, if◌then◌else◌, Option, Some, refl, sym, subst, ◌∙◌, ap, inl, inr, lit<, true, false, append_assoc, append-nil, length, arith, ◌≤◌, slice_index, fold, Bool, None, ◌&&◌, ◌||◌, map}
 use Rattle.std.specs.List.{AllByRecursion, flat_map}
 use Rattle.std.proofs.lemmas.Bool.{ne_eqb, eqb-true}
-use Rattle.std.proofs.lemmas.List.Concat.{flat_map-append}
+use Rattle.std.proofs.lemmas.List.{map-append}
 use Rattle.std.proofs.lemmas.List.Sums.{fold-append}
 use Rattle.t0_core.specs.declared.direction.Direction.{Direction}
 use Rattle.t0_core.specs.declared.heard.Heard.{Heard}
 use Rattle.t0_core.specs.Character.{Character, sent_by}
 use Rattle.t0_core.specs.Dialogue.{Dialogue, Body, IsDialogue, all_moves, characters, foreseen, segment_characters}
 use Rattle.t0_core.specs.Front.{Front, In_header, In_body, After_first, GoesOn, Ends, fresh, front_characters, EndInLast, IsFront}
-use Rattle.t0_core.specs.History.{Event, Passed, Reset, Item, Whole, Cut_off, events_of, passed}
-use Rattle.t0_core.specs.TapSide.{Makes, Concludes, turned, afresh, Place, heard_at, tap_fault_at}
+use Rattle.t0_core.specs.History as history
+use Rattle.t0_core.specs.History.{Item, Whole, Cut_off, events_of, passed}
+use Rattle.t0_core.specs.TapSide.{Makes, Concludes, TapStandsAt, turned, afresh, Place, heard_at, tap_fault_at}
 use Rattle.t0_core.specs.TapHistory.{HasHeard, HearsOn, IsOverheard}
 use Rattle.trace_explain.specs.declared.follow.listener.Listener.{Listener}
-use Rattle.trace_explain.specs.Reports.{Report, report_of, counted, uncounted, no_report, noted, is_last, reported, Reports, ReportsFront, reported_body}
-use Rattle.trace_explain.specs.Noted.{HasNoted, IsNoted, ReportItems, AreStatus, IsBare, bared, ended_by, is_bare}
+use Rattle.trace_explain.specs.Reports.{Report, loosened, report_of, counted, uncounted, no_report, noted, is_last, reported, Reports, ReportsFront, reported_body}
+use Rattle.trace_explain.specs.Noted.{Event, HasNoted, IsNoted, IsNotedItem, Part, Passed, ReportItems, AreStatus, IsBare, Reset, are_loose, bared, ended_by, events_in, is_bare, on_line}
 use Rattle.apdu_core.specs.HeaderBytes.{header_bytes}
 use Rattle.apdu_core.specs.StatusWord.{IsStatusWord, count}
 use Rattle.t0_core.specs.declared.direction.Direction.TheVariants.{ToCard, FromCard}
@@ -31,37 +32,59 @@ use Rattle.t0_core.specs.declared.heard.Heard.TheVariants as heard
 use Rattle.t0_core.specs.TapLaws as law
 
 -- A report has no direction that nobody has seen.
-reports_turned : (t : Report) (way : Direction) (front : Front) → ReportsFront t front
-    → ReportsFront t (turned way front)
-reports_turned t way (In_header bytes) h = h
-reports_turned t way (In_body b) h = h
-reports_turned t way (After_first b sw1) h = h
+reports_turned : (t : Report) (loose : Bool) (way : Direction) (front : Front)
+    → ReportsFront t loose front → ReportsFront t loose (turned way front)
+reports_turned t loose way (In_header bytes) h = h
+reports_turned t loose way (In_body b) h = h
+reports_turned t loose way (After_first b sw1) h = h
 
 -- One more character.
-in_header : (way : Option Direction) (bytes : List ℕ) (c : Character) (new : Front)
+in_header : (way : Option Direction) (loose : Bool) (bytes : List ℕ) (c : Character) (new : Front)
     → GoesOn (In_header bytes) c new
-    → noted (reported way (In_header bytes)) heard.Header c.1 ≡ reported way new
-in_header way bytes c new (from, inl (short, is)) = ap (reported way) (sym is)
-in_header way bytes c new (from, inr (header, direction, bytes_are, is)) = grind (arith)
+    → noted (reported way loose (In_header bytes)) heard.Header c.1 ≡ reported way loose new
+in_header way loose bytes c new (from, inl (short, is)) = ap (reported way loose) (sym is)
+in_header way loose bytes c new (from, inr (header, direction, bytes_are, is)) = grind (arith)
 
-noted_continues : (t : Report) (front new : Front) (h : Heard) (c : Character)
-    → ReportsFront t front
-    → GoesOn front c new → Makes h front c new → ReportsFront (noted t h c.1) new
-noted_continues t front new heard.Header c reports goes (bytes, is) = grind (arith, in_header)
-noted_continues t front new (heard.Procedure step) c reports goes (b, is, next) =
+noted_continues : (t : Report) (loose : Bool) (front new : Front) (h : Heard) (c : Character)
+    → ReportsFront t loose front
+    → GoesOn front c new → Makes h front c new → ReportsFront (noted t h c.1) loose new
+noted_continues t loose front new heard.Header c reports goes (bytes, is) = grind (arith, in_header)
+noted_continues t loose front new (heard.Procedure step) c reports goes (b, is, next) =
     grind (arith, fold-append)
-noted_continues t front new (heard.Data direction) c reports goes (b, is, way, next) = grind (arith)
-noted_continues t front new heard.FirstStatus c reports goes (b, is, next) = grind (arith)
-noted_continues t front new (heard.SecondStatus said status) c reports goes bad = absurd bad
+noted_continues t loose front new (heard.Data direction) c reports goes (b, is, way, next) =
+    grind (arith)
+noted_continues t loose front new heard.FirstStatus c reports goes (b, is, next) = grind (arith)
+noted_continues t loose front new (heard.SecondStatus said status) c reports goes bad = absurd bad
 
 -- The last character.
-noted_ends : (t : Report) (front : Front) (d : Dialogue) (h : Heard) (c : Character)
-    → ReportsFront t front → Ends front c d → Concludes h d → Reports (noted t h c.1) d
-noted_ends t (In_header bytes) d h c reports ends ends_so = absurd ends
-noted_ends t (In_body b) d h c reports ends ends_so = absurd ends
-noted_ends t (After_first b sw1) d (heard.SecondStatus said status) c reports ends ends_so =
+noted_ends : (t : Report) (loose : Bool) (front : Front) (d : Dialogue) (h : Heard) (c : Character)
+    → ReportsFront t loose front → Ends front c d → Concludes h d → Reports (noted t h c.1) loose d
+noted_ends t loose (In_header bytes) d h c reports ends ends_so = absurd ends
+noted_ends t loose (In_body b) d h c reports ends ends_so = absurd ends
+noted_ends t loose (After_first b sw1) d (heard.SecondStatus said status) c reports ends ends_so =
     grind (arith)
-noted_ends t (After_first b sw1) d other c reports ends bad = absurd bad
+noted_ends t loose (After_first b sw1) d other c reports ends bad = absurd bad
+
+-- The last character may make the header loose; a reset does not.
+loose_last : (events : List Event) (c : Character) (is : Bool)
+    → are_loose (events ++ Passed c is ∷ []) ≡ (are_loose events || is)
+loose_last [] c true = refl
+loose_last [] c false = refl
+loose_last (Passed d true ∷ events) c is = refl
+loose_last (Passed d false ∷ events) c is = loose_last events c is
+loose_last (Reset ∷ events) c is = loose_last events c is
+
+loose_reset : (events : List Event) → are_loose (events ++ Reset ∷ []) ≡ are_loose events
+loose_reset [] = refl
+loose_reset (Passed d true ∷ events) = refl
+loose_reset (Passed d false ∷ events) = loose_reset events
+loose_reset (Reset ∷ events) = loose_reset events
+
+loosened_front : (t : Report) (loose is : Bool) (front : Front) → ReportsFront t loose front
+    → ReportsFront (loosened is t) (loose || is) front
+loosened_front t loose is (In_header bytes) h = ap (loosened is) h
+loosened_front t loose is (In_body b) h = ap (loosened is) h
+loosened_front t loose is (After_first b sw1) h = ap (loosened is) h
 
 -- Which of the two it is.
 makes_no_last : (h : Heard) (front new : Front) (c : Character) → Makes h front c new
@@ -74,18 +97,19 @@ ends_last (heard.SecondStatus said status) d ends_so last = absurd (cc)
 ends_last other d ends_so last = absurd ends_so
 
 -- Dialogues after others.
-pub reports_both : (items : List Item) (reports : List Report) (more : List Item)
-    (later : List Report) → ReportItems items reports → ReportItems more later
-    → ReportItems (items ++ more) (reports ++ later)
+pub reports_both : (parts : List Part) (reports : List Report) (more : List Part)
+    (later : List Report) → ReportItems parts reports → ReportItems more later
+    → ReportItems (parts ++ more) (reports ++ later)
 reports_both [] [] more later h k = k
 reports_both [] (t ∷ reports) more later h k = absurd h
-reports_both (Whole d ∷ items) [] more later h k = absurd h
-reports_both (Whole d ∷ items) (t ∷ reports) more later h k =
-    (h.0, reports_both items reports more later h.1 k)
-reports_both (Cut_off [] ∷ items) reports more later h k = reports_both items reports more later h k
-reports_both (Cut_off (c ∷ part) ∷ items) [] more later h k = absurd h
-reports_both (Cut_off (c ∷ part) ∷ items) (t ∷ reports) more later h k =
-    (h.0, reports_both items reports more later h.1 k)
+reports_both ((Whole d, events) ∷ parts) [] more later h k = absurd h
+reports_both ((Whole d, events) ∷ parts) (t ∷ reports) more later h k =
+    (h.0, reports_both parts reports more later h.1 k)
+reports_both ((Cut_off [], events) ∷ parts) reports more later h k =
+    reports_both parts reports more later h k
+reports_both ((Cut_off (c ∷ part), events) ∷ parts) [] more later h k = absurd h
+reports_both ((Cut_off (c ∷ part), events) ∷ parts) (t ∷ reports) more later h k =
+    (h.0, reports_both parts reports more later h.1 k)
 
 -- The report of a dialogue that is cut off, unless nothing of it was received.
 abbrev pub cut_of : Report → List Report
@@ -98,14 +122,15 @@ cut_some t some =
 pub size_of : {t u : Report} → t ≡ u → length t.header ≡ length u.header
 size_of is = ap (λ (x : Report). length x.header) is
 
-reports_part : (t : Report) (front : Front) → ReportsFront t front
-    → ReportItems (Cut_off (front_characters front) ∷ []) (cut_of t)
-reports_part t (In_header []) h = rw (ap (λ (x : Report). x.header) h) tt
-reports_part t (In_header (b ∷ bytes)) h =
+reports_part : (t : Report) (front : Front) (events : List Event)
+    → ReportsFront t (are_loose events) front
+    → ReportItems ((Cut_off (front_characters front), events) ∷ []) (cut_of t)
+reports_part t (In_header []) events h = rw (ap (λ (x : Report). x.header) h) tt
+reports_part t (In_header (b ∷ bytes)) events h =
     rw (cut_some t (omega (arith, size_of h))) ((In_header (b ∷ bytes), refl, h), tt)
-reports_part t (In_body b) h =
+reports_part t (In_body b) events h =
     rw (cut_some t (omega (arith, size_of h))) ((In_body b, refl, h), tt)
-reports_part t (After_first b sw1) h =
+reports_part t (After_first b sw1) events h =
     rw (cut_some t (omega (arith, size_of h))) ((After_first b sw1, refl, h), tt)
 
 -- The front of the tap, with nothing before it.
@@ -121,89 +146,120 @@ alone events reports l n = record {
 }
 
 -- Between two dialogues.
-pub reports_nothing : {t : Report} {front : Front} → t ≡ no_report → front ≡ fresh
-    → ReportsFront t front
-reports_nothing is front_is = rw is (rw front_is refl)
+reports_nothing : {t : Report} → t ≡ no_report → ReportsFront t false fresh
+reports_nothing is = rw is refl
 
-pub noted_between : (items : List Item) (events : List Event) (reports : List Report)
-    (new : Listener) → events ≡ flat_map events_of items → AllByRecursion IsNoted items
-    → ReportItems items reports → new.tap ≡ afresh → report_of new.under_way ≡ no_report
+pub noted_between : (parts : List Part) (events : List Event) (reports : List Report)
+    (new : Listener) → events ≡ events_in parts → AllByRecursion IsNoted parts
+    → ReportItems parts reports → TapStandsAt new.tap fresh → report_of new.under_way ≡ no_report
     → HasNoted events reports new
-noted_between items events reports new events_are are_noted are tap_is is =
-    record {
-      items = items;
-      front = fresh;
-      events_are = events_are ∙ sym (append-nil (flat_map events_of items));
-      are_noted = are_noted;
-      is_front = lit< tt;
-      is_at = rw tap_is (refl, lit< tt);
-      are_reported = are;
-      under_way = reports_nothing is refl;
-    }
+noted_between parts events reports new events_are are_noted are stands is = record {
+  parts = parts;
+  last = [];
+  front = fresh;
+  events_are = events_are ∙ sym (append-nil (events_in parts));
+  last_are = refl;
+  are_noted = are_noted;
+  is_front = lit< tt;
+  is_at = stands;
+  are_reported = are;
+  under_way = reports_nothing is;
+}
+
+stands_afresh : {place : Place} → place ≡ afresh → TapStandsAt place fresh
+stands_afresh is = rw is (refl, lit< tt)
 
 -- Before the first character.
 pub hears_nothing : (new : Listener) → report_of new.under_way ≡ no_report
     → new.tap ≡ afresh → HasNoted [] [] new
-hears_nothing new is tap_is = noted_between [] [] [] new refl tt tt tap_is is
+hears_nothing new is tap_is = noted_between [] [] [] new refl tt tt (stands_afresh tap_is) is
 
--- What a tap has heard follows what was noted before.
-noted_items : (before items : List Item) → AllByRecursion IsNoted before
-    → AllByRecursion IsOverheard items → AllByRecursion IsNoted (before ++ items)
-noted_items (item ∷ before) items h more = (h.0, noted_items before items h.1 more)
-noted_items [] [] h more = tt
-noted_items [] (Whole d ∷ items) h more =
-    ((more.0.0, inl more.0.1), noted_items [] items tt more.1)
-noted_items [] (Cut_off part ∷ items) h more = (more.0, noted_items [] items tt more.1)
+-- What a tap has heard is noted.
+noted_item : (item : Item) → IsOverheard item → IsNotedItem item
+noted_item (Whole d) h = (h.0, inl h.1)
+noted_item (Cut_off part) h = h
 
-events_on : (events more : List Event) (front : List Character) (items now : List Item)
-    (next : List Character) → events ≡ flat_map events_of items ++ passed front
-    → passed front ++ more ≡ flat_map events_of now ++ passed next
-    → events ++ more ≡ flat_map events_of (items ++ now) ++ passed next
-events_on events more front items now next is on = grind (arith, append_assoc, flat_map-append)
+spelled : (last : List Event) (e : Event) {front : List history.Event} → map on_line last ≡ front
+    → map on_line (last ++ e ∷ []) ≡ front ++ on_line e ∷ []
+spelled last e is = map-append on_line last (e ∷ []) ∙ ap (λ es. es ++ on_line e ∷ []) is
 
-noted_on : (events more : List Event) (reports later : List Report) (old new : Listener)
-    (n : HasNoted events reports old)
-    (now : HasHeard (passed (front_characters n.front) ++ more) new.tap)
-    → ReportItems (n.items ++ now.items) later → ReportsFront (report_of new.under_way) now.front
-    → HasNoted (events ++ more) later new
-noted_on events more reports later old new n now are under_way =
-    grind (arith, noted_items, events_on)
+-- A part ends with this event.
+noted_more : (events : List Event) (reports later : List Report) (old new : Listener) (e : Event)
+    (item : Item) (n : HasNoted events reports old)
+    (now : HasHeard (passed (front_characters n.front) ++ on_line e ∷ []) new.tap)
+    → now.items ≡ item ∷ [] → now.front ≡ fresh
+    → ReportItems ((item, n.last ++ e ∷ []) ∷ []) later → report_of new.under_way ≡ no_report
+    → HasNoted (events ++ e ∷ []) (reports ++ later) new
+noted_more events reports later old new e item n now items_are front_is are is =
+    let part : Part = (item, n.last ++ e ∷ []) in
+    let S : Front → Type 0 = λ f. TapStandsAt new.tap f in
+    let O : List Item → Type 0 = λ is. AllByRecursion IsOverheard is in
+    noted_between (n.parts ++ part ∷ []) (events ++ e ∷ []) (reports ++ later) new
+    (ap (λ es. es ++ e ∷ []) n.events_are ∙ append_assoc (events_in n.parts) n.last (e ∷ [])
+    ∙ sym (flat_map_last (λ (p : Part). p.1) n.parts part))
+    (all_more IsNoted n.parts part n.are_noted (
+      noted_item item (subst O items_are now.are_overheard).0,
+      spelled n.last e n.last_are ∙ now.events_are
+          ∙ ap (λ is. flat_map events_of is ++ passed (front_characters now.front)) items_are
+          ∙ ap (λ f. (events_of item ++ []) ++ passed (front_characters f)) front_is
+          ∙ append-nil (events_of item ++ []) ∙ append-nil (events_of item),
+    ))
+    (reports_both n.parts reports (part ∷ []) later n.are_reported are)
+    (subst S front_is now.stands) is
 
 -- A character that does not end a dialogue, or one that does.
 pub hears_inside : (events : List Event) (reports : List Report) (old new : Listener) (h : Heard)
-    (c : Character) (n : HasNoted events reports old)
-    → HearsOn (alone events reports old n) h c new.tap
-    → is_last h ≡ false → report_of new.under_way ≡ noted (report_of old.under_way) h c.1
-    → HasNoted (events ++ Passed c ∷ []) reports new
-hears_inside events reports old new h c n on inside is = elim on.goes [
+    (c : Character) (loose : Bool) (n : HasNoted events reports old)
+    → HearsOn (alone events reports old n) h c new.tap → is_last h ≡ false
+    → report_of new.under_way ≡ loosened loose (noted (report_of old.under_way) h c.1)
+    → HasNoted (events ++ Passed c loose ∷ []) reports new
+hears_inside events reports old new h c loose n on inside is = elim on.goes [
   | inl (goes, makes, items_are) ↦
-      let Q : Report → Type 0 = λ t. ReportsFront t on.now.front in
-      noted_on events (Passed c ∷ []) reports reports old new n on.now
-      (rw (items_are, append-nil n.items) n.are_reported)
-      (subst Q (sym is)
-      (noted_continues (report_of old.under_way) (turned on.way n.front) on.now.front
-      h c (reports_turned (report_of old.under_way) on.way n.front n.under_way) goes makes))
+      let so = are_loose n.last in
+      let t = report_of old.under_way in
+      let Q : Bool → Report → Type 0 = λ v x. ReportsFront x v on.now.front in
+      let R : Report → Type 0 = Q (are_loose (n.last ++ Passed c loose ∷ [])) in
+      let V : Bool → Type 0 = λ v. Q v (loosened loose (noted t h c.1)) in
+      record {
+        parts = n.parts;
+        last = n.last ++ Passed c loose ∷ [];
+        front = on.now.front;
+        events_are = ap (λ es. es ++ Passed c loose ∷ []) n.events_are
+            ∙ append_assoc (events_in n.parts) n.last (Passed c loose ∷ []);
+        last_are = spelled n.last (Passed c loose) n.last_are ∙ on.now.events_are
+            ∙ ap (λ items. flat_map events_of items ++ passed (front_characters on.now.front))
+            items_are;
+        are_noted = n.are_noted;
+        is_front = on.now.is_front;
+        is_at = on.now.stands;
+        are_reported = n.are_reported;
+        under_way = subst R (sym is) (subst V (sym (loose_last n.last c loose))
+            (loosened_front (noted t h c.1) so loose on.now.front
+            (noted_continues t so (turned on.way n.front) on.now.front h c
+            (reports_turned t so on.way n.front n.under_way) goes makes)));
+      }
   | inr (d, ends, ends_so, front_is, items_are) ↦ absurd (ends_last h d ends_so inside)
 ]
 
 pub hears_last : (events : List Event) (reports : List Report) (old new : Listener) (h : Heard)
-    (c : Character) (n : HasNoted events reports old)
+    (c : Character) (loose : Bool) (n : HasNoted events reports old)
     → HearsOn (alone events reports old n) h c new.tap
     → is_last h ≡ true → report_of new.under_way ≡ no_report
-    → HasNoted (events ++ Passed c ∷ []) (reports ++ noted (report_of old.under_way) h c.1 ∷ []) new
-hears_last events reports old new h c n on last is = elim on.goes [
+    → HasNoted (events ++ Passed c loose ∷ [])
+    (reports ++ loosened loose (noted (report_of old.under_way) h c.1) ∷ []) new
+hears_last events reports old new h c loose n on last is = elim on.goes [
   | inl (goes, makes, items_are) ↦
       absurd (makes_no_last h (turned on.way n.front) on.now.front c makes last)
   | inr (d, ends, ends_so, front_is, items_are) ↦
-      let t2 : Report = noted (report_of old.under_way) h c.1 in
-      noted_on events (Passed c ∷ []) reports (reports ++ t2 ∷ []) old new n on.now
-      (rw items_are
-      (reports_both n.items reports (Whole d ∷ []) (t2 ∷ []) n.are_reported (
-        noted_ends (report_of old.under_way) (turned on.way n.front) d h c
-            (reports_turned (report_of old.under_way) on.way n.front n.under_way) ends ends_so,
-        tt,
-      )))
-      (reports_nothing is front_is)
+      let so = are_loose n.last in
+      let t = report_of old.under_way in
+      let t2 : Report = loosened loose (noted t h c.1) in
+      let V : Bool → Type 0 = λ v. Reports t2 v d in
+      let ended = noted_ends t so (turned on.way n.front) d h c
+      (reports_turned t so on.way n.front n.under_way) ends ends_so in
+      noted_more events reports (t2 ∷ []) old new (Passed c loose) (Whole d) n on.now items_are
+      front_is
+      (subst V (sym (loose_last n.last c loose)) (ap (loosened loose) ended.0, ended.1), tt) is
 ]
 
 -- A reset.
@@ -213,12 +269,12 @@ pub hears_reset : (events : List Event) (reports : List Report) (old new : Liste
 hears_reset events reports old new n tap_is is =
     let t = report_of old.under_way in
     let part = front_characters n.front in
+    let V : Bool → Type 0 = λ v. ReportsFront t v n.front in
     let (cut, items_are, front_is) =
     law.heard_reset (passed part) old.tap new.tap tap_is (alone events reports old n) in
-    noted_on events (Reset ∷ []) reports (reports ++ cut_of t) old new n cut
-    (rw items_are (reports_both n.items reports (Cut_off part ∷ []) (cut_of t) n.are_reported
-    (reports_part t n.front n.under_way)))
-    (reports_nothing is front_is)
+    noted_more events reports (cut_of t) old new Reset (Cut_off part) n cut items_are front_is
+    (reports_part t n.front (n.last ++ Reset ∷ [])
+    (subst V (sym (loose_reset n.last)) n.under_way)) is
 
 pub both_hold : (a b : Bool) → (a && b) ≡ true → (a ≡ true) × (b ≡ true)
 both_hold true b e = (refl, e)
@@ -280,14 +336,15 @@ as_dialogue b sw1 sw2 = record {
   status = (sw1, sw2);
 }
 
-abbrev IsOfBare : Report → Front → Dialogue → Type 0
-IsOfBare t front d = IsDialogue d × IsBare d.body
-    × (front_characters front ≡ characters d) × Reports (bared t) d
+abbrev IsOfBare : Report → Bool → Front → Dialogue → Type 0
+IsOfBare t loose front d = IsDialogue d × IsBare d.body
+    × (front_characters front ≡ characters d) × Reports (bared t) loose d
 
-bare_body : (t : Report) (b : Body) (sw1 sw2 : ℕ) → ReportsFront t (In_body b) → IsFront (In_body b)
+bare_body : (t : Report) (loose : Bool) (b : Body) (sw1 sw2 : ℕ)
+    → ReportsFront t loose (In_body b) → IsFront (In_body b)
     → slice_index t.header 4 ≡ 0 → t.tally.ones ≡ 0 → t.moved ≡ sw1 ∷ sw2 ∷ []
-    → IsStatusWord (sw1, sw2) → IsOfBare t (In_body b) (as_dialogue b sw1 sw2)
-bare_body t b sw1 sw2 reports front p3_read none moved_is status =
+    → IsStatusWord (sw1, sw2) → IsOfBare t loose (In_body b) (as_dialogue b sw1 sw2)
+bare_body t loose b sw1 sw2 reports front p3_read none moved_is status =
     let ins = b.header.ins in
     let two : List ℕ = sw1 ∷ sw2 ∷ [] in
     let d = as_dialogue b sw1 sw2 in
@@ -323,23 +380,24 @@ bare_body t b sw1 sw2 reports front p3_read none moved_is status =
           ∙ sym same
           ∙ ap (λ n. to_card n ++ sent_by Card two) (sym p3_is))
           ∙ sym (append_assoc opening (to_card b.p3) (sent_by Card two)),
-      (ap bared reports ∙ ap (reported_body None d.body) data_are, refl),
+      (ap bared reports ∙ ap (reported_body None loose d.body) data_are, refl),
     )
 
-bare_front : (t : Report) (front : Front) → ReportsFront t front → IsFront front → is_bare t ≡ true
-    → AreStatus t.moved → (d : Dialogue) × IsOfBare t front d
-bare_front t (In_header bytes) reports front bare status = absurd (rw reports at status)
-bare_front t (After_first b sw1) reports front bare status =
+bare_front : (t : Report) (loose : Bool) (front : Front) → ReportsFront t loose front
+    → IsFront front → is_bare t ≡ true
+    → AreStatus t.moved → (d : Dialogue) × IsOfBare t loose front d
+bare_front t loose (In_header bytes) reports front bare status = absurd (rw reports at status)
+bare_front t loose (After_first b sw1) reports front bare status =
     absurd (omega (
       arith,
       eqb-true (length t.status) 0 (both_hold _ _ (both_hold _ _ bare).0).1,
       ap (λ (x : Report). length x.status) reports,
     ))
-bare_front t (In_body b) reports front bare status =
+bare_front t loose (In_body b) reports front bare status =
     let both = both_hold _ _ (both_hold _ _ (both_hold _ _ bare).0).0 in
     let (sw1, sw2, moved_is, word) = two_of t.moved status in (
       as_dialogue b sw1 sw2,
-      bare_body t b sw1 sw2 reports front (eqb-true (slice_index t.header 4) 0 both.0)
+      bare_body t loose b sw1 sw2 reports front (eqb-true (slice_index t.header 4) 0 both.0)
           (eqb-true t.tally.ones 0 both.1) moved_is word,
     )
 
@@ -351,31 +409,34 @@ pub hears_bare : (events : List Event) (reports : List Report) (old new : Listen
     → HasNoted events (reports ++ bared (report_of old.under_way) ∷ []) new
 hears_bare events reports old new n bare status tap_is is =
     let t = report_of old.under_way in
-    let (d, is_so) = bare_front t n.front n.under_way n.is_front bare status in
-    noted_between (n.items ++ Whole d ∷ []) events (reports ++ bared t ∷ []) new
-    (n.events_are ∙ ap (λ cs. flat_map events_of n.items ++ passed cs) is_so.2
-    ∙ sym (flat_map_last events_of n.items (Whole d)))
-    (all_more IsNoted n.items (Whole d) n.are_noted (is_so.0, inr is_so.1))
-    (reports_both n.items reports (Whole d ∷ []) (bared t ∷ []) n.are_reported (is_so.3, tt))
-    tap_is is
+    let (d, is_so) =
+    bare_front t (are_loose n.last) n.front n.under_way n.is_front bare status in
+    let part : Part = (Whole d, n.last) in
+    noted_between (n.parts ++ part ∷ []) events (reports ++ bared t ∷ []) new
+    (n.events_are ∙ sym (flat_map_last (λ (p : Part). p.1) n.parts part))
+    (all_more IsNoted n.parts part n.are_noted
+    ((is_so.0, inr is_so.1), n.last_are ∙ ap passed is_so.2))
+    (reports_both n.parts reports (part ∷ []) (bared t ∷ []) n.are_reported (is_so.3, tt))
+    (stands_afresh tap_is) is
 
 -- The next character of the terminal begins a header.
 pub hears_behind : (events : List Event) (before : List Report) (whole : Tpdu)
-    (old mid new : Listener) (h : Heard) (byte : ℕ)
+    (old mid new : Listener) (h : Heard) (byte : ℕ) (loose : Bool)
     → HasNoted events before old → is_bare (report_of old.under_way) ≡ true
     → AreStatus (report_of old.under_way).moved → mid.tap ≡ afresh
     → report_of mid.under_way ≡ no_report
     → report_of whole ≡ bared (report_of old.under_way)
-    → ((es : List Event) (led : HasHeard es mid.tap) → HearsOn led h (Terminal, byte) new.tap)
+    → ((es : List history.Event) (led : HasHeard es mid.tap)
+    → HearsOn led h (Terminal, byte) new.tap)
     → h ≡ heard_at mid.tap Terminal byte
-    → report_of new.under_way ≡ noted (report_of mid.under_way) h byte
-    → HasNoted (events ++ Passed (Terminal, byte) ∷ []) (before ++ report_of whole ∷ []) new
-hears_behind events before whole old mid new h byte n bare status tap_is is whole_is on h_is
+    → report_of new.under_way ≡ loosened loose (noted (report_of mid.under_way) h byte)
+    → HasNoted (events ++ Passed (Terminal, byte) loose ∷ []) (before ++ report_of whole ∷ []) new
+hears_behind events before whole old mid new h byte loose n bare status tap_is is whole_is on h_is
     noted_is =
     let reports = before ++ report_of whole ∷ [] in
     let ended : HasNoted events reports mid =
     rw whole_is (hears_bare events before old mid n bare status tap_is is) in
-    hears_inside events reports mid new h (Terminal, byte) ended
+    hears_inside events reports mid new h (Terminal, byte) loose ended
     (on (passed (front_characters ended.front)) (alone events reports mid ended))
     (ap is_last (h_is ∙ ap (λ p. heard_at p Terminal byte) tap_is)) noted_is
 
@@ -385,11 +446,11 @@ pub header_refused : (p : Place) (byte : ℕ) (why : TapFault) → p ≡ afresh
 header_refused p byte why is refused = grind (arith)
 
 -- Something of such a command was received.
-bare_some : (t : Report) (front : Front) → ReportsFront t front → AreStatus t.moved
-    → 0 < length t.header
-bare_some t (In_header bytes) reports status = absurd (rw reports at status)
-bare_some t (In_body b) reports status = omega (arith, size_of reports)
-bare_some t (After_first b sw1) reports status = omega (arith, size_of reports)
+bare_some : (t : Report) (loose : Bool) (front : Front) → ReportsFront t loose front
+    → AreStatus t.moved → 0 < length t.header
+bare_some t loose (In_header bytes) reports status = absurd (rw reports at status)
+bare_some t loose (In_body b) reports status = omega (arith, size_of reports)
+bare_some t loose (After_first b sw1) reports status = omega (arith, size_of reports)
 
 -- A reset after such a command, or after anything else.
 pub reset_noted : (events : List Event) (reports : List Report) (old new : Listener)
@@ -407,7 +468,7 @@ reset_noted events reports old new n tap_is is status = split (is_bare t) refl
     split : (v : Bool) → is_bare t ≡ v → P (ended_by t)
     split true e =
         let mid = hears_bare events reports old new n e (status e) tap_is is in
-        let some = bare_some t n.front n.under_way (status e) in
+        let some = bare_some t (are_loose n.last) n.front n.under_way (status e) in
         let same : ended_by t ≡ bared t ∷ [] =
         rw (ne_eqb (length t.header) 0 (omega (arith, some))) (rw e refl) in
         let Q : List Report → Type 0 = λ ts. HasNoted (events ++ Reset ∷ []) ts new in

@@ -6,19 +6,19 @@ use Rattle.std.proofs.lemmas.List.{drop_all, length-append}
 use Rattle.std.specs.Io.KnownBytes.{Consumes, IsAtEnd}
 use Rattle.std.specs.Str.Lines.{strip_carriage_return}
 use Rattle.std.specs.String.{string_bytes}
-use Rattle.t0_core.specs.History.{Event}
 use Rattle.trace_explain.specs.declared.explain_fault.ExplainFault.{ExplainFault}
 use Rattle.trace_explain.specs.declared.explain_fault.ExplainFault.TheVariants as fault
 use Rattle.trace_explain.specs.declared.explainer.Explainer.{Explainer}
-use Rattle.trace_explain.specs.declared.follow.listener.Listener.{Listener}
 use Rattle.trace_explain.specs.declared.read.reading.Reading.{Reading}
 use Rattle.trace_explain.specs.declared.write.sheet.Sheet.{Sheet}
 use Rattle.trace_explain.specs.Account.{HasWritten, Out, WritesOut, out_with}
-use Rattle.trace_explain.specs.Reports.{Report}
+use Rattle.trace_explain.specs.Noted.{Event, ended_by}
+use Rattle.trace_explain.specs.Reports.{Report, report_of}
 use Rattle.trace_explain.specs.Lines.{LineLeads, Position, first_of_all}
-use Rattle.trace_explain.specs.Explained.{HasExplained, ExplainsLine, StopsAtLine, StopsIfAt, line_of, next_line, position_of}
-use Rattle.trace_explain.specs.Trace.{HasReceived, IsExplained, IsOfEnd, IsOfLines, IsOfSink, IsOver, IsReached, IsReady, KeepsLimit, SayAll, SayInTurn, StopsIn, StopsInLine, lines_from}
+use Rattle.trace_explain.specs.Explained.{HasExplained, ExplainsLine, Leaves, StopsAtLine, StopsIfAt, line_of, next_line, position_of}
+use Rattle.trace_explain.specs.Trace.{HasLeft, HasReceived, IsExplained, IsOfEnd, IsOfLines, IsOfSink, IsOver, IsReached, IsReady, KeepsLimit, SayAll, SayInTurn, StopsIn, StopsInLine, lines_from}
 use Rattle.trace_explain.proofs.AccountLemmas.{written_more, written_out}
+use Rattle.trace_explain.proofs.ExplainedLemmas.{rightly_as}
 
 -- The events of one more line follow the others.
 say_more : (so_far : List Event) (at mid after : Position) (before : List (List ℕ))
@@ -131,12 +131,14 @@ pub next_byte : (chunk left : List ℕ) (i : ℕ) → i < length chunk
 next_byte chunk left i within = grind (arith, add-one, drop-cons)
 
 -- At the end all lines are explained.
-abbrev pub Ends : Out → Explainer → List Report → Listener → Type 0
-Ends front e reports l = (l ≡ e.listener) × HasWritten front reports e
+still_left : {front : Out} {reading : Reading} {all : List (List ℕ)} {line left : List ℕ}
+    {e : Explainer} → (come : HasReceived front reading all line left e)
+    → HasLeft front e come.reports (report_of e.listener.under_way)
+still_left come = record { reports = come.reports; written = come.written; all_are = refl }
 
 all_explained : {front : Out} {reading : Reading} {all : List (List ℕ)} {line : List ℕ}
     {e : Explainer} → HasReceived front reading all line [] e → lines_from line [] ≡ []
-    → IsExplained (Ends front e) reading all (position_of e)
+    → IsExplained (HasLeft front e) reading all (position_of e)
 all_explained {reading = reading} {e = e} come none =
     let P : List (List ℕ) → Type 0 = λ ls. SayAll reading ls come.events (position_of e) in
     record {
@@ -146,12 +148,12 @@ all_explained {reading = reading} {e = e} come none =
       reports = come.reports;
       listener = e.listener;
       noted = come.explained.0;
-      is_shown = (refl, come.written);
+      is_shown = still_left come;
     }
 
 pub none_is_left : {front : Out} {reading : Reading} {all : List (List ℕ)} {line : List ℕ}
     {e : Explainer} → (length line == 0) ≡ true → HasReceived front reading all line [] e
-    → IsExplained (Ends front e) reading all (position_of e)
+    → IsExplained (HasLeft front e) reading all (position_of e)
 none_is_left none come = all_explained come (rw none refl)
 
 last_line : (line : List ℕ) → (length line == 0) ≡ false → lines_from line [] ≡ line ∷ []
@@ -163,7 +165,7 @@ pub last_explained : {T : Type 0} {front : Out} {reading : Reading} {all : List 
     → OnOk result (new.line ≡ next_line old)
     → ((events : List Event) (before : List Report) → HasExplained events before old
     → OnOk result (ExplainsLine line events before old new))
-    → OnOk result (IsExplained (Ends front new) reading all (position_of new))
+    → OnOk result (IsExplained (HasLeft front new) reading all (position_of new))
 last_explained (Err f) line new some come counts explains = tt
 last_explained (Ok x) line new some come counts explains =
     all_explained (line_more line [] [] new come counts (last_line line some) explains) refl
@@ -218,7 +220,7 @@ first_longer line (b ∷ left) n more =
 pub too_long : {front : Out} {reading : Reading} {all : List (List ℕ)} {line bytes : List ℕ}
     (left : List ℕ) (b n : ℕ) {e : Explainer} → HasReceived front reading all line bytes e
     → bytes ≡ b ∷ left → (b == 10) ≡ false → 4194304 ≤ length line → n ≡ next_line e
-    → StopsIn reading all (fault.LineTooLong n)
+    → StopsIn (HasLeft front e) reading all (fault.LineTooLong n)
 unfolding reached
 too_long {line = line} left b n come bytes_is other long number =
     let (first, others, is, first_long) = first_longer (line ++ b ∷ []) left 4194304
@@ -226,53 +228,68 @@ too_long {line = line} left b n come bytes_is other long number =
       reached n first others come
           (ap (lines_from line) bytes_is ∙ line_continues line left b other ∙ is)
           number,
-      first_long,
+      (first_long, still_left come),
     )
 
 -- A line that stops an explainer.
-abbrev pub Stops : ExplainFault → List ℕ → Explainer → Type 0
-Stops f line old = (events : List Event) (before : List Report) → HasExplained events before old
-    → StopsAtLine f (next_line old) line (position_of old) events before
+abbrev pub Stops : ExplainFault → List ℕ → Explainer → Explainer → Type 0
+Stops f line old new = (events : List Event) (before : List Report) → HasExplained events before old
+    → StopsAtLine (Leaves before old.teller new) f (next_line old) line (position_of old) events
+    before (report_of old.listener.under_way)
 
 stops_at : {front : Out} {reading : Reading} {all : List (List ℕ)} {line left : List ℕ}
-    (f : ExplainFault) (n : Option ℕ) (given : List ℕ) (others : List (List ℕ)) {old : Explainer}
+    (f : ExplainFault) (n : Option ℕ) (given : List ℕ) (others : List (List ℕ))
+    {old : Explainer} (new : Explainer)
     → HasReceived front reading all line left old → lines_from line left ≡ given ∷ others
     → ((events : List Event) (before : List Report) → HasExplained events before old
-    → StopsIfAt n f (next_line old) given (position_of old) events before)
-    → StopsInLine reading all f n
+    → StopsIfAt (Leaves before old.teller new) n f (next_line old) given (position_of old) events
+    before (report_of old.listener.under_way))
+    → StopsInLine (HasLeft front new) reading all f n
 unfolding reached
-stops_at f None given others come ends stops = tt
-stops_at f (Some n) given others come ends stops =
-    let (number, is) = stops come.events come.reports come.explained in
-    (reached n given others come ends number, is)
+stops_at f None given others new come ends stops = tt
+stops_at {front} f (Some n) given others {old} new come ends stops =
+    let before = come.reports in
+    let (number, is) = stops come.events before come.explained in (
+      reached n given others come ends number,
+      rightly_as (Leaves before old.teller new) (HasLeft front new) f (position_of old) given
+          come.events before (report_of old.listener.under_way) (λ all t h. record {
+            reports = before ++ h.reports;
+            written = written_more front before h.reports old new h.hears come.written h.boxes;
+            all_are = h.all_are ∙ sym (append_assoc before h.reports
+                (ended_by (report_of new.listener.under_way)));
+          }) is,
+    )
 
 line_stops_in : {front : Out} {reading : Reading} {all : List (List ℕ)} {line left : List ℕ}
-    (f : ExplainFault) (given : List ℕ) (others : List (List ℕ)) {old : Explainer} → IsOfLines f
+    (f : ExplainFault) (given : List ℕ) (others : List (List ℕ)) {old : Explainer}
+    (new : Explainer) → IsOfLines f
     → HasReceived front reading all line left old → lines_from line left ≡ given ∷ others
-    → Stops f given old → StopsIn reading all f
-line_stops_in fault.NoCharacters given others of come ends stops = absurd of
-line_stops_in f given others of come ends stops =
-    stops_at f (line_of f) given others come ends stops
+    → Stops f given old new → StopsIn (HasLeft front new) reading all f
+line_stops_in fault.NoCharacters given others new of come ends stops = absurd of
+line_stops_in f given others new of come ends stops =
+    stops_at f (line_of f) given others new come ends stops
 
 pub fed_stops : {T : Type 0} {front : Out} {reading : Reading} {all : List (List ℕ)}
     {line bytes : List ℕ} (r : Result T ExplainFault) (f : ExplainFault) (given left : List ℕ)
-    (b : ℕ) {old : Explainer} → IsErrAnd r (λ x. x ≡ f) → IsOfLines f
+    (b : ℕ) {old : Explainer} (new : Explainer) → IsErrAnd r (λ x. x ≡ f) → IsOfLines f
     → HasReceived front reading all line bytes old → bytes ≡ b ∷ left → b ≡ 10
-    → given ≡ strip_carriage_return line → Stops f given old → IfErr r (StopsIn reading all)
-fed_stops {reading = reading} {all = all} {line = line} {bytes = bytes} r f given left b passed of
-    come left_is is same stops =
-    fault_passed r f (StopsIn reading all) passed (line_stops_in f given (lines_from [] left) of
-    come (fed line given left bytes b left_is is same) stops)
+    → given ≡ strip_carriage_return line → Stops f given old new
+    → IfErr r (StopsIn (HasLeft front new) reading all)
+fed_stops {front = front} {reading = reading} {all = all} {line = line} {bytes = bytes} r f given
+    left b new passed of come left_is is same stops =
+    fault_passed r f (StopsIn (HasLeft front new) reading all) passed (line_stops_in f given
+    (lines_from [] left) new of come (fed line given left bytes b left_is is same) stops)
 
 pub last_stops : {T : Type 0} {front : Out} {reading : Reading} {all : List (List ℕ)}
-    (result : Result T ExplainFault) (line : List ℕ) {old : Explainer}
+    (result : Result T ExplainFault) (line : List ℕ) {old : Explainer} (new : Explainer)
     → (length line == 0) ≡ false → HasReceived front reading all line [] old
     → ((events : List Event) (before : List Report) → HasExplained events before old
-    → IfErr result (λ f. StopsAtLine f (next_line old) line (position_of old) events before))
-    → IfErr result IsOfLines → IfErr result (StopsIn reading all)
-last_stops (Ok x) line some come stops of = tt
-last_stops (Err f) line some come stops of =
-    line_stops_in f line [] of come (last_line line some) stops
+    → IfErr result (λ f. StopsAtLine (Leaves before old.teller new) f (next_line old) line
+    (position_of old) events before (report_of old.listener.under_way)))
+    → IfErr result IsOfLines → IfErr result (StopsIn (HasLeft front new) reading all)
+last_stops (Ok x) line new some come stops of = tt
+last_stops (Err f) line new some come stops of =
+    line_stops_in f line [] new of come (last_line line some) stops
 
 -- A chunk has ended.
 pub none_of_chunk : {front : Out} {reading : Reading} {all : List (List ℕ)} {line : List ℕ}
@@ -361,27 +378,44 @@ end_sink Fails has_characters fault.Closed h = absurd h
 end_sink Fails has_characters other h = tt
 
 -- The result at the end of a trace is not a protocol error.
-pub ended_stops : {IsShown : List Report → Listener → Type 0} {reading : Reading}
-    {all : List (List ℕ)} {at : Position} (f : ExplainFault) → IsOfEnd f at.has_characters
-    → IsExplained IsShown reading all at → StopsIn reading all f
-ended_stops {at = at} fault.NoCharacters ended explained =
+pub ended_stops : {P : List Report → Report → Type 0} (Q : List Report → Report → Type 0)
+    {reading : Reading} {all : List (List ℕ)} {at : Position} (f : ExplainFault)
+    → IsOfEnd f at.has_characters
+    → IsExplained P reading all at → StopsIn Q reading all f
+ended_stops Q {at = at} fault.NoCharacters ended explained =
     (explained.events, at, explained.says, ended)
-ended_stops (fault.Resumed m c) ended explained = tt
-ended_stops (fault.BadPairs n m why) ended explained = tt
-ended_stops (fault.Skipped line place) ended explained = tt
-ended_stops (fault.NothingWhole line note) ended explained = tt
-ended_stops other ended explained = absurd ended
+ended_stops Q (fault.Resumed m c) ended explained = tt
+ended_stops Q (fault.BadPairs n m why) ended explained = tt
+ended_stops Q (fault.Skipped line place) ended explained = tt
+ended_stops Q (fault.NothingWhole line note) ended explained = tt
+ended_stops Q other ended explained = absurd ended
 
 -- What is shown of the reports.
-pub shown_as : (P Q : List Report → Listener → Type 0) {reading : Reading} {all : List (List ℕ)}
-    {at : Position} → IsExplained P reading all at
-    → ((reports : List Report) (l : Listener) → P reports l → Q reports l)
-    → IsExplained Q reading all at
-shown_as P Q h so = record {
+pub shown_as : (P Q : List Report → Report → Type 0) {reading : Reading} {all : List (List ℕ)}
+    {at : Position} → ((reports : List Report) (t : Report) → P reports t → Q reports t)
+    → IsExplained P reading all at → IsExplained Q reading all at
+shown_as P Q so h = record {
   events = h.events;
   says = h.says;
   reports = h.reports;
   listener = h.listener;
   noted = h.noted;
-  is_shown = so h.reports h.listener h.is_shown;
+  is_shown = so h.reports (report_of h.listener.under_way) h.is_shown;
 }
+
+stops_in_line_as : (P Q : List Report → Report → Type 0) (reading : Reading)
+    (all : List (List ℕ)) (f : ExplainFault) (n : Option ℕ)
+    → ((reports : List Report) (t : Report) → P reports t → Q reports t)
+    → StopsInLine P reading all f n → StopsInLine Q reading all f n
+stops_in_line_as P Q reading all f None so h = tt
+stops_in_line_as P Q reading all f (Some n) so (reached, h) = (
+  reached,
+  rightly_as P Q f reached.at reached.line reached.events reached.reports
+      (report_of reached.listener.under_way) so h,
+)
+
+pub stops_as : (P Q : List Report → Report → Type 0) (reading : Reading) (all : List (List ℕ))
+    (f : ExplainFault) → ((reports : List Report) (t : Report) → P reports t → Q reports t)
+    → StopsIn P reading all f → StopsIn Q reading all f
+stops_as P Q reading all fault.NoCharacters so h = h
+stops_as P Q reading all f so h = stops_in_line_as P Q reading all f (line_of f) so h

@@ -5,7 +5,6 @@ use Rattle.std.specs.String.{string_bytes}
 use Rattle.trace_explain.specs.declared.explainer.Explainer.{Explainer}
 use Rattle.trace_explain.specs.declared.write.layout.Layout.{Layout}
 use Rattle.trace_explain.specs.declared.write.layout.Medium.{Medium}
-use Rattle.trace_explain.specs.declared.follow.listener.Listener.{Listener}
 use Rattle.trace_explain.specs.declared.describe.mask.Mask.{Mask}
 use Rattle.trace_explain.specs.declared.write.sheet.Sheet.{Sheet}
 use Rattle.trace_explain.specs.declared.write.teller.Teller.{Teller}
@@ -27,19 +26,17 @@ writing layout mask = record { keeps = false; mask = mask; layout = layout }
 abbrev pub Writes : Manner → Type 0
 Writes w = (w.keeps ≡ false) × (w.layout.is_summary ≡ false)
 
--- the box of a TPDU, whole or cut off; and whether its header is loose
+-- the box of a TPDU, whole or cut off
 pub record Boxed : Type 0 where
   pub report : Report
-  pub is_loose : Bool
   pub line : ℕ
-  pub answer : List ℕ
   pub text : List ℕ
 
 -- after n boxes, each has the next number, and shows its TPDU
 abbrev pub AreBoxes : Manner → ℕ → List Boxed → Type 0
 AreBoxes w n [] = Unit {0}
 AreBoxes w n (b ∷ boxes) =
-    IsBox w.mask b.is_loose (one_more n) b.line b.report b.answer w.layout.medium b.text
+    IsBox w.mask (one_more n) b.line b.report w.layout.medium b.text
     × AreBoxes w (one_more n) boxes
 
 abbrev pub number_after : ℕ → List Boxed → ℕ
@@ -101,19 +98,17 @@ abbrev pub AddsBoxes : List Report → Teller → Teller → Type 0
 AddsBoxes reports old new = Shows reports (account_of old) (account_of new)
 
 -- the same for one box with this number, which is counted already
-pub record AddsBox (is_loose : Bool) (number line : ℕ) (t : Report) (answer : List ℕ)
-    (old new : Account) : Type 0 where
+pub record AddsBox (number line : ℕ) (t : Report) (old new : Account) : Type 0 where
   pub manner : manner_of new ≡ manner_of old
   pub counted : new.number ≡ old.number
-  pub box : Writes (manner_of old)
-      → PutsBox old.mask is_loose number line t answer old.sheet new.sheet
+  pub box : Writes (manner_of old) → PutsBox old.mask number line t old.sheet new.sheet
 
 -- a text is that box after an empty sheet, unless that is of a summary
-abbrev pub HasBox : Mask → Bool → ℕ → ℕ → Report → List ℕ → Sheet → List ℕ → Type 0
-HasBox mask is_loose number line t answer empty text =
+abbrev pub HasBox : Mask → ℕ → ℕ → Report → Sheet → List ℕ → Type 0
+HasBox mask number line t empty text =
     empty.layout.is_summary ≡ false → (last : Sheet) × (last.is_cut ≡ false)
     × (string_bytes last.text ≡ text)
-    × PutsBox mask is_loose number line t answer empty last
+    × PutsBox mask number line t empty last
 
 -- the output is the same
 abbrev pub StaysWritten : Teller → Teller → Type 0
@@ -138,13 +133,13 @@ out_with out more = record out { text = out.text ++ more }
 abbrev pub first_out : Layout → Mask → Out
 first_out layout mask = record { manner = writing layout mask; text = [] }
 
--- What a writer got shows these reports in turn, and then what the end of the trace cuts off, if
--- its contents are known, and a summary alone is not asked for.
+-- What a writer got shows these reports in turn, and then what the end of the trace cuts off of
+-- this one, if its contents are known, and a summary alone is not asked for.
 abbrev pub WritesReports
-    : Layout → Mask → Option (List ℕ) → Option (List ℕ) → List Report → Listener → Type 0
-WritesReports layout mask old new reports l = layout.is_summary ≡ false → (text : List ℕ)
+    : Layout → Mask → Option (List ℕ) → Option (List ℕ) → List Report → Report → Type 0
+WritesReports layout mask old new reports t = layout.is_summary ≡ false → (text : List ℕ)
     × (n : ℕ) × Appends old new text
-    × ShowsReports (writing layout mask) 0 (reports ++ ended_by (report_of l.under_way)) text n
+    × ShowsReports (writing layout mask) 0 (reports ++ ended_by t) text n
 
 -- the writer got all of the text
 pub record WritesOut (old new : Sheet) : Type 0 where

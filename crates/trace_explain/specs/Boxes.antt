@@ -18,7 +18,7 @@ use Rattle.trace_explain.specs.declared.write.sheet.Sheet.{Sheet}
 use Rattle.trace_explain.specs.Noted.{are_status}
 use Rattle.trace_explain.specs.Secrets.{Shows}
 use Rattle.trace_explain.specs.Sheets.{Adds, IsRow, Puts}
-use Rattle.trace_explain.specs.Reports.{IsOfCommand, Report}
+use Rattle.trace_explain.specs.Reports.{IsOfCommand, Report, is_doubtful}
 use Rattle.trace_explain.specs.Trees.{IsTree}
 use Rattle.trace_explain.specs.Words.{IsWords}
 use Rattle.trace_explain.specs.Written.{AreDigits, box_end, header_row, hidden, lines_text, row, some_row, status_row, title_text}
@@ -130,23 +130,22 @@ InOrder (Is ∷ others) m text =
     (part rest : List ℕ) × (text ≡ part ++ rest) × Is m part × InOrder others m rest
 
 -- The box of a TPDU: its number, line, header, data and status, with rows of words between. A mask
--- hides a loose header.
-abbrev pub IsBox : Mask → Bool → ℕ → ℕ → Report → List ℕ → Medium → List ℕ → Type 0
-IsBox mask is_loose number line t answer = InOrder
+-- hides a doubtful header.
+abbrev pub IsBox : Mask → ℕ → ℕ → Report → Medium → List ℕ → Type 0
+IsBox mask number line t = InOrder
     (IsTitle number line t.status
     ∷ IsRow side.Nobody (codes "time")
     ∷ IsRow side.Nobody (codes "before")
-    ∷ (λ m text. text ≡ header_row (mask.hides && is_loose) m t.header)
+    ∷ (λ m text. text ≡ header_row (mask.hides && is_doubtful t) m t.header)
     ∷ IsRow side.Card (codes "procedure")
-    ∷ IsData mask is_loose t.way t.header t.moved
+    ∷ IsData mask t.is_loose t.way t.header t.moved
     ∷ IsRow side.Terminal (codes "Le")
-    ∷ IsAnswer mask is_loose t.header answer
+    ∷ IsAnswer mask t.is_loose t.header t.answer
     ∷ IsStatus (status_side t.header t.status) t.status
     ∷ IsRow side.Nobody (codes "after")
-    ∷ IsTogether mask is_loose t.header
+    ∷ IsTogether mask t.is_loose t.header
     ∷ (λ m text. text ≡ box_end m) ∷ [])
 
 -- the box of a TPDU was added, after words
-abbrev pub PutsBox : Mask → Bool → ℕ → ℕ → Report → List ℕ → Sheet → Sheet → Type 0
-PutsBox mask is_loose number line t answer =
-    Puts (InOrder (IsWords ∷ IsBox mask is_loose number line t answer ∷ []))
+abbrev pub PutsBox : Mask → ℕ → ℕ → Report → Sheet → Sheet → Type 0
+PutsBox mask number line t = Puts (InOrder (IsWords ∷ IsBox mask number line t ∷ []))

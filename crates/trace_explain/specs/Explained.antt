@@ -2,8 +2,7 @@
 use Rattle.std.specs.Prelude.{◌≡◌, ◌<◌, ◌≤◌, ℕ, ◌+◌, ◌-◌, ◌^◌, min, List, [], ◌∷◌, ◌++◌, length, take, get_or, Bool, Option, Some, None, true, false, ◌==◌, ◌&&◌, not, Ok, Err}
 use Rattle.std.specs.Global.{Vec}
 use Rattle.t0_core.specs.declared.end.End.{End}
-use Rattle.t0_core.specs.History as history
-use Rattle.t0_core.specs.History.{Event}
+use Rattle.t0_core.specs.Character.{Character}
 use Rattle.t0_core.specs.TapSide.{due_at}
 use Rattle.trace_explain.specs.declared.describe.complaint.Complaint.{Complaint}
 use Rattle.trace_explain.specs.declared.explain_fault.ExplainFault.{ExplainFault}
@@ -18,9 +17,9 @@ use Rattle.trace_explain.specs.declared.follow.turn.TurnFault.{TurnFault}
 use Rattle.trace_explain.specs.declared.write.teller.Teller.{Teller}
 use Rattle.trace_explain.specs.Account.{AddsBoxes}
 use Rattle.trace_explain.specs.Lines.{IsBadLine, LineLeads, Says, Position, TakesCharacter, TakesCharacters, read_on}
-use Rattle.trace_explain.specs.Noted.{HasNoted, NoneContinues}
+use Rattle.trace_explain.specs.Noted.{Event, HasNoted, NoneContinues, Passed, ended_by}
 use Rattle.trace_explain.specs.Openings.{Opening, begins_answer, has_begun, is_dialogue, opening_of, role_of}
-use Rattle.trace_explain.specs.Reports.{Report, report_of}
+use Rattle.trace_explain.specs.Reports.{Report, loose, report_of}
 use Rattle.trace_explain.specs.Turns.{source_at}
 
 -- It reads characters, does not resume, and passes nothing over.
@@ -83,9 +82,10 @@ pub record IsReachedAt (source : Source) (at : Position) (bytes : List ℕ) (pla
   pub noted : HasNoted (events ++ more) (before ++ reports) listener
 
 -- The protocol error is right. The character at its place is this end's, and part of the dialogue;
--- but no dialogue continues with it, and the card does not answer again.
-pub record IsRight (c : Complaint) (source : Source) (at : Position) (bytes : List ℕ)
-    (events : List Event) (before : List Report) : Type 0 where
+-- but no dialogue continues with it, and the card does not answer again. What is shown last is of
+-- the dialogue that it cuts off, with a loose header.
+pub record IsRight (IsShown : List Report → Report → Type 0) (c : Complaint) (source : Source)
+    (at : Position) (bytes : List ℕ) (events : List Event) (before : List Report) : Type 0 where
   pub here : IsReachedAt source at bytes c.place events before
   pub sent : source_at source here.position.reading here.position.opening here.listener
       (get_or bytes c.place 0) ≡ Ok c.from
@@ -96,23 +96,27 @@ pub record IsRight (c : Complaint) (source : Source) (at : Position) (bytes : Li
       (get_or bytes c.place 0) ≡ false
   pub expected_is : c.expected ≡ due_at here.listener.tap
   pub byte_is : c.received.byte ≡ get_or bytes c.place 0
+  pub shown : IsShown (before ++ here.reports) (loose (report_of here.listener.under_way))
 
 -- The sender of the character at this place is unknown for this reason.
-pub record IsUnsent (why : TurnFault) (place : ℕ) (source : Source) (at : Position) (bytes : List ℕ)
-    (events : List Event) (before : List Report) : Type 0 where
+pub record IsUnsent (IsShown : List Report → Report → Type 0) (why : TurnFault) (place : ℕ)
+    (source : Source) (at : Position) (bytes : List ℕ) (events : List Event) (before : List Report)
+    : Type 0 where
   pub here : IsReachedAt source at bytes place events before
   pub unsent : source_at source here.position.reading here.position.opening here.listener
       (get_or bytes place 0) ≡ Err why
+  pub shown : IsShown (before ++ here.reports) (report_of here.listener.under_way)
 
 -- A line with this number stops for one of these two reasons, or because memory ran out.
-abbrev pub StopsAmong : ExplainFault → Source → ℕ → Position → List ℕ → List Event → List Report
-    → Type 0
-StopsAmong (fault.NoDialogue c) source line at bytes events before =
-    (c.line ≡ line) × IsRight c source at bytes events before
-StopsAmong (fault.NoTurn number place why) source line at bytes events before =
-    (number ≡ line) × IsUnsent why place source at bytes events before
-StopsAmong fault.OutOfMemory source line at bytes events before = Unit {0}
-StopsAmong other source line at bytes events before = ⊥
+abbrev pub StopsAmong
+    : (List Report → Report → Type 0) → ExplainFault → Source → ℕ → Position → List ℕ
+    → List Event → List Report → Type 0
+StopsAmong IsShown (fault.NoDialogue c) source line at bytes events before =
+    (c.line ≡ line) × IsRight IsShown c source at bytes events before
+StopsAmong IsShown (fault.NoTurn number place why) source line at bytes events before =
+    (number ≡ line) × IsUnsent IsShown why place source at bytes events before
+StopsAmong IsShown fault.OutOfMemory source line at bytes events before = Unit {0}
+StopsAmong IsShown other source line at bytes events before = ⊥
 
 -- The number of the next line.
 abbrev pub next_line : Explainer → ℕ
@@ -132,28 +136,46 @@ HoldsIn Holds at line = (source : Source) × (bytes : Vec ℕ)
     × Says at.reading line (entry.Characters source bytes)
     × Holds source (record at { reading = read_on source at.reading }) bytes.items
 
--- The fault is right for this line: for a character, or for the line itself. A line that is too
--- long has at least as many bytes as the limit, without a CR right before its LF.
-abbrev pub StopsRightly : ExplainFault → Position → List ℕ → List Event → List Report → Type 0
-StopsRightly (fault.NoDialogue c) at line events before =
-    HoldsIn (λ source from bytes. IsRight c source from bytes events before) at line
-StopsRightly (fault.NoTurn number place why) at line events before =
-    HoldsIn (λ source from bytes. IsUnsent why place source from bytes events before) at line
-StopsRightly (fault.BadLine number bad.OutOfMemory) at line events before = ⊥
-StopsRightly (fault.BadLine number why) at line events before = IsBadLine why at.reading line
-StopsRightly (fault.LineTooLong number) at line events before = 4194304 ≤ length line
-StopsRightly other at line events before = ⊥
+-- The fault is right for this line, which follows these events, with these reports and this one of
+-- the dialogue in progress: for a character, or for the line itself. A line that is too long has at
+-- least as many bytes as the limit, without a CR right before its LF.
+abbrev pub StopsRightly
+    : (List Report → Report → Type 0) → ExplainFault → Position → List ℕ → List Event
+    → List Report → Report → Type 0
+StopsRightly IsShown (fault.NoDialogue c) at line events before t =
+    HoldsIn (λ source from bytes. IsRight IsShown c source from bytes events before) at line
+StopsRightly IsShown (fault.NoTurn number place why) at line events before t =
+    HoldsIn (λ source from bytes. IsUnsent IsShown why place source from bytes events before) at
+    line
+StopsRightly IsShown (fault.BadLine number bad.OutOfMemory) at line events before t = ⊥
+StopsRightly IsShown (fault.BadLine number why) at line events before t =
+    IsBadLine why at.reading line × IsShown before t
+StopsRightly IsShown (fault.LineTooLong number) at line events before t =
+    (4194304 ≤ length line) × IsShown before t
+StopsRightly IsShown other at line events before t = ⊥
 
-abbrev pub StopsIfAt : Option ℕ → ExplainFault → ℕ → List ℕ → Position → List Event → List Report
-    → Type 0
-StopsIfAt None f number line at events before = Unit {0}
-StopsIfAt (Some found) f number line at events before =
-    (found ≡ number) × StopsRightly f at line events before
+abbrev pub StopsIfAt
+    : (List Report → Report → Type 0) → Option ℕ → ExplainFault → ℕ → List ℕ → Position
+    → List Event → List Report → Report → Type 0
+StopsIfAt IsShown None f number line at events before t = Unit {0}
+StopsIfAt IsShown (Some found) f number line at events before t =
+    (found ≡ number) × StopsRightly IsShown f at line events before t
 
 -- It stops at the line with this number, which the fault has, at this position.
-abbrev pub StopsAtLine : ExplainFault → ℕ → List ℕ → Position → List Event → List Report → Type 0
-StopsAtLine f number line at events before =
-    StopsIfAt (line_of f) f number line at events before
+abbrev pub StopsAtLine
+    : (List Report → Report → Type 0) → ExplainFault → ℕ → List ℕ → Position → List Event
+    → List Report → Report → Type 0
+StopsAtLine IsShown f number line at events before t =
+    StopsIfAt IsShown (line_of f) f number line at events before t
+
+-- It has stopped, and would show these reports at the end, and last what is left of this one.
+pub record Leaves (before : List Report) (old : Teller) (new : Explainer) (all : List Report)
+    (t : Report) : Type 0 where
+  pub reports : List Report
+  pub boxes : AddsBoxes reports old new.teller
+  pub hears : new.reading.of_tpdus ≡ false
+  pub all_are : all ++ ended_by t
+      ≡ before ++ (reports ++ ended_by (report_of new.listener.under_way))
 
 -- The fault of a refused line.
 abbrev pub refused : ℕ → LineFault → ExplainFault
@@ -166,18 +188,19 @@ is_astray e = e.reading.is_unsigned && not e.teller.is_led
 
 -- It has heard this character of a dialogue, and reported what ended; or none continues with it.
 abbrev pub Hears
-    : Bool → End → ℕ → List Event → List Report → Listener → Listener → Teller → Teller → Type 0
-Hears true from b events before l after old new = (reports : List Report)
-    × HasNoted (events ++ history.Passed (from, b) ∷ []) (before ++ reports) after
+    : Bool → Character → Bool → List Event → List Report → Listener → Listener → Teller → Teller
+    → Type 0
+Hears true c is_loose events before l after old new = (reports : List Report)
+    × HasNoted (events ++ Passed c is_loose ∷ []) (before ++ reports) after
     × AddsBoxes reports old new
-Hears false from b events before l after old new =
-    (after ≡ l) × NoneContinues after (from, b) × AddsBoxes [] old new
+Hears false c is_loose events before l after old new =
+    (after ≡ l) × NoneContinues after c × AddsBoxes [] old new
 
 -- It has taken this character; or it stops because no dialogue continues with it.
 abbrev pub TakesOrStops : Bool → End → ℕ → List Event → List Report → Explainer → Explainer → Type 0
 TakesOrStops false from b events before old new =
     ExplainsCharacter from b events before old new
 TakesOrStops true from b events before old new = HasExplained events before new
-    × Hears false from b events before old.listener new.listener old.teller new.teller
+    × Hears false (from, b) false events before old.listener new.listener old.teller new.teller
     × (is_dialogue (role_of (opening_of old.preface) from b) ≡ true)
     × (answers_again (opening_of old.preface) new.listener from b ≡ false)

@@ -1,13 +1,11 @@
 -- The lines of a trace, with or without signs, and the events that each leads to.
 use Rattle.std.specs.Prelude.{MatchBool, ◌≡◌, ◌≢◌, ◌⊎◌, ℕ, ◌+◌, ◌*◌, List, [], ◌∷◌, ◌++◌, take, drop, codes, length, eqb, Option, Some, None, Ok, Bool, true, false, not, nat_le, ◌==◌, ◌&&◌, ◌||◌, if◌then◌else◌, ◌-◌, nat_eq}
-use Rattle.std.specs.List.{AllByRecursion, flat_map, starts_with}
+use Rattle.std.specs.List.{AllByRecursion, starts_with}
 use Rattle.std.specs.Cmp.Lexicographic.{pointwise}
 use Rattle.std.specs.Option.{is_some}
 use Rattle.hex.specs.Hex.{hex_digit_value, is_hex_digit}
 use Rattle.t0_core.specs.declared.end.End.{End}
 use Rattle.t0_core.specs.declared.end.End.TheVariants as end
-use Rattle.t0_core.specs.History as history
-use Rattle.t0_core.specs.History.{Event, Item, events_of}
 use Rattle.trace_explain.specs.declared.read.form.Form.{Form}
 use Rattle.trace_explain.specs.declared.read.form.Form.TheVariants as form
 use Rattle.trace_explain.specs.declared.read.form.Row.{Row}
@@ -20,8 +18,8 @@ use Rattle.trace_explain.specs.declared.read.entry.Source.{Source}
 use Rattle.trace_explain.specs.declared.read.entry.Source.TheVariants.{Sign, Turn}
 use Rattle.trace_explain.specs.declared.read.entry.Entry.{Entry}
 use Rattle.trace_explain.specs.declared.read.entry.Entry.TheVariants as entry
-use Rattle.trace_explain.specs.Noted.{HasNoted, IsNoted, NoneContinues}
-use Rattle.trace_explain.specs.Openings.{Opening, begins_answer, has_begun, is_dialogue, opens, role_of, unopened}
+use Rattle.trace_explain.specs.Noted.{Event, HasNoted, IsNoted, NoneContinues, Part, Passed, Reset, events_in}
+use Rattle.trace_explain.specs.Openings.{Opening, begins_answer, has_begun, is_dialogue, is_loose, opens, role_of, unopened}
 use Rattle.trace_explain.specs.Times.{behind_clock, behind_time, place_of}
 use Rattle.trace_explain.specs.Reports.{Report}
 use Rattle.trace_explain.specs.Turns.{source_at}
@@ -226,13 +224,13 @@ after_character at from b = record {
 -- The event of a character. A character of an opening has no event.
 abbrev pub dialogue_events : Opening → End → ℕ → List Event
 dialogue_events o from b =
-    if is_dialogue (role_of o from b) then history.Passed (from, b) ∷ [] else []
+    if is_dialogue (role_of o from b) then Passed (from, b) (is_loose o.stage) ∷ [] else []
 
 -- These events are whole dialogues and resets alone.
 pub record AreOver (events : List Event) : Type 0 where
-  pub items : List Item
-  pub events_are : events ≡ flat_map events_of items
-  pub are_noted : AllByRecursion IsNoted items
+  pub parts : List Part
+  pub events_are : events ≡ events_in parts
+  pub are_noted : AllByRecursion IsNoted parts
 
 -- The card answers again without a line for a reset: between two dialogues this character begins an
 -- answer, and no listener of these events expects it. So the card was reset: an opening begins.
@@ -245,7 +243,7 @@ pub record AnswersAgain (so_far : List Event) (at : Position) (from : End) (b : 
   pub listener : Listener
   pub noted : HasNoted so_far reports listener
   pub none : NoneContinues listener (from, b)
-  pub events_are : events ≡ history.Reset ∷ []
+  pub events_are : events ≡ Reset ∷ []
   pub after_is : after ≡ after_character (record at { opening = unopened }) from b
 
 -- The events of a character after these events, and the position after it.
@@ -278,7 +276,7 @@ TakesEntry so_far at (entry.Characters source bytes) events after =
     TakesCharacters source so_far (record at { reading = read_on source at.reading }) bytes.items
     events after
 TakesEntry so_far at entry.Reset events after =
-    (events ≡ history.Reset ∷ []) × (after ≡ record at { opening = unopened })
+    (events ≡ Reset ∷ []) × (after ≡ record at { opening = unopened })
 TakesEntry so_far at entry.Note events after = (events ≡ []) × (after ≡ at)
 TakesEntry so_far at of_log events after = ⊥
 

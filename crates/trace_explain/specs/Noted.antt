@@ -1,5 +1,5 @@
 -- What a listener has heard and reported since its start.
-use Rattle.std.specs.Prelude.{◌≡◌, ◌⊎◌, ℕ, List, [], ◌∷◌, ◌++◌, Some, None, Bool, false, ◌==◌, ◌&&◌, if◌then◌else◌, length, slice_index}
+use Rattle.std.specs.Prelude.{◌≡◌, ◌⊎◌, ℕ, List, [], ◌∷◌, ◌++◌, Some, None, Bool, false, ◌==◌, ◌&&◌, ◌||◌, if◌then◌else◌, length, map, slice_index}
 use Rattle.std.specs.List.{AllByRecursion, flat_map}
 use Rattle.apdu_core.specs.StatusWord.{IsStatusWord, is_first_status}
 use Rattle.t0_core.specs.declared.direction.Direction.TheVariants.{ToCard}
@@ -10,27 +10,53 @@ use Rattle.t0_core.specs.Character.{Character}
 use Rattle.t0_core.specs.Dialogue.{Body, Dialogue, IsDialogue}
 use Rattle.t0_core.specs.Front.{Front, IsFront, GoesOn, Ends, front_characters}
 use Rattle.t0_core.specs.TapSide.{TapStandsAt, IsRead, IsReadFront, tap_fault_at}
-use Rattle.t0_core.specs.History.{Event, Item, Whole, Cut_off, events_of, passed}
+use Rattle.t0_core.specs.History as history
+use Rattle.t0_core.specs.History.{Item, Whole, Cut_off, events_of, passed}
 use Rattle.t0_core.specs.TapHistory.{IsOverheard}
 use Rattle.trace_explain.specs.declared.follow.listener.Listener.{Listener}
 use Rattle.trace_explain.specs.declared.follow.listener.ListenerFault.{ListenerFault}
 use Rattle.trace_explain.specs.declared.follow.listener.ListenerFault.TheVariants.{NoDialogue, OutOfMemory}
 use Rattle.trace_explain.specs.Reports.{Report, report_of, Reports, ReportsFront}
 
+-- An event of a trace: a reset, or a character of a dialogue. A character is loose if bytes right
+-- before it are part of no dialogue, and neither a whole answer to reset nor PPS.
+pub data Event : Type 0 where
+  Passed : (c : Character) (is_loose : Bool) → Event
+  Reset : Event
+
+abbrev pub on_line : Event → history.Event
+on_line (Passed c is_loose) = history.Passed c
+on_line Reset = history.Reset
+
+-- A header is loose if a character of its dialogue is.
+abbrev pub are_loose : List Event → Bool
+are_loose [] = false
+are_loose (Passed c is_loose ∷ events) = is_loose || are_loose events
+are_loose (Reset ∷ events) = are_loose events
+
+-- A whole dialogue, or what a reset cut off of one, and its events.
+abbrev pub Part : Type 0
+Part = Item × List Event
+
+abbrev pub events_in : List Part → List Event
+events_in parts = flat_map (λ (p : Part). p.1) parts
+
 -- The report of a dialogue that a reset cut off after these characters.
-abbrev pub ReportsPart : Report → List Character → Type 0
-ReportsPart t part = (front : Front) × (part ≡ front_characters front) × ReportsFront t front
+abbrev pub ReportsPart : Report → Bool → List Character → Type 0
+ReportsPart t is_loose part =
+    (front : Front) × (part ≡ front_characters front) × ReportsFront t is_loose front
 
 -- The reports of these items in turn: whole dialogues, and what a reset cut off of one, if any.
-abbrev pub ReportItems : List Item → List Report → Type 0
+abbrev pub ReportItems : List Part → List Report → Type 0
 ReportItems [] [] = Unit {0}
 ReportItems [] (t ∷ reports) = ⊥
-ReportItems (Whole d ∷ items) [] = ⊥
-ReportItems (Whole d ∷ items) (t ∷ reports) = Reports t d × ReportItems items reports
-ReportItems (Cut_off [] ∷ items) reports = ReportItems items reports
-ReportItems (Cut_off (c ∷ part) ∷ items) [] = ⊥
-ReportItems (Cut_off (c ∷ part) ∷ items) (t ∷ reports) =
-    ReportsPart t (c ∷ part) × ReportItems items reports
+ReportItems ((Whole d, events) ∷ parts) [] = ⊥
+ReportItems ((Whole d, events) ∷ parts) (t ∷ reports) =
+    Reports t (are_loose events) d × ReportItems parts reports
+ReportItems ((Cut_off [], events) ∷ parts) reports = ReportItems parts reports
+ReportItems ((Cut_off (c ∷ part), events) ∷ parts) [] = ⊥
+ReportItems ((Cut_off (c ∷ part), events) ∷ parts) (t ∷ reports) =
+    ReportsPart t (are_loose events) (c ∷ part) × ReportItems parts reports
 
 -- A command without data, with P3 00, whose card repeats INS before its status, perhaps after
 -- NULLs. A tap reads INS as the beginning of 256 data from the card.
@@ -42,9 +68,12 @@ pub record IsBare (b : Body) : Type 0 where
   pub segments_are : b.segments ≡ nulls ++ All ∷ []
 
 -- A dialogue, as a tap reads it or such a command; or what a reset cut off of one.
-abbrev pub IsNoted : Item → Type 0
-IsNoted (Whole d) = IsDialogue d × (IsRead d.body ⊎ IsBare d.body)
-IsNoted (Cut_off part) = IsOverheard (Cut_off part)
+abbrev pub IsNotedItem : Item → Type 0
+IsNotedItem (Whole d) = IsDialogue d × (IsRead d.body ⊎ IsBare d.body)
+IsNotedItem (Cut_off part) = IsOverheard (Cut_off part)
+
+abbrev pub IsNoted : Part → Type 0
+IsNoted p = IsNotedItem p.0 × (map on_line p.1 ≡ events_of p.0)
 
 -- The report of such a command that is whole, while a tap expects the third of its data.
 abbrev pub are_status : List ℕ → Bool
@@ -61,7 +90,7 @@ is_bare t = (slice_index t.header 4 == 0) && (t.tally.ones == 0) && (length t.st
 
 -- The same with its data as its status.
 abbrev pub bared : Report → Report
-bared t = record { header = t.header; tally = t.tally; way = None; moved = []; status = t.moved }
+bared t = record t { way = None; moved = []; status = t.moved }
 
 -- The report of the current dialogue if no more characters follow; nothing if it has none.
 abbrev pub as_ended : Report → Report
@@ -73,14 +102,16 @@ ended_by t = if length t.header == 0 then [] else as_ended t ∷ []
 -- These events are whole dialogues, with a report of each; resets, with a report of what each cut
 -- off; and a front of one more dialogue, where the tap is. The current report is of that front.
 pub record HasNoted (events : List Event) (reports : List Report) (l : Listener) : Type 0 where
-  pub items : List Item
+  pub parts : List Part
+  pub last : List Event
   pub front : Front
-  pub events_are : events ≡ flat_map events_of items ++ passed (front_characters front)
-  pub are_noted : AllByRecursion IsNoted items
+  pub events_are : events ≡ events_in parts ++ last
+  pub last_are : map on_line last ≡ passed (front_characters front)
+  pub are_noted : AllByRecursion IsNoted parts
   pub is_front : IsFront front
   pub is_at : TapStandsAt l.tap front
-  pub are_reported : ReportItems items reports
-  pub under_way : ReportsFront (report_of l.under_way) front
+  pub are_reported : ReportItems parts reports
+  pub under_way : ReportsFront (report_of l.under_way) (are_loose last) front
 
 -- No dialogue of a tap continues or ends with this character, and no bare command ended before it.
 pub record NoneContinues (l : Listener) (c : Character) : Type 0 where

@@ -131,14 +131,12 @@ opens o role.Response b = record o {
 opens o role.Stray b = record o { stage = stage.Astray }
 opens o role.Dialogue b = begun
 
--- The header that follows is loose: bytes precede it that are neither a whole answer nor PPS. In a
--- dialogue it stays what it is.
-abbrev pub loose_at : Bool → Stage → Bool
-loose_at is_loose stage.Begun = is_loose
-loose_at is_loose stage.Answer = true
-loose_at is_loose stage.Astray = true
-loose_at is_loose stage.Response = true
-loose_at is_loose other = false
+-- A header that begins here is loose: the bytes before it are neither a whole answer nor PPS.
+abbrev pub is_loose : Stage → Bool
+is_loose stage.Answer = true
+is_loose stage.Astray = true
+is_loose stage.Response = true
+is_loose other = false
 
 abbrev pub is_dialogue : Role → Bool
 is_dialogue role.Dialogue = true

@@ -1,5 +1,5 @@
 -- The report of a TPDU: its view, and the dialogue that it describes.
-use Rattle.std.specs.Prelude.{◌≡◌, ℕ, ◌+◌, ◌-◌, ◌^◌, min, List, [], ◌∷◌, ◌++◌, get_or, Option, Some, None, Bool, true, false, fold}
+use Rattle.std.specs.Prelude.{◌≡◌, ℕ, ◌+◌, ◌-◌, ◌^◌, min, List, [], ◌∷◌, ◌++◌, get_or, Option, Some, None, Bool, true, false, not, ◌||◌, ◌==◌, length, fold}
 use Rattle.apdu_core.specs.HeaderBytes.{header_bytes}
 use Rattle.apdu_core.specs.declared.header.Header.{Header}
 use Rattle.t0_core.specs.declared.direction.Direction.{Direction}
@@ -13,13 +13,16 @@ use Rattle.t0_core.specs.TapSide.{Shows}
 use Rattle.trace_explain.specs.declared.follow.tally.Tally.{Tally}
 use Rattle.trace_explain.specs.declared.follow.tpdu.Tpdu.{Tpdu}
 
--- The header's characters, the number of procedure bytes, which way data moved, data, and status.
+-- The header's characters, the number of procedure bytes, which way data moved, data, and status;
+-- what the card returned beside data of the terminal; and whether the header is loose.
 pub record Report : Type 0 where
   pub header : List ℕ
   pub tally : Tally
   pub way : Option Direction
   pub moved : List ℕ
   pub status : List ℕ
+  pub answer : List ℕ
+  pub is_loose : Bool
 
 abbrev pub report_of : Tpdu → Report
 report_of t = record {
@@ -28,6 +31,8 @@ report_of t = record {
   way = t.way;
   moved = t.moved.items;
   status = t.status.items;
+  answer = t.answer.items;
+  is_loose = t.is_loose;
 }
 
 abbrev pub reports_of : Option Tpdu → List Report
@@ -51,33 +56,59 @@ abbrev pub tally_of : List Step → Tally
 tally_of segments = fold counted uncounted segments
 
 abbrev pub no_report : Report
-no_report = record { header = []; tally = uncounted; way = None; moved = []; status = [] }
+no_report = record {
+  header = [];
+  tally = uncounted;
+  way = None;
+  moved = [];
+  status = [];
+  answer = [];
+  is_loose = false;
+}
 
 -- The report of a header, segments, data and the characters of a status, if data showed this way.
-abbrev pub reported_body : Option Direction → Body → List ℕ → Report
-reported_body way b status = record {
+-- In characters one end alone sends data.
+abbrev pub reported_body : Option Direction → Bool → Body → List ℕ → Report
+reported_body way is_loose b status = record {
   header = header_bytes b.header ++ b.p3 ∷ [];
   tally = tally_of b.segments;
   way = way;
   moved = b.moved;
   status = status;
+  answer = [];
+  is_loose = is_loose;
 }
 
 -- The report of the first characters of a dialogue.
-abbrev pub reported : Option Direction → Front → Report
-reported way (In_header bytes) = record no_report { header = bytes; way = way }
-reported way (In_body b) = reported_body way b []
-reported way (After_first b sw1) = reported_body way b (sw1 ∷ [])
+abbrev pub reported : Option Direction → Bool → Front → Report
+reported way is_loose (In_header bytes) =
+    record no_report { header = bytes; way = way; is_loose = is_loose }
+reported way is_loose (In_body b) = reported_body way is_loose b []
+reported way is_loose (After_first b sw1) = reported_body way is_loose b (sw1 ∷ [])
 
-abbrev pub ReportsFront : Report → Front → Type 0
-ReportsFront t front = t ≡ reported t.way front
+abbrev pub ReportsFront : Report → Bool → Front → Type 0
+ReportsFront t is_loose front = t ≡ reported t.way is_loose front
 
 -- The report of a whole dialogue.
-abbrev pub reported_whole : Option Direction → Dialogue → Report
-reported_whole way d = reported_body way d.body (d.status.0 ∷ d.status.1 ∷ [])
+abbrev pub reported_whole : Option Direction → Bool → Dialogue → Report
+reported_whole way is_loose d =
+    reported_body way is_loose d.body (d.status.0 ∷ d.status.1 ∷ [])
 
-abbrev pub Reports : Report → Dialogue → Type 0
-Reports t d = (t ≡ reported_whole t.way d) × Shows t.way d.body.direction d.body.moved
+abbrev pub Reports : Report → Bool → Dialogue → Type 0
+Reports t is_loose d =
+    (t ≡ reported_whole t.way is_loose d) × Shows t.way d.body.direction d.body.moved
+
+-- The same report if its header is loose, or also if this holds.
+abbrev pub loosened : Bool → Report → Report
+loosened is t = record t { is_loose = t.is_loose || is }
+
+-- The same report with a loose header.
+abbrev pub loose : Report → Report
+loose t = record t { is_loose = true }
+
+-- Its header may be something else: it is loose, or cut off.
+abbrev pub is_doubtful : Report → Bool
+is_doubtful t = t.is_loose || not (length t.header == 5)
 
 -- The report with one more character.
 abbrev pub noted : Report → Heard → ℕ → Report

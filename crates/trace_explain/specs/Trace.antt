@@ -1,7 +1,6 @@
 -- A whole trace: its lines, and what an explainer without `--resume` has explained of them.
 use Rattle.std.specs.Prelude.{◌≡◌, ◌≤◌, ◌<◌, ℕ, ◌+◌, ◌-◌, ◌^◌, min, List, [], ◌∷◌, ◌++◌, length, Bool, true, false, ◌==◌, if◌then◌else◌, Option, Some, None, Result, Ok, Err}
 use Rattle.std.specs.Str.Lines.{strip_carriage_return}
-use Rattle.t0_core.specs.History.{Event}
 use Rattle.trace_explain.specs.declared.explain_fault.ExplainFault.{ExplainFault}
 use Rattle.trace_explain.specs.declared.explain_fault.ExplainFault.TheVariants as fault
 use Rattle.trace_explain.specs.declared.explainer.Explainer.{Explainer}
@@ -10,8 +9,8 @@ use Rattle.trace_explain.specs.declared.read.reading.Reading.{Reading}
 use Rattle.trace_explain.specs.Account.{HasWritten, Out}
 use Rattle.trace_explain.specs.Explained.{HasExplained, StopsRightly, line_of, next_line, position_of}
 use Rattle.trace_explain.specs.Lines.{LineLeads, Position, first_of_all}
-use Rattle.trace_explain.specs.Noted.{HasNoted}
-use Rattle.trace_explain.specs.Reports.{Report}
+use Rattle.trace_explain.specs.Noted.{Event, HasNoted, ended_by}
+use Rattle.trace_explain.specs.Reports.{Report, report_of}
 
 -- The lines of bytes, after these bytes of the first line. Each ends at LF, which the last one may
 -- lack, and loses one CR right before that. Nothing after the last LF is not a line.
@@ -37,17 +36,17 @@ SayAll reading lines events after = SayInTurn [] (first_of_all reading) lines ev
 
 -- A listener has heard all events of these lines, and reported each dialogue in turn; they end at
 -- this position. What is written shows these reports.
-pub record IsExplained (IsShown : List Report → Listener → Type 0) (reading : Reading)
+pub record IsExplained (IsShown : List Report → Report → Type 0) (reading : Reading)
     (all : List (List ℕ)) (at : Position) : Type 0 where
   pub events : List Event
   pub says : SayAll reading all events at
   pub reports : List Report
   pub listener : Listener
   pub noted : HasNoted events reports listener
-  pub is_shown : IsShown reports listener
+  pub is_shown : IsShown reports (report_of listener.under_way)
 
 -- At least one of them has a character.
-abbrev pub IsWhole : (List Report → Listener → Type 0) → Reading → List (List ℕ) → Type 0
+abbrev pub IsWhole : (List Report → Report → Type 0) → Reading → List (List ℕ) → Type 0
 IsWhole IsShown reading all =
     (at : Position) × IsExplained IsShown reading all at × (at.has_characters ≡ true)
 
@@ -74,15 +73,19 @@ pub record IsReached (reading : Reading) (all : List (List ℕ)) (number : ℕ) 
   pub listener : Listener
   pub noted : HasNoted events reports listener
 
--- A fault that stops it at a line is right for it. One at the end means: no line has a character.
-abbrev pub StopsInLine : Reading → List (List ℕ) → ExplainFault → Option ℕ → Type 0
-StopsInLine reading all f None = Unit {0}
-StopsInLine reading all f (Some number) = (reached : IsReached reading all number)
-    × StopsRightly f reached.at reached.line reached.events reached.reports
+-- A fault that stops it at a line is right for it, and what is written shows the reports so far. A
+-- fault at the end means: no line has a character.
+abbrev pub StopsInLine
+    : (List Report → Report → Type 0) → Reading → List (List ℕ) → ExplainFault → Option ℕ → Type 0
+StopsInLine IsShown reading all f None = Unit {0}
+StopsInLine IsShown reading all f (Some number) = (reached : IsReached reading all number)
+    × StopsRightly IsShown f reached.at reached.line reached.events reached.reports
+    (report_of reached.listener.under_way)
 
-abbrev pub StopsIn : Reading → List (List ℕ) → ExplainFault → Type 0
-StopsIn reading all fault.NoCharacters = SayNoCharacters reading all
-StopsIn reading all f = StopsInLine reading all f (line_of f)
+abbrev pub StopsIn
+    : (List Report → Report → Type 0) → Reading → List (List ℕ) → ExplainFault → Type 0
+StopsIn IsShown reading all fault.NoCharacters = SayNoCharacters reading all
+StopsIn IsShown reading all f = StopsInLine IsShown reading all f (line_of f)
 
 -- If the fault is that of a trace that is too long, the trace exceeds the limit.
 abbrev pub IsOver : List ℕ → ExplainFault → Type 0
@@ -132,6 +135,12 @@ pub record HasReceived (front : Out) (reading : Reading) (all : List (List ℕ))
   pub reports : List Report
   pub explained : HasExplained events reports e
   pub written : HasWritten front reports e
+
+-- An explainer has stopped. At the end it shows these reports, and what is left of this one.
+pub record HasLeft (front : Out) (e : Explainer) (all : List Report) (t : Report) : Type 0 where
+  pub reports : List Report
+  pub written : HasWritten front reports e
+  pub all_are : all ++ ended_by t ≡ reports ++ ended_by (report_of e.listener.under_way)
 
 -- No byte was received yet, whatever comes.
 abbrev pub IsReady : Out → Reading → Explainer → Type 0

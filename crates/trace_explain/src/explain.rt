@@ -6,7 +6,7 @@ ghost use Rattle.std.specs.Str.Lines.{strip_carriage_return};
 ghost use Rattle.trace_explain.specs.declared.read.reading.Reading.{Reading};
 ghost use Rattle.trace_explain.specs.Account.{HasWritten, Out, WritesOut, WritesReports, out_with};
 ghost use Rattle.trace_explain.specs.Explained.{position_of};
-ghost use Rattle.trace_explain.specs.Trace.{HasReceived, IsExplained, IsOfLines, IsOfSink, IsOfWriting, IsReady, IsWhole, KeepsLimit, StopsIn, lines_of};
+ghost use Rattle.trace_explain.specs.Trace.{HasLeft, HasReceived, IsExplained, IsOfLines, IsOfSink, IsOfWriting, IsReady, IsWhole, KeepsLimit, StopsIn, lines_of};
 
 use crate::describe::mask::Mask;
 use crate::explain_fault::ExplainFault;
@@ -49,7 +49,9 @@ pub fn explain<R: Read, W: Sink>(
         (WritesReports layout mask (W.contents writer.old) (W.contents writer.new)) reading
         (lines_of bytes))) }
     ensures stops { resumes ≡ false → reading.of_tpdus ≡ false → IfErr result (λ fault.
-        IfSome (R.remaining reader.old) (λ bytes. StopsIn reading (lines_of bytes) fault)) }
+        IfSome (R.remaining reader.old) (λ bytes. StopsIn
+        (WritesReports layout mask (W.contents writer.old) (W.contents writer.new)) reading
+        (lines_of bytes) fault)) }
     ensures limited { IfSome (R.remaining reader.old) (λ bytes. KeepsLimit bytes result) }
     ensures fails { IfErr result (IsOfSink W.fails) }
 {
@@ -57,8 +59,8 @@ pub fn explain<R: Read, W: Sink>(
     let outcome = explain_chunks(alloc, &mut explainer, reader, writer);
     explainer.end()?;
     write_output(&mut explainer.teller.output.sheet, writer)?;
-    outcome?;
     explainer.teller.output.sheet.is_whole()?;
+    outcome?;
     explainer.outcome()
 }
 
@@ -71,13 +73,13 @@ fn explain_chunks<R: Read, W: Sink>(
 ) -> Result<(), ExplainFault>
     ensures explained { (first : Out) (reading : Reading) → IsReady first reading explainer.old →
         OnOk result (IfSome (R.remaining reader.old) (λ bytes. IsExplained
-        (λ reports listener. (listener ≡ explainer.new.listener) × (more : List ℕ)
-        × Appends (W.contents writer.old) (W.contents writer.new) more
-        × HasWritten (out_with first more) reports explainer.new)
+        (λ reports t. (more : List ℕ) × Appends (W.contents writer.old) (W.contents writer.new) more
+        × HasLeft (out_with first more) explainer.new reports t)
         reading (lines_of bytes) (position_of explainer.new))) }
     ensures stops { (first : Out) (reading : Reading) → IsReady first reading explainer.old →
-        IfErr result (λ fault. IfSome (R.remaining reader.old)
-        (λ bytes. StopsIn reading (lines_of bytes) fault)) }
+        IfErr result (λ fault. IfSome (R.remaining reader.old) (λ bytes. StopsIn
+        (λ reports t. (more : List ℕ) × Appends (W.contents writer.old) (W.contents writer.new) more
+        × HasLeft (out_with first more) explainer.new reports t) reading (lines_of bytes) fault)) }
     ensures limited { IfSome (R.remaining reader.old) (λ bytes. KeepsLimit bytes result) }
     ensures fails { IfErr result (IsOfSink W.fails) }
 {
@@ -118,7 +120,7 @@ pub fn explain_chunk(
         OnOk result (HasReceived front reading all line.new.items left explainer.new) }
     ensures stops { (front : Out) (reading : Reading) (all : List (List ℕ)) (left : List ℕ) →
         HasReceived front reading all line.old.items (chunk.now ++ left) explainer.old →
-        IfErr result (StopsIn reading all) }
+        IfErr result (StopsIn (HasLeft front explainer.new) reading all) }
     ensures of_lines { IfErr result IsOfLines }
 {
     for &byte in chunk {
@@ -145,11 +147,11 @@ pub fn explain_chunk(
 pub fn explain_last(explainer: &mut Explainer, line: &[u8]) -> Result<(), ExplainFault>
     ensures explained { (front : Out) (reading : Reading) (all : List (List ℕ)) →
         HasReceived front reading all line.now [] explainer.old →
-        OnOk result (IsExplained (λ reports listener. (listener ≡ explainer.new.listener)
-        × HasWritten front reports explainer.new) reading all (position_of explainer.new)) }
+        OnOk result (IsExplained (HasLeft front explainer.new) reading all
+        (position_of explainer.new)) }
     ensures stops { (front : Out) (reading : Reading) (all : List (List ℕ)) →
         HasReceived front reading all line.now [] explainer.old →
-        IfErr result (StopsIn reading all) }
+        IfErr result (StopsIn (HasLeft front explainer.new) reading all) }
     ensures of_lines { IfErr result IsOfLines }
 {
     if line.is_empty() {

@@ -1,12 +1,11 @@
 //! Explains a trace line by line: finds who sent each character, hears it, and lets a `Teller`
 //! print what ends with it.
 ghost use Rattle.std.specs.Prelude.{◌≡◌, ◌∷◌, ◌==◌, ◌&&◌, List, [], None, true, false, length, OnOk, IfErr, IfOk};
-ghost use Rattle.t0_core.specs.History.{Event, Reset};
 ghost use Rattle.t0_core.specs.TapSide.{due_at};
 ghost use Rattle.trace_explain.specs.Account.{AddsBoxes, HasWritten, first_out};
-ghost use Rattle.trace_explain.specs.Explained.{HasExplained, ExplainsCharacters, ExplainsLine, ExplainsMore, StopsAmong, StopsAtLine, TakesOrStops, is_astray, next_line, refused, position_of};
+ghost use Rattle.trace_explain.specs.Explained.{HasExplained, ExplainsCharacters, ExplainsLine, ExplainsMore, Leaves, StopsAmong, StopsAtLine, TakesOrStops, is_astray, next_line, refused, position_of};
 ghost use Rattle.trace_explain.specs.Lines.{Says, first_of_all};
-ghost use Rattle.trace_explain.specs.Noted.{ended_by};
+ghost use Rattle.trace_explain.specs.Noted.{Event, Reset, ended_by};
 ghost use Rattle.trace_explain.specs.Openings.{begins_answer, opening_of, unopened};
 ghost use Rattle.trace_explain.specs.Reports.{Report, report_of};
 ghost use Rattle.trace_explain.specs.Trace.{IsOfEnd, IsOfLines};
@@ -100,8 +99,9 @@ impl Explainer {
             OnOk result (ExplainsLine line.now events before self.old self.new) }
         ensures stops { (events : List Event) (before : List Report) →
             HasExplained events before self.old →
-            IfErr result (λ fault. StopsAtLine fault (next_line self.old) line.now
-            (position_of self.old) events before) }
+            IfErr result (λ fault. StopsAtLine (Leaves before self.old.teller self.new) fault
+            (next_line self.old) line.now (position_of self.old) events before
+            (report_of self.old.listener.under_way)) }
         ensures counts { OnOk result (self.new.line ≡ next_line self.old) }
         ensures of_lines { IfErr result IsOfLines }
     {
@@ -125,8 +125,9 @@ impl Explainer {
             OnOk result (ExplainsLine line.now events before self.old self.new) }
         ensures stops { (events : List Event) (before : List Report) →
             Says self.old.reading line.now entry → HasExplained events before self.old →
-            IfErr result (λ fault. StopsAtLine fault self.old.line line.now
-            (position_of self.old) events before) }
+            IfErr result (λ fault. StopsAtLine (Leaves before self.old.teller self.new) fault
+            self.old.line line.now (position_of self.old) events before
+            (report_of self.old.listener.under_way)) }
         ensures counts { OnOk result (self.new.line ≡ self.old.line) }
         ensures of_lines { IfErr result IsOfLines }
     {
@@ -148,8 +149,8 @@ impl Explainer {
             (ExplainsCharacters source bytes.now events before self.old self.new) }
         ensures stops { (events : List Event) (before : List Report) →
             HasExplained events before self.old →
-            IfErr result (λ fault. StopsAmong fault source self.old.line
-            (position_of self.old) bytes.now events before) }
+            IfErr result (λ fault. StopsAmong (Leaves before self.old.teller self.new) fault source
+            self.old.line (position_of self.old) bytes.now events before) }
         ensures counts { OnOk result (self.new.line ≡ self.old.line) }
         ensures of_lines { IfErr result IsOfLines }
     {
@@ -244,11 +245,12 @@ impl Explainer {
     {
         self.has_characters = true;
         let begun = self.preface.stage.has_begun();
+        let is_loose = self.preface.stage.is_loose();
         let opens = self.teller.open(&mut self.preface, from, byte, rest)?;
         if opens {
             return Ok(false);
         }
-        let continues = self.teller.hear(&mut self.listener, from, byte)?;
+        let continues = self.teller.hear(&mut self.listener, from, byte, is_loose)?;
         if continues {
             return Ok(false);
         }

@@ -85,11 +85,11 @@ begins as one of these and can't be read is a fault. So are characters of T=0, w
 With `--mask` reference data are shown as `**`: the data of VERIFY, CHANGE REFERENCE DATA, DISABLE
 and ENABLE VERIFICATION REQUIREMENT and RESET RETRY COUNTER. So are objects with the given tags,
 which commas separate, and all data that may be part of one: data that are not a list of objects,
-and parts of a response, a chain or a file. Notes, unexpected bytes, characters before a header, and
-invalid answers may contain any of it, so they are always shown as `**`. So are a header and its
-data, if such characters or an unexpected byte precede it, or an unexpected byte ends it; and data
-of ENVELOPE that may contain reference data. With `--resume` the program then continues only at a
-line `reset`.
+and parts of a response, a chain or a file. Notes, unexpected bytes, characters before a header,
+parts of a header, and invalid answers may contain any of it, so they are always shown as `**`. So
+are a header and its data, if such characters or an unexpected byte precede it, or an unexpected
+byte ends it; and data of ENVELOPE that may contain reference data. With `--resume` the program then
+continues only at a line `reset`.
 
 With `--diff` the traces of two files are compared, TPDU by TPDU, and standard input is not read.
 Headers, data with their direction, and statuses are compared, but not procedure bytes, or what is

@@ -73,7 +73,7 @@ impl Origin {
             IsOfCommand tpdu.now.header.items origin.header) }
         ensures asked { IfSome links.asker (IsOfCommand tpdu.now.header.items) →
             IfSome result (λ origin. IsOfCommand tpdu.now.header.items origin.header) }
-        ensures loose { IfSome result (λ origin. origin.is_loose ≡ links.is_loose) }
+        ensures loose { IfSome result (λ origin. origin.is_loose ≡ tpdu.now.is_loose) }
         ensures inner { IfSome result (λ origin. origin.inner ≡ get_or tpdu.now.moved.items 1 0) }
         ensures whole { length tpdu.now.header.items ≡ 5 → IsSome result }
     {
@@ -87,7 +87,7 @@ impl Origin {
             way,
             continues: links.continues,
             goes_on: goes_on(tpdu, way),
-            is_loose: links.is_loose,
+            is_loose: tpdu.is_loose,
             inner: tpdu.moved.get(1).copied().unwrap_or(0),
         })
     }
@@ -98,7 +98,7 @@ impl Origin {
         ensures way { IfSome result (λ origin. origin.way ≡ FromCard) }
         ensures asked { IfSome links.asker (IsOfCommand tpdu.now.header.items) →
             IfSome result (λ origin. IsOfCommand tpdu.now.header.items origin.header) }
-        ensures loose { IfSome result (λ origin. origin.is_loose ≡ links.is_loose) }
+        ensures loose { IfSome result (λ origin. origin.is_loose ≡ tpdu.now.is_loose) }
         ensures whole { length tpdu.now.header.items ≡ 5 → IsSome result }
     {
         let mut origin = Origin::of(tpdu, links, Direction::FromCard)?;
@@ -114,7 +114,7 @@ impl Origin {
             IsOfCommand tpdu.now.header.items origin.header) }
         ensures asked { IfSome links.asker (IsOfCommand tpdu.now.header.items) →
             IfSome result (λ origin. IsOfCommand tpdu.now.header.items origin.header) }
-        ensures loose { IfSome result (λ origin. origin.is_loose ≡ links.is_loose) }
+        ensures loose { IfSome result (λ origin. origin.is_loose ≡ tpdu.now.is_loose) }
         ensures inner { IfSome result (λ origin. origin.inner ≡ get_or bytes.now 1 0) }
     {
         let way = match links.whole {
@@ -194,11 +194,11 @@ impl Mask {
         self.hides
     }
 
-    /// Whether it hides a header that is loose, or is not.
-    pub fn hides_header(&self, is_loose: bool) -> bool
-        ensures { result ≡ (self.now.hides && is_loose) }
+    /// Whether it hides a header that is doubtful, or is not.
+    pub fn hides_header(&self, is_doubtful: bool) -> bool
+        ensures { result ≡ (self.now.hides && is_doubtful) }
     {
-        self.hides && is_loose
+        self.hides && is_doubtful
     }
 
     /// Whether it hides objects with this tag.

@@ -51,8 +51,6 @@ pub struct Links {
     pub whole: Whole,
     /// The command whose response the card's data are; `None` if the header is cut off.
     pub asker: Option<Header>,
-    /// Its header is loose: bytes that no dialogue explains precede it, or follow in its TPDU.
-    pub is_loose: bool,
     /// Its data continue those of earlier TPDUs: of a chain, or of a response in parts.
     pub continues: bool,
     /// The same for the card's data beside the terminal's.
@@ -64,7 +62,6 @@ impl Links {
     pub fn shown(self, is_hidden: bool) -> Links
         ensures number { result.number ≡ self.number }
         ensures asker { result.asker ≡ self.asker }
-        ensures loose { result.is_loose ≡ self.is_loose }
     {
         if !is_hidden {
             return self;

@@ -1,10 +1,9 @@
 //! A tap that keeps what it has heard of the current TPDU.
-ghost use Rattle.std.specs.Prelude.{◌≡◌, ◌++◌, ◌∷◌, [], List, true, IfOk, IfErr};
+ghost use Rattle.std.specs.Prelude.{◌≡◌, ◌++◌, ◌∷◌, [], List, true, IfOk, IfErr, OnOk};
 ghost use Rattle.t0_core.specs.declared.end.End.TheVariants.{Terminal};
-ghost use Rattle.t0_core.specs.History.{Event, Passed, Reset};
 ghost use Rattle.t0_core.specs.TapSide.{due_at};
-ghost use Rattle.trace_explain.specs.Reports.{Report, report_of, reports_of, no_report, is_last};
-ghost use Rattle.trace_explain.specs.Noted.{AreStatus, HasNoted, IsRefused, as_ended, ended_by, is_bare};
+ghost use Rattle.trace_explain.specs.Reports.{Report, loosened, noted, report_of, reports_of, no_report, is_last};
+ghost use Rattle.trace_explain.specs.Noted.{AreStatus, Event, HasNoted, IsRefused, Passed, Reset, as_ended, ended_by, is_bare};
 
 use crate::follow::tpdu::Tpdu;
 use std::alloc::{AllocError, Global};
@@ -60,27 +59,33 @@ impl Listener {
         self.tap.due()
     }
 
-    /// Hears a character, and returns the TPDU that ends with it or has ended before it.
+    /// Hears a character, and returns the TPDU that ends with it or has ended before it. If it
+    /// `is_loose`, so is the header of its TPDU: bytes that no dialogue explains precede it.
     ///
     /// # Errors
     ///
     /// - `NoDialogue`: no dialogue continues with the character. Nothing has changed.
     /// - `OutOfMemory`: don't use the listener any more.
-    pub fn hear(&mut self, from: End, byte: u8) -> Result<Option<Tpdu>, ListenerFault>
+    pub fn hear(
+        &mut self,
+        from: End,
+        byte: u8,
+        is_loose: bool,
+    ) -> Result<Option<Tpdu>, ListenerFault>
         ensures noted { (events : List Event) (before : List Report) →
             HasNoted events before self.old → IfOk result (λ tpdu. HasNoted
-            (events ++ Passed (from, byte) ∷ []) (before ++ reports_of tpdu) self.new) }
+            (events ++ Passed (from, byte) is_loose ∷ []) (before ++ reports_of tpdu) self.new) }
         ensures refused { IfErr result (λ fault.
             IsRefused fault self.old (from, byte) self.new) }
     {
         if from == End::Terminal && self.under_way.is_bare() {
-            return self.hear_behind_bare(byte);
+            return self.hear_behind_bare(byte, is_loose);
         }
         let heard = match self.tap.hear(from, byte) {
             Ok(heard) => heard,
             Err(fault) => return Err(ListenerFault::NoDialogue(fault)),
         };
-        self.under_way.note(&heard, byte)?;
+        self.note(&heard, byte, is_loose)?;
         if is_last(&heard) {
             return Ok(Some(self.cut()));
         }
@@ -89,30 +94,42 @@ impl Listener {
 
     /// Hears a character of the terminal after a bare status: the card has repeated INS of a
     /// command without data, and sent its status. The character begins the next header.
-    fn hear_behind_bare(&mut self, byte: u8) -> Result<Option<Tpdu>, ListenerFault>
+    fn hear_behind_bare(&mut self, byte: u8, is_loose: bool) -> Result<Option<Tpdu>, ListenerFault>
         requires bare { is_bare (report_of self.old.under_way) ≡ true }
         requires status { AreStatus self.old.under_way.moved.items }
         ensures noted { (events : List Event) (before : List Report) →
             HasNoted events before self.old → IfOk result (λ tpdu. HasNoted
-            (events ++ Passed (Terminal, byte) ∷ []) (before ++ reports_of tpdu) self.new) }
+            (events ++ Passed (Terminal, byte) is_loose ∷ []) (before ++ reports_of tpdu)
+            self.new) }
         ensures wants { IfErr result (λ fault. fault ≡ ListenerFault.OutOfMemory) }
     {
         self.tap.reset();
         let whole = self.cut().bared();
         match self.tap.hear(End::Terminal, byte) {
             Ok(heard) => {
-                self.under_way.note(&heard, byte)?;
+                self.note(&heard, byte, is_loose)?;
                 Ok(Some(whole))
             }
             Err(fault) => Err(ListenerFault::NoDialogue(fault)),
         }
     }
 
-    /// Hears the five characters of a header from the terminal. No dialogue may be in progress.
+    /// Notes a character of the current TPDU. Returns `AllocError` if memory ran out.
+    fn note(&mut self, heard: &Heard, byte: u8, is_loose: bool) -> Result<(), AllocError>
+        ensures noted { OnOk result (report_of self.new.under_way
+            ≡ loosened is_loose (noted (report_of self.old.under_way) heard.now byte)) }
+        ensures tap { self.new.tap ≡ self.old.tap }
+    {
+        self.under_way.note(heard, byte)?;
+        self.under_way.is_loose |= is_loose;
+        Ok(())
+    }
+
+    /// Hears the five characters of a loose header. No dialogue may be in progress.
     /// Returns `AllocError` if memory ran out, or if no dialogue continues with a character.
     pub fn hear_header(&mut self, bytes: &[u8]) -> Result<(), AllocError> {
         for &byte in bytes {
-            if self.hear(End::Terminal, byte).is_err() {
+            if self.hear(End::Terminal, byte, true).is_err() {
                 return Err(AllocError);
             }
         }
@@ -127,6 +144,7 @@ impl Listener {
             (reports ++ ended_by (report_of self.old.under_way))
             self.new }
         ensures part { report_of result ≡ as_ended (report_of self.old.under_way) }
+        ensures left { report_of self.new.under_way ≡ no_report }
     {
         self.tap.reset();
         self.cut().as_ended()

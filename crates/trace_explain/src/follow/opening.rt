@@ -1,7 +1,7 @@
 //! What a character is before the dialogue: part of an answer to reset, a PPS exchange, or neither.
 ghost use Rattle.std.specs.Prelude.{◌≡◌};
 ghost use Rattle.atr_core.specs.FirstFault.{first_fault};
-ghost use Rattle.trace_explain.specs.Openings.{after_answer, as_ts, begins_answer, has_begun, is_dialogue, is_direct, is_full, is_short, loose_at, role_at, turned_by};
+ghost use Rattle.trace_explain.specs.Openings.{after_answer, as_ts, begins_answer, has_begun, is_dialogue, is_direct, is_full, is_loose, is_short, role_at, turned_by};
 
 use atr_core::{Atr, AtrFault, Convention, Pps, Reason};
 use t0_core::End;
@@ -82,16 +82,12 @@ impl Stage {
         matches!(self, Stage::Begun)
     }
 
-    /// Whether the next header is loose: it follows bytes that are neither a whole answer nor PPS.
-    /// In a dialogue it remains as it `is`.
-    pub fn is_loose(self, is: bool) -> bool
-        ensures { result ≡ loose_at is self }
+    /// Whether a header that begins here is loose: it follows bytes that are neither a whole answer
+    /// nor PPS.
+    pub fn is_loose(self) -> bool
+        ensures { result ≡ is_loose self }
     {
-        match self {
-            Stage::Begun => is,
-            Stage::Answer | Stage::Astray | Stage::Response => true,
-            Stage::Ready | Stage::Request | Stage::Asked => false,
-        }
+        matches!(self, Stage::Answer | Stage::Astray | Stage::Response)
     }
 }
 

@@ -159,6 +159,7 @@ fn whole(
         status: copied(alloc, status)?,
         le,
         answer: copied(alloc, answer)?,
+        is_loose: false,
     })
 }
 

@@ -167,7 +167,6 @@ impl Story {
             drops_after: false,
             whole: Whole::None,
             asker: None,
-            is_loose: false,
             continues: false,
             answer_continues: false,
         }

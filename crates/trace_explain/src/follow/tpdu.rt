@@ -1,6 +1,6 @@
 //! What was heard of one TPDU.
 ghost use Rattle.std.specs.Prelude.{◌≡◌, ◌==◌, length, true, OnOk};
-ghost use Rattle.trace_explain.specs.Reports.{report_of, no_report, noted};
+ghost use Rattle.trace_explain.specs.Reports.{is_doubtful, report_of, no_report, noted};
 ghost use Rattle.trace_explain.specs.Noted.{AreStatus, are_status, as_ended, bared, is_bare};
 
 use crate::follow::tally::Tally;
@@ -26,6 +26,9 @@ pub struct Tpdu {
     pub le: Option<u8>,
     /// The card's data beside the terminal's, which a pair may have.
     pub answer: Vec<u8>,
+    /// Whether its header is loose: bytes that no dialogue explains precede it, or follow in the
+    /// TPDU. A mask hides it.
+    pub is_loose: bool,
 }
 
 impl Tpdu {
@@ -41,6 +44,7 @@ impl Tpdu {
             status: Vec::new(alloc),
             le: None,
             answer: Vec::new(alloc),
+            is_loose: false,
         }
     }
 
@@ -105,6 +109,13 @@ impl Tpdu {
         ensures status { is_bare (report_of self) ≡ true → AreStatus self.moved.items }
     {
         if self.is_bare() { self.bared() } else { self }
+    }
+
+    /// Whether its header may be something else: it is loose, or cut off.
+    pub fn is_doubtful(&self) -> bool
+        ensures { result ≡ is_doubtful (report_of self.now) }
+    {
+        self.is_loose || self.header.len() != 5
     }
 
     /// Whether nothing of it was received.

@@ -1,13 +1,12 @@
 //! Writes an explanation: the boxes of TPDUs in turn, notes between them, and the counts.
 ghost use Rattle.std.specs.Prelude.{◌≡◌, ◌∷◌, ◌++◌, List, [], false, not, IfOk, OnOk};
 ghost use Rattle.std.specs.String.{string_bytes};
-ghost use Rattle.t0_core.specs.History.{Event, Reset};
 ghost use Rattle.trace_explain.specs.Account.{AddsBox, AddsBoxes, HasBox, StaysWritten, account_of};
 ghost use Rattle.trace_explain.specs.Boxes.{HasAsker};
 ghost use Rattle.trace_explain.specs.Explained.{Hears};
-ghost use Rattle.trace_explain.specs.Noted.{HasNoted, ended_by};
-ghost use Rattle.trace_explain.specs.Openings.{is_dialogue, loose_at, opening_of, opens, role_of, unopened};
-ghost use Rattle.trace_explain.specs.Reports.{Report, report_of};
+ghost use Rattle.trace_explain.specs.Noted.{Event, HasNoted, Reset, ended_by};
+ghost use Rattle.trace_explain.specs.Openings.{is_dialogue, opening_of, opens, role_of, unopened};
+ghost use Rattle.trace_explain.specs.Reports.{Report, loose, no_report, report_of};
 
 use crate::describe::clock::Clock;
 use crate::describe::complaint::Complaint;
@@ -47,8 +46,7 @@ pub struct Teller {
     /// Whether a trace had a character before a dialogue, such as one of an answer to reset, a line
     /// `reset` or a whole TPDU. A log leaves it false.
     pub is_led: bool,
-    /// Whether the current header is loose: bytes that no dialogue explains precede it, or follow
-    /// in its TPDU. A mask hides it.
+    /// Whether the next pair of a log is loose: bytes that are no pair precede it.
     is_loose: bool,
     story: Story,
     /// The times of the lines.
@@ -125,13 +123,9 @@ impl Teller {
         ensures dialogue { IfOk result (λ is_of.
             is_dialogue (role_of (opening_of preface.old) from byte) ≡ not is_of) }
         ensures boxes { OnOk result (AddsBoxes [] self.old self.new) }
-        ensures loose { self.new.is_loose
-            ≡ loose_at self.old.is_loose (opening_of preface.old).stage }
     {
-        let is_loose = preface.stage.is_loose(self.is_loose);
         let role = preface.role_of(from, byte);
         self.tell_before(role, preface, rest);
-        self.is_loose = is_loose;
         preface.take(role, byte, self.line)?;
         if role.is_dialogue() {
             return Ok(false);
@@ -188,13 +182,20 @@ impl Teller {
     /// Hears a character of the dialogue, and writes the TPDU that ends with it or before it.
     /// Returns whether a dialogue continues with it; if not, nothing is changed or written. Returns
     /// `AllocError` if memory ran out: use neither the teller nor the listener any more.
-    pub fn hear(&mut self, listener: &mut Listener, from: End, byte: u8) -> Result<bool, AllocError>
+    pub fn hear(
+        &mut self,
+        listener: &mut Listener,
+        from: End,
+        byte: u8,
+        is_loose: bool,
+    ) -> Result<bool, AllocError>
         ensures { (events : List Event) (before : List Report) →
             HasNoted events before listener.old → IfOk result (λ continues.
-            Hears continues from byte events before listener.old listener.new self.old self.new) }
+            Hears continues (from, byte) is_loose events before listener.old listener.new
+            self.old self.new) }
     {
         self.begin_if(from == End::Terminal && listener.under_way.is_empty());
-        match listener.hear(from, byte) {
+        match listener.hear(from, byte, is_loose) {
             Ok(None) => Ok(true),
             Ok(Some(tpdu)) => {
                 self.tell_whole(&tpdu, !listener.under_way.is_empty())?;
@@ -229,20 +230,17 @@ impl Teller {
     fn tell_one(&mut self, tpdu: &Tpdu) -> Result<(), AllocError>
         ensures { OnOk result (AddsBoxes (report_of tpdu.now ∷ []) self.old self.new) }
     {
-        let is_loose = mem::replace(&mut self.is_loose, false);
-        let is_hidden = self.mask.hides_header(is_loose);
+        let is_hidden = self.mask.hides_header(tpdu.is_doubtful());
         self.counts.take(tpdu, is_hidden)?;
-        let links = self.story.tell(tpdu)?;
-        let links = Links { is_loose, ..links }.shown(is_hidden);
+        let links = self.story.tell(tpdu)?.shown(is_hidden);
         self.tell(tpdu, links)
     }
 
     /// Writes the box of a TPDU, or keeps the TPDU with its box.
     fn tell(&mut self, tpdu: &Tpdu, links: Links) -> Result<(), AllocError>
         requires asker { HasAsker tpdu.now.header.items links }
-        ensures { OnOk result (AddsBox links.is_loose links.number self.old.began
-            (report_of tpdu.now) tpdu.now.answer.items (account_of self.old)
-            (account_of self.new)) }
+        ensures { OnOk result (AddsBox links.number self.old.began (report_of tpdu.now)
+            (account_of self.old) (account_of self.new)) }
     {
         if self.keeping.is_on {
             let empty = Output::new(self.alloc, self.output.sheet.layout());
@@ -258,9 +256,8 @@ impl Teller {
     /// A TPDU with its box alone.
     fn kept_of(&self, tpdu: &Tpdu, links: Links, empty: Output) -> Result<Kept, AllocError>
         requires asker { HasAsker tpdu.now.header.items links }
-        ensures { IfOk result (λ kept. HasBox self.now.mask links.is_loose links.number
-            self.now.began (report_of tpdu.now) tpdu.now.answer.items empty.sheet
-            (string_bytes kept.text)) }
+        ensures { IfOk result (λ kept. HasBox self.now.mask links.number self.now.began
+            (report_of tpdu.now) empty.sheet (string_bytes kept.text)) }
     {
         let mut output = empty;
         let (clock, story, mask) = (&self.clock, &self.story, &self.mask);
@@ -272,6 +269,7 @@ impl Teller {
 
     /// Writes the TPDU that is cut off, if there is one.
     fn cut_off(&mut self, listener: &mut Listener) -> Result<(), AllocError>
+        ensures left { report_of listener.new.under_way ≡ no_report }
         ensures noted { (events : List Event) (before : List Report) →
             HasNoted events before listener.old → HasNoted (events ++ Reset ∷ [])
             (before ++ ended_by (report_of listener.old.under_way)) listener.new }
@@ -323,10 +321,14 @@ impl Teller {
         &mut self,
         complaint: Complaint,
         listener: &mut Listener,
-    ) -> Result<(), AllocError> {
-        self.is_loose = true;
+    ) -> Result<(), AllocError>
+        ensures left { report_of listener.new.under_way ≡ no_report }
+        ensures shown { OnOk result (AddsBoxes
+            (ended_by (loose (report_of listener.old.under_way))) self.old self.new) }
+    {
+        listener.under_way.is_loose = true;
         self.cut_off(listener)?;
-        self.lose_some();
+        self.story.lose_some();
         self.counts.complain(complaint.line)?;
         let number = self.counts.complaints();
         tell_complaint(number, complaint, &mut self.output.page);
@@ -338,7 +340,7 @@ impl Teller {
         self.has_opening || self.counts.has_whole()
     }
 
-    /// Notes that bytes precede which no dialogue explains.
+    /// Notes that bytes precede which are no pair.
     fn lose_some(&mut self) {
         self.is_loose = true;
         self.story.lose_some();
@@ -400,15 +402,16 @@ impl Teller {
             None => tpdu_of_command(self.alloc, command),
         };
         match outcome {
-            Ok(tpdu) => self.tell_pair(&tpdu, answer.is_some()),
+            Ok(tpdu) => self.tell_pair(tpdu, answer.is_some()),
             Err(PairFault::OutOfMemory) => Err(AllocError),
             Err(why) => self.tell_bad(why, command, answer),
         }
     }
 
     /// Writes a TPDU of a log, and notes whether the log has its answer.
-    fn tell_pair(&mut self, tpdu: &Tpdu, is_answered: bool) -> Result<(), AllocError> {
-        self.tell_one(tpdu)?;
+    fn tell_pair(&mut self, mut tpdu: Tpdu, is_answered: bool) -> Result<(), AllocError> {
+        tpdu.is_loose = mem::replace(&mut self.is_loose, false);
+        self.tell_one(&tpdu)?;
         if !is_answered {
             self.lose_some();
         }

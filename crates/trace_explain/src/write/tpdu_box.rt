@@ -39,14 +39,14 @@ pub fn tell_box(
     requires asker { HasAsker tpdu.now.header.items links }
     ensures layout { output.new.sheet.layout ≡ output.old.sheet.layout }
     ensures puts { output.old.sheet.layout.is_summary ≡ false →
-        PutsBox mask.now links.is_loose links.number began (report_of tpdu.now)
-        tpdu.now.answer.items output.old.sheet output.new.sheet }
+        PutsBox mask.now links.number began (report_of tpdu.now) output.old.sheet
+        output.new.sheet }
 {
     if output.sheet.layout().is_summary {
         return;
     }
     output.join();
-    let is_hidden = mask.hides_header(links.is_loose);
+    let is_hidden = mask.hides_header(tpdu.is_doubtful());
     let outline = Outline::of(tpdu, is_hidden);
     let status = tpdu.status.as_slice();
     tell_title(&outline, name_of(tpdu), status, links, began, output);
@@ -107,7 +107,7 @@ fn dropped(drops: bool) -> &'static str {
 /// Adds the row of the data: as a tree if they may be objects and are some.
 fn tell_data(tpdu: &Tpdu, links: Links, mask: &Mask, output: &mut Output)
     requires asker { HasAsker tpdu.now.header.items links }
-    ensures { Puts (IsData mask.now links.is_loose tpdu.now.way tpdu.now.header.items
+    ensures { Puts (IsData mask.now tpdu.now.is_loose tpdu.now.way tpdu.now.header.items
         tpdu.now.moved.items) output.old.sheet output.new.sheet }
 {
     let Some(way) = tpdu.way else {
@@ -174,7 +174,7 @@ fn push_hidden(lines: &mut Sheet)
 /// Adds the row of the data that the card returned beside those of the terminal, if any.
 fn tell_answer(tpdu: &Tpdu, links: Links, mask: &Mask, output: &mut Output)
     requires asker { HasAsker tpdu.now.header.items links }
-    ensures { Puts (IsAnswer mask.now links.is_loose tpdu.now.header.items tpdu.now.answer.items)
+    ensures { Puts (IsAnswer mask.now tpdu.now.is_loose tpdu.now.header.items tpdu.now.answer.items)
         output.old.sheet output.new.sheet }
 {
     let bytes = tpdu.answer.as_slice();
@@ -226,8 +226,8 @@ fn push_status_words(outline: &Outline, page: &mut Page) {
 /// Adds the row of data that are shown together, if there are any.
 fn tell_together(tpdu: &Tpdu, links: Links, bytes: &[u8], mask: &Mask, output: &mut Output)
     requires asker { HasAsker tpdu.now.header.items links }
-    ensures { Puts (IsTogether mask.now links.is_loose tpdu.now.header.items) output.old.sheet
-        output.new.sheet }
+    ensures { Puts (IsTogether mask.now tpdu.now.is_loose tpdu.now.header.items)
+        output.old.sheet output.new.sheet }
 {
     if bytes.is_empty() {
         return;

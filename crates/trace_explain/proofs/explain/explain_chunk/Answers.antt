@@ -10,7 +10,7 @@ pub returns-in_err-line-clause-stops : goal.returns-in_err-line-clause-stops
 returns-in_err-line-clause-stops c = λ front reading all left come.
     let i = c.loop-byte.byte-index in
     fed_stops c.from_residual.result c.in_err-line.field-0.0 c.without_return.result.now
-    (drop (i + 1) c.args.chunk.now ++ left) _ c.from_residual.ensures.1
+    (drop (i + 1) c.args.chunk.now ++ left) _ c.line.new.self c.from_residual.ensures.1
     c.in_err-line.ensures.of_lines (c.loop-byte.invariant front reading all left come)
     (next_byte c.args.chunk.now left i c.loop-byte-test.true) c.if-byte-eq10.true
     (c.without_return.ensures ∙ ap strip_carriage_return c.as_slice.ensures.value)

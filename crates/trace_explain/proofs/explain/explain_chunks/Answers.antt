@@ -1,10 +1,12 @@
 use Rattle.std.proofs.Common.{ℕ, List, [], ◌++◌, append-nil, append_assoc, sym, subst, arith, length-append, length-take, take, IfSome}
 use Rattle.std.proofs.KnownBytes.{Appends-nil, Appends-trans, Consumes-nil, Consumes-trans}
 use Rattle.std.proofs.lemmas.Result.{IfErr-weaker, on_ok_weaker}
+use Rattle.std.specs.Io.KnownBytes.{Appends}
 use Rattle.std.specs.String.{string_bytes}
 use Rattle.trace_explain.specs.Account.{out_with}
-use Rattle.trace_explain.specs.Trace.{HasReceived, StopsIn, lines_of}
-use Rattle.trace_explain.proofs.TraceLemmas.{fault_passed, limit_kept, limit_passed, lines_sink, of_all, of_known, shown_as, still_received}
+use Rattle.trace_explain.specs.Reports.{Report}
+use Rattle.trace_explain.specs.Trace.{HasLeft, HasReceived, StopsIn, lines_of}
+use Rattle.trace_explain.proofs.TraceLemmas.{fault_passed, limit_kept, limit_passed, lines_sink, of_all, of_known, shown_as, still_received, stops_as}
 use Rattle.trace_explain.proofs.explain.explain_chunks.Goals as goal
 
 pub reading-init : goal.reading-init
@@ -55,12 +57,13 @@ returns-in-Ok-eq0 g c =
       explained = λ first reading ready.
           on_ok_weaker c.explain_last.result
           (λ h. of_all a _ _ read c.read.new.buf _ none reads last ends
-          (shown_as _ _ h (λ reports l k. (k.0, more, appends, k.1))))
+          (shown_as _ _ (λ reports t k. (more, appends, k)) h))
           (c.explain_last.ensures.explained (out_with first more) reading _
           (rw c.as_slice.ensures.value (comes first reading ready [])));
       stops = λ first reading ready.
           IfErr-weaker c.explain_last.result _ _
-          (λ f h. of_all a _ _ read c.read.new.buf _ none reads last ends h)
+          (λ f h. of_all a _ _ read c.read.new.buf _ none reads last ends
+          (stops_as _ _ _ _ f (λ reports t k. (more, appends, k)) h))
           (c.explain_last.ensures.stops (out_with first more) reading _
           (rw c.as_slice.ensures.value (comes first reading ready [])));
       limited = of_all a _ _ read c.read.new.buf _ none reads last ends
@@ -77,13 +80,17 @@ returns-in_err-explain_chunk-in-Ok-clause-stops g c = λ first reading ready.
     let chunk = take c.in-Ok.count c.read.new.buf in
     let f = c.in_err-explain_chunk-in-Ok.field-0.0 in
     let a = g.R.Read.remaining c.args.reader.now in
+    let Left : List Report → Report → Type 0 = λ reports t. (more : List ℕ)
+    × Appends (g.W.Sink.contents c.args.writer.now) (g.W.Sink.contents c.reading.writer) more
+    × HasLeft (out_with first more) c.explain_chunk.new.explainer reports t in
     fault_passed c.from_residual.result f
-    (λ x. IfSome a (λ bytes. StopsIn reading (lines_of bytes) x)) c.from_residual.ensures.1
-    (of_known a _ (read ++ chunk) (λ bytes. StopsIn reading (lines_of bytes) f)
+    (λ x. IfSome a (λ bytes. StopsIn Left reading (lines_of bytes) x)) c.from_residual.ensures.1
+    (of_known a _ (read ++ chunk) (λ bytes. StopsIn Left reading (lines_of bytes) f)
     (Consumes-trans _ _ _ read chunk reads c.in-Ok.ensures.bytes.0)
     (λ left. rw (append_assoc read chunk left)
+    (stops_as _ Left _ _ f (λ reports t k. (more, appends, k))
     (c.in_err-explain_chunk-in-Ok.ensures.stops (out_with first more) reading _ left
-    (comes first reading ready (chunk ++ left)))))
+    (comes first reading ready (chunk ++ left))))))
 
 pub returns-in_err-explain_chunk-in-Ok-clause-limited :
     goal.returns-in_err-explain_chunk-in-Ok-clause-limited

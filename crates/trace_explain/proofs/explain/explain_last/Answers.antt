@@ -14,5 +14,6 @@ returns-clause-explained c = λ front reading all come.
 
 pub returns-clause-stops : goal.returns-clause-stops
 returns-clause-stops c = λ front reading all come.
-    last_stops c.line.result c.args.line.now (sym c.is_empty.ensures ∙ c.if-is_empty.false) come
+    last_stops c.line.result c.args.line.now c.line.new.self
+    (sym c.is_empty.ensures ∙ c.if-is_empty.false) come
     c.line.ensures.stops c.line.ensures.of_lines

@@ -1,8 +1,7 @@
 use Rattle.std.proofs.Common.{◌≡◌, ◌∙◌, ◌==◌, ◌&&◌, [], ◌∷◌, Bool, false, not, ap, length, subst, sym, if◌then◌else◌, inl, inr, refl, List}
-use Rattle.t0_core.specs.History.{Event, Passed, Reset}
 use Rattle.trace_explain.specs.declared.follow.listener.Listener.{Listener}
-use Rattle.trace_explain.specs.Noted.{HasNoted}
-use Rattle.trace_explain.specs.Openings.{begins_answer}
+use Rattle.trace_explain.specs.Noted.{Event, HasNoted, Passed, Reset}
+use Rattle.trace_explain.specs.Openings.{begins_answer, is_loose, opening_of}
 use Rattle.trace_explain.specs.Reports.{report_of}
 use Rattle.trace_explain.proofs.AccountLemmas.{boxes_both}
 use Rattle.trace_explain.proofs.ExplainedLemmas.{explains_nothing, over_behind}
@@ -13,17 +12,21 @@ pub returns-then-opens-clause-takes : goal.returns-then-opens-clause-takes
 returns-then-opens-clause-takes c = λ events before h.
     let opened = c.in_ok-opens.ensures in
     let is = opened.dialogue ∙ ap not c.if-opens.true in
-    let es : Bool → List Event = λ v. if v then Passed (c.args.from, c.args.byte) ∷ [] else [] in
+    let loose = is_loose (opening_of c.args.self.now.preface).stage in
+    let es : Bool → List Event =
+    λ v. if v then Passed (c.args.from, c.args.byte) loose ∷ [] else [] in
     ([], inl (sym (ap es is), cc), explains_nothing events before _ h opened.boxes)
 
 pub returns-then-continues-clause-takes : goal.returns-then-continues-clause-takes
 returns-then-continues-clause-takes c = λ events before h.
     let opened = c.in_ok-opens.ensures in
     let is = opened.dialogue ∙ ap not c.if-opens.false in
-    let es : Bool → List Event = λ v. if v then Passed (c.args.from, c.args.byte) ∷ [] else [] in
-    let (reports, noted, boxes) = rw c.if-continues.true at
+    let loose = is_loose (opening_of c.args.self.now.preface).stage in
+    let es : Bool → List Event =
+    λ v. if v then Passed (c.args.from, c.args.byte) loose ∷ [] else [] in
+    let (reports, noted, boxes) = rw (c.if-continues.true, c.is_loose-is_loose.ensures) at
     (c.in_ok-continues.ensures events before h.0) in (
-      Passed (c.args.from, c.args.byte) ∷ [],
+      Passed (c.args.from, c.args.byte) loose ∷ [],
       inl (sym (ap es is), cc),
       record {
         reports = reports;

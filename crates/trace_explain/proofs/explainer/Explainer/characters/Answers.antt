@@ -1,7 +1,9 @@
-use Rattle.std.proofs.Common.{◌≡◌, ◌≤◌, ◌∙◌, ◌++◌, [], true, false, arith, length, refl, sym}
+use Rattle.std.proofs.Common.{◌≡◌, ◌≤◌, ◌∙◌, ◌++◌, [], true, false, ap, append-nil, append_assoc, arith, length, refl, sym}
 use Rattle.std.proofs.lemmas.List.{take_all}
 use Rattle.trace_explain.specs.Explained.{position_of}
-use Rattle.trace_explain.proofs.AccountLemmas.{boxes_stay}
+use Rattle.trace_explain.specs.Noted.{ended_by}
+use Rattle.trace_explain.specs.Reports.{loose, report_of}
+use Rattle.trace_explain.proofs.AccountLemmas.{boxes_both, boxes_stay}
 use Rattle.trace_explain.proofs.ExplainedLemmas.{explains_nothing, taken_on}
 use Rattle.trace_explain.proofs.explainer.Explainer.characters.Goals as goal
 
@@ -40,6 +42,7 @@ returns-then-stops-clause-stops c = λ events before h.
     let (more, takes, goes) = c.loop-place.invariant.0 events before h in
     let (still, (same, none, boxes), own, not_again) = rw c.if-stops.true at
     (c.in_ok-stops-in-Ok.ensures.takes (events ++ more) (before ++ goes.reports) goes.explained) in
+    let ended = ended_by (loose (report_of c.character.new.self.listener.under_way)) in
     rw c.complaint-complaint.ensures (
       c.in_ok-stops-in-Ok.ensures.counts ∙ c.loop-place.invariant.1,
       record {
@@ -58,6 +61,15 @@ returns-then-stops-clause-stops c = λ events before h.
         not_again = not_again;
         expected_is = refl;
         byte_is = refl;
+        shown = record {
+          reports = goes.reports ++ ended;
+          boxes = boxes_both goes.boxes (boxes_both boxes c.in_ok-complain-in-Ok.ensures.shown);
+          hears = still.1.2;
+          all_are = append_assoc before goes.reports ended
+              ∙ ap (λ ts. before ++ ts) (sym (append-nil (goes.reports ++ ended))
+              ∙ ap (λ t. (goes.reports ++ ended) ++ ended_by t)
+              (sym c.in_ok-complain-in-Ok.ensures.left));
+        };
       },
     )
 
@@ -83,6 +95,13 @@ returns-in-Err-clause-stops c = λ events before h.
           noted = goes.explained.0;
         };
         unsent = sym c.sender.ensures ∙ c.in-Err.is;
+        shown = record {
+          reports = goes.reports;
+          boxes = goes.boxes;
+          hears = goes.explained.1.2;
+          all_are = append_assoc before goes.reports
+              (ended_by (report_of c.loop-place.self.listener.under_way));
+        };
       },
     )
 

@@ -1,6 +1,6 @@
 use Rattle.std.proofs.Common.{◌≡◌, List, take}
-use Rattle.t0_core.specs.History.{Event}
 use Rattle.trace_explain.specs.Explained.{ExplainsCharacters, HasExplained}
+use Rattle.trace_explain.specs.Noted.{Event}
 use Rattle.trace_explain.specs.Reports.{Report}
 use Rattle.trace_explain.proofs.explainer.Explainer.characters.Given as goal
 

@@ -1,7 +1,7 @@
 use Rattle.std.proofs.Common.{[], ◌∷◌, refl}
 use Rattle.std.proofs.lemmas.Result.{IfErr-weaker, on_ok_weaker}
-use Rattle.t0_core.specs.History.{Reset}
 use Rattle.trace_explain.specs.declared.read.entry.Entry.TheVariants as entry
+use Rattle.trace_explain.specs.Noted.{Reset}
 use Rattle.trace_explain.proofs.AccountLemmas.{boxes_stay}
 use Rattle.trace_explain.proofs.ExplainedLemmas.{explains_from, explains_nothing, line_stops, read_on_hears}
 use Rattle.trace_explain.proofs.explainer.Explainer.take.Goals as goal
@@ -26,7 +26,7 @@ pub returns-in-Characters-clause-stops : goal.returns-in-Characters-clause-stops
 returns-in-Characters-clause-stops c = λ events before says h.
     let source = c.in-Characters.source in
     IfErr-weaker c.characters.result _ _
-    (λ f stops. line_stops f c.args.line.now _ source c.in-Characters.bytes events before
+    (λ f stops. line_stops _ f c.args.line.now _ source c.in-Characters.bytes _ events before
     c.args.self.now (rw c.in-Characters.is at says) c.take.ensures c.as_slice.ensures.value stops)
     (c.characters.ensures.stops events before
     (h.0, (h.1.0, h.1.1, read_on_hears source _ c.take.ensures h.1.2)))

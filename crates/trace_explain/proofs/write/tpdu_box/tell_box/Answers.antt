@@ -2,7 +2,7 @@ use Rattle.std.proofs.Common.{◌≡◌, ◌&&◌, Bool, List, ℕ, codes, refl,
 use Rattle.trace_explain.specs.declared.write.layout.Side.{Side}
 use Rattle.trace_explain.specs.declared.write.layout.Side.TheVariants.{Terminal, Card, Nobody}
 use Rattle.trace_explain.specs.Boxes.{IsAnswer, IsBox, IsData, IsStatus, IsTitle, IsTogether, status_side}
-use Rattle.trace_explain.specs.Reports.{report_of}
+use Rattle.trace_explain.specs.Reports.{is_doubtful, report_of}
 use Rattle.trace_explain.specs.Sheets.{Adds, IsRow, Puts}
 use Rattle.trace_explain.specs.Words.{IsWords}
 use Rattle.trace_explain.specs.Written.{box_end, header_row}
@@ -11,11 +11,9 @@ use Rattle.trace_explain.proofs.write.tpdu_box.tell_box.Goals as goal
 
 pub returns-clause-puts : goal.returns-clause-puts
 returns-clause-puts c = λ whole.
-    let loose = c.args.links.is_loose in
     let number = c.args.links.number in
     let line = c.args.began in
     let mask = c.args.mask.now in
-    let answer = c.args.tpdu.now.answer.items in
     let t = report_of c.args.tpdu.now in
     let s = status_side t.header t.status in
     let T : List ℕ → Type 0 = λ x. Puts (IsTitle number line x) c.join.new.self.sheet
@@ -27,25 +25,25 @@ returns-clause-puts c = λ whole.
     c.tell_answer.new.output.sheet c.tell_status.new.output.sheet in
     let S : Side → Type 0 = λ x. Puts (IsStatus x t.status)
     c.tell_answer.new.output.sheet c.tell_status.new.output.sheet in
-    (put_first IsWords c.join.ensures (put_first (IsBox mask loose number line t answer)
+    (put_first IsWords c.join.ensures (put_first (IsBox mask number line t)
     (put_first (IsTitle number line t.status)
     (subst T c.as_slice-status.ensures.value c.tell_title.ensures)
     (put_first (IsRow Nobody (codes "time")) c.row.ensures
     (put_first (IsRow Nobody (codes "before")) c.row-2.ensures
-    (put_first (λ m text. text ≡ header_row (mask.hides && loose) m t.header) (
+    (put_first (λ m text. text ≡ header_row (mask.hides && is_doubtful t) m t.header) (
       _,
       refl,
-      subst V c.hides_header-is_hidden.ensures
+      subst V (rw c.is_doubtful.ensures at c.hides_header-is_hidden.ensures)
           (subst (H c.hides_header-is_hidden.result) c.as_slice.ensures.value
           c.push_header.ensures),
     )
     (put_first (IsRow Card (codes "procedure")) c.row-3.ensures
-    (put_first (IsData mask loose t.way t.header t.moved) c.tell_data.ensures
+    (put_first (IsData mask t.is_loose t.way t.header t.moved) c.tell_data.ensures
     (put_first (IsRow Terminal (codes "Le")) c.row-4.ensures
-    (put_first (IsAnswer mask loose t.header answer) c.tell_answer.ensures
+    (put_first (IsAnswer mask t.is_loose t.header t.answer) c.tell_answer.ensures
     (put_first (IsStatus s t.status)
     (subst S c.status_side.ensures (subst E c.as_slice-status.ensures.value c.tell_status.ensures))
     (put_first (IsRow Nobody (codes "after")) c.row-5.ensures
-    (put_first (IsTogether mask loose t.header) c.tell_together.ensures
+    (put_first (IsTogether mask t.is_loose t.header) c.tell_together.ensures
     (put_first (λ m text. text ≡ box_end m) (_, refl, c.push_box_end.ensures)
     put_none)))))))))))).puts put_none)).puts

@@ -1,16 +1,16 @@
 use Rattle.std.proofs.Common.{◌++◌, ◌∷◌, [], Option, subst, sym}
-use Rattle.t0_core.specs.History.{Passed}
 use Rattle.trace_explain.specs.declared.follow.listener.Listener.{Listener}
 use Rattle.trace_explain.specs.declared.follow.listener.ListenerFault.{ListenerFault}
 use Rattle.trace_explain.specs.declared.follow.tpdu.Tpdu.{Tpdu}
-use Rattle.trace_explain.specs.Noted.{HasNoted, IsRefused, NoneContinues}
+use Rattle.trace_explain.specs.Noted.{HasNoted, IsRefused, NoneContinues, Passed}
 use Rattle.trace_explain.specs.Reports.{report_of, reports_of}
 use Rattle.trace_explain.proofs.AccountLemmas.{boxes_from, boxes_stay}
 use Rattle.trace_explain.proofs.write.teller.Teller.hear.Goals as goal
 
 pub returns-in-Ok-None : goal.returns-in-Ok-None
 returns-in-Ok-None c = λ events before h.
-    let Q : Option Tpdu → Type 0 = λ t. HasNoted (events ++ Passed (c.args.from, c.args.byte) ∷ [])
+    let Q : Option Tpdu → Type 0 = λ t.
+    HasNoted (events ++ Passed (c.args.from, c.args.byte) c.args.is_loose ∷ [])
     (before ++ reports_of t) c.hear.new.self in (
       [],
       subst Q c.in-Ok-None.field-0-is (c.in-Ok-None.ensures.noted events before h),
@@ -19,7 +19,8 @@ returns-in-Ok-None c = λ events before h.
 
 pub returns-in_ok-tell_whole-in-Ok-Some : goal.returns-in_ok-tell_whole-in-Ok-Some
 returns-in_ok-tell_whole-in-Ok-Some c = λ events before h.
-    let Q : Option Tpdu → Type 0 = λ t. HasNoted (events ++ Passed (c.args.from, c.args.byte) ∷ [])
+    let Q : Option Tpdu → Type 0 = λ t.
+    HasNoted (events ++ Passed (c.args.from, c.args.byte) c.args.is_loose ∷ [])
     (before ++ reports_of t) c.hear.new.self in (
       report_of c.in-Ok-Some.tpdu ∷ [],
       subst Q c.in-Ok-Some.field-0-is (c.in-Ok-Some.ensures.noted events before h),

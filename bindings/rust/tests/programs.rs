@@ -1,4 +1,4 @@
-//! Tests whole programs: the examples, one without `std`, and those that the compiler has to refuse.
+//! Tests whole programs: examples, one without `std`, and those that the compiler has to refuse.
 #![cfg(not(feature = "own-memory"))]
 
 use std::path::{Path, PathBuf};

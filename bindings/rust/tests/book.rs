@@ -11,22 +11,14 @@ use std::fs;
 use std::path::{Path, PathBuf};
 use std::time::Duration;
 
-/// The files of the book with this ending, in order.
+/// The files of the book with this ending, by its index.
 fn book(ending: &str) -> Vec<PathBuf> {
-    let mut found = Vec::new();
-    let mut folders = vec![Path::new(env!("CARGO_MANIFEST_DIR")).join("../../examples")];
-    while let Some(folder) = folders.pop() {
-        for entry in fs::read_dir(folder).expect("the book") {
-            let path = entry.expect("a file").path();
-            if path.is_dir() {
-                folders.push(path);
-            } else if path.extension().map_or(false, |it| it == ending) {
-                found.push(path);
-            }
-        }
-    }
-    found.sort();
-    found
+    let book = Path::new(env!("CARGO_MANIFEST_DIR")).join("../../examples");
+    let index = text(&book.join("README.md"));
+    let rows = index.lines().filter_map(|it| it.strip_prefix("| `"));
+    let names = rows.filter_map(|it| it.split('`').next());
+    let found = names.filter(|it| it.ends_with(ending));
+    found.map(|it| book.join(it)).collect()
 }
 
 fn text(path: &Path) -> String {
@@ -166,7 +158,7 @@ fn printed(lines: &[Vec<&str>], ends: &mut impl Ends) -> Vec<String> {
 
 /// Runs each script of the book with these ends, and compares what it prints.
 fn plays<E: Ends>(has_turns: bool, ends: impl Fn(Card) -> E) {
-    let plays = book("play");
+    let plays = book(".play");
     assert!(plays.len() > 40);
     for play in plays {
         let (script, output) = (text(&play), text(&play.with_extension("out")));
@@ -386,7 +378,7 @@ fn of_card(card: &mut Card, line: &[&str]) -> Vec<String> {
 /// All but those with an answer to reset, which a card here has not.
 #[test]
 fn a_card_answers_the_characters_of_the_book() {
-    let cards = book("card").into_iter().map(|it| (text(&it), it));
+    let cards = book(".card").into_iter().map(|it| (text(&it), it));
     let cards: Vec<_> = cards
         .filter(|(script, _)| !script.contains("\natr "))
         .collect();
@@ -445,7 +437,7 @@ impl Line for Talk<'_> {
 
 #[test]
 fn a_terminal_at_t_1_talks_as_in_the_book() {
-    let talks = book("talk");
+    let talks = book(".talk");
     assert!(talks.len() > 7);
     for path in talks {
         let script = text(&path);

@@ -3,11 +3,18 @@
 from pathlib import Path
 
 import pytest
-from galliumtoad import CallError, Card, Get, Put, Select, Send, Session
+from galliumtoad import T1, Atr, BlockError, CallError, Card, Get, Level, Outcome, Put, Select, Send
+from galliumtoad import Session, Terminal
 
 BOOK = Path(__file__).resolve().parents[3] / "examples"
 PLAYS = sorted(BOOK.rglob("*.play"))
 CARDS = sorted(it for it in BOOK.rglob("*.card") if it.parent.name != "memory")
+TALKS = sorted(BOOK.rglob("*.talk"))
+KNOWN = {
+    Outcome.NOT_CARRIED_OUT: "the card has not carried out the command",
+    Outcome.UNKNOWN: "the card may have carried out the command",
+    Outcome.IN_PART: "the card has carried out the command",
+}
 
 
 def value(word):
@@ -94,12 +101,71 @@ def carried_out(session, asked, plans):
         session.plan(steps, cut)
     status, data = session.run(asked)
     yield from dialogue(session)
-    yield " ".join([f"= {status:04X}", data.hex().upper()]).rstrip()
+    yield shown(status, data)
+
+
+def shown(status, data):
+    return f"= {status:04X} {data.hex().upper()}".rstrip()
 
 
 @pytest.mark.parametrize("script", PLAYS, ids=lambda it: str(it.relative_to(BOOK)))
 def test_play(script):
     assert list(played(script)) == script.with_suffix(".out").read_text().splitlines()
+
+
+class Commands:
+    """A card, by whole commands."""
+
+    level = Level.APDU
+
+    def __init__(self, card):
+        self.card = card
+
+    def __call__(self, command):
+        return self.card.apdu(command)
+
+
+@pytest.mark.parametrize("script", PLAYS, ids=lambda it: str(it.relative_to(BOOK)))
+def test_each_transport_has_the_same_answers(script):
+    """Without plans. After a command that keeps a session busy, that session sends nothing."""
+    wanted = [it for it in script.with_suffix(".out").read_text().splitlines() if it[0] in "=!"]
+    for way in (lambda card: card.tpdu, Commands):
+        card, words = built(lines(script))
+        reader, answers = way(card), iter(wanted)
+        with Terminal() as terminal:
+            for line in words:
+                if line[0] == "reset":
+                    card.reset()
+                elif line[0] not in ("plan", "table") and (answer := next(answers))[0] == "=":
+                    assert shown(*terminal.run(reader, operation(line))) == answer
+        assert list(answers) == []
+
+
+@pytest.mark.parametrize("script", TALKS, ids=lambda it: str(it.relative_to(BOOK)))
+def test_talk(script):
+    """The card's blocks of T=1 are those of the script."""
+    every = lines(script)
+    blocks = [it for it in every if it[0] in "<>~"]
+    wanted = [" ".join(it) for it in every if it[0] in "=!"]
+    atr = Atr(bytes.fromhex(blocks.pop(0)[1]))
+
+    def line(data, waits):
+        if data:
+            assert blocks.pop(0)[:2] == [">", data.hex().upper()]
+        is_late = bool(blocks) and blocks[0][0] == "~" and bool(blocks.pop(0))
+        if not blocks or blocks[0][0] != "<":
+            return b""
+        assert waits > 1 or not is_late
+        return bytes.fromhex(blocks.pop(0)[1])
+
+    printed = []
+    with T1(line, atr.t1.edc, atr.t1.ifsc) as end, Terminal() as terminal:
+        for number, words in enumerate((it for it in every if it[0] not in "<>~=!"), 1):
+            try:
+                printed.append(shown(*terminal.run(end, operation(words))))
+            except BlockError as error:
+                printed.append(f"! operation {number}: {error}: {KNOWN[error.outcome]}")
+    assert printed == wanted and blocks == []
 
 
 def sent(card, words, answer):

@@ -408,7 +408,7 @@ class Levelled:
 @pytest.mark.parametrize("level", [(), ("apdu",), (1,), (True,), (None,), (Mock(),), (Level,)])
 def test_a_wrong_level_is_a_type_error(level):
     transport, terminal = Levelled(*level), Terminal()
-    with pytest.raises(TypeError, match="level"):
+    with pytest.raises(TypeError, match="^Levelled is neither .* `level`"):
         terminal.run(transport, Select(AID))
     assert transport.sent == [] and terminal.tpdu() is None
     assert terminal.run(Levelled(Level.APDU), Select(AID)).status.is_ok

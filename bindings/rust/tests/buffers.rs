@@ -1,21 +1,13 @@
 //! Tests the calls that move characters by buffers, against listed characters.
 
-use galliumtoad::{Card, CardBuilder, Error, Exchange, Operation};
+use galliumtoad::{Error, Exchange, Operation};
 use galliumtoad::{ReceiveError, Sent, Stop, Terminal};
 use std::error::Error as _;
 
-const AID: [u8; 7] = [0xA0, 0x00, 0x00, 0x00, 0x03, 0x10, 0x10];
 const GET: [u8; 5] = [0x00, 0xCA, 0x5F, 0x20, 0x00];
 
 /// Fills a buffer before a call.
 const UNTOUCHED: u8 = 0xEE;
-
-fn card() -> Card {
-    let mut builder = CardBuilder::new().expect("memory");
-    builder.app(&AID).expect("an application");
-    builder.object(0x5F20, b"JOE").expect("an object");
-    builder.finish().expect("a card")
-}
 
 /// With `room` bytes the call writes these characters, stops for this reason, and leaves the rest
 /// of the buffer.
@@ -95,38 +87,4 @@ fn faults_stop_a_buffer() {
     let mut room = [UNTOUCHED; 2];
     assert_eq!(it.send_bytes(&mut room), Err(Error::Failed));
     assert_eq!(room, [UNTOUCHED; 2]);
-}
-
-#[test]
-fn a_terminal_and_a_card_pass_buffers() {
-    let mut it = Terminal::new().expect("memory");
-    let mut card = card();
-    assert_eq!(it.send_bytes(&mut [0; 2]), Err(Error::State));
-    let early = refused(it.receive_bytes(&[0x90]));
-    assert_eq!(early, Some((0, Error::AfterEnd)));
-    it.begin(Operation::Select(&AID)).expect("begun");
-    let header = [0x00, 0xA4, 0x04, 0x00, 0x07];
-    sends(|room| it.send_bytes(room), 20, &header, Stop::Listens);
-    sends(|room| card.send_bytes(room), 20, &[], Stop::Listens);
-    let behind = refused(card.receive_bytes(b"\x00\xA4\x04\x00\x07\xA0"));
-    assert_eq!(behind, Some((5, Error::NotListening)));
-    sends(|room| card.send_bytes(room), 1, &[0xA4], Stop::Full);
-    let behind = refused(it.receive_bytes(&[0xA4, 0x61]));
-    assert_eq!(behind, Some((1, Error::NotListening)));
-    sends(|room| it.send_bytes(room), 7, &AID, Stop::Full);
-    assert_eq!(card.receive_bytes(&AID), Ok(()));
-    sends(
-        |room| card.send_bytes(room),
-        20,
-        &[0x61, 0x0B],
-        Stop::Listens,
-    );
-    assert_eq!(it.receive_bytes(&[0x61, 0x0B]), Ok(()));
-    let fetch = [0x00, 0xC0, 0x00, 0x00, 0x0B];
-    sends(|room| it.send_bytes(room), 20, &fetch, Stop::Listens);
-    assert_eq!(card.receive_bytes(&fetch), Ok(()));
-    let found = b"\xC0\x6F\x09\x84\x07\xA0\x00\x00\x00\x03\x10\x10\x90\x00";
-    sends(|room| card.send_bytes(room), 20, found, Stop::Listens);
-    assert_eq!(it.receive_bytes(found), Ok(()));
-    sends(|room| it.send_bytes(room), 20, &[], Stop::Done);
 }

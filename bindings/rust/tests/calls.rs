@@ -2,7 +2,7 @@
 
 use galliumtoad::Turn;
 use galliumtoad::{encode, find, head, ObjectsError};
-use galliumtoad::{Card, CardBuilder, End, Error, Exchange, Objects, Operation, Reason, Session};
+use galliumtoad::{Card, CardBuilder, Error, Exchange, Objects, Operation, Reason, Session};
 use std::error::Error as _;
 
 const AID: [u8; 7] = [0xA0, 0x00, 0x00, 0x00, 0x03, 0x10, 0x10];
@@ -216,24 +216,6 @@ fn a_builder_refuses_and_stays() {
 }
 
 #[test]
-fn a_card_answers_character_by_character() {
-    let mut card = builder().finish().expect("a card");
-    assert_eq!(heard(&mut card, &[0x00, 0xA4, 0x04, 0x00, 0x07]), [0xA4]);
-    assert_eq!(heard(&mut card, &AID), [0x61, 0x0B]);
-    assert_eq!(card.selected(), Some(AID.to_vec()));
-    assert_eq!(
-        heard(&mut card, &[0x00, 0xDA, 0x00, 0x50, 0x01]),
-        [0x69, 0x82]
-    );
-    assert_eq!(
-        heard(&mut card, &[0x00, 0xCA, 0x5F, 0x20, 0x06]),
-        [0xCA, 0x5F, 0x20, 0x03, 0x4A, 0x4F, 0x45, 0x90, 0x00]
-    );
-    card.reset().expect("a reset");
-    assert_eq!(card.selected(), None);
-}
-
-#[test]
 fn an_exchange_follows_its_card() {
     let command = [0x00, 0xCA, 0x5F, 0x20, 0x00];
     let mut exchange = Exchange::start(&command).expect("an exchange");
@@ -270,32 +252,6 @@ fn talk(exchange: &mut Exchange, card: &mut Card) -> Result<Turn, Error> {
             },
             Turn::Done => return Ok(Turn::Done),
         }
-    }
-}
-
-#[test]
-fn an_exchange_fetches_what_le_asks_for() {
-    let select = |le: &[u8]| [&[0x00, 0xA4, 0x04, 0x00, 0x07], &AID[..], le].concat();
-    let rows = [
-        (select(&[]), 0x610B, 0),
-        (select(&[0x00]), 0x9000, 11),
-        (select(&[0x40]), 0x9000, 11),
-        (select(&[0x05]), 0x6106, 5),
-        (vec![0x00, 0xCA, 0x5F, 0x20, 0x00], 0x9000, 6),
-        (vec![0x00, 0xCA, 0x5F, 0x20, 0x20], 0x9000, 6),
-        (vec![0x00, 0xCA, 0x5F, 0x20, 0x02], 0x6104, 2),
-        (vec![0x00, 0xCA, 0x5F, 0x20], 0x6C06, 0),
-    ];
-    let mut card = builder().finish().expect("a card");
-    for (command, status, n) in rows {
-        let mut exchange = Exchange::start(&command).expect("an exchange");
-        assert_eq!(talk(&mut exchange, &mut card), Ok(Turn::Done));
-        let answer = exchange.answer().expect("an answer");
-        assert_eq!(
-            (answer.status.0, answer.data.len()),
-            (status, n),
-            "{command:02X?}"
-        );
     }
 }
 
@@ -354,58 +310,17 @@ fn a_session_carries_out_operations() {
     assert_eq!(card.entries(0).next().expect("one").value, [0x42; 300]);
 }
 
-/// `run` is select, get, put and send by an operation.
 #[test]
-fn a_session_runs_operations() {
-    let card = builder().finish().expect("a card");
-    let mut session = Session::start(card).expect("a session");
-    let name = b"\x6F\x09\x84\x07\xA0\x00\x00\x00\x03\x10\x10";
-    for (operation, status, data) in [
-        (Operation::Get(0x5F20), 0x6985, &b""[..]),
-        (Operation::Select(&AID), 0x9000, name),
-        (Operation::Put(0x5F20, b"ANN"), 0x9000, b""),
-        (Operation::Get(0x5F20), 0x9000, b"\x5F\x20\x03ANN"),
-        (
-            Operation::Send(&[0x00, 0xCA, 0x5F, 0x20, 0x02]),
-            0x6104,
-            b"\x5F\x20",
-        ),
-        (Operation::Put(0x50, b"ANN"), 0x6982, b""),
-    ] {
-        let answer = session.run(operation).expect("an answer");
-        assert_eq!(
-            (answer.status.0, &answer.data[..]),
-            (status, data),
-            "{operation:?}"
-        );
-        assert_eq!(session.answer(), Ok(answer));
-    }
-    assert_eq!(session.run(Operation::Get(0x9F8101)), Err(Error::Argument));
-    assert_eq!(session.run(Operation::Send(&[0x00])), Err(Error::TooShort));
-}
-
-#[test]
-fn plans_say_how_the_card_answers() {
+fn a_session_that_nobody_listens_to() {
     let card = builder().finish().expect("a card");
     let mut session = Session::start(card).expect("a session");
     assert_eq!(session.heard(), Err(Error::State));
     session.listen().expect("somebody listens");
     assert_eq!(session.heard(), Ok(Vec::new()));
     assert_eq!(session.is_idle(), Ok(true));
-    assert_eq!(session.select(&AID).expect("an answer").status, 0x9000);
     assert_eq!(session.plan("x", 256), Err(Error::Argument));
     assert_eq!(session.plan("", 257), Err(Error::Argument));
-    session.plan("", 256).expect("a plan");
-    session.plan("nona", 256).expect("a plan");
-    let _ = session.get(0x5F20).expect("an answer");
-    let mut wanted: Vec<(End, u8)> = Vec::new();
-    let mut says = |end, bytes: &[u8]| wanted.extend(bytes.iter().map(|byte| (end, *byte)));
-    says(End::Terminal, &[0x00, 0xCA, 0x5F, 0x20, 0x00]);
-    says(End::Card, &[0x6C, 0x06]);
-    says(End::Terminal, &[0x00, 0xCA, 0x5F, 0x20, 0x06]);
-    says(End::Card, &[0x60, 0x35, 0x5F, 0x60, 0xCA, 0x20, 0x03]);
-    says(End::Card, &[0x4A, 0x4F, 0x45, 0x90, 0x00]);
-    assert_eq!(session.heard(), Ok(wanted));
+    assert_eq!(session.run(Operation::Send(&[0x00])), Err(Error::TooShort));
 }
 
 #[test]

@@ -4,7 +4,7 @@
 use galliumtoad::{head, CardBuilder, Entry, Error, Exchange, Objects, Session, Turn};
 use galliumtoad::{Operation, Terminal, ANSWER_LIMIT, APDU_LIMIT, TPDU_LIMIT};
 use galliumtoad::{AID_LEAST, AID_LIMIT, APPS_LIMIT, ENTRIES_LIMIT, LEVELS_LIMIT};
-use galliumtoad::{OBJECT_LIMIT, PLANS_LIMIT, RESPONSE_LIMIT, VALUE_LIMIT};
+use galliumtoad::{PLANS_LIMIT, RESPONSE_LIMIT, VALUE_LIMIT};
 
 /// A pattern of bytes whose period is prime.
 fn bytes(n: usize, from: usize) -> Vec<u8> {
@@ -117,31 +117,6 @@ fn identifiers_have_5_to_16_bytes() {
     assert_eq!(session.select(&aid(0, 4)), Err(Error::Argument));
     assert_eq!(session.select(&aid(0, 17)), Err(Error::Argument));
     assert_eq!(session.select(&aid(0, 5)).expect("one").status, 0x6A82);
-}
-
-/// Puts and gets the longest value. The session hears 33 TPDUs for each.
-#[test]
-fn the_longest_value_goes_through_a_session() {
-    let card = full_card().finish().expect("a card");
-    let mut session = Session::start(card).expect("a session");
-    session.listen().expect("somebody listens");
-    let _ = session.select(&aid(7, 16)).expect("an answer");
-    let value = bytes(VALUE_LIMIT, 77);
-    assert_eq!(session.put(0xDF01, &value).expect("one"), 0x9000);
-    assert_eq!(session.heard().expect("all").len(), 33 * 8 + VALUE_LIMIT);
-    let answer = session.get(0xDF01).expect("an answer");
-    assert_eq!(answer.data.len(), OBJECT_LIMIT);
-    assert_eq!(answer.data[..5], [0xDF, 0x01, 0x82, 0x20, 0x00]);
-    assert_eq!(answer.data[5..], value);
-    assert_eq!(session.heard().expect("all").len(), 33 * 8 + OBJECT_LIMIT);
-    let longer = session.put(0xDF01, &bytes(VALUE_LIMIT + 1, 0));
-    assert_eq!(longer.expect("one"), 0x6700);
-    assert_eq!(session.put(0xDF01, b"").expect("one"), 0x9000);
-    assert_eq!(session.get(0xDF01).expect("one").data, b"\xDF\x01\x00");
-    let mut builder = CardBuilder::new().expect("memory");
-    builder.app(&aid(0, 5)).expect("an application");
-    let too_long = bytes(VALUE_LIMIT + 1, 0);
-    assert_eq!(builder.object(0xDF01, &too_long), Err(Error::ValueTooLong));
 }
 
 /// Sends 64 TPDUs of 256 bytes, the longest answer: one byte more is too much.

@@ -1,4 +1,4 @@
-//! Tests whole programs: one without `std`, and those that the compiler has to refuse.
+//! Tests whole programs: examples, one without `std`, and those that the compiler has to refuse.
 #![cfg(not(feature = "own-memory"))]
 
 use std::path::{Path, PathBuf};
@@ -161,5 +161,46 @@ fn the_compiler_refuses_what_the_crate_does_not_allow() {
         let says = String::from_utf8_lossy(&done.stderr).into_owned();
         assert!(!done.status.success() && says.contains(wanted), "{says}");
         assert_eq!(says.matches("error[E0004]").count(), incomplete, "{says}");
+    }
+}
+
+/// What each example prints, by the rules of the card that it has.
+const EXAMPLES: [(&str, &str); 5] = [
+    (
+        "session",
+        "select: 9000 6F098407A0000000031010\nget: 9000 5F20034A4F45\nput: 9000\n\
+         get: 9000 5F2003414E4E\nput of a locked object: 6982\n",
+    ),
+    (
+        "terminal",
+        "Select([A0, 00, 00, 00, 03, 10, 10]): 9000 normal processing\n\
+         Put(5F20, 3 bytes): 9000 normal processing\nGet(5F20): 9000 normal processing\n\
+         the name is ANN\n",
+    ),
+    (
+        "read_all",
+        "Person { name: \"JOE\", languages: [\"en\", \"fr\"] }\n",
+    ),
+    ("counter", "[10, 01, 90, 00]\n[10, 02, 90, 00]\n"),
+    (
+        "pin",
+        "[D6]\n[69, 82]\n[20]\n[63, C2]\n[20]\n[90, 00]\n[D6]\n[90, 00]\n\
+         [B0, 4A, 4F, 45, 90, 00]\n",
+    ),
+];
+
+#[test]
+fn examples_print_what_their_cards_answer() {
+    for (name, wanted) in EXAMPLES {
+        let done = Command::new(env!("CARGO"))
+            .args(["run", "--offline", "--quiet", "--example", name])
+            .arg("--target-dir")
+            .arg(Path::new(env!("CARGO_TARGET_TMPDIR")).join("examples"))
+            .current_dir(env!("CARGO_MANIFEST_DIR"))
+            .output()
+            .expect("cargo runs");
+        let says = String::from_utf8_lossy(&done.stderr).into_owned();
+        assert!(done.status.success(), "{says}");
+        assert_eq!(String::from_utf8_lossy(&done.stdout), wanted, "{name}");
     }
 }

@@ -1,6 +1,6 @@
 //! Tests a line at T=1 as a transport: its blocks, times and faults, by ISO/IEC 7816-3, clause 11.
 
-use galliumtoad::{CardBuilder, CardT1, Edc, Error, Level, Line, Operation, Outcome, RunError};
+use galliumtoad::{Edc, Error, Level, Line, Operation, Outcome, RunError};
 use galliumtoad::{T1Fault, T1Limits, T1Line, T1Waits, Terminal, Transport, BLOCK_LIMIT, T1};
 use std::collections::VecDeque;
 use std::time::Duration;
@@ -220,45 +220,6 @@ fn noise_is_given_up() {
     let fault = line.transmit(GET, &mut [0; 258]).expect_err("a fault");
     let fault = fault.downcast_ref::<T1Fault>().expect("the end's fault");
     assert_ne!(fault.outcome, Outcome::InPart);
-}
-
-/// A whole dialogue with a card's end, over a line that passes blocks.
-#[test]
-fn operations_run_over_a_line() {
-    struct Wire(CardT1, VecDeque<u8>);
-    impl Line for Wire {
-        type Error = Gone;
-        fn send(&mut self, bytes: &[u8]) -> Result<(), Gone> {
-            let mut room = [0; BLOCK_LIMIT];
-            assert!(self.0.receive(bytes)?.is_whole);
-            let count = self.0.block_into(&mut room)?.expect("an answer");
-            self.1.extend(&room[..count]);
-            Ok(())
-        }
-        fn receive(&mut self, room: &mut [u8], _: Duration) -> Result<usize, Gone> {
-            let count = self.1.len();
-            room[..count].copy_from_slice(self.1.make_contiguous());
-            self.1.clear();
-            Ok(count)
-        }
-    }
-    let aid = [0xA0, 0x00, 0x00, 0x00, 0x03, 0x10, 0x10];
-    let mut builder = CardBuilder::new().expect("memory");
-    builder.app(&aid).expect("an application");
-    let card = CardT1::new(builder.finish().expect("a card")).expect("a card");
-    let mut line = T1Line::new(end(), WAITS, Wire(card, VecDeque::new()));
-    let mut terminal = Terminal::new().expect("memory");
-    let value: Vec<u8> = (0..=255).cycle().take(700).collect();
-    for operation in [
-        Operation::Select(&aid),
-        Operation::Put(0x5F20, &value),
-        Operation::Get(0x5F20),
-    ] {
-        let answer = terminal.run(&mut line, operation).expect("an answer");
-        assert_eq!(answer.status, 0x9000);
-    }
-    let answer = terminal.answer().expect("the last answer");
-    assert_eq!(answer.object(0x5F20).expect("an object").value, value);
 }
 
 /// Seven times a very long BWT is no overflow.

@@ -55,66 +55,6 @@ fn reader_at(level: Level) -> Reader {
     }
 }
 
-#[test]
-fn operations_run_over_a_transport() {
-    let mut reader = reader();
-    let mut terminal = Terminal::new().expect("memory");
-    let mut run = |operation| {
-        let answer = terminal.run(&mut reader, operation).expect("an answer");
-        (answer.status.0, answer.data)
-    };
-    assert_eq!(run(Operation::Get(0x5F20)), (0x6985, vec![]));
-    let name = b"\x6F\x09\x84\x07\xA0\x00\x00\x00\x03\x10\x10".to_vec();
-    assert_eq!(run(Operation::Select(&AID)), (0x9000, name));
-    let joe = b"\x5F\x20\x03JOE".to_vec();
-    assert_eq!(run(Operation::Get(0x5F20)), (0x9000, joe));
-    assert_eq!(run(Operation::Put(0x50, b"X")), (0x6982, vec![]));
-    let part = b"\x5F\x20".to_vec();
-    let command = [0x00, 0xCA, 0x5F, 0x20, 0x02];
-    assert_eq!(run(Operation::Send(&command)), (0x6104, part));
-    let sent = |at: usize| (&reader.seen[at].0[..], &reader.seen[at].1[..]);
-    assert_eq!(sent(2), (&[0, 0xC0, 0, 0, 0x0B][..], &reader.seen[2].1[..]));
-    assert_eq!(sent(3), (&[0, 0xCA, 0x5F, 0x20, 0][..], &[0x6C, 6][..]));
-    assert_eq!(sent(4).0, &[0, 0xCA, 0x5F, 0x20, 6]);
-    assert_eq!(reader.seen.len(), 7);
-}
-
-/// The same operations by commands have the same answers. Each command has its Le.
-#[test]
-fn operations_run_by_commands() {
-    let mut reader = reader_at(Level::Apdu);
-    let mut terminal = Terminal::new().expect("memory");
-    let mut run = |operation| {
-        let answer = terminal.run(&mut reader, operation).expect("an answer");
-        (answer.status.0, answer.data)
-    };
-    let name = b"\x6F\x09\x84\x07\xA0\x00\x00\x00\x03\x10\x10".to_vec();
-    assert_eq!(run(Operation::Select(&AID)), (0x9000, name));
-    let joe = b"\x5F\x20\x03JOE".to_vec();
-    assert_eq!(run(Operation::Get(0x5F20)), (0x9000, joe));
-    assert_eq!(run(Operation::Put(0x50, b"X")), (0x6982, vec![]));
-    let command = [0x00, 0xCA, 0x5F, 0x20, 0x02];
-    let part = b"\x5F\x20".to_vec();
-    assert_eq!(run(Operation::Send(&command)), (0x6104, part));
-    // 595 bytes and their head are 600 bytes; then 8,192 bytes in 33 pieces
-    assert_eq!(run(Operation::Put(0x5F20, &[0x41; 595])), (0x9000, vec![]));
-    let (status, data) = run(Operation::Get(0x5F20));
-    assert_eq!((status, data.len()), (0x9000, 600));
-    assert_eq!(run(Operation::Put(0x5F20, &[0x42; 8192])), (0x9000, vec![]));
-    let sent: Vec<&[u8]> = reader.seen.iter().map(|(sent, _)| &sent[..]).collect();
-    let select = b"\x00\xA4\x04\x00\x07\xA0\x00\x00\x00\x03\x10\x10\x00";
-    assert_eq!(sent[0], select);
-    let get = [0x00, 0xCA, 0x5F, 0x20, 0x00];
-    assert_eq!(sent[1..4], [&get[..], b"\x00\xDA\x00\x50\x01X", &command]);
-    let fetch = |n| [0x00, 0xC0, 0x00, 0x00, n];
-    assert_eq!(sent[7..10], [&get[..], &fetch(0x00), &fetch(0x58)]);
-    let ends = |at: usize| reader.seen[at].1.split_at(reader.seen[at].1.len() - 2);
-    assert_eq!(ends(7).1, [0x61, 0x00]);
-    assert_eq!(ends(8).1, [0x61, 0x58]);
-    assert_eq!((ends(9).0.len(), ends(9).1), (88, &[0x90, 0x00][..]));
-    assert_eq!(sent.len(), 10 + 33);
-}
-
 /// A response of 257 bytes fits no command, even if the reader has room for it.
 #[test]
 fn a_reader_that_brings_too_much_is_a_fault_at_each_level() {
@@ -169,27 +109,6 @@ fn commands_pass_by_hand() {
     terminal.begin(Operation::Get(0x5F20)).expect("begun");
     assert_eq!(terminal.turn(), Ok(Turn::Sends(0x00)));
     assert_eq!(terminal.apdu_into(&mut room), Err(Error::State));
-}
-
-#[test]
-fn a_long_value_goes_in_pieces_and_stops_at_the_first_refusal() {
-    let mut reader = reader();
-    let mut terminal = Terminal::new().expect("memory");
-    let value: Vec<u8> = (0..3000).map(|it| (it % 251) as u8).collect();
-    let select = terminal.run(&mut reader, Operation::Select(&AID));
-    assert_eq!(select.expect("an answer").status, 0x9000);
-    let put = terminal.run(&mut reader, Operation::Put(0x5F20, &value));
-    assert_eq!(put.expect("an answer").status, 0x9000);
-    assert_eq!(reader.seen.len(), 2 + 12);
-    let answer = terminal.run(&mut reader, Operation::Get(0x5F20));
-    let answer = answer.expect("an answer");
-    assert_eq!(answer.status, 0x9000);
-    assert_eq!(&answer.data[..5], b"\x5F\x20\x82\x0B\xB8");
-    assert_eq!(&answer.data[5..], value);
-    reader.seen.clear();
-    let put = terminal.run(&mut reader, Operation::Put(0x50, &value));
-    assert_eq!(put.expect("an answer").status, 0x6982);
-    assert_eq!(reader.seen.len(), 1);
 }
 
 #[test]
@@ -544,99 +463,24 @@ fn answers_take_what_they_need() {
     assert_eq!(card.expect("an answer").capacity(), ANSWER_LIMIT);
 }
 
-/// Passes characters between terminal and card until the operation ends. Returns the terminal's.
-fn passed(terminal: &mut Terminal, card: &mut Card) -> Vec<u8> {
-    let mut sent = Vec::new();
-    loop {
-        match terminal.turn().expect("no fault") {
-            Turn::Sends(byte) => {
-                sent.push(byte);
-                card.take(byte).expect("the card listens");
-            }
-            Turn::Listens => match card.turn().expect("no fault") {
-                Turn::Sends(byte) => terminal.take(byte).expect("no fault"),
-                other => panic!("{other:?}"),
-            },
-            Turn::Done => return sent,
-        }
-    }
-}
-
-#[test]
-fn characters_pass_by_hand() {
-    let mut card = card();
-    let mut terminal = Terminal::new().expect("memory");
-    terminal.begin(Operation::Select(&AID)).expect("begun");
-    let sent = passed(&mut terminal, &mut card);
-    assert_eq!(
-        sent,
-        b"\x00\xA4\x04\x00\x07\xA0\x00\x00\x00\x03\x10\x10\x00\xC0\x00\x00\x0B"
-    );
-    assert_eq!(terminal.take(0x90), Err(Error::AfterEnd));
-    assert_eq!(terminal.answer().expect("an answer").status, 0x9000);
-    terminal.begin(Operation::Get(0x5F20)).expect("begun");
-    assert_eq!(terminal.take(0xCA), Err(Error::NotListening));
-    assert_eq!(terminal.turn(), Ok(Turn::Sends(0x00)));
-    assert_eq!(terminal.tpdu(), Ok(None));
-    assert_eq!(terminal.answered(&[0x90, 0x00]), Err(Error::NotDue));
-    card.take(0x00).expect("the card listens");
-    passed(&mut terminal, &mut card);
-    let answer = terminal.answer().expect("an answer");
-    assert_eq!(
-        (answer.status.0, &answer.data[..]),
-        (0x9000, &b"\x5F\x20\x03JOE"[..])
-    );
-}
-
 #[test]
 fn a_terminal_at_rest_has_no_turn() {
     let mut terminal = Terminal::new().expect("memory");
     for _ in 0..2 {
         assert_eq!(terminal.turn(), Err(Error::State));
         assert_eq!(terminal.take(0x90), Err(Error::AfterEnd));
+        assert_eq!(terminal.send_bytes(&mut [0; 2]), Err(Error::State));
+        let early = terminal.receive_bytes(&[0x90]).expect_err("a fault");
+        assert_eq!((early.taken, early.error), (0, Error::AfterEnd));
         assert_eq!(terminal.answered(&[0x90, 0x00]), Err(Error::NotDue));
         assert_eq!(terminal.tpdu(), Ok(None));
         assert_eq!(terminal.answer(), Err(Error::State));
         terminal.begin(Operation::Get(0x5F20)).expect("begun");
+        assert_eq!(terminal.take(0xCA), Err(Error::NotListening));
         assert_eq!(terminal.turn(), Ok(Turn::Sends(0x00)));
+        assert_eq!(terminal.tpdu(), Ok(None));
+        assert_eq!(terminal.answered(&[0x90, 0x00]), Err(Error::NotDue));
         terminal.reset().expect("it drops what is under way");
-    }
-}
-
-/// The terminal's answer if the card answers GET DATA with these data and `9000`.
-fn answered_by(data: &[u8]) -> galliumtoad::Answer {
-    let mut terminal = Terminal::new().expect("memory");
-    terminal
-        .begin(Operation::Get(0x5F20))
-        .expect("an operation");
-    let answer = [data, &[0x90, 0x00]].concat();
-    terminal.answered(&answer).expect("an answer");
-    terminal.answer().expect("an answer")
-}
-
-#[test]
-fn an_answer_is_one_object_or_none() {
-    let name = answered_by(b"\x5F\x20\x03JOE");
-    let found = name.object(0x5F20).expect("an object");
-    assert_eq!((found.tag, found.place, found.size), (0x5F20, 0, 6));
-    assert_eq!((found.level, found.value), (1, &b"JOE"[..]));
-    assert_eq!(name.object(0x5F24), None);
-    assert_eq!(name.object(0x5F), None);
-    let long = answered_by(b"\x5F\x20\x81\x01A");
-    assert_eq!(long.object(0x5F20).map(|it| it.value), Some(&b"A"[..]));
-    let template = answered_by(b"\x70\x02\x50\x00");
-    assert!(template.object(0x70).is_some());
-    assert_eq!(template.object(0x50), None);
-    for data in [
-        &b""[..],
-        b"JOE",
-        b"\x5F\x20\x03JO",
-        b"\x00\x5F\x20\x03JOE",
-        b"\x5F\x20\x03JOE\x00",
-        b"\x50\x00\x5F\x20\x03JOE",
-        b"\x5F\x20\x03JOE\x50\x00",
-    ] {
-        assert_eq!(answered_by(data).object(0x5F20), None, "{data:02X?}");
     }
 }
 

@@ -235,6 +235,7 @@ fn an_answer_is_one_object_or_not() {
     // possible answers of a card: the object, with other bytes around it, and the value alone
     for (data, is_one) in [
         (&b"\x50\x01A"[..], true),
+        (b"\x50\x81\x01A", true),
         (b"\x00\x50\x01A", false),
         (b"\x50\x01A\x00", false),
         (b"\x50\x01A\x50\x01A", false),

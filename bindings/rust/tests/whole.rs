@@ -14,32 +14,6 @@ fn card() -> Card {
 }
 
 #[test]
-fn a_reader_carries_an_exchange() {
-    let mut card = card();
-    let mut command = SELECT.to_vec();
-    command.push(0x00);
-    let mut exchange = Exchange::start(&command).expect("a command");
-    let mut seen = Vec::new();
-    while let Some(tpdu) = exchange.tpdu().expect("memory") {
-        let answer = card.tpdu(&tpdu.bytes).expect("an answer");
-        exchange.answered(&answer).expect("to go on");
-        seen.push((tpdu.bytes.clone(), tpdu.most, answer));
-    }
-    let information = b"\x6F\x09\x84\x07\xA0\x00\x00\x00\x03\x10\x10";
-    let fetched = [information.as_slice(), b"\x90\x00"].concat();
-    assert_eq!(
-        seen,
-        [
-            (SELECT.to_vec(), 0, b"\x61\x0B".to_vec()),
-            (b"\x00\xC0\x00\x00\x0B".to_vec(), 11, fetched),
-        ]
-    );
-    let answer = exchange.answer().expect("an answer");
-    assert_eq!(answer.status, 0x9000);
-    assert_eq!(answer.data, information);
-}
-
-#[test]
 fn answers_that_are_refused_change_nothing() {
     let mut exchange = Exchange::start(GET).expect("a command");
     let due = exchange.tpdu();

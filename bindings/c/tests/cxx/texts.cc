@@ -152,6 +152,40 @@ static void of_tpdus() {
     CHECK(cards[0].reset(), GT_EMPTY);
 }
 
+// A card of one's own answers 00 B0 00 00 03 with the header's own bytes, and asks for a direction
+// if it was made without any.
+static void of_your_own() {
+    static const uint8_t directions[32] = GT_ISO_DIRECTIONS;
+    const uint8_t header[] = { 0x00, 0xB0, 0x00, 0x00, 0x03 };
+    for (const bool asks : { false, true }) {
+        Card card;
+        gt_command command;
+        std::array<uint8_t, 6> sent{};
+        size_t n;
+        bool is = false;
+        CHECK(asks ? card.own() : card.own(&directions), GT_OK);
+        CHECK(card.settled(is), GT_OK);
+        CHECK(is, 1);
+        CHECK(card.receive_bytes(header, n), GT_OK);
+        if (asks) {
+            CHECK(card.send_bytes(sent, n), GT_HEADER);
+            CHECK(card.direction(false), GT_OK);
+        }
+        CHECK(card.send_bytes(sent, n), GT_COMMAND);
+        CHECK(card.command(command), GT_OK);
+        CHECK(command.ins, 0xB0);
+        CHECK(command.le, 3);
+        CHECK(card.respond({ header, 3 }, 0x6283), GT_OK);
+        CHECK(card.settled(is), GT_OK);
+        CHECK(is, 0);
+        CHECK(card.send_bytes(sent, n), GT_SENDS);
+        CHECK(n, 6);
+        CHECK_BYTES(sent.data(), "\xB0\x00\xB0\x00\x62\x83", 6);
+        CHECK(card.settled(is), GT_OK);
+        CHECK(is, 1);
+    }
+}
+
 int main() {
     of_texts();
     of_spans();
@@ -159,5 +193,6 @@ int main() {
     of_resets();
     of_faults();
     of_tpdus();
+    of_your_own();
     return check_result("cxx_texts");
 }

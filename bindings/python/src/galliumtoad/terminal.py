@@ -265,7 +265,8 @@ class Terminal(Machine, Lasting):
         """
         level = getattr(transport, "level", Level.TPDU if hasattr(transport, "__name__") else None)
         if not (callable(transport) and isinstance(level, Level)):
-            raise TypeError("the transport is not callable, or its `level` is no Level")
+            name = type(transport).__name__
+            raise TypeError(f"{name} is neither a function nor a callable with a `level`, a Level")
         self.begin(operation)
         is_whole = level is Level.APDU
         due, take = (self.apdu, self.responded) if is_whole else (self.tpdu, self.answered)

@@ -1,0 +1,466 @@
+//! Runs the book of examples: each script by every way from a terminal to a card, the characters to
+//! a card alone, and the dialogues of a terminal at T=1. What they print is stored beside them.
+//! `card_trace`, `gt_pcsc`, `gt_serial` and the package for Python run the same book.
+
+use galliumtoad::{whole_commands, Answer, Atr, Card, CardBuilder, CardT1, End, Entry};
+use galliumtoad::{
+    Line, Operation, Session, Stop, T1Limits, T1Line, Terminal, Turn, BLOCK_LIMIT, T1,
+};
+use std::collections::VecDeque;
+use std::fs;
+use std::path::{Path, PathBuf};
+use std::time::Duration;
+
+/// The files of the book with this ending, by its index.
+fn book(ending: &str) -> Vec<PathBuf> {
+    let book = Path::new(env!("CARGO_MANIFEST_DIR")).join("../../examples");
+    let index = text(&book.join("README.md"));
+    let rows = index.lines().filter_map(|it| it.strip_prefix("| `"));
+    let names = rows.filter_map(|it| it.split('`').next());
+    let found = names.filter(|it| it.ends_with(ending));
+    found.map(|it| book.join(it)).collect()
+}
+
+fn text(path: &Path) -> String {
+    fs::read_to_string(path).expect("text")
+}
+
+/// The words of each line, without empty lines and comments.
+fn words(script: &str) -> Vec<Vec<&str>> {
+    let lines = script.lines().filter(|it| !it.starts_with('#'));
+    let split = lines.map(|it| it.split_whitespace().collect());
+    split.filter(|it: &Vec<&str>| !it.is_empty()).collect()
+}
+
+fn number(digits: &str) -> u32 {
+    u32::from_str_radix(digits, 16).expect("digits")
+}
+
+fn bytes(digits: &str) -> Vec<u8> {
+    let pairs = (0..digits.len()).step_by(2);
+    pairs.map(|at| number(&digits[at..at + 2]) as u8).collect()
+}
+
+fn digits(bytes: &[u8]) -> String {
+    bytes.iter().map(|byte| format!("{byte:02X}")).collect()
+}
+
+/// A value of a script: digits, a byte and how many times, or `-` for none.
+fn value(word: &str) -> Vec<u8> {
+    match word.split_once('*') {
+        Some((byte, count)) => bytes(byte).repeat(count.parse().expect("a count")),
+        None => bytes(word.trim_start_matches('-')),
+    }
+}
+
+/// A plan's letters and its cut.
+fn plan<'a>(line: &[&'a str]) -> (&'a str, u16) {
+    let steps = line[1].trim_start_matches('-');
+    (steps, line[2].parse().expect("a number"))
+}
+
+/// Builds the card of the first lines of a script. Returns the other lines too.
+fn built<'a>(lines: &'a [Vec<&'a str>]) -> (Card, &'a [Vec<&'a str>]) {
+    let mut builder = CardBuilder::new().expect("memory");
+    for (at, line) in lines.iter().enumerate() {
+        match line[0] {
+            "app" => builder.app(&bytes(line[1])),
+            "object" => builder.object(number(line[1]), &value(line[2])),
+            "locked" => builder.locked(number(line[1]), &value(line[2])),
+            _ => return (builder.finish().expect("a card"), &lines[at..]),
+        }
+        .expect("a part of a card");
+    }
+    (builder.finish().expect("a card"), &[])
+}
+
+/// Hands on the operation of a line.
+fn operation<T>(line: &[&str], run: impl FnOnce(Operation<'_>) -> T) -> T {
+    match line[0] {
+        "select" => run(Operation::Select(&bytes(line[1]))),
+        "get" => run(Operation::Get(number(line[1]))),
+        "put" => run(Operation::Put(number(line[1]), &value(line[2]))),
+        "send" => run(Operation::Send(&bytes(line[1]))),
+        other => panic!("{other}"),
+    }
+}
+
+fn shown(answer: &Answer) -> String {
+    let line = format!("= {} {}", answer.status, digits(&answer.data));
+    line.trim_end().to_owned()
+}
+
+/// A line of `table` for an object.
+fn entry(it: Entry) -> String {
+    let value = Some(digits(&it.value)).filter(|it| !it.is_empty());
+    let locked = if it.is_locked { " locked" } else { "" };
+    format!("  {:X} {}{locked}", it.tag, value.as_deref().unwrap_or("-"))
+}
+
+/// What `table` prints of an application.
+fn app(aid: &[u8], entries: impl Iterator<Item = Entry>) -> Vec<String> {
+    let mut lines = vec![format!("app {}", digits(aid))];
+    lines.extend(entries.map(entry));
+    lines
+}
+
+fn table(card: &Card) -> Vec<String> {
+    let apps = card.apps().enumerate();
+    apps.flat_map(|(at, aid)| app(&aid, card.entries(at)))
+        .collect()
+}
+
+/// A terminal and a card, joined in any way.
+trait Ends {
+    fn plan(&mut self, _steps: &str, _cut: u16) {}
+
+    fn run(&mut self, operation: Operation<'_>) -> Answer;
+
+    /// The lines for the characters of the last operation.
+    fn turns(&self) -> Vec<String> {
+        Vec::new()
+    }
+
+    fn reset(&mut self);
+
+    fn table(&self) -> Vec<String>;
+}
+
+/// What a script prints. Plans are for the operation after them, also if that can't begin.
+fn printed(lines: &[Vec<&str>], ends: &mut impl Ends) -> Vec<String> {
+    let (mut plans, mut printed, mut is_busy) = (vec![], vec![], false);
+    for line in lines {
+        match line[0] {
+            "plan" => plans.push(plan(line)),
+            "reset" => {
+                ends.reset();
+                is_busy = false;
+                printed.push("reset".to_owned());
+            }
+            "table" => printed.extend(ends.table()),
+            name if is_busy && name != "send" => {
+                plans.clear();
+                printed.push("! card busy".to_owned());
+            }
+            name => {
+                plans
+                    .drain(..)
+                    .for_each(|(steps, cut)| ends.plan(steps, cut));
+                let answer = operation(line, |it| ends.run(it));
+                is_busy = name == "send" && line[1].starts_with('1') && answer.status.is_ok();
+                printed.extend(ends.turns());
+                printed.push(shown(&answer));
+            }
+        }
+    }
+    printed
+}
+
+/// Runs each script of the book with these ends, and compares what it prints.
+fn plays<E: Ends>(has_turns: bool, ends: impl Fn(Card) -> E) {
+    let plays = book(".play");
+    assert!(plays.len() > 40);
+    for play in plays {
+        let (script, output) = (text(&play), text(&play.with_extension("out")));
+        let lines = words(&script);
+        let (card, lines) = built(&lines);
+        let wanted = output.lines();
+        let wanted = wanted.filter(|it| has_turns || !it.starts_with(&['<', '>'][..]));
+        let printed = printed(lines, &mut ends(card));
+        assert_eq!(printed, wanted.collect::<Vec<_>>(), "{}", play.display());
+    }
+}
+
+/// Carries an operation of the terminal to the card.
+type Carries = fn(&mut Terminal, &mut Card, Operation<'_>) -> Answer;
+
+struct Joined(Terminal, Card, Carries);
+
+impl Ends for Joined {
+    fn run(&mut self, operation: Operation<'_>) -> Answer {
+        self.2(&mut self.0, &mut self.1, operation)
+    }
+
+    fn reset(&mut self) {
+        self.1.reset().expect("a reset");
+    }
+
+    fn table(&self) -> Vec<String> {
+        table(&self.1)
+    }
+}
+
+fn over_tpdus(terminal: &mut Terminal, card: &mut Card, operation: Operation<'_>) -> Answer {
+    terminal.run(card, operation).expect("an answer")
+}
+
+fn over_commands(terminal: &mut Terminal, card: &mut Card, operation: Operation<'_>) -> Answer {
+    let mut reader = whole_commands(|command, answer| card.apdu_into(command, answer));
+    terminal.run(&mut reader, operation).expect("an answer")
+}
+
+fn by_characters(terminal: &mut Terminal, card: &mut Card, operation: Operation<'_>) -> Answer {
+    terminal.begin(operation).expect("begun");
+    loop {
+        match terminal.turn().expect("a turn") {
+            Turn::Sends(byte) => card.take(byte).expect("taken"),
+            Turn::Done => return terminal.answer().expect("an answer"),
+            Turn::Listens => match card.turn().expect("a turn") {
+                Turn::Sends(byte) => terminal.take(byte).expect("taken"),
+                other => panic!("{other:?}"),
+            },
+        }
+    }
+}
+
+/// Each buffer has another size, so that pieces end anywhere.
+fn by_buffers(terminal: &mut Terminal, card: &mut Card, operation: Operation<'_>) -> Answer {
+    let mut room = [0; 300];
+    terminal.begin(operation).expect("begun");
+    for size in (1..room.len()).cycle() {
+        let sent = terminal.send_bytes(&mut room[..size]).expect("sent");
+        card.receive_bytes(&room[..sent.count]).expect("taken");
+        match sent.stop {
+            Stop::Done => break,
+            Stop::Full => {}
+            Stop::Listens => {
+                let sent = card.send_bytes(&mut room[..size]).expect("sent");
+                assert!(sent.count > 0);
+                terminal.receive_bytes(&room[..sent.count]).expect("taken");
+            }
+        }
+    }
+    terminal.answer().expect("an answer")
+}
+
+#[test]
+fn each_way_has_the_answers_of_the_book() {
+    let ways: [Carries; 4] = [over_tpdus, over_commands, by_characters, by_buffers];
+    for way in ways {
+        plays(false, |card| {
+            Joined(Terminal::new().expect("memory"), card, way)
+        });
+    }
+}
+
+/// A line at T=1 to a card, and the bytes that have arrived.
+struct Wire(CardT1, VecDeque<u8>);
+
+impl Line for Wire {
+    type Error = Box<dyn std::error::Error>;
+
+    fn send(&mut self, bytes: &[u8]) -> Result<(), Self::Error> {
+        let mut room = [0; BLOCK_LIMIT];
+        assert!(self.0.receive(bytes)?.is_whole);
+        let count = self.0.block_into(&mut room)?.expect("an answer");
+        self.1.extend(&room[..count]);
+        Ok(())
+    }
+
+    fn receive(&mut self, room: &mut [u8], _: Duration) -> Result<usize, Self::Error> {
+        let count = self.1.len().min(7);
+        for (place, byte) in room.iter_mut().zip(self.1.drain(..count)) {
+            *place = byte;
+        }
+        Ok(count)
+    }
+}
+
+struct ByBlocks(Terminal, T1Line<Wire>);
+
+impl Ends for ByBlocks {
+    fn run(&mut self, operation: Operation<'_>) -> Answer {
+        let answer = self.0.run(&mut self.1, operation);
+        answer.expect("an answer")
+    }
+
+    fn reset(&mut self) {
+        self.1.end.reset().expect("a reset");
+        self.1.line.0.reset().expect("a reset");
+    }
+
+    fn table(&self) -> Vec<String> {
+        table(self.1.line.0.card())
+    }
+}
+
+/// A terminal's end and its line, by an answer to reset.
+fn at_t_1<L: Line>(atr: &[u8], line: L) -> T1Line<L> {
+    let atr = Atr::read(atr).expect("an answer to reset");
+    let (edc, ifsc) = (atr.edc.expect("an EDC"), atr.ifsc.expect("a size"));
+    let end = T1::new(edc, ifsc, T1Limits::default()).expect("memory");
+    let waits = atr.waits(3_571_200).and_then(|it| it.t1);
+    T1Line::new(end, waits.expect("the times of T=1"), line)
+}
+
+#[test]
+fn a_line_at_t_1_has_the_answers_of_the_book() {
+    plays(false, |card| {
+        let wire = Wire(CardT1::new(card).expect("a card"), VecDeque::new());
+        let line = at_t_1(b"\x3B\x80\x01\x81", wire);
+        ByBlocks(Terminal::new().expect("memory"), line)
+    });
+}
+
+impl Ends for Session {
+    fn plan(&mut self, steps: &str, cut: u16) {
+        Session::plan(self, steps, cut).expect("a plan");
+    }
+
+    fn run(&mut self, operation: Operation<'_>) -> Answer {
+        Session::run(self, operation).expect("an answer")
+    }
+
+    fn turns(&self) -> Vec<String> {
+        turns(&self.heard().expect("all"))
+    }
+
+    fn reset(&mut self) {
+        Session::reset(self).expect("a reset");
+    }
+
+    fn table(&self) -> Vec<String> {
+        let apps = self.apps().enumerate();
+        apps.flat_map(|(at, aid)| app(&aid, self.entries(at)))
+            .collect()
+    }
+}
+
+/// A session has plans and all characters.
+#[test]
+fn a_session_prints_the_book() {
+    plays(true, |card| {
+        let mut session = Session::start(card).expect("a session");
+        session.listen().expect("somebody listens");
+        session
+    });
+}
+
+/// A line for each turn of an end.
+fn turns(heard: &[(End, u8)]) -> Vec<String> {
+    let mut lines: Vec<(End, Vec<u8>)> = Vec::new();
+    for (from, byte) in heard {
+        match lines.last_mut() {
+            Some((last, bytes)) if last == from => bytes.push(*byte),
+            _ => lines.push((*from, vec![*byte])),
+        }
+    }
+    let sign = |from| if from == End::Card { '<' } else { '>' };
+    let line = |(from, bytes): (End, Vec<u8>)| format!("{} {}", sign(from), digits(&bytes));
+    lines.into_iter().map(line).collect()
+}
+
+/// What a card alone prints for a line.
+fn of_card(card: &mut Card, line: &[&str]) -> Vec<String> {
+    match line {
+        ["reset"] => {
+            card.reset().expect("a reset");
+            vec!["reset".to_owned()]
+        }
+        ["table"] => table(card),
+        [">", given] => match card.receive_bytes(&bytes(given)) {
+            Ok(()) => vec![],
+            Err(fault) => vec![format!("! {}", fault.error)],
+        },
+        ["<", room @ ..] => {
+            let most = room
+                .first()
+                .map_or(9_000, |it| it.parse().expect("a number"));
+            let mut room = vec![0; most];
+            let sent = card.send_bytes(&mut room).expect("sent");
+            let line = format!("< {}", digits(&room[..sent.count]));
+            vec![line.trim_end().to_owned()]
+        }
+        other => panic!("{other:?}"),
+    }
+}
+
+/// All but those with an answer to reset, which a card here has not.
+#[test]
+fn a_card_answers_the_characters_of_the_book() {
+    let cards = book(".card").into_iter().map(|it| (text(&it), it));
+    let cards: Vec<_> = cards
+        .filter(|(script, _)| !script.contains("\natr "))
+        .collect();
+    assert!(cards.len() > 10);
+    for (script, path) in cards {
+        let output = text(&path.with_extension("out"));
+        let is_plan = |it: &Vec<&str>| it[0] == "plan";
+        let (plans, lines): (Vec<_>, Vec<_>) = words(&script).into_iter().partition(is_plan);
+        let (mut card, lines) = built(&lines);
+        for (steps, cut) in plans.iter().map(|it| plan(it)) {
+            card.plan(steps, cut).expect("a plan");
+        }
+        let printed: Vec<_> = lines.iter().flat_map(|it| of_card(&mut card, it)).collect();
+        assert_eq!(
+            printed,
+            output.lines().collect::<Vec<_>>(),
+            "{}",
+            path.display()
+        );
+    }
+}
+
+/// A card that plays a dialogue at T=1: it expects each block of the terminal, and sends its own.
+struct Talk<'a>(VecDeque<Vec<&'a str>>);
+
+impl Talk<'_> {
+    /// Takes the next line, if it has this sign.
+    fn next(&mut self, sign: &str) -> Option<Vec<u8>> {
+        self.0.front().filter(|it| it[0] == sign)?;
+        let line = self.0.pop_front()?;
+        Some(if sign == "~" { vec![] } else { bytes(line[1]) })
+    }
+}
+
+impl Line for Talk<'_> {
+    type Error = Box<dyn std::error::Error>;
+
+    fn send(&mut self, block: &[u8]) -> Result<(), Self::Error> {
+        assert_eq!(self.next(">"), Some(block.to_vec()));
+        Ok(())
+    }
+
+    fn receive(&mut self, room: &mut [u8], wait: Duration) -> Result<usize, Self::Error> {
+        // BGT is below 3 ms, and BWT above 100 ms: before a block nothing comes
+        if wait < Duration::from_millis(3) {
+            return Ok(0);
+        }
+        let is_late = self.next("~").is_some();
+        let block = self.next("<").unwrap_or_default();
+        // the card has asked for twice BWT
+        assert!(!is_late || block.is_empty() || wait > Duration::from_millis(200));
+        room[..block.len()].copy_from_slice(&block);
+        Ok(block.len())
+    }
+}
+
+#[test]
+fn a_terminal_at_t_1_talks_as_in_the_book() {
+    let talks = book(".talk");
+    assert!(talks.len() > 7);
+    for path in talks {
+        let script = text(&path);
+        let (mut lines, mut operations, mut results) = (VecDeque::new(), vec![], vec![]);
+        for line in words(&script) {
+            match line[0] {
+                ">" | "<" | "~" => lines.push_back(line),
+                "=" | "!" => results.push(line.join(" ")),
+                _ => operations.push(line),
+            }
+        }
+        let mut talk = Talk(lines);
+        let atr = talk.next("<").expect("an answer to reset");
+        let mut line = at_t_1(&atr, talk);
+        let mut terminal = Terminal::new().expect("memory");
+        let mut printed = Vec::new();
+        for (at, words) in operations.iter().enumerate() {
+            printed.push(match operation(words, |it| terminal.run(&mut line, it)) {
+                Ok(answer) => shown(&answer),
+                Err(fault) => format!("! operation {}: {fault}", at + 1),
+            });
+        }
+        assert_eq!(printed, results, "{}", path.display());
+        assert!(line.line.0.is_empty());
+    }
+}

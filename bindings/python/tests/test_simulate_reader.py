@@ -10,22 +10,43 @@ from pathlib import Path
 import pytest
 from galliumtoad import simulate
 from test_reader import PRIVATE, missing, namespace
+from waiting import SECONDS, wait_until
 
 TESTS = Path(__file__).resolve().parent
 EXAMPLES, C = TESTS.parent / "examples", TESTS.parents[1] / "c"
 VPCD = "/usr/lib/pcsc/drivers/serial/libifdvpcd.so"
 READER = "Virtual PCD 00 00"
 AID = "A0000000031010"
+# Waits for a card of another number than the one before, and sends it commands until one has no
+# answer. Prints the answers; the last line is the card's number and the seconds that they took.
 ASKS = """
 import sys, time
-from smartcard.System import readers
-card = next(it for it in readers() if str(it) == sys.argv[1]).createConnection()
-card.connect()
+from smartcard import scard
+from smartcard.Exceptions import SmartcardException
+from smartcard.pcsc.PCSCCardConnection import PCSCCardConnection
+reader, before, seconds, *commands = sys.argv[1:]
+until, card, is_open = time.monotonic() + float(seconds), PCSCCardConnection(reader), False
+_, context = scard.SCardEstablishContext(scard.SCARD_SCOPE_USER)
+while not is_open:
+    _, found = scard.SCardGetStatusChange(context, 0, [(reader, scard.SCARD_STATE_UNAWARE)])
+    state = found[0][1] if found else 0
+    is_late = time.monotonic() > until
+    try:
+        if is_late or (state & scard.SCARD_STATE_PRESENT and str(state >> 16) != before):
+            card.connect()
+            is_open = True
+    except SmartcardException:
+        if is_late:
+            raise
+    time.sleep(0.02)
 begun = time.monotonic()
-for command in sys.argv[2:]:
-    data, sw1, sw2 = card.transmit(list(bytes.fromhex(command)))
-    print(bytes([*data, sw1, sw2]).hex())
-print(time.monotonic() - begun, file=sys.stderr)
+try:
+    for command in commands:
+        data, sw1, sw2 = card.transmit(list(bytes.fromhex(command)))
+        print(bytes([*data, sw1, sw2]).hex())
+except SmartcardException:
+    pass
+print(state >> 16, time.monotonic() - begun)
 """
 
 
@@ -56,32 +77,33 @@ class Desk:
         words = [*namespace(), *PRIVATE, path / "run", "pcscd", "--foreground", "--config"]
         self.made = [subprocess.Popen([*words, path / "conf"], stdout=subprocess.DEVNULL,
                                       stderr=subprocess.DEVNULL, env=self.environment)]
-        for _ in range(100):
-            with socket.socket() as it:
-                if not it.connect_ex(("localhost", self.port)):
-                    break
-            time.sleep(0.1)
-        time.sleep(1)
+        self.number = ""
+        wait_until(lambda: not self.is_free())
+
+    def is_free(self):
+        """Whether nothing listens for cards yet."""
+        with socket.socket() as it:
+            return it.connect_ex(("localhost", self.port)) != 0
 
     def card(self, *words):
-        """Puts a card into the reader, and waits for it. Returns the program."""
+        """Puts a card into the reader. Returns the program."""
         program = [sys.executable, "-m", "galliumtoad.simulate", "--vpcd", self.address, "-v"]
         with open(self.path / "trace", "w") as trace:
             made = subprocess.Popen([*program, *words], stdout=trace, stderr=trace,
                                     env=self.environment, cwd=EXAMPLES)
         self.made.append(made)
-        for _ in range(100):
-            time.sleep(0.2)
-            if "reset" in (self.path / "trace").read_text():
-                break
-        time.sleep(1)
         return made
 
-    def ask(self, *commands):
-        """What pyscard receives, and the seconds that it took."""
-        done = subprocess.run([sys.executable, "-c", ASKS, READER, *commands], text=True,
-                              capture_output=True, env=self.environment, timeout=120)
-        return done.stdout.split(), done.stderr.splitlines()[-1]
+    def ask(self, *commands, is_new=True):
+        """What pyscard receives until a command has no answer, and the seconds that it took. It
+        waits for the card, and for one after that of the last call if `is_new`."""
+        words = [sys.executable, "-c", ASKS, READER, self.number if is_new else "", str(SECONDS)]
+        done = subprocess.run([*words, *commands], text=True, capture_output=True,
+                              env=self.environment, timeout=3 * SECONDS)
+        assert done.returncode == 0, done.stderr
+        *answers, last = done.stdout.splitlines()
+        self.number, seconds = last.split()
+        return answers, float(seconds)
 
     def end(self):
         for it in reversed(self.made):
@@ -103,11 +125,9 @@ def test_a_mute_card_and_one_without_power(desk):
     desk.card("--table", desk.path / "table", "--faults", desk.path / "faults")
     select, get = f"00A4040007{AID}", "00CA5F2000"
     assert desk.ask(select, get)[0] == ["610b", "5f20034a4f459000"]
-    assert desk.ask(select)[0] == []  # no power
-    time.sleep(4)
-    begun = time.monotonic()
-    assert desk.ask(select)[0] == [] and time.monotonic() - begun > 9  # mute for ten seconds
-    time.sleep(4)
+    assert desk.ask(select, is_new=False)[0] == []  # no power
+    answers, seconds = desk.ask(select)
+    assert answers == [] and seconds > 9  # mute for ten seconds
     assert desk.ask(select, get)[0] == ["610b", "5f20034a4f459000"]
 
 
@@ -126,13 +146,11 @@ def test_as_fast_as_another_card(desk):
     (desk.path / "table").write_text(f"app {AID}\n")
     commands = ["00A4000C023F00"] * 300
     ours = desk.card("--table", desk.path / "table", "--atr", "3B800181")
-    mine = min(float(desk.ask(*commands)[1]) for _ in range(3))
+    mine = min(desk.ask(*commands, is_new=not at)[1] for at in range(3))
     ours.terminate()
     ours.wait()
-    time.sleep(2)
     words = [sys.executable, C / "tests" / "vicc.py", str(desk.port), "3B800181"]
     desk.made.append(subprocess.Popen(words, stdout=subprocess.DEVNULL, stderr=subprocess.DEVNULL))
-    time.sleep(3)
-    others = min(float(desk.ask(*commands)[1]) for _ in range(3))
+    others = min(desk.ask(*commands, is_new=not at)[1] for at in range(3))
     print(f"{300 / mine:.0f} commands a second, and {300 / others:.0f} of the other card")
     assert mine <= others

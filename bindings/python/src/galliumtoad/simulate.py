@@ -104,7 +104,7 @@ class Simulator:
         self.card, self.atr, self.faults = card, atr, faults or Faults()
         self.trace, self.carried_out = Trace(shows), carried_out
         self.faults.tell = self.trace.note
-        self.is_over, self.has_power = threading.Event(), threading.Event()
+        self.is_over, self.is_seen = threading.Event(), threading.Event()
         self.gone: Optional[Gone] = None
         self.says: Optional[Atr] = None
         with contextlib.suppress(AtrError):  # whole commands reach a card with any answer
@@ -490,8 +490,9 @@ def connected(address: str) -> socket.socket:
 
 
 def talk_vpcd(simulator: Simulator, line: socket.socket) -> None:
-    """Answers vpcd until the connection ends. A mute card keeps it open for ten seconds."""
-    messages = line.makefile("rb")
+    """Answers vpcd until the connection ends. A mute card keeps it open for ten seconds. The card
+    is seen when pcscd, which has given it power and read its answer, looks for it again."""
+    messages, looks = line.makefile("rb"), -1
     with contextlib.suppress(OSError):
         while len(size := messages.read(2)) == 2:
             # vpcd sends the rest once the length is acknowledged, else 40 ms later.
@@ -499,8 +500,11 @@ def talk_vpcd(simulator: Simulator, line: socket.socket) -> None:
             data = messages.read(int.from_bytes(size, "big"))
             if data in (POWER_OFF, POWER_ON, RESET):
                 simulator.reset()
-                simulator.has_power.set()
+                looks = 2
                 continue
+            looks -= data == GET_ATR
+            if looks == 0:
+                simulator.is_seen.set()
             try:
                 answer = simulator.atr if data == GET_ATR else simulator.whole(data, simulator.apdu)
             except Gone as gone:

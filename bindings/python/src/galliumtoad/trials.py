@@ -26,7 +26,7 @@ AID, TAG = bytes.fromhex("A0000000031010"), 0x51
 VALUE = bytes(it % 251 for it in range(600))  # so that no two pieces of it are equal
 SELECT, PUT = b"\x00\xA4\x04\x00", 0xDA
 ATRS = [bytes.fromhex("3B00"), bytes.fromhex("3B800181")]  # T=0, T=1
-AWAIT_POWER = 10.0  # seconds until a reader should have seen a card
+AWAIT_READER = 60.0  # seconds until a reader should have seen a card
 BAD = ("wrong", "twice", "hung", "crashed")
 VERDICTS = ("right", "told", "unmet", *BAD)
 USAGE = """TERMINAL selects {aid}, puts {value} under {tag} in commands of up to 255 bytes, gets
@@ -111,13 +111,13 @@ class Run:
 
 @contextlib.contextmanager
 def at_vpcd(simulator: Simulator, address: str) -> Iterator[str]:
-    """Puts a card into vpcd's reader, and waits until it has power."""
+    """Puts a card into vpcd's reader, and waits until pcscd has seen it. Raises `OSError`."""
     with contextlib.closing(connected(address)) as line:
         thread = threading.Thread(target=talk_vpcd, args=(simulator, line), daemon=True)
         thread.start()
-        simulator.has_power.wait(AWAIT_POWER)
-        time.sleep(1.5)  # pcscd tells its clients
         try:
+            if not simulator.is_seen.wait(AWAIT_READER):
+                raise OSError(f"the reader at {address} does not see the card")
             yield ""
         finally:
             simulator.is_over.set()

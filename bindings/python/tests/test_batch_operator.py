@@ -13,8 +13,7 @@ from html.parser import HTMLParser
 
 import pytest
 from galliumtoad import Card
-from galliumtoad.batch.dialogue import Recorder, carry_out, compared, identity
-from galliumtoad.batch.script import Script
+from galliumtoad.batch.script import Recorder, Script, carry_out, compared, identity
 from room import AID, SCRIPT, Room, ended, listed, steps_of, told
 
 TIME = r"\d{4}-\d\d-\d\dT\d\d:\d\d:\d\d\.\d{3}[+-]\d\d:\d\d"

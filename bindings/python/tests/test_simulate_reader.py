@@ -1,6 +1,7 @@
 """Tests simulated cards and trials over a private pcscd with vsmartcard's vpcd."""
 
 import os
+import platform
 import socket
 import subprocess
 import sys
@@ -9,11 +10,14 @@ from pathlib import Path
 
 import pytest
 from galliumtoad import simulate
+from room import SCRIPT
+from test_applications import CARDS, dialogue
 from test_reader import PRIVATE, missing, namespace
 from waiting import SECONDS, wait_until
 
 TESTS = Path(__file__).resolve().parent
 EXAMPLES, C = TESTS.parent / "examples", TESTS.parents[1] / "c"
+EXPLAINS = TESTS.parents[1] / "bin" / f"{platform.machine()}-linux-gnu" / "trace_explain"
 VPCD = "/usr/lib/pcsc/drivers/serial/libifdvpcd.so"
 READER = "Virtual PCD 00 00"
 AID = "A0000000031010"
@@ -129,6 +133,80 @@ def test_a_mute_card_and_one_without_power(desk):
     answers, seconds = desk.ask(select)
     assert answers == [] and seconds > 9  # mute for ten seconds
     assert desk.ask(select, get)[0] == ["610b", "5f20034a4f459000"]
+
+
+# At which command of a row a card loses its power, whether it carries that out, and what it holds
+# then: 1 selects, 2 gets the identifier, 3, 5, 7 and 8 put, and the others read back. A reader is
+# set aside after five such cards, so there are some that keep their power.
+ONE, TWO, WHOLE = "partly: 1 of 3 objects", "partly: 2 of 3 objects", (0, True, "")
+PULLED = [(1, True, ""), (2, True, ""), (3, False, "untouched"), (3, True, ONE), (4, True, ONE),
+          (5, False, ONE), WHOLE, (5, True, TWO), (6, True, TWO), (7, True, TWO), (8, False, TWO),
+          WHOLE, (8, True, "done"), (9, True, "done"), WHOLE]
+
+
+@pytest.mark.parametrize("name", CARDS)
+def test_an_example_in_a_reader(desk, name):
+    """It gives the answers of the other ways."""
+    desk.card("--application", name)
+    commands, answers = dialogue(name)
+    assert desk.ask(*commands)[0] == [it.lower() for it in answers]
+
+
+def test_a_payment_card_is_read_and_explained(desk):
+    """By gt_pcsc; the trace of the card names what went over."""
+    subprocess.run(["make", "-s", f"BUILD={desk.path}", desk.path / "gt_pcsc"], cwd=C, check=True)
+    desk.card("--application", "payment:Payment")
+    desk.ask()
+    sent = ["80A8000008830611223344097800", "00B2010C00", "80CA9F1700"]
+    words = ["select", "325041592E5359532E4444463031", "select", "A0000000041010"]
+    words += [it for command in sent for it in ("send", command)]
+    done = subprocess.run([desk.path / "gt_pcsc", "-r", READER, *words], text=True, timeout=SECONDS,
+                          capture_output=True, env=desk.environment)
+    assert done.stdout.splitlines()[-3:] == [
+        "= 9000 770A82021800940408010200",
+        "= 9000 701D570C1234567890123452D30122015F200C544F41442F47414C4C49554D", "= 9000 9F170103"]
+    explained = subprocess.run([EXPLAINS, "--tpdu"], input=(desk.path / "trace").read_text(),
+                               text=True, capture_output=True, timeout=SECONDS).stdout
+    for text in ("GET PROCESSING OPTIONS, class 80", "READ RECORD 1 of file 1", '"TEST"',
+                 '"TOAD/GALLIUM"', "6A82 file or application not found"):
+        assert (text in explained) == (text[0] != "6"), explained
+
+
+def test_a_batch_whose_cards_are_pulled(desk):
+    """Each card has one row: it comes again, and is refused if it has begun to change."""
+    path, table, faults = desk.path, desk.path / "table", desk.path / "faults"
+    names = [f"PERSON {at},{at:08X}" for at in range(len(PULLED))]
+    (path / "rows.csv").write_text("\n".join(["name,code", *names, ""]))
+    (path / "script").write_text(SCRIPT)
+    batch = [sys.executable, "-m", "galliumtoad.batch", "script", "--rows=rows.csv",
+             "--journal=journal", "--reader=00 00"]
+    with open(path / "out", "w") as out:
+        run = subprocess.Popen([*batch, "--new", "--id=9F7F"], stdout=out, stderr=out, cwd=path,
+                               env=desk.environment)
+    desk.made.append(run)
+
+    def await_(line):
+        wait_until(lambda: run.poll() is not None or line in (path / "out").read_text())
+        assert line in (path / "out").read_text()
+
+    def look(row):
+        done = subprocess.run([*batch, f"--look={row}"], cwd=path, env=desk.environment, text=True,
+                              capture_output=True, timeout=SECONDS)
+        return done.stdout
+
+    for row, (at, is_carried_out, word) in enumerate(PULLED, 1):
+        table.write_text(f"app {AID}\nobject 9F7F {row:02X}\natr 3B800181\n")
+        faults.write_text(f"command {at}, power off\n" * (at > 0)
+                          + f"command {at}, forget\n" * (not is_carried_out))
+        card = desk.card("--table", table, "--faults", faults)
+        await_(f" card {row:02X} has row {row}, which is unsure" if word else
+               f" row {row} done, card {row:02X}, ")
+        if word:
+            wait_until(lambda: look(row) == f"row {row}, card {row:02X}: {word}\n")
+        card.terminate()
+        card.wait()
+    assert run.wait(SECONDS) == 1
+    assert (path / "out").read_text().endswith("5 of 15 rows done, 10 to decide\n")
 
 
 def test_trials_over_a_reader(desk):

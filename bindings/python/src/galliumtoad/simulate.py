@@ -13,74 +13,25 @@ import termios
 import threading
 import time
 import tty
-from pathlib import Path
 from typing import Callable, Iterator, Optional, Union
 
 from ._library import ffi, lib
 from .answers import Atr, Edc, Pps
 from .card import Card
-from .errors import AtrError, Code, CommandError, Error, OutOfMemory
+from .cards import LEAST_ATR, TAKE_DATA, Own, Program, application, read_table
+from .errors import AtrError, Code, CommandError, OutOfMemory
 from .faults import ECHO, LINE, OK, T0, T1, Faults, Gone, Mistake, block, is_block
 from .handle import readable
 from .terminal import Level
 
 VPCD = "localhost:35963"
 POWER_OFF, POWER_ON, RESET, GET_ATR = (bytes([it]) for it in (0, 1, 2, 4))  # vpcd's own messages
-MUTE_FOR = 10.0  # seconds until the connection to vpcd closes
-LEAST_ATR, PPSS, LOOKS_EVERY, FOREVER = b"\x3B\x00", b"\xFF", 0.01, float("inf")
-TAKE_DATA = (0xA4, 0xDA)  # the instructions of `Card` that do
+MUTE_FOR, AWAY_FOR = 10.0, 2.0  # seconds until the connection to vpcd closes, and opens again
+PPSS, LOOKS_EVERY, FOREVER = b"\xFF", 0.01, float("inf")
 IFS_REQUEST, RESYNCH_REQUEST, DEFAULT_RATE = 0xC1, 0xC0, 0x11
 BAUDS = [9600, 19200, 38400, 57600, 115200]
 SIGNALS = {"cts": termios.TIOCM_CTS, "dsr": termios.TIOCM_DSR, "dcd": termios.TIOCM_CAR}
 TURNED = bytes(int(f"{byte:08b}"[::-1], 2) ^ 0xFF for byte in range(256))  # inverse convention
-
-
-def read_table(path: str) -> tuple[Card, bytes]:
-    """Reads the lines `app`, `object`, `locked` and `atr` of a file. Returns the card and its
-    answer to reset. Raises `Mistake`."""
-    tables: dict[bytes, dict[int, bytes]] = {}
-    locked, atr, where, aid = [], b"", path, b""
-    try:
-        for line, words in enumerate(Path(path).read_text("utf-8").splitlines(), 1):
-            where = f"{path}: line {line}"
-            kind, *rest = words.split() if words.strip() and words[0] != "#" else ["#"]
-            given = [bytes.fromhex("" if it == "-" else it) for it in rest if kind != "#"]
-            if (kind, len(rest)) == ("app", 1) and given[0] not in tables:
-                aid, tables[given[0]] = given[0], {}
-            elif (kind, len(rest)) == ("atr", 1) and not atr:
-                atr = given[0]
-            elif kind in ("object", "locked") and len(rest) == 2 and tables:
-                tables[aid][int.from_bytes(given[0], "big")] = given[1]
-                locked += [(aid, int.from_bytes(given[0], "big"))] if kind == "locked" else []
-            elif kind != "#":
-                raise ValueError("not a line of a table")
-        return Card(tables, locked), atr or LEAST_ATR
-    except (OSError, ValueError, Error) as why:
-        raise Mistake(f"{where}: {why}") from None
-
-
-class Trace:
-    """Prints the dialogue in lines that `trace_explain` reads, if `shows`, and notes always."""
-
-    def __init__(self, shows: bool = False) -> None:
-        self.shows, self.sign = shows, ""
-
-    def carried(self, sign: str, data: bytes) -> None:
-        """Bytes of the terminal (`>`) or the card (`<`) went over. A line has those of one end."""
-        if self.shows and data:
-            if sign != self.sign:
-                self.note(None)
-                print(sign, end=" ")
-            print(data.hex().upper(), end="", flush=True)
-            self.sign = sign
-
-    def note(self, text: Optional[str]) -> None:
-        """Ends a line of bytes, and prints a line of its own."""
-        if self.sign:
-            print()
-        if text is not None:
-            print(text, flush=True)
-        self.sign = ""
 
 
 class Simulator:
@@ -98,18 +49,18 @@ class Simulator:
     '6a82'
     """
 
-    def __init__(self, card: Card, atr: bytes = LEAST_ATR, faults: Optional[Faults] = None,
-                 shows: bool = False,
+    def __init__(self, card: Union[Card, Own], atr: bytes = LEAST_ATR,
+                 faults: Optional[Faults] = None, shows: bool = False,
                  carried_out: Callable[[bytes], object] = lambda command: None) -> None:
         self.card, self.atr, self.faults = card, atr, faults or Faults()
-        self.trace, self.carried_out = Trace(shows), carried_out
-        self.faults.tell = self.trace.note
+        self.shows, self.sign, self.carried_out = shows, "", carried_out
+        self.faults.tell = self.note
         self.is_over, self.is_seen = threading.Event(), threading.Event()
-        self.gone: Optional[Gone] = None
         self.says: Optional[Atr] = None
         with contextlib.suppress(AtrError):  # whole commands reach a card with any answer
             self.says = Atr(atr)
-        self.level = Level.APDU if self.says and self.says.protocols[0] else Level.TPDU
+        is_t1 = self.says is not None and self.says.protocols[0] > 0
+        self.level = Level.TPDU if isinstance(card, Card) and not is_t1 else Level.APDU
 
     def __enter__(self) -> "Simulator":
         return self
@@ -119,13 +70,32 @@ class Simulator:
 
     def __call__(self, data: bytes, /) -> bytes:
         self.faults.check([], "a card in this process")
-        return self.whole(data, self.card.tpdu if self.level is Level.TPDU else self.apdu)
+        card, is_apdu = self.card, self.level is Level.APDU
+        return self.whole(data, self.apdu if is_apdu or isinstance(card, Own) else card.tpdu)
 
     def reset(self) -> None:
         """Resets the card, which then has power and is not mute."""
         self.card.reset()
-        self.gone = None
-        self.trace.note("reset" if self.trace.shows else None)
+        self.faults.gone = None
+        self.note("reset" if self.shows else None)
+
+    def carried(self, sign: str, data: bytes) -> None:
+        """Prints what the terminal (`>`) or the card (`<`) sent, in lines as `trace_explain` reads
+        them, if `shows`. A line has the bytes of one end."""
+        if self.shows and data:
+            if sign != self.sign:
+                self.note(None)
+                print(sign, end=" ")
+            print(data.hex().upper(), end="", flush=True)
+            self.sign = sign
+
+    def note(self, text: Optional[str]) -> None:
+        """Ends a line of bytes, and prints a line of its own."""
+        if self.sign:
+            print()
+        if text is not None:
+            print(text, flush=True)
+        self.sign = ""
 
     def apdu(self, command: bytes) -> bytes:
         """Carries out a whole command. A card answers bytes that are no command with a status."""
@@ -138,35 +108,19 @@ class Simulator:
 
     def whole(self, command: bytes, carry_out: Callable[[bytes], bytes]) -> bytes:
         """Carries out a whole command or TPDU, with the faults that strike."""
-        self.trace.carried(">", command)
-        if self.gone:
-            raise self.gone
-        answer = self.begin(command, self.card.reset)
+        self.carried(">", command)
+        if self.faults.gone:
+            raise self.faults.gone
+        answer = self.faults.begin(command, self.card.reset)
         if answer is None:
             answer = carry_out(command)
             self.carried_out(command)
             if self.faults.strikes("twice"):
                 answer = carry_out(command)
-        answer = self.changed(answer)
+        answer = self.faults.changed(answer)
         self.wait()
-        self.trace.carried("<", answer)
+        self.carried("<", answer)
         return answer
-
-    def begin(self, command: bytes, reset: Callable[[], None]) -> Optional[bytes]:
-        """A command begins. Returns an answer in place of the card's, or None."""
-        self.faults.begin(command)
-        instead = self.faults.instead(command)
-        if instead is None and self.faults.strikes("reset"):
-            reset()
-        return instead
-
-    def changed(self, answer: bytes) -> bytes:
-        """The answer with the faults in it. From a `Gone` on the card is silent."""
-        try:
-            return self.faults.changed(answer)
-        except Gone as gone:
-            self.gone = gone
-            raise
 
     def wait(self) -> None:
         """Waits before an answer, if a fault says so."""
@@ -197,13 +151,17 @@ class Characters:
         self.card.receive_bytes(characters)
         return self.card.send_bytes()
 
+    def takes_data(self, header: bytes) -> bool:
+        own = self.card.application if isinstance(self.card, Own) else None
+        return own.takes_data(header[:4]) if own else header[1] in TAKE_DATA
+
     def begin(self, header: bytes) -> bytes:
         """Answers a header: with a procedure byte if the card takes data, or with all."""
-        self.sent, self.instead = 0, self.of.begin(header, self.card.reset)
+        self.sent, self.instead = 0, self.faults.begin(header, self.card.reset)
         if self.instead is None and self.faults.strikes("early status"):
             answer = self.instead = OK
         elif self.instead is not None:
-            answer = header[1:2] if header[4] and header[1] in TAKE_DATA else self.instead
+            answer = header[1:2] if header[4] and self.takes_data(header) else self.instead
         else:
             answer = self.answer(header)
         if len(answer) > 1:
@@ -219,8 +177,9 @@ class Characters:
             answer = answer if is_taking or len(answer) == 2 else answer[1:]
             self.of.carried_out(tpdu)
             if self.faults.strikes("twice"):
-                self.card.tpdu(tpdu)
-        answer = self.of.changed(answer)
+                self.answer(tpdu[:5])
+                self.answer(tpdu[5:])
+        answer = self.faults.changed(answer)
         return self.carried(answer if is_taking or len(answer) == 2 else tpdu[1:2] + answer)
 
     def carried(self, sent: bytes) -> bytes:
@@ -301,7 +260,7 @@ class Blocks:
         """Takes a block of a command."""
         field, self.own = came[3:-1], []
         if not self.fields:
-            self.instead = self.of.begin(field, self.reset)
+            self.instead = self.faults.begin(field, self.reset)
             if self.instead is not None:  # GET RESPONSE changes nothing
                 came = block(0, came[1], field[:1] + b"\xC0" + field[2:])
         self.due ^= 1
@@ -319,7 +278,7 @@ class Blocks:
         answer = self.rest(first)
         if self.instead is None and self.faults.strikes("twice"):
             answer = self.again(fields)
-        answer = self.of.changed(answer if self.instead is None else self.instead)
+        answer = self.faults.changed(answer if self.instead is None else self.instead)
         size = min(self.ifsd, 254)
         pieces = [answer[at : at + size] for at in range(0, len(answer), size)]
         self.own = [block(0, (begins + at & 1) << 6 | (at + 1 < len(pieces)) << 5, it)
@@ -357,6 +316,8 @@ class Line:
                 says.specific and says.rate_code != DEFAULT_RATE):
             raise Mistake("a line needs an answer to reset that offers T=0, or T=1 with LRC, first,"
                           " at the rate of a reset")
+        if says.protocols[0] and isinstance(simulator.card, Own):
+            raise Mistake("a card of an application talks T=0 alone at a line")
         self.of, self.fd, self.has_echo, self.says = simulator, fd, has_echo, says
         self.is_inverse, self.baud = says.convention == lib.GT_INVERSE, 9600
 
@@ -374,7 +335,7 @@ class Line:
                 if not byte:
                     raise OSError("the line is gone")
                 byte = byte.translate(TURNED) if self.is_inverse else byte
-                self.of.trace.carried(">", byte)
+                self.of.carried(">", byte)
                 return byte
             if time.monotonic() > until:
                 return b""
@@ -388,7 +349,7 @@ class Line:
 
     def send(self, data: bytes) -> None:
         """Sends characters of the card."""
-        self.of.trace.carried("<", data)
+        self.of.carried("<", data)
         self.write(data)
 
     def echo(self, byte: bytes) -> None:
@@ -405,7 +366,7 @@ class Line:
         while True:
             out = b""
             with contextlib.suppress(Gone):
-                out = b"" if self.of.gone else end.take(byte)
+                out = b"" if self.of.faults.gone else end.take(byte)
             self.echo(byte)
             self.of.wait()
             self.send(out)
@@ -424,8 +385,9 @@ class Line:
             byte = b""
         rest, protocol = [*request[2:-1]], request[1] & 15
         given = [rest.pop(0) if request[1] & bit else None for bit in (0x10, 0x20, 0x40)]
-        if Pps(protocol, *given).request != request or protocol not in self.says.protocols:
-            self.of.gone = Gone("mute")
+        offered = (0,) if isinstance(self.of.card, Own) else self.says.protocols
+        if Pps(protocol, *given).request != request or protocol not in offered:
+            self.of.faults.gone = Gone("mute")
         else:
             self.send(Pps(protocol, DEFAULT_RATE if given[0] == DEFAULT_RATE else None).request)
         return protocol, self.read()
@@ -520,12 +482,15 @@ def serve_vpcd(simulator: Simulator, address: str) -> None:
         with contextlib.suppress(OSError), connected(address) as line:
             talk_vpcd(simulator, line)
         simulator.reset()
-        simulator.is_over.wait(1)
+        simulator.is_over.wait(AWAY_FOR)
 
 
 def parser() -> argparse.ArgumentParser:
     it = argparse.ArgumentParser("galliumtoad.simulate", description="A card with faults.")
-    it.add_argument("--table", metavar="FILE", required=True, help="a card of data objects")
+    what = it.add_mutually_exclusive_group(required=True)
+    what.add_argument("--table", metavar="FILE", help="a card of data objects")
+    what.add_argument("--application", metavar="MODULE:CLASS", help="a card of one's own")
+    what.add_argument("--program", metavar="COMMAND", help="the same in any language")
     where = it.add_mutually_exclusive_group(required=True)
     where.add_argument("--vpcd", nargs="?", const=VPCD, metavar="HOST:PORT",
                        help=f"vsmartcard's reader; {VPCD} if nothing else is given")
@@ -539,6 +504,14 @@ def parser() -> argparse.ArgumentParser:
     it.add_argument("--baud", type=int, default=9600, choices=BAUDS, help="the tty's rate; 9600")
     it.add_argument("--reset", choices=SIGNALS, default="", help="the tty's line of the reset")
     return it
+
+
+def made(given: argparse.Namespace) -> tuple[Union[Card, Own], bytes]:
+    """Makes the card. Returns it with its answer to reset. Raises `Mistake`."""
+    if given.table:
+        return read_table(given.table)
+    named = given.application
+    return Own(application(named) if named else Program(given.program)), LEAST_ATR
 
 
 def serve(simulator: Simulator, given: argparse.Namespace) -> None:
@@ -561,7 +534,7 @@ def main(words: Optional[list[str]] = None) -> int:
     """Runs the program. Returns the exit status."""
     given = parser().parse_args(words)
     try:
-        card, atr = read_table(given.table)
+        card, atr = made(given)
         faults = Faults.of_file(given.faults, given.seed) if given.faults else None
         with Simulator(card, given.atr or atr, faults, given.v) as simulator:
             serve(simulator, given)

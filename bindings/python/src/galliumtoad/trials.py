@@ -86,7 +86,8 @@ class Run:
         kinds = [KINDS[it.kind][1] for it in faults.all]
         is_line = any(it != ANYWHERE for it in kinds)
         atr = ATRS[T1 in kinds if is_line else protocol]
-        self.simulator = Simulator(Card({AID: {}}), atr, faults, carried_out=self.carried_out)
+        self.card = Card({AID: {}})
+        self.simulator = Simulator(self.card, atr, faults, carried_out=self.carried_out)
         faults.tell = self.struck.append
 
     def carried_out(self, command: bytes) -> None:
@@ -94,7 +95,7 @@ class Run:
 
     def verdict(self, status: Optional[int], output: str) -> str:
         """Compares what the terminal said with what the card holds."""
-        held = {it.tag: it.value for it in self.simulator.card.entries(AID)}
+        held = {it.tag: it.value for it in self.card.entries(AID)}
         if status is None:
             return "hung"
         if status < 0 or status > 128:
@@ -176,7 +177,7 @@ def tried(trial: Trial, given: argparse.Namespace) -> Result:
         status, output = carried(words, given.limit)
         seconds = time.monotonic() - begun
     verdict = run.verdict(status, output)
-    run.simulator.card.close()
+    run.card.close()
     lines = [it for it in output.splitlines() if VALUE.hex().upper() not in it] or [""]
     return Result(trial.name, trial.faults, verdict, trial.is_unseen, status, round(seconds, 1),
                   lines[-1][:200])

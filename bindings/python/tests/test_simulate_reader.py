@@ -136,8 +136,8 @@ def test_a_mute_card_and_one_without_power(desk):
 
 
 # At which command of a row a card loses its power, whether it carries that out, and what it holds
-# then: 1 selects, 2 gets the identifier, 3, 5, 7 and 8 put, and the others read back. A reader is
-# set aside after five such cards, so there are some that keep their power.
+# then. 1 selects, 2 gets the identifier, 3, 5, 7 and 8 put. The others read back. A reader is set
+# aside after five such cards, so some keep their power.
 ONE, TWO, WHOLE = "partly: 1 of 3 objects", "partly: 2 of 3 objects", (0, True, "")
 PULLED = [(1, True, ""), (2, True, ""), (3, False, "untouched"), (3, True, ONE), (4, True, ONE),
           (5, False, ONE), WHOLE, (5, True, TWO), (6, True, TWO), (7, True, TWO), (8, False, TWO),

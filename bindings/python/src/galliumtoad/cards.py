@@ -89,7 +89,7 @@ class Program(Application):
         self.ask("reset")
 
     def ask(self, line: str, form: str = "") -> Sequence[str]:
-        """Sends a line. Returns the parts of the answer, which has this form, if one is due."""
+        """Sends a line. Returns the parts of its answer, which has this form, if it has one."""
         assert self.program.stdin and self.program.stdout
         out, said, until = self.program.stdout, b"", time.monotonic() + PATIENCE
         try:
@@ -113,7 +113,14 @@ class Program(Application):
 
 
 class Own(OwnCard):
-    """A card of an application that takes whole commands too: it carries them out by T=0."""
+    """A card of an application that takes whole commands too: it carries them out by T=0.
+
+    >>> from galliumtoad.cards import Own, Program
+    >>> says = "while read a b; do case $a in h*) echo from-card;; c*) echo 4A4F45 9000; esac; done"
+    >>> with Own(Program(f"sh -c '{says}'")) as card:
+    ...     card.apdu(bytes.fromhex("8010000000")).hex()
+    '4a4f459000'
+    """
 
     def apdu(self, command: bytes) -> bytes:
         """Returns the data and SW1 SW2. Data that move the other way at the card are 6700."""

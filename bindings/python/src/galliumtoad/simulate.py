@@ -506,14 +506,6 @@ def parser() -> argparse.ArgumentParser:
     return it
 
 
-def made(given: argparse.Namespace) -> tuple[Union[Card, Own], bytes]:
-    """Makes the card. Returns it with its answer to reset. Raises `Mistake`."""
-    if given.table:
-        return read_table(given.table)
-    named = given.application
-    return Own(application(named) if named else Program(given.program)), LEAST_ATR
-
-
 def serve(simulator: Simulator, given: argparse.Namespace) -> None:
     """Puts the card where the words say, until the program ends. Raises `Mistake` or `OSError`."""
     offered = simulator.says.protocols if simulator.says else ()
@@ -534,7 +526,12 @@ def main(words: Optional[list[str]] = None) -> int:
     """Runs the program. Returns the exit status."""
     given = parser().parse_args(words)
     try:
-        card, atr = made(given)
+        card: Union[Card, Own]
+        if given.table:
+            card, atr = read_table(given.table)
+        else:
+            own = given.application and application(given.application)
+            card, atr = Own(own or Program(given.program)), LEAST_ATR
         faults = Faults.of_file(given.faults, given.seed) if given.faults else None
         with Simulator(card, given.atr or atr, faults, given.v) as simulator:
             serve(simulator, given)

@@ -16,6 +16,7 @@ import time
 from collections import Counter
 from dataclasses import asdict, dataclass
 from pathlib import Path
+from queue import SimpleQueue
 from typing import Callable, Iterator, Optional
 
 from .card import Card
@@ -131,18 +132,11 @@ def at_vpcd(simulator: Simulator, address: str) -> Iterator[str]:
 @contextlib.contextmanager
 def at_pty(simulator: Simulator) -> Iterator[str]:
     """Puts a card behind a pseudo terminal. Gives its name."""
-    names: list[str] = []
-    is_made = threading.Event()
-
-    def made(name: str) -> None:
-        names.append(name)
-        is_made.set()
-
-    thread = threading.Thread(target=serve_pty, args=(simulator, True, made), daemon=True)
+    names: SimpleQueue[str] = SimpleQueue()
+    thread = threading.Thread(target=serve_pty, args=(simulator, True, names.put), daemon=True)
     thread.start()
-    is_made.wait()
     try:
-        yield names[0]
+        yield names.get()
     finally:
         simulator.is_over.set()
         thread.join()

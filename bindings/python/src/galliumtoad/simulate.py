@@ -29,7 +29,6 @@ POWER_OFF, POWER_ON, RESET, GET_ATR = (bytes([it]) for it in (0, 1, 2, 4))  # vp
 MUTE_FOR, AWAY_FOR = 10.0, 2.0  # seconds until the connection to vpcd closes, and opens again
 PPSS, LOOKS_EVERY, FOREVER = b"\xFF", 0.01, float("inf")
 IFS_REQUEST, RESYNCH_REQUEST, DEFAULT_RATE = 0xC1, 0xC0, 0x11
-BAUDS = [9600, 19200, 38400, 57600, 115200]
 SIGNALS = {"cts": termios.TIOCM_CTS, "dsr": termios.TIOCM_DSR, "dcd": termios.TIOCM_CAR}
 TURNED = bytes(int(f"{byte:08b}"[::-1], 2) ^ 0xFF for byte in range(256))  # inverse convention
 
@@ -487,10 +486,10 @@ def serve_vpcd(simulator: Simulator, address: str) -> None:
 
 def parser() -> argparse.ArgumentParser:
     it = argparse.ArgumentParser("galliumtoad.simulate", description="A card with faults.")
-    what = it.add_mutually_exclusive_group(required=True)
-    what.add_argument("--table", metavar="FILE", help="a card of data objects")
-    what.add_argument("--application", metavar="MODULE:CLASS", help="a card of one's own")
-    what.add_argument("--program", metavar="COMMAND", help="the same in any language")
+    what = it.add_mutually_exclusive_group(required=True).add_argument
+    what("--table", metavar="FILE", help="a card of data objects")
+    what("--application", metavar="MODULE:CLASS", help="a card of one's own")
+    what("--program", metavar="COMMAND", help="the same in any language")
     where = it.add_mutually_exclusive_group(required=True)
     where.add_argument("--vpcd", nargs="?", const=VPCD, metavar="HOST:PORT",
                        help=f"vsmartcard's reader; {VPCD} if nothing else is given")
@@ -501,7 +500,8 @@ def parser() -> argparse.ArgumentParser:
     it.add_argument("--seed", type=int, default=0, help="for faults with p")
     it.add_argument("-v", action="store_true", help="prints the dialogue for trace_explain")
     it.add_argument("--no-echo", action="store_true", help="the pseudo terminal has no echo")
-    it.add_argument("--baud", type=int, default=9600, choices=BAUDS, help="the tty's rate; 9600")
+    it.add_argument("--baud", type=int, default=9600, help="the tty's rate; 9600",
+                    choices=[9600, 19200, 38400, 57600, 115200])
     it.add_argument("--reset", choices=SIGNALS, default="", help="the tty's line of the reset")
     return it
 

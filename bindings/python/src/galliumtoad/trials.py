@@ -169,12 +169,10 @@ def tried(trial: Trial, given: argparse.Namespace) -> Result:
         words = [re.sub(r"\{(\w+)\}", lambda it: told.get(str(it[1]), str(it[0])), word)
                  for word in given.terminal]
         status, output = carried(words, given.limit)
-        seconds = time.monotonic() - begun
-    verdict = run.verdict(status, output)
-    run.card.close()
+        seconds = round(time.monotonic() - begun, 1)
     lines = [it for it in output.splitlines() if VALUE.hex().upper() not in it] or [""]
-    return Result(trial.name, trial.faults, verdict, trial.is_unseen, status, round(seconds, 1),
-                  lines[-1][:200])
+    return Result(trial.name, trial.faults, run.verdict(status, output), trial.is_unseen, status,
+                  seconds, lines[-1][:200])
 
 
 def as_text(results: list[Result]) -> str:

@@ -3,6 +3,7 @@ The examples give the same answers at a pseudo terminal and as whole commands.""
 
 import os
 import select
+import signal
 import subprocess
 import sys
 from pathlib import Path
@@ -13,6 +14,7 @@ from galliumtoad.cards import Own, Program, application
 from galliumtoad.faults import Faults, Mistake, read
 from galliumtoad.simulate import Simulator, main
 from test_simulate import Vpcd
+from waiting import wait_until
 
 SOURCE = Path(simulate.__file__).parent.parent
 EXAMPLES = Path(__file__).resolve().parents[1] / "examples"
@@ -182,6 +184,16 @@ def test_a_program_that_is_silent_dead_or_rude(monkeypatch, script, line, why):
     it.program.kill()
     it.program.wait()
     assert str(found.value).startswith(f"the program at the line '{line}': {why}")
+
+
+def test_a_program_ends_with_the_simulation():
+    """Also one that does not read its input."""
+    card = Card("--program", "sh -c 'read a; echo $$ >&2; exec sleep 1000'")
+    number = int(card.program.stderr.readline())
+    os.write(card.line, bytes.fromhex("80"))
+    card.program.send_signal(signal.SIGINT)
+    assert card.program.wait(60) == 0
+    wait_until(lambda: not Path(f"/proc/{number}/exe").exists())
 
 
 def test_the_simulation_ends_with_its_program():

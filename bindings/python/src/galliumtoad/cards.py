@@ -1,8 +1,8 @@
 """What card `galliumtoad.simulate` has: data objects of a table, an application in Python, or one
 in a program of any language."""
 
+import atexit
 import importlib
-import os
 import re
 import select
 import shlex
@@ -51,7 +51,7 @@ def read_table(path: str) -> tuple[Card, bytes]:
 def application(name: str) -> Application:
     """Makes an object of a class, MODULE:CLASS. Raises `Mistake`."""
     module, _, kind = name.partition(":")
-    sys.path.insert(0, os.getcwd())
+    sys.path.insert(0, "")  # the folder of the program's user
     try:
         made = getattr(importlib.import_module(module), kind)()
     except (ImportError, AttributeError, ValueError) as why:
@@ -73,6 +73,7 @@ class Program(Application):
                                             stdout=subprocess.PIPE)
         except (OSError, ValueError, IndexError) as why:
             raise Mistake(f"{command}: {why}") from None
+        atexit.register(self.program.kill)
 
     def takes_data(self, header: bytes) -> bool:
         return self.ask(f"header {header.hex().upper()}", WAY)[0] == "to"

@@ -35,9 +35,9 @@ TURNED = bytes(int(f"{byte:08b}"[::-1], 2) ^ 0xFF for byte in range(256))  # inv
 
 class Simulator:
     """A card with an answer to reset and faults. In this process it is a transport for a
-    `Terminal`: of whole TPDUs if the answer to reset offers T=0 first, and of whole commands
-    otherwise. It raises `Gone` if the card is mute or has no power. The end of `with` frees the
-    card. `carried_out` gets each command that the card carries out.
+    `Terminal`: of whole TPDUs if it is a `Card` and the answer to reset offers T=0 first, and of
+    whole commands otherwise. It raises `Gone` if the card is mute or has no power. The end of
+    `with` frees the card. `carried_out` gets each command that the card carries out.
 
     >>> from galliumtoad import Card
     >>> from galliumtoad.faults import Faults, read

@@ -219,9 +219,8 @@ def possible(given: argparse.Namespace) -> list[Trial]:
     is_line = any("{tty}" in it for it in given.terminal)
     if not is_line and not any("{reader}" in it for it in given.terminal):
         raise Mistake("the command line of the terminal has neither {reader} nor {tty}")
-    found = [it for it in trials() if given.only in it.name]
-    return [it for it in found if is_line or all(KINDS[each.kind][1] == ANYWHERE
-                                                 for each in it.read())]
+    return [it for it in trials() if given.only in it.name and (
+        is_line or all(KINDS[each.kind][1] == ANYWHERE for each in it.read()))]
 
 
 def main(words: Optional[list[str]] = None) -> int:

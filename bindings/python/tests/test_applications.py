@@ -157,14 +157,14 @@ HEADER, COMMAND = "header 80100000", "command 80100000 1"
 
 @pytest.mark.parametrize(
     ("script", "line", "why"),
-    [("sleep 100", HEADER, "it said b'', and no more in 3 s"),
+    [("sleep 100", HEADER, "it said b'', and no more in 4 s"),
      ("printf from; exec sleep 100", HEADER, "it had said b'from'"),
-     ("read a; printf from; exec sleep 100", HEADER, "it said b'from', and no more in 3 s"),
-     ("read a; while printf x; do :; done", HEADER, "it said b'xxx"),
+     ("read a; printf from; exec sleep 100", HEADER, "it said b'from', and no more in 4 s"),
+     ("read a; while printf x; do :; done", HEADER, "it said b'" + 100 * "x" + "', and no more in"),
      ("read a", HEADER, "it has ended"), ("true", HEADER, "it has ended"),
      ("read a; echo either-card; exec sleep 100", HEADER, "it said b'either-card\\n'"),
      ("read a; echo from-card; read a", COMMAND, "it has ended"),
-     ("read a; echo from-card; exec sleep 100", COMMAND, "it said b'', and no more in 3 s"),
+     ("read a; echo from-card; exec sleep 100", COMMAND, "it said b'', and no more in 4 s"),
      *((f"read a; echo from-card; read a; echo {it}; exec sleep 100", COMMAND,
         f"it said b'{it}\\n'")
        for it in ("4A 6100", "4A 6C01", "6000", "4A4 9000", "4A", "4A 9000 1", "4A9000", "8000")),
@@ -174,7 +174,7 @@ HEADER, COMMAND = "header 80100000", "command 80100000 1"
       "it had said b'\\n'")],
 )
 def test_a_program_that_is_silent_dead_or_rude(monkeypatch, script, line, why):
-    monkeypatch.setattr(cards, "PATIENCE", 3.0)
+    monkeypatch.setattr(cards, "PATIENCE", 4.0 if "no more" in why else 60.0)
     it = Program(f"sh -c '{script}'")
     if not script.startswith(("read", "sleep")):
         select.select([it.program.stdout], [], [], 60)  # it speaks or ends by itself

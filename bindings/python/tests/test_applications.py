@@ -9,7 +9,7 @@ import sys
 from pathlib import Path
 
 import pytest
-from galliumtoad import Exchange, cards, simulate
+from galliumtoad import T1, Exchange, cards, simulate
 from galliumtoad.cards import Own, Program, application
 from galliumtoad.faults import Faults, Mistake, read
 from galliumtoad.simulate import Simulator, main
@@ -54,6 +54,7 @@ UICC = """
 8A01059000
 00A4080C022FE2 9000 00A4080C026F07 6A82 00A4100C02FFFF 6A86
 """
+T1_ATR = "3B800181"
 CARDS = {"counter:Counter": COUNTER, "payment:Payment": PAYMENT, "uicc:Uicc": UICC}
 ALL = pytest.mark.parametrize("name", CARDS)
 
@@ -65,7 +66,7 @@ def dialogue(name):
 
 
 class Card:
-    """The program at a pseudo terminal without an echo."""
+    """The program at a pseudo terminal without an echo. It talks T=1 with that answer to reset."""
 
     def __init__(self, *words):
         program = [sys.executable, "-m", "galliumtoad.simulate", *words, "--pty", "--no-echo"]
@@ -73,10 +74,20 @@ class Card:
             program, stdout=subprocess.PIPE, stderr=subprocess.PIPE, text=True, cwd=EXAMPLES,
             env={**os.environ, "PYTHONPATH": str(SOURCE)})
         self.line = os.open(self.program.stdout.readline().strip(), os.O_RDWR | os.O_NOCTTY)
-        assert os.read(self.line, 2) == b"\x3B\x00"
+        self.t1 = T1(self.carried) if words[-1] == T1_ATR else None
+        wanted = bytes.fromhex(T1_ATR if self.t1 else "3B00")
+        assert b"".join(os.read(self.line, 1) for _ in wanted) == wanted
+
+    def carried(self, data, waits):
+        """Sends a block, and returns the received bytes."""
+        os.write(self.line, data)
+        is_there = select.select([self.line], [], [], 8 if data else 2)[0]
+        return os.read(self.line, 300) if is_there else b""
 
     def answer(self, command):
-        """The answer of this line to a command, by T=0."""
+        """The answer of this line to a command."""
+        if self.t1:
+            return self.t1(bytes.fromhex(command)).hex().upper()
         with Exchange(bytes.fromhex(command)) as it:
             while (found := it.answer()) is None:
                 os.write(self.line, it.send_bytes())
@@ -88,9 +99,10 @@ class Card:
         return self.program.communicate()
 
 
+@pytest.mark.parametrize("atr", ["3B00", T1_ATR])
 @ALL
-def test_an_example_at_a_line(name):
-    card = Card("--application", name)
+def test_an_example_at_a_line(name, atr):
+    card = Card("--application", name, "--atr", atr)
     commands, answers = dialogue(name)
     assert [card.answer(it) for it in commands] == answers
     card.end()
@@ -210,13 +222,26 @@ def test_the_simulation_ends_with_its_program():
      (["--application", "counter:EXAMPLES"], "has no attribute"),
      (["--application", "pathlib:Path"], "pathlib:Path is no Application"),
      (["--application", ":"], "Empty module name"), (["--program", "/none/at/all"], "No such file"),
-     (["--program", ""], "list index out of range"), (["--program", "'"], "No closing quotation"),
-     (["--application", "counter:Counter", "--atr", "3B800181"], "talks T=0 alone at a line")],
+     (["--program", ""], "list index out of range"), (["--program", "'"], "No closing quotation")],
 )
 def test_cards_that_can_not_be_made(capsys, words, text):
     assert main([*words, "--pty"]) == 2
     out, error = capsys.readouterr()
     assert text in error and out == ""
+
+
+def test_faults_strike_at_such_cards_at_t1(tmp_path):
+    """Also with commands and responses of several blocks."""
+    (tmp_path / "faults").write_text(
+        "command 1, status 6F00\ncommand 2, twice\ncommand 3, forget\n"
+        f"command 5, add {'AB' * 40}\ncommand 7, wtx 2\ncommand 8, lose\n")
+    words = ["--faults", tmp_path / "faults", "--atr", T1_ATR]
+    card = Card("--application", "counter:Counter", *words)
+    counts = [card.answer("8010000000") for _ in range(5)]
+    assert counts == ["016F00", "039000", "9000", "049000", "05" + "AB" * 40 + "9000"]
+    assert card.answer("8010000028" + "00" * 40) == "6700"  # takes no data
+    assert [card.answer("8010000000") for _ in range(2)] == ["069000", "079000"]
+    card.end()
 
 
 def test_faults_strike_at_such_cards():

@@ -203,14 +203,17 @@ class Blocks:
 
     If faults strike at a command, the whole response is fetched from the card's end, changed, and
     sent in blocks from here: `own`. `shift` is by how much the numbers of blocks to and from the
-    card's end then differ from those on the line.
+    card's end then differ from those on the line. A card of an application answers like that too:
+    the end is then that of an empty card.
     """
 
     def __init__(self, simulator: Simulator) -> None:
-        self.of, self.card, self.faults = simulator, simulator.card, simulator.faults
-        self.taken, self.data, self.ifsd = ffi.new("size_t *"), b"", 32
-        self.asks, self.asked = b"", 0
-        self.due = self.next = 0  # N(S) of the next block on the line, of each end
+        self.of, self.faults, card = simulator, simulator.faults, simulator.card
+        self.is_own = isinstance(card, Own)
+        self.card = Card({bytes(5): {}}) if self.is_own else card
+        self.taken, self.data, self.asks = ffi.new("size_t *"), b"", b""
+        # `due` and `next` are N(S) of the next block on the line, of each end.
+        self.due, self.next, self.asked, self.ifsd = 0, 0, 0, 32
         self.fields, self.own, self.shift = list[bytes](), list[bytes](), [0, 0]
         self.instead: Optional[bytes] = None
         self.card._call("t1_begin")
@@ -251,6 +254,7 @@ class Blocks:
         return sent
 
     def reset(self) -> None:
+        self.of.card.reset()
         self.card.reset()
         self.card._call("t1_begin")
         self.shift = [self.due, self.next]
@@ -260,7 +264,7 @@ class Blocks:
         field, self.own = came[3:-1], []
         if not self.fields:
             self.instead = self.faults.begin(field, self.reset)
-            if self.instead is not None:  # GET RESPONSE changes nothing
+            if self.is_own or self.instead is not None:  # GET RESPONSE changes nothing
                 came = block(0, came[1], field[:1] + b"\xC0" + field[2:])
         self.due ^= 1
         self.fields.append(field)
@@ -272,11 +276,12 @@ class Blocks:
         fields, self.fields, begins = self.fields, [], self.next
         if self.instead is None:
             self.of.carried_out(b"".join(fields))
-            if not self.faults.due:
+            if not (self.is_own or self.faults.due):
                 return self.outgoing(first)
         answer = self.rest(first)
-        if self.instead is None and self.faults.strikes("twice"):
-            answer = self.again(fields)
+        if self.instead is None:
+            answer = self.of.apdu(b"".join(fields)) if self.is_own else answer
+            answer = self.again(fields) if self.faults.strikes("twice") else answer
         answer = self.faults.changed(answer if self.instead is None else self.instead)
         size = min(self.ifsd, 254)
         pieces = [answer[at : at + size] for at in range(0, len(answer), size)]
@@ -298,6 +303,8 @@ class Blocks:
 
     def again(self, fields: list[bytes]) -> bytes:
         """Lets the card carry out a command once more, and returns its response."""
+        if self.is_own:
+            return self.of.apdu(b"".join(fields))
         sent = b""
         for at, field in enumerate(fields, 1):
             number = (self.due ^ self.shift[0]) << 6
@@ -315,8 +322,6 @@ class Line:
                 says.specific and says.rate_code != DEFAULT_RATE):
             raise Mistake("a line needs an answer to reset that offers T=0, or T=1 with LRC, first,"
                           " at the rate of a reset")
-        if says.protocols[0] and isinstance(simulator.card, Own):
-            raise Mistake("a card of an application talks T=0 alone at a line")
         self.of, self.fd, self.has_echo, self.says = simulator, fd, has_echo, says
         self.is_inverse, self.baud = says.convention == lib.GT_INVERSE, 9600
 
@@ -384,8 +389,7 @@ class Line:
             byte = b""
         rest, protocol = [*request[2:-1]], request[1] & 15
         given = [rest.pop(0) if request[1] & bit else None for bit in (0x10, 0x20, 0x40)]
-        offered = (0,) if isinstance(self.of.card, Own) else self.says.protocols
-        if Pps(protocol, *given).request != request or protocol not in offered:
+        if Pps(protocol, *given).request != request or protocol not in self.says.protocols:
             self.of.faults.gone = Gone("mute")
         else:
             self.send(Pps(protocol, DEFAULT_RATE if given[0] == DEFAULT_RATE else None).request)
@@ -414,10 +418,9 @@ class Tty(Line):
     def serve(self) -> None:
         """Serves a terminal until the program or the line ends."""
         while not self.of.is_over.is_set():
-            while self.bit and not self.is_reset():
-                time.sleep(LOOKS_EVERY / 10)
-            while self.is_reset():
-                time.sleep(LOOKS_EVERY / 10)
+            for is_held in (True, False):
+                while self.bit and self.is_reset() != is_held:
+                    time.sleep(LOOKS_EVERY / 10)
             with contextlib.suppress(*[OSError] if self.bit else []):
                 self.talk()
 

@@ -72,7 +72,9 @@ class Card:
         program = [sys.executable, "-m", "galliumtoad.simulate", *words, "--pty", "--no-echo"]
         self.program = subprocess.Popen(
             program, stdout=subprocess.PIPE, stderr=subprocess.PIPE, text=True, cwd=EXAMPLES,
-            env={**os.environ, "PYTHONPATH": str(SOURCE)})
+            env={**os.environ, "PYTHONPATH": str(SOURCE)},
+            # these tests may run where SIGINT is ignored
+            preexec_fn=lambda: signal.signal(signal.SIGINT, signal.SIG_DFL))
         self.line = os.open(self.program.stdout.readline().strip(), os.O_RDWR | os.O_NOCTTY)
         self.t1 = T1(self.carried) if words[-1] == T1_ATR else None
         wanted = bytes.fromhex(T1_ATR if self.t1 else "3B00")

@@ -72,6 +72,17 @@ def test_verdicts():
         assert it.verdict(139, output) == "crashed"
 
 
+def test_a_get_may_be_sent_again():
+    """It changes nothing at the card. The same piece of a put does."""
+    trial = next(it for it in trials.trials() if it.name == "select late")
+    for command, verdict in [("00CA005100", "told"), ("10DA00510141", "twice")]:
+        it = Run(trial, 0)
+        it.struck.append("struck")
+        for _ in range(2):
+            it.carried_out(bytes.fromhex(command))
+        assert it.verdict(1, "") == verdict
+
+
 def test_what_can_be_tried():
     """A reader gets whole commands, a line all."""
     parsed = trials.parser().parse_args(["--", "x", "{reader}"])

@@ -17,7 +17,9 @@ def run(tmp_path, only, *ways, limit=20):
     made = tmp_path / "made.json"
     words = ["--only", only, "--limit", str(limit), "--json", str(made)]
     status = main([*words, "--html", str(tmp_path / "made.html"), "--", *JOB, *ways])
-    found = {it["name"]: it["verdict"] for it in json.loads(made.read_text())}
+    results = json.loads(made.read_text())
+    assert all(it["seconds"] < limit + 20 for it in results)  # on a busy machine
+    found = {it["name"]: it["verdict"] for it in results}
     return found, status, (tmp_path / "made.html").read_text()
 
 

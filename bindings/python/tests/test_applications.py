@@ -226,7 +226,8 @@ def test_the_simulation_ends_with_its_program():
      (["--application", ":"], "Empty module name"), (["--program", "/none/at/all"], "No such file"),
      (["--program", ""], "list index out of range"), (["--program", "'"], "No closing quotation")],
 )
-def test_cards_that_can_not_be_made(capsys, words, text):
+def test_cards_that_can_not_be_made(capsys, monkeypatch, words, text):
+    monkeypatch.setattr(simulate, "serve", lambda *_: pytest.fail("it serves"))
     assert main([*words, "--pty"]) == 2
     out, error = capsys.readouterr()
     assert text in error and out == ""

@@ -233,6 +233,17 @@ def test_cards_that_can_not_be_made(capsys, monkeypatch, words, text):
     assert text in error and out == ""
 
 
+def test_an_application_in_the_folder_of_its_user(tmp_path):
+    """Also for the installed program, which Python starts from another folder."""
+    (tmp_path / "simulate").write_text("from galliumtoad.simulate import main\nmain()\n")
+    words = [sys.executable, tmp_path / "simulate", "--application", "counter:Counter", "--pty"]
+    made = subprocess.Popen(words, stdout=subprocess.PIPE, text=True, cwd=EXAMPLES,
+                            env={**os.environ, "PYTHONPATH": str(SOURCE)})
+    assert made.stdout.readline().startswith("/dev/")
+    made.kill()
+    made.communicate()
+
+
 def test_faults_strike_at_such_cards_at_t1(tmp_path):
     """Also with commands and responses of several blocks."""
     (tmp_path / "faults").write_text(

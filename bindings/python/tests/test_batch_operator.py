@@ -8,11 +8,13 @@ import re
 import select
 import subprocess
 import time
-from datetime import datetime, timezone
+from datetime import datetime, timedelta, timezone
 from html.parser import HTMLParser
 
 import pytest
 from galliumtoad import Card
+from galliumtoad.batch import report
+from galliumtoad.batch.journal import Entry
 from galliumtoad.batch.script import Recorder, Script, carry_out, compared, identity
 from room import AID, SCRIPT, Room, ended, listed, steps_of, told
 
@@ -279,6 +281,14 @@ def test_reports(tmp_path):
     points = [tuple(map(float, it.split(","))) for it in page.points.split()]
     assert len(points) == 3 and points == sorted(points, key=lambda it: (it[0], -it[1]))
     assert points[0] == (0.0, 100.0) and points[-1] == (600.0, 0.0)
+
+
+def test_a_report_has_the_seconds_of_a_row(tmp_path):
+    begun = datetime(2026, 1, 1, tzinfo=timezone.utc)
+    for seconds, shown in ((0, ""), (0.04, "0.0"), (95.26, "95.3")):
+        ended = begun + timedelta(seconds=seconds)
+        line = report._line(3, Entry("00", "Slot0", begun, ended, "done", "0A"))
+        assert line == ["3", "0A", "Slot0", "2026-01-01 00:00:00+00:00", shown, "done", ""]
 
 
 def test_a_report_shows_signs_as_they_are(tmp_path):

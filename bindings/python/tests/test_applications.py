@@ -93,6 +93,7 @@ class Card:
         with Exchange(bytes.fromhex(command)) as it:
             while (found := it.answer()) is None:
                 os.write(self.line, it.send_bytes())
+                assert select.select([self.line], [], [], 30)[0], "the card is silent"
                 it.receive_bytes(os.read(self.line, 1))
             return (found.data + found.status.to_bytes(2, "big")).hex().upper()
 

@@ -63,6 +63,23 @@ def test_a_card_is_asked_for_once(tmp_path):
     assert out.endswith("1 of 1 rows done, 0 to decide\n")
 
 
+def test_a_reader_without_a_row_asks_for_no_card(tmp_path):
+    """Another one waits with the last row for its card."""
+    room, text = Room(tmp_path, 1, readers=2), ""
+    room.environment["LIES"] = "yes"
+    for name in room.names:
+        (tmp_path / name / "out").touch()
+    run = room.start()
+    while "insert a card for row 1\n" not in text:
+        line = run.stdout.readline()
+        assert line
+        text += line
+    time.sleep(1)
+    [name] = [it for it in room.names if f"{it}: insert a card for row 1" in text]
+    (tmp_path / name / "out").unlink()
+    assert "row None" not in text + ended(run)[0]
+
+
 def test_a_row_in_doubt_is_shown_with_its_card(tmp_path):
     room = Room(tmp_path, 1)
     room.put_in(room.names[0], 7)
@@ -132,6 +149,17 @@ def test_enter_does_not_write_a_card_that_was_written(tmp_path):
         os.write(terminal.ours, b"\n")
         time.sleep(0.3)
     assert room.events() == ["begin 1", "done 1"]
+    terminal.run.kill()
+
+
+def test_a_bar_counts_the_rows_of_its_run_for_the_rate(tmp_path):
+    room = Room(tmp_path, 20)
+    assert room.run("--stop-after=1")[0] == 1  # a card is pulled
+    done = sum(it.startswith("done ") for it in room.events())
+    room.environment["SLOW"] = "0.4"
+    terminal = Terminal(room)
+    text = terminal.read(" a minute")
+    assert done > 3 and f"{done} of 20 rows, 0 a minute" in text
     terminal.run.kill()
 
 

@@ -1,6 +1,9 @@
 """Tests gt_serial with serial_card, over two lines and a wire between them, and over the line that
 the card creates."""
 
+import contextlib
+import glob
+import os
 import signal
 import subprocess
 import tempfile
@@ -8,7 +11,7 @@ import time
 
 from card_cases import APP, GONE, Far, table
 from lines import Line, Wire, trace_of
-from programs import TABLE, TOP, Program, in_time
+from programs import SECONDS, TABLE, TOP, Program, in_time
 from terminal_cases import GET_WORDS, SELECT_WORDS, look, rate_of
 
 EXPLAIN = subprocess.check_output([TOP / "checks/built", "trace_explain"], text=True).strip()
@@ -123,9 +126,11 @@ def comes_back():
     words = [*SLACK, "--no-echo", far.name, "select", "A0000000031010"]
     for number in (signal.SIGKILL, signal.SIGTERM):
         killed = Program("gt_serial", [*words, "put", "5F20", "41*8000"])
-        time.sleep(1.0)
+        selected = killed.first_line()  # then the put begins
+        time.sleep(0.3)
         killed.kill(number)
-        look(killed, killed.end(), "= 9000 6F098407A0000000031010\n", "", -number)
+        look(killed, killed.end(), "", "", -number)
+        assert selected == "= 9000 6F098407A0000000031010", selected
         time.sleep(0.2)
         back = Program("gt_serial", [*words, "get", "5F20", "get", "50"])
         look(back, back.end(), "= 9000 6F098407A0000000031010\n= 9000 5F20034A4F45\n"
@@ -143,7 +148,8 @@ def comes_back_soon():
         words = [*SLACK, "--no-echo", far.name, "select", "A0000000031010", "get"]
         for long in ("5F20", "50"):
             killed = Program("gt_serial", [*words, long])
-            time.sleep(1.0)
+            killed.first_line()  # then the card sends
+            time.sleep(0.3)
             killed.kill(signal.SIGKILL)
             killed.end()
             time.sleep(0.2)
@@ -153,13 +159,24 @@ def comes_back_soon():
         far.end()
 
 
+def await_opened(process, name):
+    """Waits until a process has opened a tty, and a moment more, in which it locks it."""
+    until, found = time.monotonic() + SECONDS, []
+    while name not in found:
+        assert time.monotonic() < until, f"{name} was not opened"
+        time.sleep(0.01)
+        with contextlib.suppress(OSError):  # a descriptor was closed meanwhile
+            found = [os.readlink(it) for it in glob.glob(f"/proc/{process}/fd/*")]
+    time.sleep(0.3)
+
+
 def second_is_harmless():
     """A second terminal at a card's line prints which process has it, and does not reset the
     card."""
     far = Far("--no-echo", "--plan", "n" * 3000, TABLE)
     words = [*SLACK, "--no-echo", far.name, "select", "A0000000031010"]
     first = Program("gt_serial", words)
-    time.sleep(1.0)
+    await_opened(first.process.pid, far.name)
     second = Program("gt_serial", words)
     look(second, second.end(), "", f"process {first.process.pid} has the tty\n", 1)
     look(first, first.end(), "= 9000 6F098407A0000000031010\n", "", 0)

@@ -61,7 +61,7 @@ start_readers() {
   local count=$1
   shift
   start_pcscd "$room/readers" "$@"
-  for _ in $(seq 60); do
+  for _ in $(seq 120); do
     sleep 0.5
     if ! kill -0 "$pcscd" 2> /dev/null; then
       echo "pcscd has ended, with the readers in it"

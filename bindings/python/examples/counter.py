@@ -18,7 +18,8 @@ class Counter(Application):
         return 0x9000, bytes([self.count])
 
 
-with OwnCard(Counter()) as card:
-    for _ in range(2):
-        card.receive_bytes(bytes.fromhex("8010000001"))
-        print(card.send_bytes().hex())
+if __name__ == "__main__":
+    with OwnCard(Counter()) as card:
+        for _ in range(2):
+            card.receive_bytes(bytes.fromhex("8010000001"))
+            print(card.send_bytes().hex())

@@ -45,8 +45,9 @@ def run(card: OwnCard, command: str) -> Answer:
         return answer
 
 
-with OwnCard(Safe()) as card:
-    for command in "00D60000034A4F45 002000010434333231 002000010431323334".split():
-        print(run(card, command).status.words(ins=0x20))
-    for command in "00D60000034A4F45 00B0000003".split():
-        print(run(card, command).data)
+if __name__ == "__main__":
+    with OwnCard(Safe()) as card:
+        for command in "00D60000034A4F45 002000010434333231 002000010431323334".split():
+            print(run(card, command).status.words(ins=0x20))
+        for command in "00D60000034A4F45 00B0000003".split():
+            print(run(card, command).data)

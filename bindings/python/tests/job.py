@@ -14,7 +14,7 @@ way = ways[0] if ways else "good"
 line = os.open(tty, os.O_RDWR | os.O_NOCTTY)
 
 
-def received(seconds=1.0):
+def received(seconds=3.0):
     """The next character, or none."""
     os.set_blocking(line, False)
     until = time.monotonic() + seconds
@@ -41,7 +41,7 @@ def carried(terminal, operation):
     return terminal.answer()
 
 
-assert received(5) + received(5) == b"\x3b\x00"
+assert received(30) + received(30) == b"\x3b\x00"
 if way == "hangs":
     time.sleep(1000)
 if way == "crashes":

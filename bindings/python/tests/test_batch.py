@@ -101,7 +101,7 @@ def test_no_other_program_has_the_card_and_it_is_reset_at_the_end(tmp_path, monk
 
 def outcome_of(script, reader, row=None):
     """How a row ends, and why, if a reader carries out this script."""
-    from galliumtoad.batch.dialogue import Recorder, carry_out
+    from galliumtoad.batch.script import Recorder, carry_out
 
     row = row or {"name": "PERSON 1", "code": "00000001"}
     made = Script("script", script, [*row])

@@ -10,8 +10,7 @@ import time
 
 import pytest
 from galliumtoad import Card, Select, Terminal
-from galliumtoad.batch.dialogue import Recorder, carry_out, compared
-from galliumtoad.batch.script import Script
+from galliumtoad.batch.script import Recorder, Script, carry_out, compared
 from room import AID, HERE, SCRIPT, Room, ended, steps_of, told
 
 ROW = {"name": "PERSON 1", "code": "00000001"}

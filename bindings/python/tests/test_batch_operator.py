@@ -8,13 +8,14 @@ import re
 import select
 import subprocess
 import time
-from datetime import datetime, timezone
+from datetime import datetime, timedelta, timezone
 from html.parser import HTMLParser
 
 import pytest
 from galliumtoad import Card
-from galliumtoad.batch.dialogue import Recorder, carry_out, compared, identity
-from galliumtoad.batch.script import Script
+from galliumtoad.batch import report
+from galliumtoad.batch.journal import Entry
+from galliumtoad.batch.script import Recorder, Script, carry_out, compared, identity
 from room import AID, SCRIPT, Room, ended, listed, steps_of, told
 
 TIME = r"\d{4}-\d\d-\d\dT\d\d:\d\d:\d\d\.\d{3}[+-]\d\d:\d\d"
@@ -60,6 +61,23 @@ def test_a_card_is_asked_for_once(tmp_path):
     out, error = ended(run)
     assert error == "" and out.count(f"{name}: insert a card for row 1\n") == 1
     assert out.endswith("1 of 1 rows done, 0 to decide\n")
+
+
+def test_a_reader_without_a_row_asks_for_no_card(tmp_path):
+    """Another one waits with the last row for its card."""
+    room, text = Room(tmp_path, 1, readers=2), ""
+    room.environment["LIES"] = "yes"
+    for name in room.names:
+        (tmp_path / name / "out").touch()
+    run = room.start()
+    while "insert a card for row 1\n" not in text:
+        line = run.stdout.readline()
+        assert line
+        text += line
+    time.sleep(1)
+    [name] = [it for it in room.names if f"{it}: insert a card for row 1" in text]
+    (tmp_path / name / "out").unlink()
+    assert "row None" not in text + ended(run)[0]
 
 
 def test_a_row_in_doubt_is_shown_with_its_card(tmp_path):
@@ -131,6 +149,17 @@ def test_enter_does_not_write_a_card_that_was_written(tmp_path):
         os.write(terminal.ours, b"\n")
         time.sleep(0.3)
     assert room.events() == ["begin 1", "done 1"]
+    terminal.run.kill()
+
+
+def test_a_bar_counts_the_rows_of_its_run_for_the_rate(tmp_path):
+    room = Room(tmp_path, 20)
+    assert room.run("--stop-after=1")[0] == 1  # a card is pulled
+    done = sum(it.startswith("done ") for it in room.events())
+    room.environment["SLOW"] = "0.4"
+    terminal = Terminal(room)
+    text = terminal.read(" a minute")
+    assert done > 3 and f"{done} of 20 rows, 0 a minute" in text
     terminal.run.kill()
 
 
@@ -280,6 +309,14 @@ def test_reports(tmp_path):
     points = [tuple(map(float, it.split(","))) for it in page.points.split()]
     assert len(points) == 3 and points == sorted(points, key=lambda it: (it[0], -it[1]))
     assert points[0] == (0.0, 100.0) and points[-1] == (600.0, 0.0)
+
+
+def test_a_report_has_the_seconds_of_a_row(tmp_path):
+    begun = datetime(2026, 1, 1, tzinfo=timezone.utc)
+    for seconds, shown in ((0, ""), (0.04, "0.0"), (95.26, "95.3")):
+        ended = begun + timedelta(seconds=seconds)
+        line = report._line(3, Entry("00", "Slot0", begun, ended, "done", "0A"))
+        assert line == ["3", "0A", "Slot0", "2026-01-01 00:00:00+00:00", shown, "done", ""]
 
 
 def test_a_report_shows_signs_as_they_are(tmp_path):

@@ -8,13 +8,13 @@ import os
 import pkgutil
 import subprocess
 import sys
-import time
 import tokenize
 from pathlib import Path
 
 import galliumtoad
 import pytest
 from galliumtoad import Get, Select, Terminal
+from waiting import wait_for_looks
 
 MODULES = [it.name for it in pkgutil.iter_modules(galliumtoad.__path__) if it.name[0] != "_"]
 # Modules that no caller needs to know.
@@ -103,9 +103,9 @@ def test_a_card_behind_a_pseudo_terminal():
             assert [it.status for it in answers] == [0x6985, 0x9000, 0x9000]
             assert answers[2].object(0x5F20).value == b"JOE"
             os.write(line, bytes.fromhex("00CA5F2006"))
-            time.sleep(0.1)
+            assert os.read(line, 1) == b"\xca"  # the card has begun to answer
             os.close(line)
-            time.sleep(0.1)
+            wait_for_looks(card)
         card.kill()
 
 
@@ -122,7 +122,7 @@ def code(file):
 
 
 # What simulates cards and tries terminals.
-SIMULATION = ("simulate.py", "faults.py", "trials.py")
+SIMULATION = ("simulate.py", "cards.py", "faults.py", "trials.py")
 
 
 def test_the_package_stays_small():
@@ -141,7 +141,7 @@ def test_the_simulation_stays_small():
 def test_the_batch_stays_small():
     """Its modules, and each of their functions."""
     files = [*TOP.glob("src/galliumtoad/batch/*.py")]
-    assert 500 < sum(len(code(it)) for it in files) <= 905
+    assert 800 < sum(len(it.read_text().splitlines()) for it in files) <= 1100
     short_functions(files)
 
 

@@ -100,7 +100,7 @@ class Desk(Room):
 
     def await_readers(self, readers):
         asks = "from smartcard.System import readers; print(len(readers()))"
-        for _ in range(60):
+        for _ in range(240):
             time.sleep(0.25)
             assert self.pcscd.poll() is None, (self.path / "pcscd.log").read_text()[-2000:]
             found = subprocess.run(

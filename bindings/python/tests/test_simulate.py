@@ -16,6 +16,7 @@ import pytest
 from galliumtoad import Card, simulate
 from galliumtoad.faults import Faults, Mistake, block, read
 from galliumtoad.simulate import Simulator, main, read_table, serve_vpcd
+from waiting import wait_for_looks
 
 SOURCE = str(Path(simulate.__file__).parent.parent)
 AID = "A0000000031010"
@@ -42,9 +43,9 @@ class Card_at_pty:
 
     def close(self):
         os.close(self.line)
-        time.sleep(0.3)
+        wait_for_looks(self.program)
 
-    def read(self, count, seconds=10):
+    def read(self, count, seconds=30):
         found = b""
         while len(found) < count and select.select([self.line], [], [], seconds)[0]:
             found += os.read(self.line, 1)
@@ -141,7 +142,7 @@ def test_silence_until_the_next_reset(at_pty, fault):
         card.open()
         assert card.read(2).hex() == "3b00"
         assert card.talk(bytes.fromhex("00CA5F2006"), 0) == b""
-        assert card.read(2, 0.5 if is_gone else 10).hex() == ("" if is_gone else "6985")
+        assert card.read(2, 0.5 if is_gone else 30).hex() == ("" if is_gone else "6985")
         card.close()
 
 
@@ -158,14 +159,14 @@ def test_a_tty(tmp_path):
         stderr=subprocess.PIPE,
     )
     found = b""
-    while len(found) < 2 and select.select([ours], [], [], 20)[0]:
+    while len(found) < 2 and select.select([ours], [], [], 60)[0]:
         found += os.read(ours, 2)
     assert found.hex() == "3b00"
     os.write(ours, SELECT[:5])
     assert os.read(ours, 1).hex() == "a4"
     os.close(theirs)
     os.close(ours)
-    assert program.wait(20) == 1
+    assert program.wait(60) == 1
 
 
 class Vpcd:
@@ -173,7 +174,7 @@ class Vpcd:
 
     def __init__(self, faults="", of=None):
         self.server = socket.create_server(("localhost", 0))
-        self.server.settimeout(20)
+        self.server.settimeout(60)
         found = Faults(read(faults))
         self.struck = []
         card = Card({bytes.fromhex(AID): {0x5F20: b"JOE"}})
@@ -186,7 +187,7 @@ class Vpcd:
 
     def accept(self):
         self.line = self.server.accept()[0]
-        self.line.settimeout(20)
+        self.line.settimeout(60)
 
     def say(self, data):
         self.line.sendall(len(data).to_bytes(2, "big") + data)
@@ -232,15 +233,15 @@ def test_vpcd(vpcd):
     assert it.ask(bytes.fromhex("00CA5F2000")).hex() == "6985"
 
 
-@pytest.mark.parametrize(("fault", "least"), [("mute", 5), ("power off", 0)])
-def test_vpcd_loses_the_card(vpcd, monkeypatch, fault, least):
+@pytest.mark.parametrize(("fault", "least", "most"), [("mute", 2, 60), ("power off", 0, 50)])
+def test_vpcd_loses_the_card(vpcd, monkeypatch, fault, least, most):
     """A mute card leaves later than one without power. Both come again, reset."""
-    monkeypatch.setattr(simulate, "MUTE_FOR", 5.0)
+    monkeypatch.setattr(simulate, "MUTE_FOR", least or 60.0)
     it = vpcd(f"command 2, {fault}")
     it.ask(SELECT)
     begun = time.monotonic()
     assert it.ask(bytes.fromhex("00CA5F2000")) is None
-    assert least <= time.monotonic() - begun < least + 4.5
+    assert least <= time.monotonic() - begun < most
     it.line.close()
     it.accept()
     assert it.ask(bytes.fromhex("00CA5F2000")).hex() == "6985" and len(it.struck) == 1

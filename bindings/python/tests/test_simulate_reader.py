@@ -1,6 +1,7 @@
 """Tests simulated cards and trials over a private pcscd with vsmartcard's vpcd."""
 
 import os
+import platform
 import socket
 import subprocess
 import sys
@@ -9,23 +10,47 @@ from pathlib import Path
 
 import pytest
 from galliumtoad import simulate
+from room import SCRIPT
+from test_applications import CARDS, dialogue
 from test_reader import PRIVATE, missing, namespace
+from waiting import SECONDS, wait_until
 
 TESTS = Path(__file__).resolve().parent
 EXAMPLES, C = TESTS.parent / "examples", TESTS.parents[1] / "c"
+EXPLAINS = TESTS.parents[1] / "bin" / f"{platform.machine()}-linux-gnu" / "trace_explain"
 VPCD = "/usr/lib/pcsc/drivers/serial/libifdvpcd.so"
 READER = "Virtual PCD 00 00"
 AID = "A0000000031010"
+# Waits for a card of another number than the one before, and sends it commands until one has no
+# answer. Prints the answers; the last line is the card's number and the seconds that they took.
 ASKS = """
 import sys, time
-from smartcard.System import readers
-card = next(it for it in readers() if str(it) == sys.argv[1]).createConnection()
-card.connect()
+from smartcard import scard
+from smartcard.Exceptions import SmartcardException
+from smartcard.pcsc.PCSCCardConnection import PCSCCardConnection
+reader, before, seconds, *commands = sys.argv[1:]
+until, card, is_open = time.monotonic() + float(seconds), PCSCCardConnection(reader), False
+_, context = scard.SCardEstablishContext(scard.SCARD_SCOPE_USER)
+while not is_open:
+    _, found = scard.SCardGetStatusChange(context, 0, [(reader, scard.SCARD_STATE_UNAWARE)])
+    state = found[0][1] if found else 0
+    is_late = time.monotonic() > until
+    try:
+        if is_late or (state & scard.SCARD_STATE_PRESENT and str(state >> 16) != before):
+            card.connect()
+            is_open = True
+    except SmartcardException:
+        if is_late:
+            raise
+    time.sleep(0.02)
 begun = time.monotonic()
-for command in sys.argv[2:]:
-    data, sw1, sw2 = card.transmit(list(bytes.fromhex(command)))
-    print(bytes([*data, sw1, sw2]).hex())
-print(time.monotonic() - begun, file=sys.stderr)
+try:
+    for command in commands:
+        data, sw1, sw2 = card.transmit(list(bytes.fromhex(command)))
+        print(bytes([*data, sw1, sw2]).hex())
+except SmartcardException:
+    pass
+print(state >> 16, time.monotonic() - begun)
 """
 
 
@@ -56,32 +81,33 @@ class Desk:
         words = [*namespace(), *PRIVATE, path / "run", "pcscd", "--foreground", "--config"]
         self.made = [subprocess.Popen([*words, path / "conf"], stdout=subprocess.DEVNULL,
                                       stderr=subprocess.DEVNULL, env=self.environment)]
-        for _ in range(100):
-            with socket.socket() as it:
-                if not it.connect_ex(("localhost", self.port)):
-                    break
-            time.sleep(0.1)
-        time.sleep(1)
+        self.number = ""
+        wait_until(lambda: not self.is_free())
+
+    def is_free(self):
+        """Whether nothing listens for cards yet."""
+        with socket.socket() as it:
+            return it.connect_ex(("localhost", self.port)) != 0
 
     def card(self, *words):
-        """Puts a card into the reader, and waits for it. Returns the program."""
+        """Puts a card into the reader. Returns the program."""
         program = [sys.executable, "-m", "galliumtoad.simulate", "--vpcd", self.address, "-v"]
         with open(self.path / "trace", "w") as trace:
             made = subprocess.Popen([*program, *words], stdout=trace, stderr=trace,
                                     env=self.environment, cwd=EXAMPLES)
         self.made.append(made)
-        for _ in range(100):
-            time.sleep(0.2)
-            if "reset" in (self.path / "trace").read_text():
-                break
-        time.sleep(1)
         return made
 
-    def ask(self, *commands):
-        """What pyscard receives, and the seconds that it took."""
-        done = subprocess.run([sys.executable, "-c", ASKS, READER, *commands], text=True,
-                              capture_output=True, env=self.environment, timeout=120)
-        return done.stdout.split(), done.stderr.splitlines()[-1]
+    def ask(self, *commands, is_new=True):
+        """What pyscard receives until a command has no answer, and the seconds that it took. It
+        waits for the card, and for one after that of the last call if `is_new`."""
+        words = [sys.executable, "-c", ASKS, READER, self.number if is_new else "", str(SECONDS)]
+        done = subprocess.run([*words, *commands], text=True, capture_output=True,
+                              env=self.environment, timeout=3 * SECONDS)
+        assert done.returncode == 0, done.stderr
+        *answers, last = done.stdout.splitlines()
+        self.number, seconds = last.split()
+        return answers, float(seconds)
 
     def end(self):
         for it in reversed(self.made):
@@ -103,12 +129,84 @@ def test_a_mute_card_and_one_without_power(desk):
     desk.card("--table", desk.path / "table", "--faults", desk.path / "faults")
     select, get = f"00A4040007{AID}", "00CA5F2000"
     assert desk.ask(select, get)[0] == ["610b", "5f20034a4f459000"]
-    assert desk.ask(select)[0] == []  # no power
-    time.sleep(4)
-    begun = time.monotonic()
-    assert desk.ask(select)[0] == [] and time.monotonic() - begun > 9  # mute for ten seconds
-    time.sleep(4)
+    assert desk.ask(select, is_new=False)[0] == []  # no power
+    answers, seconds = desk.ask(select)
+    assert answers == [] and seconds > 9  # mute for ten seconds
     assert desk.ask(select, get)[0] == ["610b", "5f20034a4f459000"]
+
+
+# At which command of a row a card loses its power, whether it carries that out, and what it holds
+# then. 1 selects, 2 gets the identifier, 3, 5, 7 and 8 put. The others read back. A reader is set
+# aside after five such cards, so some keep their power.
+ONE, TWO, WHOLE = "partly: 1 of 3 objects", "partly: 2 of 3 objects", (0, True, "")
+PULLED = [(1, True, ""), (2, True, ""), (3, False, "untouched"), (3, True, ONE), (4, True, ONE),
+          (5, False, ONE), WHOLE, (5, True, TWO), (6, True, TWO), (7, True, TWO), (8, False, TWO),
+          WHOLE, (8, True, "done"), (9, True, "done"), WHOLE]
+
+
+@pytest.mark.parametrize("name", CARDS)
+def test_an_example_in_a_reader(desk, name):
+    """It gives the answers of the other ways."""
+    desk.card("--application", name)
+    commands, answers = dialogue(name)
+    assert desk.ask(*commands)[0] == [it.lower() for it in answers]
+
+
+def test_a_payment_card_is_read_and_explained(desk):
+    """By gt_pcsc; the trace of the card names what went over."""
+    subprocess.run(["make", "-s", f"BUILD={desk.path}", desk.path / "gt_pcsc"], cwd=C, check=True)
+    desk.card("--application", "payment:Payment")
+    desk.ask()
+    sent = ["80A8000008830611223344097800", "00B2010C00", "80CA9F1700"]
+    words = ["select", "325041592E5359532E4444463031", "select", "A0000000041010"]
+    words += [it for command in sent for it in ("send", command)]
+    done = subprocess.run([desk.path / "gt_pcsc", "-r", READER, *words], text=True, timeout=SECONDS,
+                          capture_output=True, env=desk.environment)
+    assert done.stdout.splitlines()[-3:] == [
+        "= 9000 770A82021800940408010200",
+        "= 9000 701D570C1234567890123452D30122015F200C544F41442F47414C4C49554D", "= 9000 9F170103"]
+    explained = subprocess.run([EXPLAINS, "--tpdu"], input=(desk.path / "trace").read_text(),
+                               text=True, capture_output=True, timeout=SECONDS).stdout
+    for text in ("GET PROCESSING OPTIONS, class 80", "READ RECORD 1 of file 1", '"TEST"',
+                 '"TOAD/GALLIUM"', "6A82 file or application not found"):
+        assert (text in explained) == (text[0] != "6"), explained
+
+
+def test_a_batch_whose_cards_are_pulled(desk):
+    """Each card has one row: it comes again, and is refused if it has begun to change."""
+    path, table, faults = desk.path, desk.path / "table", desk.path / "faults"
+    names = [f"PERSON {at},{at:08X}" for at in range(len(PULLED))]
+    (path / "rows.csv").write_text("\n".join(["name,code", *names, ""]))
+    (path / "script").write_text(SCRIPT)
+    batch = [sys.executable, "-m", "galliumtoad.batch", "script", "--rows=rows.csv",
+             "--journal=journal", "--reader=00 00"]
+    with open(path / "out", "w") as out:
+        run = subprocess.Popen([*batch, "--new", "--id=9F7F"], stdout=out, stderr=out, cwd=path,
+                               env=desk.environment)
+    desk.made.append(run)
+
+    def await_(line):
+        wait_until(lambda: run.poll() is not None or line in (path / "out").read_text())
+        assert line in (path / "out").read_text()
+
+    def look(row):
+        done = subprocess.run([*batch, f"--look={row}"], cwd=path, env=desk.environment, text=True,
+                              capture_output=True, timeout=SECONDS)
+        return done.stdout
+
+    for row, (at, is_carried_out, word) in enumerate(PULLED, 1):
+        table.write_text(f"app {AID}\nobject 9F7F {row:02X}\natr 3B800181\n")
+        faults.write_text(f"command {at}, power off\n" * (at > 0)
+                          + f"command {at}, forget\n" * (not is_carried_out))
+        card = desk.card("--table", table, "--faults", faults)
+        await_(f" card {row:02X} has row {row}, which is unsure" if word else
+               f" row {row} done, card {row:02X}, ")
+        if word:
+            wait_until(lambda: look(row) == f"row {row}, card {row:02X}: {word}\n")
+        card.terminate()
+        card.wait()
+    assert run.wait(SECONDS) == 1
+    assert (path / "out").read_text().endswith("5 of 15 rows done, 10 to decide\n")
 
 
 def test_trials_over_a_reader(desk):
@@ -126,13 +224,11 @@ def test_as_fast_as_another_card(desk):
     (desk.path / "table").write_text(f"app {AID}\n")
     commands = ["00A4000C023F00"] * 300
     ours = desk.card("--table", desk.path / "table", "--atr", "3B800181")
-    mine = min(float(desk.ask(*commands)[1]) for _ in range(3))
+    mine = min(desk.ask(*commands, is_new=not at)[1] for at in range(3))
     ours.terminate()
     ours.wait()
-    time.sleep(2)
     words = [sys.executable, C / "tests" / "vicc.py", str(desk.port), "3B800181"]
     desk.made.append(subprocess.Popen(words, stdout=subprocess.DEVNULL, stderr=subprocess.DEVNULL))
-    time.sleep(3)
-    others = min(float(desk.ask(*commands)[1]) for _ in range(3))
+    others = min(desk.ask(*commands, is_new=not at)[1] for at in range(3))
     print(f"{300 / mine:.0f} commands a second, and {300 / others:.0f} of the other card")
     assert mine <= others

@@ -17,7 +17,9 @@ def run(tmp_path, only, *ways, limit=20):
     made = tmp_path / "made.json"
     words = ["--only", only, "--limit", str(limit), "--json", str(made)]
     status = main([*words, "--html", str(tmp_path / "made.html"), "--", *JOB, *ways])
-    found = {it["name"]: it["verdict"] for it in json.loads(made.read_text())}
+    results = json.loads(made.read_text())
+    assert all(it["seconds"] < limit + 20 for it in results)  # on a busy machine
+    found = {it["name"]: it["verdict"] for it in results}
     return found, status, (tmp_path / "made.html").read_text()
 
 
@@ -70,6 +72,17 @@ def test_verdicts():
         assert it.verdict(None, output) == "hung" and it.verdict(-11, output) == "crashed"
         assert it.verdict(1, output) == ("told" if is_struck else "unmet")
         assert it.verdict(139, output) == "crashed"
+
+
+def test_a_get_may_be_sent_again():
+    """It changes nothing at the card. The same piece of a put does."""
+    trial = next(it for it in trials.trials() if it.name == "select late")
+    for command, verdict in [("00CA005100", "told"), ("10DA00510141", "twice")]:
+        it = Run(trial, 0)
+        it.struck.append("struck")
+        for _ in range(2):
+            it.carried_out(bytes.fromhex(command))
+        assert it.verdict(1, "") == verdict
 
 
 def test_what_can_be_tried():

@@ -155,8 +155,8 @@ class Faults:
         self.chance = random.Random(seed).random
         self.count, self.header, self.was_6c = 0, b"", False
         self.due: list[Fault] = []
-        self.loop = ""
-        self.pause = 0.0
+        self.loop, self.pause = "", 0.0
+        self.gone: Optional[Gone] = None  # from then on the card is silent until a reset
 
     @classmethod
     def of_file(cls, path: str, seed: int) -> "Faults":
@@ -174,11 +174,12 @@ class Faults:
             raise Mistake("\n".join(f"{self.name}:{it.line}: {it.text}: this needs"
                                     f" {KINDS[it.kind][1]}, and {where} has none" for it in wrong))
 
-    def begin(self, header: bytes) -> None:
-        """A command begins: its header, or all of it. Chooses what strikes at it."""
+    def begin(self, header: bytes, reset: Callable[[], None] = lambda: None) -> Optional[bytes]:
+        """A command begins: its header, or all of it. Chooses what strikes at it. Returns the
+        answer of a card that does not carry the command out, or None if it does."""
         if header[: len(self.since)] != self.since[: len(header)]:
             self.due = []
-            return
+            return None
         self.since, ins = b"", header[1]
         is_again = self.was_6c and header[:4] == self.header
         is_next = not is_again and ins != GET_RESPONSE
@@ -188,7 +189,17 @@ class Faults:
         self.due = kept + [it for it in due if it not in kept]
         if is_next:
             self.header, self.loop = header[:4], ""
-        self.was_6c = False
+        self.was_6c, le = False, header[4] if len(header) > 4 else 0
+        if self.strikes("forget"):
+            return OK
+        if self.strikes("6C again") or self.loop == "6C":
+            self.loop, self.was_6c = "6C", True
+            return bytes([0x6C, le % 255 + 1])  # never the length that was asked for
+        if self.loop == "61" and ins == GET_RESPONSE:
+            return bytes(le or 256) + MORE
+        if self.strikes("reset"):
+            reset()
+        return None
 
     def strikes(self, kind: str) -> Optional[Fault]:
         """Prints and returns the chosen fault of this kind, or returns None."""
@@ -198,18 +209,6 @@ class Faults:
                 it.is_spent = True
                 self.tell(f"fault at command {self.count}: {self.name}:{it.line}: {it.text}")
                 return it
-        return None
-
-    def instead(self, command: bytes) -> Optional[bytes]:
-        """The answer of a card that does not carry the command out, or None if it does."""
-        le = command[4] if len(command) > 4 else 0
-        if self.strikes("forget"):
-            return OK
-        if self.strikes("6C again") or self.loop == "6C":
-            self.loop, self.was_6c = "6C", True
-            return bytes([0x6C, le % 255 + 1])  # never the length that was asked for
-        if self.loop == "61" and command[1] == GET_RESPONSE:
-            return bytes(le or 256) + MORE
         return None
 
     def changed(self, answer: bytes) -> bytes:
@@ -230,7 +229,8 @@ class Faults:
             self.pause += float(late.value)
         for kind in ("mute", "power off"):
             if self.strikes(kind):
-                raise Gone(kind)
+                self.gone = Gone(kind)
+                raise self.gone
         return data + status
 
     def bytes_of(self, sent: bytes, place: int) -> bytes:

@@ -34,7 +34,8 @@ def writable(room: int) -> tuple[Any, Any]:
 
 def copied(made: Any, count: Any) -> bytes:
     """Copies the bytes that the library wrote into a buffer."""
-    return ffi.buffer(made, count[0])[:]
+    found: bytes = ffi.buffer(made, count[0])[:]
+    return found
 
 
 def shown(record: Any) -> str:

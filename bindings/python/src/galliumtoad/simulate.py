@@ -13,60 +13,74 @@ import termios
 import threading
 import time
 import tty
-from pathlib import Path
 from typing import Callable, Iterator, Optional, Union
 
 from ._library import ffi, lib
 from .answers import Atr, Edc, Pps
 from .card import Card
-from .errors import AtrError, Code, CommandError, Error, OutOfMemory
+from .cards import LEAST_ATR, TAKE_DATA, Own, Program, application, read_table
+from .errors import AtrError, Code, CommandError, OutOfMemory
 from .faults import ECHO, LINE, OK, T0, T1, Faults, Gone, Mistake, block, is_block
 from .handle import readable
 from .terminal import Level
 
 VPCD = "localhost:35963"
 POWER_OFF, POWER_ON, RESET, GET_ATR = (bytes([it]) for it in (0, 1, 2, 4))  # vpcd's own messages
-MUTE_FOR = 10.0  # seconds until the connection to vpcd closes
-LEAST_ATR, PPSS, LOOKS_EVERY, FOREVER = b"\x3B\x00", b"\xFF", 0.01, float("inf")
-TAKE_DATA = (0xA4, 0xDA)  # the instructions of `Card` that do
+MUTE_FOR, AWAY_FOR = 10.0, 2.0  # seconds until the connection to vpcd closes, and opens again
+PPSS, LOOKS_EVERY, FOREVER = b"\xFF", 0.01, float("inf")
 IFS_REQUEST, RESYNCH_REQUEST, DEFAULT_RATE = 0xC1, 0xC0, 0x11
-BAUDS = [9600, 19200, 38400, 57600, 115200]
 SIGNALS = {"cts": termios.TIOCM_CTS, "dsr": termios.TIOCM_DSR, "dcd": termios.TIOCM_CAR}
 TURNED = bytes(int(f"{byte:08b}"[::-1], 2) ^ 0xFF for byte in range(256))  # inverse convention
 
 
-def read_table(path: str) -> tuple[Card, bytes]:
-    """Reads the lines `app`, `object`, `locked` and `atr` of a file. Returns the card and its
-    answer to reset. Raises `Mistake`."""
-    tables: dict[bytes, dict[int, bytes]] = {}
-    locked, atr, where, aid = [], b"", path, b""
-    try:
-        for line, words in enumerate(Path(path).read_text("utf-8").splitlines(), 1):
-            where = f"{path}: line {line}"
-            kind, *rest = words.split() if words.strip() and words[0] != "#" else ["#"]
-            given = [bytes.fromhex("" if it == "-" else it) for it in rest if kind != "#"]
-            if (kind, len(rest)) == ("app", 1) and given[0] not in tables:
-                aid, tables[given[0]] = given[0], {}
-            elif (kind, len(rest)) == ("atr", 1) and not atr:
-                atr = given[0]
-            elif kind in ("object", "locked") and len(rest) == 2 and tables:
-                tables[aid][int.from_bytes(given[0], "big")] = given[1]
-                locked += [(aid, int.from_bytes(given[0], "big"))] if kind == "locked" else []
-            elif kind != "#":
-                raise ValueError("not a line of a table")
-        return Card(tables, locked), atr or LEAST_ATR
-    except (OSError, ValueError, Error) as why:
-        raise Mistake(f"{where}: {why}") from None
+class Simulator:
+    """A card with an answer to reset and faults. In this process it is a transport for a
+    `Terminal`: of whole TPDUs if it is a `Card` and the answer to reset offers T=0 first, and of
+    whole commands otherwise. It raises `Gone` if the card is mute or has no power. The end of
+    `with` frees the card. `carried_out` gets each command that the card carries out.
 
+    >>> from galliumtoad import Card
+    >>> from galliumtoad.faults import Faults, read
+    >>> faults = Faults(read("command 1, status 6A82"))
+    >>> with Simulator(Card({bytes(5): {}}), faults=faults) as reader:
+    ...     reader(bytes.fromhex("00A40400050000000000")).hex()
+    fault at command 1: faults:1: command 1, status 6A82
+    '6a82'
+    """
 
-class Trace:
-    """Prints the dialogue in lines that `trace_explain` reads, if `shows`, and notes always."""
+    def __init__(self, card: Union[Card, Own], atr: bytes = LEAST_ATR,
+                 faults: Optional[Faults] = None, shows: bool = False,
+                 carried_out: Callable[[bytes], object] = lambda command: None) -> None:
+        self.card, self.atr, self.faults = card, atr, faults or Faults()
+        self.shows, self.sign, self.carried_out = shows, "", carried_out
+        self.faults.tell = self.note
+        self.is_over, self.is_seen = threading.Event(), threading.Event()
+        self.says: Optional[Atr] = None
+        with contextlib.suppress(AtrError):  # whole commands reach a card with any answer
+            self.says = Atr(atr)
+        is_t1 = self.says is not None and self.says.protocols[0] > 0
+        self.level = Level.TPDU if isinstance(card, Card) and not is_t1 else Level.APDU
 
-    def __init__(self, shows: bool = False) -> None:
-        self.shows, self.sign = shows, ""
+    def __enter__(self) -> "Simulator":
+        return self
+
+    def __exit__(self, *_: object) -> None:
+        self.card.close()
+
+    def __call__(self, data: bytes, /) -> bytes:
+        self.faults.check([], "a card in this process")
+        card, is_apdu = self.card, self.level is Level.APDU
+        return self.whole(data, self.apdu if is_apdu or isinstance(card, Own) else card.tpdu)
+
+    def reset(self) -> None:
+        """Resets the card, which then has power and is not mute."""
+        self.card.reset()
+        self.faults.gone = None
+        self.note("reset" if self.shows else None)
 
     def carried(self, sign: str, data: bytes) -> None:
-        """Bytes of the terminal (`>`) or the card (`<`) went over. A line has those of one end."""
+        """Prints what the terminal (`>`) or the card (`<`) sent, in lines as `trace_explain` reads
+        them, if `shows`. A line has the bytes of one end."""
         if self.shows and data:
             if sign != self.sign:
                 self.note(None)
@@ -82,51 +96,6 @@ class Trace:
             print(text, flush=True)
         self.sign = ""
 
-
-class Simulator:
-    """A card with an answer to reset and faults. In this process it is a transport for a
-    `Terminal`: of whole TPDUs if the answer to reset offers T=0 first, and of whole commands
-    otherwise. It raises `Gone` if the card is mute or has no power. The end of `with` frees the
-    card. `carried_out` gets each command that the card carries out.
-
-    >>> from galliumtoad import Card
-    >>> from galliumtoad.faults import Faults, read
-    >>> faults = Faults(read("command 1, status 6A82"))
-    >>> with Simulator(Card({bytes(5): {}}), faults=faults) as reader:
-    ...     reader(bytes.fromhex("00A40400050000000000")).hex()
-    fault at command 1: faults:1: command 1, status 6A82
-    '6a82'
-    """
-
-    def __init__(self, card: Card, atr: bytes = LEAST_ATR, faults: Optional[Faults] = None,
-                 shows: bool = False,
-                 carried_out: Callable[[bytes], object] = lambda command: None) -> None:
-        self.card, self.atr, self.faults = card, atr, faults or Faults()
-        self.trace, self.carried_out = Trace(shows), carried_out
-        self.faults.tell = self.trace.note
-        self.is_over, self.has_power = threading.Event(), threading.Event()
-        self.gone: Optional[Gone] = None
-        self.says: Optional[Atr] = None
-        with contextlib.suppress(AtrError):  # whole commands reach a card with any answer
-            self.says = Atr(atr)
-        self.level = Level.APDU if self.says and self.says.protocols[0] else Level.TPDU
-
-    def __enter__(self) -> "Simulator":
-        return self
-
-    def __exit__(self, *_: object) -> None:
-        self.card.close()
-
-    def __call__(self, data: bytes, /) -> bytes:
-        self.faults.check([], "a card in this process")
-        return self.whole(data, self.card.tpdu if self.level is Level.TPDU else self.apdu)
-
-    def reset(self) -> None:
-        """Resets the card, which then has power and is not mute."""
-        self.card.reset()
-        self.gone = None
-        self.trace.note("reset" if self.trace.shows else None)
-
     def apdu(self, command: bytes) -> bytes:
         """Carries out a whole command. A card answers bytes that are no command with a status."""
         try:
@@ -138,35 +107,19 @@ class Simulator:
 
     def whole(self, command: bytes, carry_out: Callable[[bytes], bytes]) -> bytes:
         """Carries out a whole command or TPDU, with the faults that strike."""
-        self.trace.carried(">", command)
-        if self.gone:
-            raise self.gone
-        answer = self.begin(command, self.card.reset)
+        self.carried(">", command)
+        if self.faults.gone:
+            raise self.faults.gone
+        answer = self.faults.begin(command, self.card.reset)
         if answer is None:
             answer = carry_out(command)
             self.carried_out(command)
             if self.faults.strikes("twice"):
                 answer = carry_out(command)
-        answer = self.changed(answer)
+        answer = self.faults.changed(answer)
         self.wait()
-        self.trace.carried("<", answer)
+        self.carried("<", answer)
         return answer
-
-    def begin(self, command: bytes, reset: Callable[[], None]) -> Optional[bytes]:
-        """A command begins. Returns an answer in place of the card's, or None."""
-        self.faults.begin(command)
-        instead = self.faults.instead(command)
-        if instead is None and self.faults.strikes("reset"):
-            reset()
-        return instead
-
-    def changed(self, answer: bytes) -> bytes:
-        """The answer with the faults in it. From a `Gone` on the card is silent."""
-        try:
-            return self.faults.changed(answer)
-        except Gone as gone:
-            self.gone = gone
-            raise
 
     def wait(self) -> None:
         """Waits before an answer, if a fault says so."""
@@ -197,13 +150,17 @@ class Characters:
         self.card.receive_bytes(characters)
         return self.card.send_bytes()
 
+    def takes_data(self, header: bytes) -> bool:
+        own = self.card.application if isinstance(self.card, Own) else None
+        return own.takes_data(header[:4]) if own else header[1] in TAKE_DATA
+
     def begin(self, header: bytes) -> bytes:
         """Answers a header: with a procedure byte if the card takes data, or with all."""
-        self.sent, self.instead = 0, self.of.begin(header, self.card.reset)
+        self.sent, self.instead = 0, self.faults.begin(header, self.card.reset)
         if self.instead is None and self.faults.strikes("early status"):
             answer = self.instead = OK
         elif self.instead is not None:
-            answer = header[1:2] if header[4] and header[1] in TAKE_DATA else self.instead
+            answer = header[1:2] if header[4] and self.takes_data(header) else self.instead
         else:
             answer = self.answer(header)
         if len(answer) > 1:
@@ -219,8 +176,9 @@ class Characters:
             answer = answer if is_taking or len(answer) == 2 else answer[1:]
             self.of.carried_out(tpdu)
             if self.faults.strikes("twice"):
-                self.card.tpdu(tpdu)
-        answer = self.of.changed(answer)
+                self.answer(tpdu[:5])
+                self.answer(tpdu[5:])
+        answer = self.faults.changed(answer)
         return self.carried(answer if is_taking or len(answer) == 2 else tpdu[1:2] + answer)
 
     def carried(self, sent: bytes) -> bytes:
@@ -245,14 +203,17 @@ class Blocks:
 
     If faults strike at a command, the whole response is fetched from the card's end, changed, and
     sent in blocks from here: `own`. `shift` is by how much the numbers of blocks to and from the
-    card's end then differ from those on the line.
+    card's end then differ from those on the line. A card of an application answers like that too:
+    the end is then that of an empty card.
     """
 
     def __init__(self, simulator: Simulator) -> None:
-        self.of, self.card, self.faults = simulator, simulator.card, simulator.faults
-        self.taken, self.data, self.ifsd = ffi.new("size_t *"), b"", 32
-        self.asks, self.asked = b"", 0
-        self.due = self.next = 0  # N(S) of the next block on the line, of each end
+        self.of, self.faults, card = simulator, simulator.faults, simulator.card
+        self.is_own = isinstance(card, Own)
+        self.card = Card({bytes(5): {}}) if self.is_own else card
+        self.taken, self.data, self.asks = ffi.new("size_t *"), b"", b""
+        # `due` and `next` are N(S) of the next block on the line, of each end.
+        self.due, self.next, self.asked, self.ifsd = 0, 0, 0, 32
         self.fields, self.own, self.shift = list[bytes](), list[bytes](), [0, 0]
         self.instead: Optional[bytes] = None
         self.card._call("t1_begin")
@@ -293,6 +254,7 @@ class Blocks:
         return sent
 
     def reset(self) -> None:
+        self.of.card.reset()
         self.card.reset()
         self.card._call("t1_begin")
         self.shift = [self.due, self.next]
@@ -301,8 +263,8 @@ class Blocks:
         """Takes a block of a command."""
         field, self.own = came[3:-1], []
         if not self.fields:
-            self.instead = self.of.begin(field, self.reset)
-            if self.instead is not None:  # GET RESPONSE changes nothing
+            self.instead = self.faults.begin(field, self.reset)
+            if self.is_own or self.instead is not None:  # GET RESPONSE changes nothing
                 came = block(0, came[1], field[:1] + b"\xC0" + field[2:])
         self.due ^= 1
         self.fields.append(field)
@@ -314,12 +276,13 @@ class Blocks:
         fields, self.fields, begins = self.fields, [], self.next
         if self.instead is None:
             self.of.carried_out(b"".join(fields))
-            if not self.faults.due:
+            if not (self.is_own or self.faults.due):
                 return self.outgoing(first)
         answer = self.rest(first)
-        if self.instead is None and self.faults.strikes("twice"):
-            answer = self.again(fields)
-        answer = self.of.changed(answer if self.instead is None else self.instead)
+        if self.instead is None:
+            answer = self.of.apdu(b"".join(fields)) if self.is_own else answer
+            answer = self.again(fields) if self.faults.strikes("twice") else answer
+        answer = self.faults.changed(answer if self.instead is None else self.instead)
         size = min(self.ifsd, 254)
         pieces = [answer[at : at + size] for at in range(0, len(answer), size)]
         self.own = [block(0, (begins + at & 1) << 6 | (at + 1 < len(pieces)) << 5, it)
@@ -340,6 +303,8 @@ class Blocks:
 
     def again(self, fields: list[bytes]) -> bytes:
         """Lets the card carry out a command once more, and returns its response."""
+        if self.is_own:
+            return self.of.apdu(b"".join(fields))
         sent = b""
         for at, field in enumerate(fields, 1):
             number = (self.due ^ self.shift[0]) << 6
@@ -374,7 +339,7 @@ class Line:
                 if not byte:
                     raise OSError("the line is gone")
                 byte = byte.translate(TURNED) if self.is_inverse else byte
-                self.of.trace.carried(">", byte)
+                self.of.carried(">", byte)
                 return byte
             if time.monotonic() > until:
                 return b""
@@ -388,7 +353,7 @@ class Line:
 
     def send(self, data: bytes) -> None:
         """Sends characters of the card."""
-        self.of.trace.carried("<", data)
+        self.of.carried("<", data)
         self.write(data)
 
     def echo(self, byte: bytes) -> None:
@@ -405,7 +370,7 @@ class Line:
         while True:
             out = b""
             with contextlib.suppress(Gone):
-                out = b"" if self.of.gone else end.take(byte)
+                out = b"" if self.of.faults.gone else end.take(byte)
             self.echo(byte)
             self.of.wait()
             self.send(out)
@@ -425,7 +390,7 @@ class Line:
         rest, protocol = [*request[2:-1]], request[1] & 15
         given = [rest.pop(0) if request[1] & bit else None for bit in (0x10, 0x20, 0x40)]
         if Pps(protocol, *given).request != request or protocol not in self.says.protocols:
-            self.of.gone = Gone("mute")
+            self.of.faults.gone = Gone("mute")
         else:
             self.send(Pps(protocol, DEFAULT_RATE if given[0] == DEFAULT_RATE else None).request)
         return protocol, self.read()
@@ -453,10 +418,9 @@ class Tty(Line):
     def serve(self) -> None:
         """Serves a terminal until the program or the line ends."""
         while not self.of.is_over.is_set():
-            while self.bit and not self.is_reset():
-                time.sleep(LOOKS_EVERY / 10)
-            while self.is_reset():
-                time.sleep(LOOKS_EVERY / 10)
+            for is_held in (True, False):
+                while self.bit and self.is_reset() != is_held:
+                    time.sleep(LOOKS_EVERY / 10)
             with contextlib.suppress(*[OSError] if self.bit else []):
                 self.talk()
 
@@ -490,8 +454,9 @@ def connected(address: str) -> socket.socket:
 
 
 def talk_vpcd(simulator: Simulator, line: socket.socket) -> None:
-    """Answers vpcd until the connection ends. A mute card keeps it open for ten seconds."""
-    messages = line.makefile("rb")
+    """Answers vpcd until the connection ends. A mute card keeps it open for ten seconds. The card
+    is seen when pcscd, which has given it power and read its answer, looks for it again."""
+    messages, looks = line.makefile("rb"), -1
     with contextlib.suppress(OSError):
         while len(size := messages.read(2)) == 2:
             # vpcd sends the rest once the length is acknowledged, else 40 ms later.
@@ -499,8 +464,11 @@ def talk_vpcd(simulator: Simulator, line: socket.socket) -> None:
             data = messages.read(int.from_bytes(size, "big"))
             if data in (POWER_OFF, POWER_ON, RESET):
                 simulator.reset()
-                simulator.has_power.set()
+                looks = 2
                 continue
+            looks -= data == GET_ATR
+            if looks == 0:
+                simulator.is_seen.set()
             try:
                 answer = simulator.atr if data == GET_ATR else simulator.whole(data, simulator.apdu)
             except Gone as gone:
@@ -516,12 +484,15 @@ def serve_vpcd(simulator: Simulator, address: str) -> None:
         with contextlib.suppress(OSError), connected(address) as line:
             talk_vpcd(simulator, line)
         simulator.reset()
-        simulator.is_over.wait(1)
+        simulator.is_over.wait(AWAY_FOR)
 
 
 def parser() -> argparse.ArgumentParser:
     it = argparse.ArgumentParser("galliumtoad.simulate", description="A card with faults.")
-    it.add_argument("--table", metavar="FILE", required=True, help="a card of data objects")
+    what = it.add_mutually_exclusive_group(required=True).add_argument
+    what("--table", metavar="FILE", help="a card of data objects")
+    what("--application", metavar="MODULE:CLASS", help="a card of one's own")
+    what("--program", metavar="COMMAND", help="the same in any language")
     where = it.add_mutually_exclusive_group(required=True)
     where.add_argument("--vpcd", nargs="?", const=VPCD, metavar="HOST:PORT",
                        help=f"vsmartcard's reader; {VPCD} if nothing else is given")
@@ -532,7 +503,8 @@ def parser() -> argparse.ArgumentParser:
     it.add_argument("--seed", type=int, default=0, help="for faults with p")
     it.add_argument("-v", action="store_true", help="prints the dialogue for trace_explain")
     it.add_argument("--no-echo", action="store_true", help="the pseudo terminal has no echo")
-    it.add_argument("--baud", type=int, default=9600, choices=BAUDS, help="the tty's rate; 9600")
+    it.add_argument("--baud", type=int, default=9600, help="the tty's rate; 9600",
+                    choices=[9600, 19200, 38400, 57600, 115200])
     it.add_argument("--reset", choices=SIGNALS, default="", help="the tty's line of the reset")
     return it
 
@@ -557,7 +529,12 @@ def main(words: Optional[list[str]] = None) -> int:
     """Runs the program. Returns the exit status."""
     given = parser().parse_args(words)
     try:
-        card, atr = read_table(given.table)
+        card: Union[Card, Own]
+        if given.table:
+            card, atr = read_table(given.table)
+        else:
+            own = given.application and application(given.application)
+            card, atr = Own(own or Program(given.program)), LEAST_ATR
         faults = Faults.of_file(given.faults, given.seed) if given.faults else None
         with Simulator(card, given.atr or atr, faults, given.v) as simulator:
             serve(simulator, given)

@@ -16,6 +16,7 @@ import time
 from collections import Counter
 from dataclasses import asdict, dataclass
 from pathlib import Path
+from queue import SimpleQueue
 from typing import Callable, Iterator, Optional
 
 from .card import Card
@@ -26,7 +27,7 @@ AID, TAG = bytes.fromhex("A0000000031010"), 0x51
 VALUE = bytes(it % 251 for it in range(600))  # so that no two pieces of it are equal
 SELECT, PUT = b"\x00\xA4\x04\x00", 0xDA
 ATRS = [bytes.fromhex("3B00"), bytes.fromhex("3B800181")]  # T=0, T=1
-AWAIT_POWER = 10.0  # seconds until a reader should have seen a card
+AWAIT_READER = 60.0  # seconds until a reader should have seen a card
 BAD = ("wrong", "twice", "hung", "crashed")
 VERDICTS = ("right", "told", "unmet", *BAD)
 USAGE = """TERMINAL selects {aid}, puts {value} under {tag} in commands of up to 255 bytes, gets
@@ -86,7 +87,8 @@ class Run:
         kinds = [KINDS[it.kind][1] for it in faults.all]
         is_line = any(it != ANYWHERE for it in kinds)
         atr = ATRS[T1 in kinds if is_line else protocol]
-        self.simulator = Simulator(Card({AID: {}}), atr, faults, carried_out=self.carried_out)
+        self.card = Card({AID: {}})
+        self.simulator = Simulator(self.card, atr, faults, carried_out=self.carried_out)
         faults.tell = self.struck.append
 
     def carried_out(self, command: bytes) -> None:
@@ -94,7 +96,7 @@ class Run:
 
     def verdict(self, status: Optional[int], output: str) -> str:
         """Compares what the terminal said with what the card holds."""
-        held = {it.tag: it.value for it in self.simulator.card.entries(AID)}
+        held = {it.tag: it.value for it in self.card.entries(AID)}
         if status is None:
             return "hung"
         if status < 0 or status > 128:
@@ -111,13 +113,13 @@ class Run:
 
 @contextlib.contextmanager
 def at_vpcd(simulator: Simulator, address: str) -> Iterator[str]:
-    """Puts a card into vpcd's reader, and waits until it has power."""
+    """Puts a card into vpcd's reader, and waits until pcscd has seen it. Raises `OSError`."""
     with contextlib.closing(connected(address)) as line:
         thread = threading.Thread(target=talk_vpcd, args=(simulator, line), daemon=True)
         thread.start()
-        simulator.has_power.wait(AWAIT_POWER)
-        time.sleep(1.5)  # pcscd tells its clients
         try:
+            if not simulator.is_seen.wait(AWAIT_READER):
+                raise OSError(f"the reader at {address} does not see the card")
             yield ""
         finally:
             simulator.is_over.set()
@@ -130,18 +132,11 @@ def at_vpcd(simulator: Simulator, address: str) -> Iterator[str]:
 @contextlib.contextmanager
 def at_pty(simulator: Simulator) -> Iterator[str]:
     """Puts a card behind a pseudo terminal. Gives its name."""
-    names: list[str] = []
-    is_made = threading.Event()
-
-    def made(name: str) -> None:
-        names.append(name)
-        is_made.set()
-
-    thread = threading.Thread(target=serve_pty, args=(simulator, True, made), daemon=True)
+    names: SimpleQueue[str] = SimpleQueue()
+    thread = threading.Thread(target=serve_pty, args=(simulator, True, names.put), daemon=True)
     thread.start()
-    is_made.wait()
     try:
-        yield names[0]
+        yield names.get()
     finally:
         simulator.is_over.set()
         thread.join()
@@ -174,12 +169,10 @@ def tried(trial: Trial, given: argparse.Namespace) -> Result:
         words = [re.sub(r"\{(\w+)\}", lambda it: told.get(str(it[1]), str(it[0])), word)
                  for word in given.terminal]
         status, output = carried(words, given.limit)
-        seconds = time.monotonic() - begun
-    verdict = run.verdict(status, output)
-    run.simulator.card.close()
+        seconds = round(time.monotonic() - begun, 1)
     lines = [it for it in output.splitlines() if VALUE.hex().upper() not in it] or [""]
-    return Result(trial.name, trial.faults, verdict, trial.is_unseen, status, round(seconds, 1),
-                  lines[-1][:200])
+    return Result(trial.name, trial.faults, run.verdict(status, output), trial.is_unseen, status,
+                  seconds, lines[-1][:200])
 
 
 def as_text(results: list[Result]) -> str:
@@ -226,9 +219,8 @@ def possible(given: argparse.Namespace) -> list[Trial]:
     is_line = any("{tty}" in it for it in given.terminal)
     if not is_line and not any("{reader}" in it for it in given.terminal):
         raise Mistake("the command line of the terminal has neither {reader} nor {tty}")
-    found = [it for it in trials() if given.only in it.name]
-    return [it for it in found if is_line or all(KINDS[each.kind][1] == ANYWHERE
-                                                 for each in it.read())]
+    return [it for it in trials() if given.only in it.name and (
+        is_line or all(KINDS[each.kind][1] == ANYWHERE for each in it.read()))]
 
 
 def main(words: Optional[list[str]] = None) -> int:

@@ -1,5 +1,4 @@
 """Runs the program."""
-
 from .program import main
 
 raise SystemExit(main())

@@ -22,13 +22,12 @@ from . import report
 from ..errors import Error
 from ..pyscard import transport
 from ..terminal import Put, Send, Terminal
-from .dialogue import Recorder, Refused, carry_out, compared, identity, sentence
 from .journal import Journal
-from .script import Rows, check_of
+from .script import Recorder, Refused, Rows, carry_out, check_of, compared, identity, sentence
 
 FAILURES_IN_A_ROW = 5
 PAUSE = 1.0  # between two looks for a reader that went away, and two reports
-PRESENT = scard.SCARD_STATE_PRESENT
+PRESENT = scard.SCARD_STATE_PRESENT  # the upper 16 bits of a state count cards
 _WIPE = "\r\x1b[K"  # removes the bar
 
 
@@ -62,8 +61,7 @@ def chosen(parts: list[str]) -> dict[str, str]:
 
 
 def state_of(connection: Any, name: str, known: int, wait: int) -> int:
-    """Returns a reader's state, once it changes or after `wait` milliseconds. Its upper 16 bits
-    count the cards that came and went."""
+    """Returns a reader's state, once it changes or after `wait` milliseconds."""
     found = told(*scard.SCardGetStatusChange(connection, wait, [(name, known)]))
     state = int(found[0][1] & ~scard.SCARD_STATE_CHANGED) if found else known
     if state & (scard.SCARD_STATE_UNKNOWN | scard.SCARD_STATE_UNAVAILABLE):
@@ -148,24 +146,18 @@ class Desk:
             except OSError as error:
                 self.say(f"no report: {error}")
             self._reported = size
-            if sys.stdout.isatty():
-                self._draw()
+            if sys.stdout.isatty():  # a bar, with the rate and the time left
+                done, all_of = self.journal.count("done"), len(self.journal.numbers)
+                rate = (done - self._done_before) / max(self._looked - self._begun, 0.1) * 60
+                left = f", {(all_of - done) / rate:.0f} min left" if rate else ""
+                full = f"{'#' * (done * 20 // all_of):-<20}"
+                with self._alone:
+                    self._bar = f"[{full}] {done} of {all_of} rows, {rate:.0f} a minute{left}"
+                    print(f"{_WIPE}{self._bar}", end="", flush=True)
+        time.sleep(0.1)
         # A job in the background must not read.
-        reads = sys.stdin and sys.stdin.isatty() and os.tcgetpgrp(0) == os.getpgrp()
-        if reads and select.select([sys.stdin], [], [], 0.1)[0] and sys.stdin.readline():
-            self.keys += 1
-        else:
-            time.sleep(0.1)
-
-    def _draw(self) -> None:
-        """Draws a bar with the rate and the time left."""
-        done, all_of = self.journal.count("done"), len(self.journal.numbers)
-        rate = (done - self._done_before) / max(time.monotonic() - self._begun, 0.1) * 60
-        left = f", {(all_of - done) / rate:.0f} min left" if rate else ""
-        with self._alone:
-            full = f"{'#' * (done * 20 // all_of):-<20}"
-            self._bar = f"[{full}] {done} of {all_of} rows, {rate:.0f} a minute{left}"
-            print(f"{_WIPE}{self._bar}", end="", flush=True)
+        if sys.stdin and sys.stdin.isatty() and os.tcgetpgrp(0) == os.getpgrp():
+            self.keys += bool(select.select([sys.stdin], [], [], 0)[0] and sys.stdin.readline())
 
 
 class Reader(threading.Thread):
@@ -174,9 +166,8 @@ class Reader(threading.Thread):
     def __init__(self, desk: Desk, part: str) -> None:
         super().__init__(daemon=True)
         self.desk, self.part, self.reader, self.journal = desk, part, part, desk.journal
-        # The row that is held for the next card, or goes to the card in the reader.
-        self.row: Optional[int] = None
-        self.failures, self.is_set_aside = 0, False
+        self.row: Optional[int] = None  # is held for the next card, or the one in the reader
+        self.failures = 0
 
     def run(self) -> None:
         is_here = False
@@ -195,26 +186,22 @@ class Reader(threading.Thread):
                 self.desk.stopped.wait(PAUSE)
             except Exception as error:
                 if getattr(error, "errno", None) == errno.EADDRINUSE:
-                    self._set_aside("another run serves this reader")
-                else:  # the journal can't be written
-                    self.desk.faults.append(f"{self.reader}: {sentence(error)}")
-                    self.desk.stopped.set()
+                    self._say("set aside: another run serves this reader")
+                    break
+                self.desk.faults.append(f"{self.reader}: {sentence(error)}")
+                self.desk.stopped.set()  # the journal can't be written
+        if self.failures >= FAILURES_IN_A_ROW:
+            self._say(f"set aside: {FAILURES_IN_A_ROW} cards in a row failed")
         self.give_up()
 
     def give_up(self) -> None:
-        if self.row is not None:
+        if self.row:
             self.journal.release(self.row)
         self.row = None
 
     def _may_continue(self) -> bool:
-        if self.failures >= FAILURES_IN_A_ROW and not self.is_set_aside:
-            self._set_aside(f"{FAILURES_IN_A_ROW} cards in a row failed")
-        is_over = self.row is None and not self.journal.count("free")
-        return not (self.desk.stopped.is_set() or self.is_set_aside or is_over)
-
-    def _set_aside(self, why: str) -> None:
-        self.is_set_aside = True
-        self._say(f"set aside: {why}")
+        is_over = self.desk.stopped.is_set() or self.failures >= FAILURES_IN_A_ROW
+        return not is_over and (self.row is not None or self.journal.count("free") > 0)
 
     def _say(self, what: str) -> None:
         self.desk.say(f"{self.reader}: {what}")
@@ -230,11 +217,7 @@ class Reader(threading.Thread):
             if lies and self.desk.keys > keys:
                 used = -1
             self.row = self.row or self.journal.reserve()
-            is_new = known & PRESENT and known >> 16 != used
-            if self.row is None:
-                self.desk.stopped.wait(0.2)
-                continue
-            if is_new:
+            if self.row and known & PRESENT and known >> 16 != used:
                 try:
                     card, asked = connected(self.reader), 0
                     # It may have changed between the last look and this connection.
@@ -247,7 +230,7 @@ class Reader(threading.Thread):
                         self._say(sentence(error))
                         self.failures += 1
                     mute, asked = known >> 16, 0
-            elif asked != self.row:
+            elif self.row and asked != self.row:
                 self._say(f"insert a card for row {self.row}")
                 asked = self.row
             known = state_of(connection, self.reader, known, 500)
@@ -264,8 +247,7 @@ class Reader(threading.Thread):
             card.disconnect()
 
     def _carry_out(self, card: Any) -> Optional[int]:
-        """Carries out the script for the row that is held, and writes how it ended. Returns the
-        card's own row if that is another one, which is free again."""
+        """Carries out the script for the row that is held. Returns the card's own row if free."""
         row = own = self.row or 0
         steps, heading = self.desk.rows[row - 1], self.journal.heading
         recorder, begun = Recorder(transport(card)), time.monotonic()

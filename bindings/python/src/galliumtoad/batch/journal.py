@@ -1,9 +1,7 @@
-"""The journal of a batch: which row of a table went to which card, and how it ended.
-
-Each line is on disk before the next step. A process takes a row under a lock on the file's byte 0,
-and holds it by a lock on the byte of the row's number; the system drops both if the process dies.
-A line that a crash has cut is removed: the step that it announces did not begin.
-"""
+"""The journal of a batch: which row of a table went to which card, and how it ended. Each line is
+on disk before the next step. A process takes a row under a lock on the file's byte 0, and holds it
+by a lock on the byte of the row's number; the system drops both if the process dies. A line that a
+crash has cut is removed: the step that it announces did not begin."""
 
 import contextlib
 import fcntl
@@ -23,7 +21,7 @@ _STATES |= {"unused": "free", "again": "free", "done": "done"}
 
 @dataclass
 class Heading:
-    """The first line of a journal: its rows are `at`, `at + of`, `at + 2 * of` and so on, `key` is
+    """The first line of a journal of the rows `at`, `at + of`, `at + 2 * of` and so on. `key` is
     that of their sums. In the file the table's path begins in the file's folder."""
 
     at: int
@@ -50,8 +48,7 @@ class Entry:
     reason: str = ""
 
 
-def place_of(table: str) -> str:
-    # A pipe has only its name.
+def place_of(table: str) -> str:  # a pipe has only its name
     return os.path.realpath(table) if os.path.isfile(table) else os.path.abspath(table)
 
 
@@ -68,8 +65,7 @@ def heading_of(path: str) -> Optional[Heading]:
 
 
 def refuse_a_second(path: str, table: str, at: int, of: int) -> None:
-    """Raises `ValueError` if another journal in the folder of the table or of this journal, or one
-    that a link there names, has rows of this table."""
+    """Raises `ValueError` if a journal beside this one or the table, or a link, has its rows."""
     place, mine = place_of(table), os.path.realpath(path)
     for folder in sorted({os.path.dirname(it) for it in (mine, place)}):
         for it in os.scandir(folder):
@@ -80,8 +76,7 @@ def refuse_a_second(path: str, table: str, at: int, of: int) -> None:
 
 
 def create(path: str, heading: Heading) -> None:
-    """Creates a journal, for its owner alone, and a link to it in the table's folder, unless that
-    can't be written. Raises `ValueError` if the file exists."""
+    """Creates a journal, for its owner alone, and a link to it beside the table, if possible."""
     place, table = os.path.realpath(path), heading.table
     folder, beside = os.path.dirname(place), os.path.dirname(table)
     with open(os.open(path, os.O_RDWR | os.O_CREAT, 0o600), "r+b", 0) as file:
@@ -105,16 +100,14 @@ def create(path: str, heading: Heading) -> None:
 
 
 def _write(file: int, line: str, place: int) -> None:
-    data = line.encode()
-    if os.pwrite(file, data, place) < len(data):
+    if os.pwrite(file, line.encode(), place) < len(line.encode()):
         raise OSError("no space is left for the journal")
     os.fsync(file)
 
 
 class Journal:
-    """Opens the journal of a table with the rows 1 to `rows`, for all threads. From then on nothing
-    else in the process may open the file: its end would drop the locks. Raises `OSError`, and
-    `ValueError` for another file, another table and a damaged line; that file does not change."""
+    """Opens the journal of a table with the rows 1 to `rows`, for all threads. Nothing else in the
+    process may open the file: its end would drop the locks. A refused file does not change."""
 
     def __init__(self, path: str, table: str, rows: int) -> None:
         self.path, self.rows, self.cards = path, dict[int, Entry](), dict[str, int]()
@@ -179,8 +172,7 @@ class Journal:
         with self._locked():
             return sum(self.state(it) == state for it in self.numbers)
 
-    def _hold(self, row: int) -> bool:
-        """Holds a row, unless any thread or process does."""
+    def _hold(self, row: int) -> bool:  # unless any thread or process does
         with contextlib.suppress(OSError):
             if row not in self._held:
                 fcntl.lockf(self._file, fcntl.LOCK_EX | fcntl.LOCK_NB, 1, row)

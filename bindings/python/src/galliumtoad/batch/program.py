@@ -3,9 +3,10 @@
 import argparse
 import os
 import sys
-from typing import Optional
+from typing import Iterator, Optional
 
 from . import report
+from ..handle import within
 from .journal import Heading, Journal, create, place_of, refuse_a_second
 from .script import Rows, check_of, steps_of, tag
 
@@ -16,15 +17,11 @@ _SHOWN = 20  # mistakes
 
 def part(text: str) -> tuple[int, int]:
     at, of = map(int, text.split("/"))
-    if not 1 <= at <= of:
-        raise ValueError
-    return at, of
+    return within(at, 1, of, "a part"), of
 
 
 def count(text: str) -> int:
-    if int(text) < 1:
-        raise ValueError
-    return int(text)
+    return within(int(text), 1, sys.maxsize, "a count")
 
 
 def parsed(words: Optional[list[str]]) -> argparse.Namespace:
@@ -74,20 +71,18 @@ def finished(journals: list[Journal], path: Optional[str]) -> int:
     return 0 if counts["done"] == all_of else 1
 
 
-def start_line(journal: Journal) -> None:
-    """Prints how far the batch is, and what it can't do."""
+def start_lines(journal: Journal) -> Iterator[str]:
+    """Yields how far the batch is, and what it can't do."""
     left = [it.state for it in journal.undecided().values()]
     counts = "".join(f", {left.count(it)} {it}" for it in ("failed", "unsure") if it in left)
     begun = "continuing" if journal.rows else "starting"
-    print(f"{begun}: {journal.count('done')} of {len(journal.numbers)} rows done{counts}")
+    yield f"{begun}: {journal.count('done')} of {len(journal.numbers)} rows done{counts}"
     if journal.heading.id_tag is None:
-        print("without --id it can't tell cards apart: a card inserted twice gets two rows")
-    sys.stdout.flush()
+        yield "without --id it can't tell cards apart: a card inserted twice gets two rows"
 
 
 def opened(given: argparse.Namespace, rows: Rows) -> list[Journal]:
-    """Creates the journal if it is new, and opens all. Raises `ValueError` for one that does not
-    fit the words, the rows or the other journals."""
+    """Creates a new journal, and opens all. Raises `ValueError` for one that does not fit."""
     if given.new:
         [path], (at, of) = given.journal, given.part or (1, 1)
         refuse_a_second(path, given.rows, at, of)
@@ -103,8 +98,7 @@ def opened(given: argparse.Namespace, rows: Rows) -> list[Journal]:
             raise ValueError(f"{path} was created {kind}")
         for row, entry in sorted(begun.items()):
             if entry.state != "free" and entry.check != check_of(rows[row - 1], heading.key):
-                what = "has begun with other cells or another script"
-                raise ValueError(f"{path}: row {row} {what}")
+                raise ValueError(f"{path}: row {row} has begun with other cells or another script")
         if not given.status:
             refuse_a_second(path, given.rows, heading.at, heading.of)
     return journals
@@ -115,12 +109,10 @@ def work(given: argparse.Namespace) -> int:
     rows = steps_of(given)
     if given.status or given.done or given.again:
         journals = opened(given, rows)
-        for word in ("done", "again"):
-            for row in getattr(given, word):
-                journals[0].decide(row, word)
+        for row, word in [(it, word) for word in ("done", "again") for it in getattr(given, word)]:
+            journals[0].decide(row, word)
         return finished(journals, given.report)
-    # PC/SC is needed from here on.
-    from . import desk
+    from . import desk  # which needs PC/SC
 
     if given.reader or not given.check:
         desk.chosen(given.reader)
@@ -131,7 +123,7 @@ def work(given: argparse.Namespace) -> int:
     if given.look:
         return desk.look(rows, journals[0], given)
     report.write(given.report, journals)
-    start_line(journals[0])
+    print("\n".join(start_lines(journals[0])), flush=True)
     run = desk.Desk(rows, journals[0], given)
     run.run()
     for line in run.faults:

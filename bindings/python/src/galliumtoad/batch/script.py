@@ -1,5 +1,5 @@
 """What a batch writes to cards: operations as gt_pcsc takes them, with columns of a table in the
-words. A `ValueError` has all mistakes, one a line, without a value."""
+words; and how it does so. A `ValueError` has all mistakes, one a line, without a value."""
 
 import argparse
 import csv
@@ -8,14 +8,15 @@ import io
 import re
 from hashlib import blake2b
 from pathlib import Path
-from typing import Any, Iterator, Mapping, NamedTuple, Optional
+from typing import Any, Callable, Iterator, Mapping, NamedTuple, Optional
 
 from ..errors import Error
-from ..terminal import Get, Operation, Put, Select, Send, Terminal
+from ..terminal import Get, Level, Operation, Put, Select, Send, Terminal, Transport
 
 _COLUMN = re.compile(r"\{([^{}]*)\}")
 VALUE_LIMIT = 64 * 255  # the data of 64 commands
 Row = Mapping[str, str]
+Rows = list[list["Step"]]
 
 
 class Step(NamedTuple):
@@ -25,9 +26,6 @@ class Step(NamedTuple):
     shown: str
     hides_header: bool
     operation: Operation
-
-
-Rows = list[list[Step]]
 
 
 def read(path: str) -> str:
@@ -121,8 +119,7 @@ class Script:
 
     def __init__(self, path: str, text: str, columns: list[str]) -> None:
         self.path, self.lines, wrong = path, dict[int, list[str]](), list[str]()
-        # A file that a word names is read once.
-        self._fixed = functools.cache(functools.partial(meaning, row={}))
+        self._fixed = functools.cache(functools.partial(meaning, row={}))  # reads a file once
         for number, line in enumerate(text.replace("\r\n", "\n").split("\n"), 1):
             words = [it for it in line.split(" ") if it]
             if words and line[0] != "#":
@@ -180,8 +177,7 @@ def rows_of(path: str) -> tuple[list[str], dict[str, Row]]:
     between = max(",;\t", key=text.split("\n", 1)[0].count)
     source = csv.reader(io.StringIO(text, ""), delimiter=between, strict=True)
     try:
-        columns = next(source, [])
-        last = source.line_num
+        columns, last = next(source, []), source.line_num
         for cells in source:
             line, last = last + 1, source.line_num  # a quoted cell may contain lines
             if cells and len(cells) != len(columns):
@@ -221,3 +217,119 @@ def steps_of(given: argparse.Namespace) -> Rows:
     if wrong:
         raise ValueError("\n".join(dict.fromkeys(wrong)))
     return steps
+
+
+class Refused(Exception):
+    """The card refused an operation, returned another object, or stored another value."""
+
+
+class Recorder:
+    """A transport that keeps what went over it, without data. It raises `ConnectionError` alone."""
+
+    def __init__(self, transport: Transport) -> None:
+        self.level = getattr(transport, "level", Level.TPDU)
+        self.transport, self.lines, self.hides_header = transport, list[str](), False
+
+    def __call__(self, data: bytes, /) -> bytes:
+        shown = 0 if self.hides_header else 5
+        self._add(">", bytes(data[:shown]), len(data) - shown)
+        try:
+            answer = bytes(self.transport(data))
+        except Exception as error:
+            self.lines.append(f"# {sentence(error)}")
+            raise ConnectionError(sentence(error)) from error
+        self._add("<", answer[-2:], len(answer) - 2)
+        return answer
+
+    def _add(self, sign: str, shown: bytes, hidden: int) -> None:
+        count = f"** {hidden} bytes" if hidden > 0 else ""
+        self.lines.append(" ".join(filter(None, (sign, shown.hex().upper(), count))))
+
+
+def sentence(error: BaseException) -> str:
+    return " ".join(str(error).split()) or type(error).__name__
+
+
+def stored(terminal: Terminal, reader: Transport, tag: int) -> tuple[Optional[bytes], str]:
+    """Reads the value under a tag. Returns None and a reason if the card has none."""
+    answer = terminal.run(reader, Get(tag))
+    if found := answer.object(tag):
+        return found.value, ""
+    status = answer.status
+    reading = f"its reading was answered {status:04X} {status.text}"
+    return None, "read back nothing" if status.is_ok else reading
+
+
+def identity(terminal: Terminal, reader: Transport, tag: int) -> str:
+    """Returns the digits of a card's identifier. Raises `Refused` if the card has none."""
+    value, reason = stored(terminal, reader, tag)
+    if not value:
+        raise Refused(f"the card has no identifier {tag:X}: {reason or 'it is empty'}")
+    return value.hex().upper()
+
+
+def carry_out(
+    steps: list[Step], reader: Recorder, identify: Callable[[Terminal], None] = lambda _: None
+) -> tuple[str, str]:
+    """Carries out a row's steps, and reads each put back. Calls `identify` before the first put or
+    send, or at the end. Returns how the row ended, and why: `unused` if no put or send had begun,
+    else `failed` if it was `Refused`, `unsure` if the reader failed or an answer did not fit."""
+    has_written = False
+    try:
+        with Terminal() as terminal:
+            for step in steps:
+                if isinstance(step.operation, (Put, Send)) and not has_written:
+                    identify(terminal)
+                    has_written = True
+                reader.lines.append(f"# line {step.line}: {step.shown}")
+                reader.hides_header = step.hides_header
+                if fault := _fault_of(terminal, reader, step):
+                    raise Refused(f"{step.shown} was {fault}")
+                reader.hides_header = False
+            if not has_written:
+                identify(terminal)
+    except Refused as error:
+        return "failed" if has_written else "unused", sentence(error)
+    except (ConnectionError, ValueError, Error) as error:
+        return "unsure" if has_written else "unused", sentence(error)
+    return "done", ""
+
+
+def _fault_of(terminal: Terminal, reader: Transport, step: Step) -> str:
+    operation, answer = step.operation, terminal.run(reader, step.operation)
+    if not answer.status.is_ok:
+        return f"answered {answer.status:04X} {answer.status.text}"
+    if isinstance(operation, Get) and not answer.object(operation.tag):
+        return "answered 9000, but not with this object"
+    if isinstance(operation, Put):
+        value, reason = stored(terminal, reader, operation.tag)
+        if value != operation.value:
+            return f"answered 9000, and {reason or 'read back another value'}"
+    return ""
+
+
+def compared(steps: list[Step], reader: Transport) -> str:
+    """Compares a card with a row, and writes nothing. What `send` has done can't be read back."""
+    wanted, application, sends, same, others = dict[tuple[bytes, int], bytes](), b"", 0, 0, 0
+    for step in steps:
+        if isinstance(it := step.operation, Select):
+            application = bytes(it.aid)
+        elif isinstance(it, Put):
+            wanted[application, it.tag] = bytes(it.value)
+        sends += isinstance(it, Send)
+    if not wanted and not sends:
+        return "unknown: the script stores nothing"
+    for (application, tag), value in wanted.items():
+        with Terminal() as terminal:
+            selects = Select(application)
+            is_there = not application or terminal.run(reader, selects).status.is_ok
+            found = stored(terminal, reader, tag)[0] if is_there else None
+        same += found == value
+        others += found not in (None, value)
+    partly = f"partly: {same} of {len(wanted)} objects"
+    if sends:
+        return f"{partly}, and {counted(sends, 'send')} can't be read back"
+    if same:
+        return "done" if same == len(wanted) else partly
+    values = f"{counted(others, 'other value')} {'is' if others == 1 else 'are'}"
+    return f"untouched, if {values} its own" if others else "untouched"

@@ -8,7 +8,8 @@ use Rattle.command_card.specs.AtT1.{DoesBytes, status_bytes}
 use Rattle.command_card.specs.State.{CardState}
 
 pub too_long_does : {S : Type 0}
-    (Does : CardState S → Command → List ℕ → CardState S → Type 0) (old new : CardState S) (response : List ℕ) (asks : Requests)
+    (Does : CardState S → Command → List ℕ → CardState S → Type 0) (old new : CardState S)
+    (response : List ℕ) (asks : Requests)
     → response ≡ status_bytes (0x67, 0x00) → new ≡ old → asks ≡ no_requests
     → (command : List ℕ) → 261 < length command
     → DoesBytes Does old (record { command = command; response = response; asks = asks }) new

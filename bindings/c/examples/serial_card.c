@@ -254,6 +254,8 @@ static const char *send_turns(const struct socket *socket)
     uint8_t byte;
     while (what == NULL && (what = look(socket, true)) == NULL) {
         const int32_t code = gt_card_turn(card, &byte);
+        if (table_answers(card, code))
+            continue;
         if (code == GT_OK)
             return NULL;
         what = code == GT_SENDS ? line_send(socket->line, byte) : gt_text(code);

@@ -252,11 +252,16 @@ RESPONSECODE IFDHPowerICC(DWORD Lun, DWORD Action, PUCHAR Atr, PDWORD AtrLength)
 static RESPONSECODE carry_out_tpdu(struct virtual_reader *reader, const UCHAR *sent, size_t n,
                                    UCHAR *answer, PDWORD length)
 {
+    gt_card *card = &reader->table.card;
     size_t size;
+    int32_t code;
     /* no TPDU of T=0 has the Le that clients send after data */
     if (n > 5 && sent[4] > 0 && n == (size_t)6 + sent[4])
         n--;
-    if (gt_card_tpdu(&reader->table.card, sent, n, answer, *length, &size) != GT_OK)
+    code = gt_card_tpdu(card, sent, n, answer, *length, &size);
+    while (table_answers(card, code))
+        code = gt_card_tpdu(card, NULL, 0, answer, *length, &size);
+    if (code != GT_OK)
         return IFD_COMMUNICATION_ERROR;
     *length = (DWORD)size;
     return IFD_SUCCESS;
@@ -277,9 +282,11 @@ static RESPONSECODE carry_out_apdu(struct virtual_reader *reader, const UCHAR *s
                                    UCHAR *answer, PDWORD length)
 {
     UCHAR response[GT_ANSWER_LIMIT];
+    gt_card *card = &reader->table.card;
     size_t size = 2;
-    const int32_t code =
-        gt_card_apdu(&reader->table.card, sent, n, response, sizeof response, &size);
+    int32_t code = gt_card_apdu(card, sent, n, response, sizeof response, &size);
+    while (table_answers(card, code))
+        code = gt_card_apdu(card, NULL, 0, response, sizeof response, &size);
     if (code != GT_OK) {
         response[0] = (UCHAR)(status_of(code) >> 8);
         response[1] = (UCHAR)status_of(code);

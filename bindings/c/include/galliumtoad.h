@@ -583,7 +583,9 @@ typedef struct gt_atr {
  *                 is proved that the last two are then cleared. At T=1 also those of a block, until
  *                 it is taken or dropped; of a command, until it is carried out or dropped; and of
  *                 a response, until it is dropped. The next command drops a response. S(ABORT),
- *                 S(RESYNCH) and gt_card_reset drop all three
+ *                 S(RESYNCH) and gt_card_reset drop all three. Of your own: a response, until all
+ *                 of it is sent or the next command drops it; a TPDU or command that waits as a
+ *                 whole, until it is carried out. gt_card_reset drops both
  * - a session     those of its card; the last answer and, if somebody listens, its characters,
  *                 until the next operation is carried out, or gt_session_end */
 typedef struct gt_exchange { bool live; void *held; } gt_exchange;
@@ -1544,6 +1546,7 @@ GT_FUNCTION int32_t gt_card_reset(gt_card *c) {
  * those of a longer table of objects.
  *
  * - GT_OK: it was carried out, with any status.
+ * - GT_COMMAND, GT_HEADER: it waits, at a card of your own alone. See there.
  * - GT_STATE: the card is not finished yet, speaks T=1, or characters of a TPDU have passed.
  *   Nothing has changed.
  * - GT_NO_TPDU: the bytes are not a whole TPDU. Nothing has changed.
@@ -1575,6 +1578,7 @@ GT_MUST_CHECK int32_t gt_card_tpdu(gt_card *c, const uint8_t *tpdu, size_t n,
  * Results:
  *
  * - GT_OK: the card has answered, with any status.
+ * - GT_COMMAND, GT_HEADER: it waits, at a card of your own alone. See there.
  * - GT_STATE: the card is not finished yet, speaks T=1, or characters of a TPDU have passed.
  *   Nothing has changed.
  * - GT_TOO_SHORT, GT_INVALID_INS: the bytes are not a command. Nothing has changed.
@@ -1745,18 +1749,21 @@ GT_FUNCTION void gt_card_free(gt_card *c) {
 /* ---- A card of your own application ----------------------------------------------------------
  *
  * You write what a command does; the card does the rest. It carries your commands over T=0 by
- * characters and buffers, each at most once. Make it with `gt_card_own`. These calls above work on
- * it: gt_card_take, _turn, _send_bytes, _receive_bytes, _reset and _free. The others return
- * GT_STATE, also those for plans, whole TPDUs, whole commands and T=1, and gt_session_start.
+ * characters and buffers, as whole TPDUs and as whole commands, each at most once. Make it with
+ * `gt_card_own`. These calls above work on it: gt_card_take, _turn, _send_bytes, _receive_bytes,
+ * _tpdu, _apdu, _plan, _reset and _free. The others return GT_STATE, also those for T=1, and
+ * gt_session_start.
  *
- * gt_card_turn and gt_card_send_bytes return GT_COMMAND if a command waits for its response. Then
- * nothing changes, except `n` of gt_card_send_bytes and the bytes that it counts. The order:
+ * gt_card_turn, gt_card_send_bytes, gt_card_tpdu and gt_card_apdu return GT_COMMAND if a command
+ * waits for its response. Then nothing changes, except `n` of gt_card_send_bytes and the bytes that
+ * it counts. A TPDU or command that came whole is copied, and waits. The order:
  *
  *   the card returned   then call                          and then
  *   GT_HEADER           gt_card_command for the header     gt_card_direction; the same call again
  *   GT_COMMAND          gt_card_command for the command    gt_card_respond; the same call again
  *
- * GT_HEADER is only for a card without directions. GT_COMMAND may follow it.
+ * GT_HEADER is only for a card without directions. GT_COMMAND may follow it. The same call again is
+ * gt_card_tpdu or gt_card_apdu with NULL and 0 in place of the bytes.
  *
  * No command waits in these cases, and the card answers alone:
  *
@@ -1770,7 +1777,13 @@ GT_FUNCTION void gt_card_free(gt_card *c) {
  * other command drops what waits. Pieces of a chain (CLA 10) arrive one by one.
  *
  * A command takes effect when it settles: with SW2 of the TPDU that carried it out, also if that is
- * 61XX or 6CXX. A reset before SW2 drops it: undo what it did.
+ * 61XX or 6CXX. A reset before SW2 drops it: undo what it did. A whole command settles when it is
+ * carried out, which is when gt_card_apdu returns GT_OK.
+ *
+ * A whole command reaches you as T=0 shows it, so answers are alike: with data and without Le, or
+ * with Le and without data. Le is 256 if it has neither. At most Le bytes come back, none without
+ * Le, and 61XX announces the rest; there is no 6CXX. The card answers 6700 alone to data where none
+ * go to the card, and to Le without data where some do.
  *
  * Misuse gets these codes, and changes nothing:
  *
@@ -1780,6 +1793,9 @@ GT_FUNCTION void gt_card_free(gt_card *c) {
  * - gt_card_respond: no command waits, as before the first one, after the response to it, and after
  *   a reset: GT_STATE. Another response than one may give: GT_ARGUMENT.
  * - gt_card_take and gt_card_receive_bytes, while one waits: GT_NOT_LISTENING.
+ * - gt_card_tpdu and gt_card_apdu with bytes, while one waits; or without bytes, while none of that
+ *   call waits: GT_STATE, and with nothing that waits GT_NO_TPDU and GT_TOO_SHORT. While one of
+ *   theirs waits, the calls by characters and buffers: GT_STATE. gt_card_reset drops it.
  * - The calls of this section on a card of data objects or a session: GT_STATE. */
 
 /* The directions of the instructions of ISO/IEC 7816-4, 7816-8, 7816-9 and of EMV, by INS alone:
@@ -1828,7 +1844,7 @@ GT_MUST_CHECK int32_t gt_card_direction(gt_card *c, int to_card) {
 /* Answers the command that waits: `n` bytes of data, and `status`. They are copied. What goes out
  * is this response. If you can't carry the command out, answer 6581 or another status.
  *
- * - GT_OK: it is taken. Call again what returned GT_COMMAND.
+ * - GT_OK: it is taken. Call again what returned GT_COMMAND: a whole TPDU or command with NULL, 0.
  * - GT_STATE: no command waits, or the card is not of your own.
  * - GT_ARGUMENT: `n` is above GT_OWN_LIMIT, or `status` is 61XX or 6CXX, which are the card's own,
  *   or no status word (6X except 60, or 9X, and any byte). The command still waits.

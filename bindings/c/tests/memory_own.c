@@ -55,6 +55,43 @@ static size_t responds(size_t n) {
     return at - 1;
 }
 
+typedef int32_t carry(gt_card *, const uint8_t *, size_t, uint8_t *, size_t, size_t *);
+
+/* Calls with these bytes until memory suffices, and returns that code. Until then nothing changes:
+ * no command waits that did not, or it still waits. */
+static int32_t goes_on(carry *goes, const uint8_t *bytes, size_t n, int waits, size_t *times) {
+    static uint8_t answer[GT_ANSWER_LIMIT];
+    gt_command command;
+    size_t at, len = 7;
+    for (at = 1;; at++, ++*times) {
+        int32_t code;
+        requests = 0;
+        refused = at;
+        code = goes(&card, bytes, n, answer, sizeof answer, &len);
+        refused = 0;
+        if (code != GT_MEMORY) return code;
+        CHECK(len, 7);
+        CHECK(gt_card_command(&card, &command), GT_STATE);
+        CHECK(gt_card_take(&card, 0) == GT_STATE, waits);
+        if (!waits) CHECK(gt_card_reset(&card), GT_OK);
+    }
+}
+
+/* A whole TPDU or command takes memory for its copy, and when it is carried out. */
+static void as_a_whole(carry *goes) {
+    static const uint8_t read[] = { 0x80, 0x10, 0, 0, 0x03 };
+    size_t times = 0, later = 0;
+    CHECK(goes_on(goes, read, sizeof read, 0, &times), GT_HEADER);
+    CHECK(times > 0, 1);
+    CHECK(gt_card_direction(&card, 0), GT_OK);
+    CHECK(goes_on(goes, NULL, 0, 1, &later), GT_COMMAND);
+    CHECK(later, 0);
+    CHECK(gt_card_respond(&card, data, 3, 0x9000), GT_OK);
+    CHECK(goes_on(goes, NULL, 0, 1, &later), GT_OK);
+    CHECK(later > 0, 1);
+    CHECK(gt_card_settled(&card), 1);
+}
+
 int main(void) {
     static const size_t sizes[] = { 0, 256, 300, GT_OWN_LIMIT };
     size_t i;
@@ -65,6 +102,10 @@ int main(void) {
         CHECK(times > 0 || sizes[i] == 0, 1);
         CHECK(gt_card_reset(&card), GT_OK);
     }
+    as_a_whole(gt_card_tpdu);
+    gt_card_free(&card);
+    CHECK(gt_card_own(&card, NULL), GT_OK);
+    as_a_whole(gt_card_apdu);
     gt_card_free(&card);
     CHECK(taken, 0);
     return check_result("memory_own");

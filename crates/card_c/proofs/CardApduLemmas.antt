@@ -14,7 +14,8 @@ use Rattle.apdu_terminal.specs.declared.stage.Stage.TheVariants.{Done}
 use Rattle.apdu_terminal.specs.Apdus.{may_bring}
 use Rattle.apdu_terminal.specs.CardApdu.{Responds}
 use Rattle.card_c.specs.Codes.{gt_ok}
-use Rattle.card_c.specs.CardApduCalls.{IsResponse, RespondsToCommand, longest_response, wrong_length}
+use Rattle.card_c.specs.CardApduCalls.{IsResponse, RespondsToCommand}
+use Rattle.card_c.specs.WholeCalls.{longest_response, wrong_length}
 
 pub unwrapped : (le : Option ℕ) → unwrap_or le 0 ≡ may_bring le
 unwrapped None = refl

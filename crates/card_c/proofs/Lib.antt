@@ -15,5 +15,6 @@ pub mod HeldTerminalKind
 pub mod HeldWalks
 pub mod Listing
 pub mod OwnLemmas
+pub mod OwnWholeLemmas
 pub mod PlanLemmas
 pub mod PointerValues

@@ -8,10 +8,13 @@ use Rattle.command_card.specs.declared.application.TheConstants.{RESPONSE_LIMIT}
 use Rattle.command_card.specs.Carrying.{IsOwn}
 use Rattle.card_c.specs.declared.card_side.CardSide.{CardSide}
 use Rattle.card_c.specs.declared.card_side.CardSide.TheVariants.{Building, Standing, Joined, AtT1, Own}
-use Rattle.card_c.specs.BufferCalls.{CardReceives}
+use Rattle.card_c.specs.BufferCalls.{CardReceives, CardSends}
+use Rattle.card_c.specs.CardApduCalls.{RespondsTo}
 use Rattle.card_c.specs.CardCalls.{Resets, TakesOne, Turns}
 use Rattle.card_c.specs.CardT1Calls.{at_t0}
-use Rattle.card_c.specs.OwnCalls.{MayBeGiven, OwnReceives, OwnResets, OwnTakes, OwnTurns, word_of}
+use Rattle.card_c.specs.CardTpduCalls.{CarriesOut}
+use Rattle.card_c.specs.OwnCalls.{MayBeGiven, OwnReceives, OwnResets, OwnSends, OwnTakes, OwnTurns, word_of}
+use Rattle.card_c.specs.OwnWhole.{OwnCommand, OwnTpdu}
 
 -- it is not a card of data objects at T=0
 abbrev pub IsOther : CardSide → Type 0
@@ -43,6 +46,15 @@ other_receives bytes before n (Joined session) code new other is = is
 other_receives bytes before n (AtT1 at) code new other is = is
 other_receives bytes before n (Own own) code new other is = is
 
+pub other_sends : (room : List ℕ) (n : ℕ) (room' : List ℕ) (n' : ℕ) (side : CardSide) (code : ℤ)
+    (new : CardSide) → IsOther side → OwnSends room n room' n' side code new
+    → CardSends room n room' n' side code new
+other_sends room n room' n' (Standing end plans) code new other is = absurd (other end plans refl)
+other_sends room n room' n' (Building applications) code new other is = is
+other_sends room n room' n' (Joined session) code new other is = is
+other_sends room n room' n' (AtT1 at) code new other is = is
+other_sends room n room' n' (Own own) code new other is = is
+
 pub other_resets : (side : CardSide) (code : ℤ) (new : CardSide) → at_t0 side ≡ side
     → IsOther side → OwnResets side code new → Resets side code new
 other_resets (Standing end plans) code new same other is = absurd (other end plans refl)
@@ -51,6 +63,26 @@ other_resets (Joined session) code new same other is = is
 other_resets (AtT1 at) code new same other is =
     let never : Standing at.end.card at.plans ≡ AtT1 at = same in absurd (cc)
 other_resets (Own own) code new same other is = is
+
+pub other_responds : (apdu room : List ℕ) (len : ℕ) (room' : List ℕ) (len' : ℕ) (side : CardSide)
+    (code : ℤ) (new : CardSide) → IsOther side → OwnCommand apdu room len room' len' side code new
+    → RespondsTo apdu room len room' len' side code new
+other_responds apdu room len room' len' (Standing end plans) code new other is =
+    absurd (other end plans refl)
+other_responds apdu room len room' len' (Building applications) code new other is = is
+other_responds apdu room len room' len' (Joined session) code new other is = is
+other_responds apdu room len room' len' (AtT1 at) code new other is = is
+other_responds apdu room len room' len' (Own own) code new other is = is
+
+pub other_carries : (tpdu room : List ℕ) (len : ℕ) (room' : List ℕ) (len' : ℕ) (side : CardSide)
+    (code : ℤ) (new : CardSide) → IsOther side → OwnTpdu tpdu room len room' len' side code new
+    → CarriesOut tpdu room len room' len' side code new
+other_carries tpdu room len room' len' (Standing end plans) code new other is =
+    absurd (other end plans refl)
+other_carries tpdu room len room' len' (Building applications) code new other is = is
+other_carries tpdu room len room' len' (Joined session) code new other is = is
+other_carries tpdu room len room' len' (AtT1 at) code new other is = is
+other_carries tpdu room len room' len' (Own own) code new other is = is
 
 pub empty_is : (o : Option CardSide) → is_some o ≡ false → o ≡ None
 empty_is None none = refl

@@ -1,40 +1,22 @@
 -- What the call that carries out a whole command does to a card.
-use Rattle.std.specs.Prelude.{◌≡◌, ◌≢◌, ◌⊎◌, ℕ, ℤ, ◌+◌, ◌<◌, ◌≤◌, List, [], length, true, false, Ok}
+use Rattle.std.specs.Prelude.{◌≡◌, ◌≢◌, ◌⊎◌, ℕ, ℤ, ◌<◌, ◌≤◌, List, [], length, true, false, Ok}
 use Rattle.apdu_core.specs.declared.command.ApduFault.{ApduFault}
 use Rattle.apdu_core.specs.declared.command.ApduFault.TheVariants.{BadLength}
 use Rattle.apdu_core.specs.CommandBytes.{Command, IsCommand, command_bytes}
-use Rattle.apdu_core.specs.StatusWord.{StatusWord}
 use Rattle.t0_core.specs.CardSide.{EndOf}
 use Rattle.t0_core.specs.CardTpdu.{rests}
 use Rattle.object_card.specs.Agreed.{IsAgreed}
 use Rattle.object_card.specs.CardMeaning.{Does}
 use Rattle.object_card.specs.CardView.{CardView}
 use Rattle.object_card.specs.Instructions.{MayReceive, MaySend}
-use Rattle.apdu_terminal.specs.Apdus.{Pair, may_bring}
+use Rattle.apdu_terminal.specs.Apdus.{Pair}
 use Rattle.apdu_terminal.specs.CardApdu.{Responds}
 use Rattle.card_c.specs.declared.card_side.CardSide.{CardSide}
 use Rattle.card_c.specs.declared.card_side.CardSide.TheVariants.{Standing}
 use Rattle.card_c.specs.Codes.{gt_state, gt_memory, gt_buffer, command_code}
 use Rattle.card_c.specs.ExchangeCalls.{AreNone}
-use Rattle.card_c.specs.CardTpduCalls.{TellsAnswer}
-
--- 6700, wrong length
-abbrev pub wrong_length : StatusWord
-wrong_length = (0x67, 0x00)
-
--- nothing is written, and this is the code
-abbrev pub TellsNothing : ℤ → List ℕ → ℕ → ℤ → List ℕ → ℕ → Type 0
-TellsNothing why room len code room' len' = (code ≡ why) × (room' ≡ room) × (len' ≡ len)
-
--- the response is 6700, if that fits
-abbrev pub RefusesLength : List ℕ → ℕ → ℤ → List ℕ → ℕ → Type 0
-RefusesLength room len code room' len' =
-    ((length room < 2) × TellsNothing gt_buffer room len code room' len')
-    ⊎ ((2 ≤ length room) × TellsAnswer (Ok wrong_length) [] room len code room' len')
-
--- the most bytes of a response: what Le asks for, and the status
-abbrev pub longest_response : Command → ℕ
-longest_response c = may_bring c.le + 2
+use Rattle.card_c.specs.OwnWhole.{OwnCommand}
+use Rattle.card_c.specs.WholeCalls.{RefusesLength, TellsAnswer, TellsNothing, longest_response, wrong_length}
 
 -- The response of a card at rest, which is then at rest again. To a command that is not agreed with
 -- it the response is 6700, and nothing changes. To any other it is what its own TPDUs bring.
@@ -71,4 +53,4 @@ RespondsTo apdu room len room' len' (Standing end plans) code new =
     × (apdu ≡ command_bytes c) × RespondsToCommand c end room len code next room' len'
     × (new ≡ Standing next plans))
 RespondsTo apdu room len room' len' side code new =
-    TellsNothing gt_state room len code room' len' × (new ≡ side)
+    OwnCommand apdu room len room' len' side code new

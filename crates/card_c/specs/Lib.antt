@@ -12,6 +12,7 @@ pub mod Handles
 pub mod HeardCalls
 pub mod HeldOwned
 pub mod OwnCalls
+pub mod OwnWhole
 pub mod PlanCalls
 pub mod PlanLetters
 pub mod PpsCalls
@@ -25,3 +26,4 @@ pub mod TagNumbers
 pub mod TerminalCalls
 pub mod TpduCalls
 pub mod Version
+pub mod WholeCalls

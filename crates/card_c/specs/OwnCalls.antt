@@ -1,5 +1,5 @@
 -- What the calls on a card of an own application do to it. A refusal changes nothing.
-use Rattle.std.specs.Prelude.{◌≡◌, ◌≢◌, ◌⊎◌, ◌<◌, ◌≤◌, ◌/◌, ◌%◌, ℕ, ℤ, pos, List, [], ◌∷◌, ◌++◌, length, drop, take, replicate, Bool, true, false, Option, Some, None, MatchOption, unwrap_or, if◌then◌else◌}
+use Rattle.std.specs.Prelude.{◌≡◌, ◌≢◌, ◌⊎◌, ⊤, ◌<◌, ◌≤◌, ◌/◌, ◌%◌, ℕ, ℤ, pos, List, [], ◌∷◌, ◌++◌, length, drop, take, replicate, Bool, true, false, Option, Some, None, MatchOption, unwrap_or, if◌then◌else◌}
 use Rattle.apdu_core.specs.declared.header.Header.{Header}
 use Rattle.apdu_core.specs.CommandBytes.{Command, IsCommand, command_bytes}
 use Rattle.apdu_core.specs.StatusWord.{IsStatusWord, StatusWord}
@@ -13,6 +13,7 @@ use Rattle.t0_core.specs.CardSide.{EndOf, Taking_header, listens, takes_plan}
 use Rattle.t0_core.specs.CardTaking.{IsTaken}
 use Rattle.t0_core.specs.History.{Event, Passed, Reset}
 use Rattle.t0_core.specs.Plan.{Course, Cursor, advanced, plan_kept}
+use Rattle.t0_core.specs.TpduBytes.{Asked, asked_in}
 use Rattle.command_card.specs.declared.given.Directions.{Directions}
 use Rattle.command_card.specs.declared.given.Directions.TheVariants as way
 use Rattle.command_card.specs.declared.own.Wanted.{Wanted}
@@ -23,11 +24,13 @@ use Rattle.command_card.specs.Given.{Answers, GivenState, after_drop, settled, t
 use Rattle.command_card.specs.Meaning.{Does}
 use Rattle.command_card.specs.State.{CardState}
 use Rattle.command_card.specs.View.{CardOf, MayReceive, MaySend, after_reset, prepared_in, standing_in}
-use Rattle.command_card.specs.Wanted.{IsWanted, is_open}
+use Rattle.command_card.specs.Wanted.{IsWanted, is_open, wanted_by, wanted_for}
 use Rattle.card_c.specs.declared.card_side.CardSide.{CardSide}
 use Rattle.card_c.specs.declared.card_side.CardSide.TheVariants.{Own}
 use Rattle.card_c.specs.declared.command_record.CommandRecord.{CommandRecord}
 use Rattle.card_c.specs.declared.own_side.OwnSide.{OwnSide}
+use Rattle.card_c.specs.declared.own_side.Whole.{Whole}
+use Rattle.card_c.specs.declared.own_side.Whole.TheVariants as whole
 use Rattle.card_c.specs.Codes.{gt_ok, gt_sends, gt_command, gt_header, gt_state, gt_memory, gt_argument, line_code}
 
 abbrev pub OwnCard : Type 0
@@ -81,9 +84,14 @@ OwnTakesOne byte own code new =
     ⊎ ((code ≡ gt_ok) × (new ≡ record own { end = new.end })
     × IsTaken own_card own.end byte new.end)
 
+-- A call by characters or buffers does this if nothing waits as a whole. Otherwise nothing changes.
+abbrev pub Freely : (OwnSide → ℤ → OwnSide → Type 0) → Type 0 → OwnSide → ℤ → OwnSide → Type 0
+Freely Calls Untold own code new = ((own.whole ≡ whole.Nothing) × Calls own code new)
+    ⊎ ((own.whole ≢ whole.Nothing) × (code ≡ gt_state) × (new ≡ own) × Untold)
+
 abbrev pub OwnTakes : ℕ → CardSide → ℤ → CardSide → Type 0
 OwnTakes byte (Own own) code new = (next : OwnSide) × (new ≡ Own next)
-    × OwnTakesOne byte own code next
+    × Freely (OwnTakesOne byte) ⊤ own code next
 OwnTakes byte side code new = (code ≡ gt_state) × (new ≡ side)
 
 -- The card's next character, unless something waits or it listens.
@@ -97,7 +105,7 @@ OwnTurnsOne before byte own code new = (w : Wanted) × IsWanted own.end w
 
 abbrev pub OwnTurns : ℕ → ℕ → CardSide → ℤ → CardSide → Type 0
 OwnTurns before byte (Own own) code new = (next : OwnSide) × (new ≡ Own next)
-    × OwnTurnsOne before byte own code next
+    × Freely (OwnTurnsOne before byte) (byte ≡ before) own code next
 OwnTurns before byte side code new = (code ≡ gt_state) × (new ≡ side) × (byte ≡ before)
 
 abbrev pub OwnDriven : Type 0
@@ -119,9 +127,14 @@ abbrev pub OwnHandsOutAll : EndOf OwnCard → Cursor → List ℕ → List ℕ �
 OwnHandsOutAll end plans room room' n code next left =
     HandsOut OwnHandsOutOne (end, plans) room room' n (next, left) × OwnStops room n next code
 
+abbrev pub OwnSendsOne : List ℕ → List ℕ → ℕ → OwnSide → ℤ → OwnSide → Type 0
+OwnSendsOne room room' n own code new =
+    (new ≡ record own { end = new.end; plans = new.plans })
+    × OwnHandsOutAll own.end own.plans room room' n code new.end new.plans
+
 abbrev pub OwnSends : List ℕ → ℕ → List ℕ → ℕ → CardSide → ℤ → CardSide → Type 0
 OwnSends room before room' n (Own own) code new = (next : OwnSide) × (new ≡ Own next)
-    × OwnHandsOutAll own.end own.plans room room' n code next.end next.plans
+    × Freely (OwnSendsOne room room' n) ((room' ≡ room) × (n ≡ before)) own code next
 OwnSends room before room' n side code new =
     (code ≡ gt_state) × (new ≡ side) × (room' ≡ room) × (n ≡ before)
 
@@ -134,13 +147,14 @@ OwnReceivesAll bytes n own code new = (new ≡ record own { end = new.end })
 
 abbrev pub OwnReceives : List ℕ → ℕ → ℕ → CardSide → ℤ → CardSide → Type 0
 OwnReceives bytes before n (Own own) code new = (next : OwnSide) × (new ≡ Own next)
-    × OwnReceivesAll bytes n own code next
+    × Freely (OwnReceivesAll bytes n) (n ≡ before) own code next
 OwnReceives bytes before n side code new = (code ≡ gt_state) × (new ≡ side) × (n ≡ before)
 
 -- The card is reset. What waits is dropped, and so is a response that did not settle; the plans
 -- stay.
 abbrev pub OwnResetsOne : OwnSide → ℤ → OwnSide → Type 0
 OwnResetsOne own code new = (code ≡ gt_ok) × (new.plans ≡ own.plans)
+    × (new.whole ≡ whole.Nothing) × (new.asked.items ≡ [])
     × (own_card.standing new.end.card
     ≡ own_card.after_reset (own_card.standing own.end.card))
     × (new.end.stage ≡ Taking_header [])
@@ -156,6 +170,7 @@ OwnResets side code new = (code ≡ gt_state) × (new ≡ side)
 -- no plans, no response, and the events since its making: none
 abbrev pub IsFresh : Directions → OwnSide → Type 0
 IsFresh directions own = (own.plans ≡ record { rest = []; kept = None })
+    × (own.whole ≡ whole.Nothing) × (own.asked.items ≡ [])
     × (own.end.stage ≡ Taking_header [])
     × (own.end.card.app ≡ record { directions = directions; given = None; settled = true })
     × OwnLed (own_card.standing own.end.card) [] own.end
@@ -175,6 +190,25 @@ BeginsOwn bytes None code new =
     ⊎ ((d : Directions) × IsDirections bytes (Some d) × (own : OwnSide) × (code ≡ gt_ok)
     × (new ≡ Some (Own own)) × IsFresh d own)
 
+-- what is wanted for a TPDU that waits as a whole, or for a command
+abbrev pub wanted_at : OwnCard → Option Asked → Wanted
+wanted_at card None = wanted.Nothing
+wanted_at card (Some asked) = wanted_by card asked.header asked.p3 asked.content
+
+abbrev pub IsWantedFor : OwnCard → List ℕ → Wanted → Type 0
+IsWantedFor card bytes w =
+    ((c : Command) × IsCommand c × (bytes ≡ command_bytes c) × (w ≡ wanted_for card.app c))
+    ⊎ (((c : Command) → IsCommand c → bytes ≡ command_bytes c → ⊥) × (w ≡ wanted.Nothing))
+
+abbrev pub IsWantedIn : Whole → List ℕ → EndOf OwnCard → Wanted → Type 0
+IsWantedIn whole.Nothing bytes end w = IsWanted end w
+IsWantedIn whole.Tpdu bytes end w = w ≡ wanted_at end.card (asked_in bytes)
+IsWantedIn whole.Command bytes end w = IsWantedFor end.card bytes w
+
+-- What is wanted of the caller.
+abbrev pub IsOwnWanted : OwnSide → Wanted → Type 0
+IsOwnWanted own w = IsWantedIn own.whole own.asked.items own.end w
+
 -- header, Le and data as C sees them
 pub record IsRecord (h : Header) (bytes : List ℕ) (le : ℕ) (r : CommandRecord) : Type 0 where
   pub cla : r.cla ≡ h.cla
@@ -192,7 +226,7 @@ TellsWanted (wanted.Response c) old new code = (code ≡ gt_ok)
     × (length c.content ≤ 255 → IsRecord c.header c.content (unwrap_or c.le 0) new)
 
 abbrev pub TellsCommand : CommandRecord → CommandRecord → CardSide → ℤ → Type 0
-TellsCommand old new (Own own) code = (w : Wanted) × IsWanted own.end w × TellsWanted w old new code
+TellsCommand old new (Own own) code = (w : Wanted) × IsOwnWanted own w × TellsWanted w old new code
 TellsCommand old new side code = (code ≡ gt_state) × (new ≡ old)
 
 -- the end is at the same place of its TPDU, over this card
@@ -210,7 +244,7 @@ DecidesOne wanted.Nothing to_card end code new = (code ≡ gt_state) × (new ≡
 DecidesOne (wanted.Response c) to_card end code new = (code ≡ gt_state) × (new ≡ end)
 
 abbrev pub Decides : Bool → CardSide → ℤ → CardSide → Type 0
-Decides to_card (Own own) code new = (w : Wanted) × IsWanted own.end w × (end : EndOf OwnCard)
+Decides to_card (Own own) code new = (w : Wanted) × IsOwnWanted own w × (end : EndOf OwnCard)
     × (new ≡ Own (record own { end = end })) × DecidesOne w to_card own.end code end
 Decides to_card side code new = (code ≡ gt_state) × (new ≡ side)
 
@@ -240,7 +274,7 @@ RespondsOne wanted.Nothing bytes number end code new = (code ≡ gt_state) × (n
 RespondsOne (wanted.Direction h) bytes number end code new = (code ≡ gt_state) × (new ≡ end)
 
 abbrev pub RespondsOwn : List ℕ → ℕ → CardSide → ℤ → CardSide → Type 0
-RespondsOwn bytes number (Own own) code new = (w : Wanted) × IsWanted own.end w
+RespondsOwn bytes number (Own own) code new = (w : Wanted) × IsOwnWanted own w
     × (end : EndOf OwnCard) × (new ≡ Own (record own { end = end }))
     × RespondsOne w bytes number own.end code end
 RespondsOwn bytes number side code new = (code ≡ gt_state) × (new ≡ side)

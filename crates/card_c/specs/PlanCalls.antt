@@ -2,7 +2,7 @@
 use Rattle.std.specs.Prelude.{◌≡◌, ◌<◌, ◌⊎◌, ℕ, ℤ, List, [], ◌∷◌, ◌++◌, length}
 use Rattle.t0_core.specs.Plan.{Course}
 use Rattle.card_c.specs.declared.card_side.CardSide.{CardSide}
-use Rattle.card_c.specs.declared.card_side.CardSide.TheVariants.{Standing, Joined}
+use Rattle.card_c.specs.declared.card_side.CardSide.TheVariants.{Standing, Joined, Own}
 use Rattle.card_c.specs.declared.session_side.SessionSide.{SessionSide}
 use Rattle.card_c.specs.Codes.{gt_ok, gt_state}
 use Rattle.card_c.specs.PlanLetters.{IsSpelt, IsRefused, plan_limit}
@@ -19,6 +19,9 @@ abbrev pub QueuesAtCard : List ℕ → ℕ → CardSide → ℤ → CardSide →
 QueuesAtCard letters cut (Standing end plans) code new =
     (rest : List Course) × Queues letters cut plans.rest code rest
     × (new ≡ Standing end (record plans { rest = rest }))
+QueuesAtCard letters cut (Own own) code new =
+    (rest : List Course) × Queues letters cut own.plans.rest code rest
+    × (new ≡ Own (record own { plans = record own.plans { rest = rest } }))
 QueuesAtCard letters cut side code new = (code ≡ gt_state) × (new ≡ side)
 
 -- only the plans have changed

@@ -2,13 +2,14 @@
 ghost use Rattle.std.specs.Prelude.{◌≡◌, true};
 ghost use Rattle.t0_core.specs.CardTpdu.{rests};
 ghost use Rattle.card_c.specs.Handles.{held_by, OnHandleOr};
-ghost use Rattle.card_c.specs.CardApduCalls.{RespondsTo, RespondsToCommand, RefusesLength};
+ghost use Rattle.card_c.specs.CardApduCalls.{RespondsTo, RespondsToCommand};
+ghost use Rattle.card_c.specs.WholeCalls.{RefusesLength};
 
 use crate::card_held::GtCard;
 use crate::card_side::CardSide;
-use crate::code;
 use crate::handle::{Handle, on};
 use crate::whole_tpdu::hand_out;
+use crate::{code, own_whole};
 use apdu_core::{ApduFault, Command, Status};
 use apdu_terminal::respond;
 use object_card::ObjectCard;
@@ -42,7 +43,7 @@ fn respond_to(
         result side.new }
 {
     let CardSide::Standing(end, _) = side else {
-        return code::STATE;
+        return own_whole::command_own(side, apdu, response, len);
     };
     if !end.is_at_rest() {
         return code::STATE;
@@ -55,7 +56,7 @@ fn respond_to(
 }
 
 /// Writes the response `6700`, wrong length, or returns `BUFFER` if it does not fit.
-fn refuse(response: &mut [u8], len: &mut usize) -> i32
+pub(crate) fn refuse(response: &mut [u8], len: &mut usize) -> i32
     ensures { RefusesLength response.old len.old result response.new len.new }
 {
     if response.len() < 2 {

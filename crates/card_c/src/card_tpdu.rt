@@ -3,16 +3,16 @@ ghost use Rattle.std.specs.Prelude.{◌≡◌, ◌+◌, ◌≤◌, length, true,
 ghost use Rattle.t0_core.specs.CardTpdu.{rests};
 ghost use Rattle.t0_core.specs.TpduBytes.{asked_in};
 ghost use Rattle.card_c.specs.Handles.{held_by, OnHandleOr};
-ghost use Rattle.card_c.specs.CardTpduCalls.{CarriesOut, IsCarriedOut};
+ghost use Rattle.card_c.specs.CardTpduCalls.{CarriesOut};
+ghost use Rattle.card_c.specs.WholeCalls.{IsCarriedOut};
 
 use crate::card_held::GtCard;
 use crate::card_side::CardSide;
-use crate::code;
 use crate::handle::{Handle, on};
 use crate::whole_tpdu::hand_out;
-use object_card::ObjectCard;
+use crate::{code, own_whole};
 use std::alloc::Global;
-use t0_core::{CardEnd, Gather, PlanQueue, WholeTpdu};
+use t0_core::{CardEnd, Gather, PlanQueue, TpduCard, WholeTpdu};
 
 /// Carries out a whole TPDU under the card's next plan, and writes its answer.
 #[unsafe(no_mangle)]
@@ -40,7 +40,7 @@ fn carry_out(
     ensures { CarriesOut tpdu.now answer.old len.old answer.new len.new side.old result side.new }
 {
     let CardSide::Standing(end, plans) = side else {
-        return code::STATE;
+        return own_whole::tpdu_own(alloc, side, tpdu, answer, len);
     };
     if !end.is_at_rest() {
         return code::STATE;
@@ -60,8 +60,8 @@ fn carry_out(
 
 /// Lets a card's end, which has no TPDU in progress, carry out a whole TPDU, and writes its answer.
 /// The array must have room for the longest one.
-fn pass(
-    end: &mut CardEnd<ObjectCard>,
+pub(crate) fn pass<C: TpduCard>(
+    end: &mut CardEnd<C>,
     plans: &mut PlanQueue,
     tpdu: &[u8],
     gather: &mut Gather,
@@ -71,7 +71,7 @@ fn pass(
     requires rests { rests end.old.stage ≡ true }
     requires whole { IsSome (asked_in tpdu.now) }
     requires room { gather.old.limit + 2 ≤ length answer.old }
-    ensures { IsCarriedOut tpdu.now end.old plans.old gather.old answer.old len.old
+    ensures { IsCarriedOut C.TpduCard tpdu.now end.old plans.old gather.old answer.old len.old
         result end.new plans.new answer.new len.new }
 {
     let done = end.tpdu(tpdu, &mut plans.cursor(), gather);

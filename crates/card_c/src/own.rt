@@ -1,11 +1,11 @@
 //! The exports of a card of an own application, and what the calls by characters do to it.
-ghost use Rattle.std.specs.Prelude.{◌≡◌, true, MatchOption};
+ghost use Rattle.std.specs.Prelude.{◌≡◌, ⊤, true, MatchOption};
 ghost use Rattle.t0_core.specs.CardSide.{listens};
-ghost use Rattle.card_c.specs.OwnCalls.{OwnTakesOne, OwnTakes, OwnTurnsOne, OwnTurns, OwnHandsOut, OwnHandsOutAll, OwnSends, OwnReceives, OwnReceivesAll, OwnResets, OwnResetsOne};
+ghost use Rattle.card_c.specs.OwnCalls.{Freely, OwnSendsOne, OwnTakesOne, OwnTakes, OwnTurnsOne, OwnTurns, OwnHandsOut, OwnHandsOutAll, OwnSends, OwnReceives, OwnReceivesAll, OwnResets, OwnResetsOne};
 
 use crate::card_side::CardSide;
 use crate::code;
-use crate::own_side::OwnSide;
+use crate::own_side::{OwnSide, Whole};
 use command_card::{CommandCard, Given, Wanted, wanted_next};
 use t0_core::{CardEnd, LineFault, PlanQueue, Turn};
 
@@ -21,6 +21,15 @@ pub(crate) fn take_own(side: &mut CardSide, byte: u8) -> i32
 }
 
 fn take_one(own: &mut OwnSide, byte: u8) -> i32
+    ensures { Freely (OwnTakesOne byte) ⊤ own.old result own.new }
+{
+    if !matches!(own.whole, Whole::Nothing) {
+        return code::STATE;
+    }
+    take_free(own, byte)
+}
+
+fn take_free(own: &mut OwnSide, byte: u8) -> i32
     ensures { OwnTakesOne byte own.old result own.new }
 {
     match own.end.take(byte) {
@@ -41,6 +50,16 @@ pub(crate) fn turn_own(side: &mut CardSide, byte: &mut u8) -> i32
 }
 
 fn turn_one(own: &mut OwnSide, byte: &mut u8) -> i32
+    ensures { Freely (OwnTurnsOne byte.old byte.new) (byte.new ≡ byte.old)
+        own.old result own.new }
+{
+    if !matches!(own.whole, Whole::Nothing) {
+        return code::STATE;
+    }
+    turn_free(own, byte)
+}
+
+fn turn_free(own: &mut OwnSide, byte: &mut u8) -> i32
     ensures { OwnTurnsOne byte.old byte.new own.old result own.new }
 {
     match wanted_next(&own.end) {
@@ -77,6 +96,16 @@ pub(crate) fn send_own(side: &mut CardSide, bytes: &mut [u8], count: &mut usize)
     let CardSide::Own(own) = side else {
         return code::STATE;
     };
+    send_one(own, bytes, count)
+}
+
+fn send_one(own: &mut OwnSide, bytes: &mut [u8], count: &mut usize) -> i32
+    ensures { Freely (OwnSendsOne bytes.old bytes.new count.new)
+        ((bytes.new ≡ bytes.old) × (count.new ≡ count.old)) own.old result own.new }
+{
+    if !matches!(own.whole, Whole::Nothing) {
+        return code::STATE;
+    }
     send_all(&mut own.end, &mut own.plans, bytes, count)
 }
 
@@ -114,6 +143,16 @@ pub(crate) fn receive_own(side: &mut CardSide, bytes: &[u8], count: &mut usize) 
     let CardSide::Own(own) = side else {
         return code::STATE;
     };
+    receive_one(own, bytes, count)
+}
+
+fn receive_one(own: &mut OwnSide, bytes: &[u8], count: &mut usize) -> i32
+    ensures { Freely (OwnReceivesAll bytes.now count.new) (count.new ≡ count.old)
+        own.old result own.new }
+{
+    if !matches!(own.whole, Whole::Nothing) {
+        return code::STATE;
+    }
     receive_all(own, bytes, count)
 }
 
@@ -142,6 +181,7 @@ pub(crate) fn reset_own(side: &mut CardSide) -> i32
 fn reset_one(own: &mut OwnSide) -> i32
     ensures { OwnResetsOne own.old result own.new }
 {
+    own.drop_whole();
     own.end.reset();
     code::OK
 }

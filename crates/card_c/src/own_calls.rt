@@ -9,10 +9,11 @@ use crate::code;
 use crate::command_record::CommandRecord;
 use crate::handle::{Handle, on, with};
 use crate::own_side::OwnSide;
+use crate::own_whole::wanted_in;
 use apdu_core::{Header, Status};
-use command_card::{CommandCard, Directions, GiveFault, Given, Wanted, decide, give, wanted_next};
+use command_card::{CommandCard, Directions, GiveFault, Given, Wanted, decide, give};
 use std::alloc::Global;
-use t0_core::{CardEnd, PlanQueue};
+use t0_core::CardEnd;
 
 /// Makes a card of an own application, which listens at T=0. `directions` are 32 bytes, or none.
 #[unsafe(no_mangle)]
@@ -25,11 +26,7 @@ pub extern "C" fn galliumtoad_card_own(alloc: Global, card: &mut GtCard, directi
     let Some(directions) = directions_in(directions) else {
         return code::ARGUMENT;
     };
-    let side = CardSide::Own(OwnSide {
-        end: CardEnd::new(CommandCard::new(alloc, Given::new(alloc, directions))),
-        plans: PlanQueue::new(alloc),
-    });
-    match Box::new(alloc, side) {
+    match Box::new(alloc, CardSide::Own(OwnSide::new(alloc, directions))) {
         Ok(side) => {
             card.put(side);
             code::OK
@@ -72,7 +69,7 @@ fn tell_command(side: &CardSide, command: &mut CommandRecord) -> i32
     let CardSide::Own(own) = side else {
         return code::STATE;
     };
-    match wanted_next(&own.end) {
+    match wanted_in(&own.end, own.whole, &own.asked) {
         Wanted::Nothing => return code::STATE,
         Wanted::Direction(header) => *command = record_of(header, &[], 0),
         Wanted::Response(waits) => {
@@ -114,7 +111,10 @@ fn direction(side: &mut CardSide, to_card: bool) -> i32
     let CardSide::Own(own) = side else {
         return code::STATE;
     };
-    if !matches!(wanted_next(&own.end), Wanted::Direction(_)) {
+    if !matches!(
+        wanted_in(&own.end, own.whole, &own.asked),
+        Wanted::Direction(_)
+    ) {
         return code::STATE;
     }
     if decide(&mut own.end, to_card) {
@@ -144,7 +144,7 @@ fn respond(side: &mut CardSide, bytes: &[u8], status: u16) -> i32
     let CardSide::Own(own) = side else {
         return code::STATE;
     };
-    let Wanted::Response(_) = wanted_next(&own.end) else {
+    let Wanted::Response(_) = wanted_in(&own.end, own.whole, &own.asked) else {
         return code::STATE;
     };
     give_to(&mut own.end, bytes, status)

@@ -1,7 +1,7 @@
 //! The exports that give a card or a session plans for later TPDUs.
 ghost use Rattle.std.specs.Prelude.{◌≡◌, [], ◌∷◌, ◌++◌, OnOk, OnErr};
 ghost use Rattle.card_c.specs.Handles.{held_by, OnHandle};
-ghost use Rattle.card_c.specs.PlanCalls.{IsButPlans, QueuesAtCard, QueuesInSession};
+ghost use Rattle.card_c.specs.PlanCalls.{IsButPlans, Queues, QueuesAtCard, QueuesInSession};
 
 use crate::card_held::GtCard;
 use crate::card_side::CardSide;
@@ -10,7 +10,7 @@ use crate::handle::with;
 use crate::plan_letters::plan_of;
 use crate::session_side::SessionSide;
 use std::alloc::{AllocError, Global};
-use t0_core::Plan;
+use t0_core::{Plan, PlanQueue};
 
 /// Gives a card at T=0 one more plan, after those that wait. Each TPDU takes the next one.
 #[unsafe(no_mangle)]
@@ -28,9 +28,17 @@ pub extern "C" fn galliumtoad_card_plan(
 fn queue_at_card(alloc: Global, side: &mut CardSide, steps: &[u8], cut: u16) -> i32
     ensures { QueuesAtCard steps.now cut side.old result side.new }
 {
-    let CardSide::Standing(_, plans) = side else {
-        return code::STATE;
-    };
+    match side {
+        CardSide::Standing(_, plans) => queue_plan(alloc, plans, steps, cut),
+        CardSide::Own(own) => queue_plan(alloc, &mut own.plans, steps, cut),
+        CardSide::Building(_) | CardSide::Joined(_) | CardSide::AtT1(_) => code::STATE,
+    }
+}
+
+fn queue_plan(alloc: Global, plans: &mut PlanQueue, steps: &[u8], cut: u16) -> i32
+    ensures queued { Queues steps.now cut plans.old.rest result plans.new.rest }
+    ensures kept { plans.new.kept ≡ plans.old.kept }
+{
     match plan_of(alloc, steps, cut, plans.len()) {
         Ok(plan) => match plans.push(plan) {
             Ok(()) => code::OK,

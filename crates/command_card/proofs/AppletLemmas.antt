@@ -1,19 +1,19 @@
 -- What the card responds to a command that is too long.
-use Rattle.std.proofs.Common.{◌≡◌, ℕ, ◌<◌, List, length, Bool}
-use Rattle.apdu_core.specs.declared.header.Header.{Header}
+use Rattle.std.proofs.Common.{◌≡◌, ℕ, ◌<◌, List, length}
+use Rattle.apdu_core.specs.CommandBytes.{Command}
 use Rattle.apdu_core.specs.CommandLaws.{has_no_form}
 use Rattle.t1_core.specs.declared.applet.Requests.{Requests}
 use Rattle.t1_core.specs.CardSide.{no_requests}
-use Rattle.command_card.specs.AtT1.{DoesAt, status_bytes}
-use Rattle.command_card.specs.Carrying.{Did}
+use Rattle.command_card.specs.AtT1.{DoesBytes, status_bytes}
 use Rattle.command_card.specs.State.{CardState}
 
-pub too_long_does : {S : Type 0} (takes : S → Header → Bool) (Act : S → Did → S → Type 0)
-    (old new : CardState S) (response : List ℕ) (asks : Requests)
+pub too_long_does : {S : Type 0}
+    (Does : CardState S → Command → List ℕ → CardState S → Type 0) (old new : CardState S)
+    (response : List ℕ) (asks : Requests)
     → response ≡ status_bytes (0x67, 0x00) → new ≡ old → asks ≡ no_requests
     → (command : List ℕ) → 261 < length command
-    → DoesAt takes Act old (record { command = command; response = response; asks = asks }) new
-too_long_does takes Act old new response asks is stays none command long = record {
+    → DoesBytes Does old (record { command = command; response = response; asks = asks }) new
+too_long_does Does old new response asks is stays none command long = record {
   no_form = λ no. (is, stays);
   invalid_ins = λ c has same. absurd (has_no_form c command has.sizes same long);
   command = λ c has same. absurd (has_no_form c command has.sizes same long);

@@ -71,11 +71,15 @@ Responds takes Act old c response new =
 
 -- The same at T=1: 6700 to bytes in none of the four forms, 6D00 to an invalid INS, both without a
 -- change. There is no request before a response.
-pub record DoesAt {S : Type 0} (takes : S → Header → Bool) (Act : S → Did → S → Type 0)
+pub record DoesBytes {S : Type 0} (Does : CardState S → Command → List ℕ → CardState S → Type 0)
     (old : CardState S) (d : Done) (new : CardState S) : Type 0 where
   pub no_form : (HasForm d.command → ⊥) → (d.response ≡ status_bytes (0x67, 0x00)) × (new ≡ old)
   pub invalid_ins : (c : Command) → HasInvalidIns c → d.command ≡ command_bytes c
       → (d.response ≡ status_bytes (0x6D, 0x00)) × (new ≡ old)
   pub command : (c : Command) → IsCommand c → d.command ≡ command_bytes c
-      → Responds takes Act old c d.response new
+      → Does old c d.response new
   pub asks : d.asks ≡ no_requests
+
+abbrev pub DoesAt : {S : Type 0} → (S → Header → Bool) → (S → Did → S → Type 0) → CardState S
+    → Done → CardState S → Type 0
+DoesAt takes Act old d new = DoesBytes (Responds takes Act) old d new

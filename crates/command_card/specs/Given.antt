@@ -59,8 +59,18 @@ abbrev pub IsGiven : Option Answer → List ℕ → StatusWord → Type 0
 IsGiven None bytes status = ⊥
 IsGiven (Some answer) bytes status = (bytes ≡ answer.bytes) × (status ≡ answer.status)
 
--- A command gets the response that was given, and settles with it. Or it gets none, is not carried
--- out, and its status is 6581.
+-- A command gets the response that was given, and settles with it.
+abbrev pub Gives : GivenState → Did → GivenState → Type 0
+Gives old did new = IsGiven old.given did.response did.status × (new ≡ settled old)
+
+-- The same by characters. Or the command gets none, is not carried out, and its status is 6581: if
+-- none was given. The state does not say so, since a card may judge a header twice before SW2
+-- (`TpduCard::header`). The response is gone then, and a further copy may lack memory. An end of
+-- the line judges each header once.
 abbrev pub Answers : GivenState → Did → GivenState → Type 0
-Answers old did new = (IsGiven old.given did.response did.status × (new ≡ settled old))
-    ⊎ ((did ≡ out_of_memory did.command) × (new ≡ old))
+Answers old did new = Gives old did new ⊎ ((did ≡ out_of_memory did.command) × (new ≡ old))
+
+-- what is known about the next header's data no longer is
+abbrev pub without_answer : GivenState → GivenState
+without_answer s =
+    record { directions = forgotten s.directions; given = s.given; settled = s.settled }

@@ -14,7 +14,8 @@ use Rattle.command_card.specs.declared.own.Wanted.TheVariants as wanted
 use Rattle.command_card.specs.declared.ready.Ready.{Ready}
 use Rattle.command_card.specs.declared.ready.Ready.TheVariants as ready
 use Rattle.command_card.specs.Carrying.{asking, taking}
-use Rattle.command_card.specs.Given.{GivenState, takes_data}
+use Rattle.command_card.specs.AtT1.{Responds}
+use Rattle.command_card.specs.Given.{GivenState, Gives, takes_data, without_answer}
 use Rattle.command_card.specs.Meaning.{Kind, Invalid, Hands, Unfetched, Takes, Asks, kind_in}
 use Rattle.command_card.specs.State.{CardState, is_fetch}
 use Rattle.command_card.specs.View.{CardOf, standing_in}
@@ -94,3 +95,10 @@ wanted_for s c = if is_fetch c.header then wanted.Nothing
     else if is_known s.directions
     then wanted_told (is_some s.given) (takes_data s c.header) c.header c.content c.le
     else wanted.Direction c.header
+
+-- What a whole command brings: the response that was given for it, if it needs one. What was
+-- answered about its data holds for it alone.
+abbrev pub RespondsAs : CardState GivenState → Command → List ℕ → CardState GivenState → Type 0
+RespondsAs old c response new = (app : GivenState)
+    × Responds takes_data Gives old c response (record { app = app; left = new.left })
+    × (new.app ≡ without_answer app)

@@ -76,7 +76,7 @@ pub(crate) fn write(content: &[u8], status: Status, response: &mut Vec<u8>)
 }
 
 /// Writes at most Le bytes of those from this place on, and their status. Returns what is pending.
-fn hand_out(
+pub(crate) fn hand_out(
     bytes: &Vec<u8>,
     from: usize,
     status: Status,
@@ -88,7 +88,7 @@ fn hand_out(
     ensures hands { HandsOut (drop from bytes.now.items) status (may_bring le) response.new.items
         (left_of bytes.now.items result) }
     ensures under { (h : Header) → WaitsFor result h → ⊥ }
-    ensures short { length response.new.items ≤ 258 }
+    ensures short { length response.new.items ≤ may_bring le + 2 }
 {
     let first = from.min(bytes.len());
     let left = bytes.len() - first;
@@ -115,7 +115,6 @@ pub(crate) fn respond<A: Application>(
         command.now response.new.items
         (state_of (A.standing application.new) kept.new.items result) }
     ensures under { (h : Header) → WaitsFor result h → ⊥ }
-    ensures short { length response.new.items ≤ 258 }
 {
     let header = command.header();
     let le = command.le();

@@ -1,7 +1,8 @@
 //! An application whose responses come from outside, one for each command.
-ghost use Rattle.std.specs.Prelude.{◌≡◌, ◌<◌, ◌^◌, true, None, is_some, OnOk, OnErr};
+ghost use Rattle.std.specs.Prelude.{◌≡◌, ◌<◌, ◌≤◌, ◌^◌, length, true, None, is_some, IfOk, OnOk, OnErr};
+ghost use Rattle.command_card.specs.declared.application.TheConstants.{RESPONSE_LIMIT};
 ghost use Rattle.command_card.specs.Carrying.{IsOwn};
-ghost use Rattle.command_card.specs.Given.{after_drop, forgotten, go_to_card, with_answer};
+ghost use Rattle.command_card.specs.Given.{IsGiven, after_drop, forgotten, go_to_card, settled, with_answer, without_answer};
 ghost use Rattle.command_card.specs.declared.given.Directions.TheVariants as way;
 
 use crate::answer::wipe;
@@ -65,7 +66,8 @@ pub struct Given {
 }
 
 impl Model for Given {
-    ghost use Rattle.std.specs.Prelude.{◌≡◌, false, MatchOption, ⊤};
+    ghost use Rattle.std.specs.Prelude.{◌≡◌, ◌≤◌, false, length, MatchOption, ⊤};
+    ghost use Rattle.command_card.specs.declared.application.TheConstants.{RESPONSE_LIMIT};
     ghost use Rattle.command_card.specs.Carrying.{IsOwn};
     ghost use Rattle.command_card.specs.Given.{GivenState, answer_of};
 
@@ -78,7 +80,8 @@ impl Model for Given {
     } };
 
     ghost invariant = { λ g. (g.used ≡ false → g.spare.items ≡ g.bytes.items)
-        × MatchOption g.status ⊤ IsOwn };
+        × MatchOption g.status ⊤ (λ status. IsOwn status
+        × (length g.bytes.items ≤ RESPONSE_LIMIT)) };
 }
 
 impl Given {
@@ -124,6 +127,7 @@ impl Given {
     pub(crate) fn give(&mut self, bytes: &[u8], status: Status) -> Result<(), AllocError>
         requires none { self.old.given ≡ None }
         requires own { IsOwn status }
+        requires short { length bytes.now ≤ RESPONSE_LIMIT }
         ensures failed { OnErr result (self.new ≡ self.old) }
         ensures done { OnOk result (self.new ≡ with_answer self.old bytes.now status) }
     {
@@ -146,6 +150,33 @@ impl Given {
         ensures { self.new ≡ record self.old { directions = way.Known to_card } }
     {
         self.directions = Directions::Known(to_card);
+    }
+
+    /// Carries out a command: moves its response to `into`, and settles. Returns the status.
+    ///
+    /// # Errors
+    /// - `AllocError`: none was given; nothing has changed.
+    pub(crate) fn hand_over(&mut self, into: &mut Vec<u8>) -> Result<Status, AllocError>
+        ensures failed { OnErr result ((self.new ≡ self.old) × (into.new ≡ into.old)) }
+        ensures own { IfOk result IsOwn }
+        ensures given { IfOk result (λ status. IsGiven self.old.given into.new.items status
+            × (length into.new.items ≤ RESPONSE_LIMIT) × (self.new ≡ settled self.old)) }
+    {
+        let Some(status) = self.status else {
+            return Err(AllocError);
+        };
+        self.status = None;
+        self.used = true;
+        swap(&mut self.bytes, into);
+        self.settle();
+        Ok(status)
+    }
+
+    /// Forgets what was answered about the next header.
+    pub(crate) fn forget_direction(&mut self)
+        ensures { self.new ≡ without_answer self.old }
+    {
+        self.directions = forgotten(self.directions);
     }
 
     /// Drops the response, and what was answered about one header.

@@ -54,10 +54,11 @@ fn no_requests() -> Requests
 }
 
 impl Applet for GivenApplet {
-    ghost use Rattle.command_card.specs.Given.{Answers, GivenState, takes_data};
-    ghost use Rattle.command_card.specs.AtT1.{DoesAt};
+    ghost use Rattle.command_card.specs.Given.{GivenState};
+    ghost use Rattle.command_card.specs.AtT1.{DoesBytes};
     ghost use Rattle.command_card.specs.State.{CardState};
     ghost use Rattle.command_card.specs.View.{standing_in};
+    ghost use Rattle.command_card.specs.Wanted.{RespondsAs};
 
     const LIMIT: usize = COMMAND_LIMIT;
 
@@ -67,7 +68,7 @@ impl Applet for GivenApplet {
 
     ghost standing = { λ c. standing_in (λ s. s) c.end.card };
 
-    ghost Does = { DoesAt takes_data Answers };
+    ghost Does = { DoesBytes RespondsAs };
 
     fn carry_out(
         &mut self,

@@ -1,18 +1,18 @@
 //! The card of an application whose responses come from outside, and what it asks its caller.
-ghost use Rattle.std.specs.Prelude.{◌≡◌, ◌≤◌, ◌<◌, length, None, Some, true, false, Err, OnOk, OnErr};
+ghost use Rattle.std.specs.Prelude.{◌≡◌, ◌+◌, ◌≤◌, ◌<◌, [], length, vec_capacity, None, Some, true, false, Err, OnOk, OnErr, IfOk};
 ghost use Rattle.apdu_core.specs.declared.header.Header.{Header};
 ghost use Rattle.command_card.specs.declared.own.GiveFault.TheVariants as fault;
 ghost use Rattle.command_card.specs.declared.given.Directions.TheVariants as way;
 ghost use Rattle.command_card.specs.declared.application.TheConstants.{RESPONSE_LIMIT};
 ghost use Rattle.command_card.specs.declared.applet.TheConstants.{RESPONSE_ROOM};
 ghost use Rattle.command_card.specs.Carrying.{IsOwn};
-ghost use Rattle.command_card.specs.Given.{Answers, settled, takes_data, with_answer};
-ghost use Rattle.command_card.specs.AtT1.{Responds};
-ghost use Rattle.command_card.specs.View.{standing_in, prepared_in};
-ghost use Rattle.command_card.specs.Wanted.{IsWanted, is_open, is_known, need_in, wanted_by, wanted_for, wanted_with};
+ghost use Rattle.command_card.specs.Given.{Gives, settled, takes_data, with_answer};
+ghost use Rattle.command_card.specs.AtT1.{Responds, may_bring};
+ghost use Rattle.command_card.specs.View.{WaitsFor, standing_in, state_of, prepared_in};
+ghost use Rattle.command_card.specs.Wanted.{IsWanted, RespondsAs, is_open, is_known, need_in, wanted_by, wanted_for, wanted_with};
 
-use crate::answer::{pending_for, wipe};
-use crate::applet::{RESPONSE_ROOM, respond};
+use crate::answer::{pending_for, wipe, word};
+use crate::applet::{RESPONSE_ROOM, hand_out, write};
 use crate::application::{Application, GET_RESPONSE, RESPONSE_LIMIT};
 use crate::card::CommandCard;
 use crate::given::{Directions, Given};
@@ -157,8 +157,8 @@ impl CommandCard<Given> {
     /// Carries out a whole command, which settles. The card keeps its response until `forget`.
     ///
     /// # Errors
-    /// - `AllocError`: memory ran out, the card has begun to answer, or this is no command; nothing
-    ///   is carried out.
+    /// - `AllocError`: memory ran out, the card has begun to answer, this is no command, or its
+    ///   response was not given; nothing is carried out.
     pub fn respond(
         &mut self,
         header: Header,
@@ -169,11 +169,11 @@ impl CommandCard<Given> {
             ≡ prepared_in (λ s. s) settled self.old }
         ensures failed { OnErr result
             (standing_in (λ s. s) self.new ≡ standing_in (λ s. s) self.old) }
-        ensures done { OnOk result (Responds takes_data Answers
+        ensures done { OnOk result (RespondsAs
             (standing_in (λ s. s) self.old)
             (record { header = header; content = bytes.now; le = le }) self.new.fresh
             (standing_in (λ s. s) self.new)) }
-        ensures short { OnOk result (length self.new.fresh ≤ RESPONSE_ROOM) }
+        ensures short { OnOk result (length self.new.fresh ≤ may_bring le + 2) }
     {
         let Some(command) = Command::new(header, bytes, le) else {
             return Err(AllocError);
@@ -183,13 +183,14 @@ impl CommandCard<Given> {
         }
         wipe(&mut self.fresh);
         self.fresh.reserve(RESPONSE_ROOM)?;
-        self.waiting = respond(
+        self.waiting = respond_given(
             &mut self.application,
             &mut self.kept,
             self.waiting,
             &command,
             &mut self.fresh,
-        );
+        )?;
+        self.application.forget_direction();
         if matches!(self.waiting, Waiting::Nothing) {
             wipe(&mut self.kept);
         }
@@ -213,6 +214,52 @@ impl CommandCard<Given> {
             wipe(&mut self.fresh);
         }
     }
+}
+
+/// Carries out a command with the response that was given for it, and writes what goes out.
+///
+/// # Errors
+/// - `AllocError`: no response was given, and it needs one; nothing has changed.
+fn respond_given(
+    application: &mut Given,
+    kept: &mut Vec<u8>,
+    waiting: Waiting,
+    command: &Command<'_>,
+    response: &mut Vec<u8>,
+) -> Result<Waiting, AllocError>
+    requires { (response.old.items ≡ []) × (RESPONSE_ROOM ≤ vec_capacity response.old) }
+    ensures failed { OnErr result
+        ((application.new ≡ application.old) × (kept.new.items ≡ kept.old.items)) }
+    ensures responds { IfOk result (λ left. Responds takes_data Gives
+        (state_of application.old kept.old.items waiting)
+        command.now response.new.items
+        (state_of application.new kept.new.items left)) }
+    ensures under { IfOk result (λ left. (h : Header) → WaitsFor left h → ⊥) }
+    ensures short { length response.new.items ≤ may_bring command.now.le + 2 }
+{
+    let header = command.header();
+    let le = command.le();
+    if header.ins == GET_RESPONSE {
+        return match waiting {
+            Waiting::Fetch { from, status } => Ok(hand_out(kept, from, status, le, response)),
+            Waiting::Nothing | Waiting::Repeat { .. } => {
+                write(&[], word(0x69, 0x85), response);
+                Ok(Waiting::Nothing)
+            }
+        };
+    }
+    let has_none = command.data().is_empty();
+    let is_wrong = if application.takes_data(header) {
+        has_none && le.is_some()
+    } else {
+        !has_none
+    };
+    if is_wrong {
+        write(&[], word(0x67, 0x00), response);
+        return Ok(Waiting::Nothing);
+    }
+    let status = application.hand_over(kept)?;
+    Ok(hand_out(kept, 0, status, le, response))
 }
 
 /// What is wanted of the caller at a header, if these are its data.
@@ -347,13 +394,15 @@ pub fn respond_to(
     le: Option<u16>,
 ) -> Result<(), AllocError>
     ensures stage { end.new.stage ≡ end.old.stage }
+    ensures prepared { prepared_in (λ s. s) settled end.new.card
+        ≡ prepared_in (λ s. s) settled end.old.card }
     ensures failed { OnErr result
         (standing_in (λ s. s) end.new.card ≡ standing_in (λ s. s) end.old.card) }
-    ensures done { OnOk result (Responds takes_data Answers
+    ensures done { OnOk result (RespondsAs
         (standing_in (λ s. s) end.old.card)
         (record { header = header; content = bytes.now; le = le }) end.new.card.fresh
         (standing_in (λ s. s) end.new.card)) }
-    ensures short { OnOk result (length end.new.card.fresh ≤ RESPONSE_ROOM) }
+    ensures short { OnOk result (length end.new.card.fresh ≤ may_bring le + 2) }
 {
     end.with_card(|card| card.respond(header, bytes, le))
 }

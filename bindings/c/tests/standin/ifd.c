@@ -2,6 +2,7 @@
 #define _POSIX_C_SOURCE 200809L
 
 #include "check.h"
+#include "table.h"
 
 #include <galliumtoad.h>
 #include <ifdhandler.h>
@@ -383,6 +384,36 @@ static void both_protocols(void)
     CHECK(IFDHCloseChannel(NONE), IFD_SUCCESS);
 }
 
+/* An application that keeps a byte: PUT DATA stores it, and any other command reads it. */
+static int32_t keeps_a_byte(gt_card *card, const gt_command *command)
+{
+    static uint8_t kept;
+    if (command->ins != 0xDA)
+        return gt_card_respond(card, &kept, 1, 0x9000);
+    kept = command->size > 0 ? command->data[0] : 0;
+    return gt_card_respond(card, NULL, 0, 0x9000);
+}
+
+/* A card of an application of one's own, by TPDUs and by commands. */
+static void own_application(void)
+{
+    table_own = keeps_a_byte;
+    CHECK(create(NONE, "app A0000000031010\n"), IFD_COMMUNICATION_ERROR);
+    CHECK(create(NONE, "atr 3B9011800100\n"), IFD_SUCCESS);
+    check_power(NONE, IFD_POWER_UP, "\x3B\x90\x11\x80\x01\x00", 6);
+    CHECK_ANSWER(NONE, "\x80\xDA\x00\x50\x02\x41\x42", "\x90\x00");
+    CHECK_ANSWER(NONE, "\x80\x12\x00\x50\x02", "\x6C\x01");
+    CHECK_ANSWER(NONE, "\x80\x12\x00\x50\x01", "\x41\x90\x00");
+    CHECK_RESPONSE(NONE, "\x80\x12\x00\x50\x02", "\x41\x90\x00");
+    CHECK_RESPONSE(NONE, "\x80\xDA\x00\x50\x01\x43\x00", "\x90\x00");
+    CHECK_RESPONSE(NONE, "\x80\x12\x00\x50\x00", "\x43\x90\x00");
+    CHECK_RESPONSE(NONE, "\x80\x12\x00\x50\x01\x43", "\x67\x00");
+    CHECK_FAULT(NONE, 0, "\x80\xDA\x00\x50\x02", 258, IFD_COMMUNICATION_ERROR);
+    CHECK_ANSWER(NONE, "\x80\x12\x00\x50\x01", "\x43\x90\x00");
+    CHECK(IFDHCloseChannel(NONE), IFD_SUCCESS);
+    table_own = NULL;
+}
+
 static void pause_for(long milliseconds)
 {
     struct timespec pause;
@@ -585,6 +616,7 @@ int main(void)
     tables();
     whole_commands();
     both_protocols();
+    own_application();
     other_tables();
     starts_empty();
     comes_and_goes();

@@ -1,7 +1,7 @@
 use Rattle.std.proofs.Common.{◌≡◌, ℕ, ◌≤◌, length, Option, refl, ◌∙◌, ap, inl, inr, arith}
 use Rattle.std.specs.Prelude.{unwrap_or}
 use Rattle.apdu_terminal.specs.Apdus.{may_bring}
-use Rattle.card_c.specs.CardApduCalls.{longest_response}
+use Rattle.card_c.specs.WholeCalls.{longest_response}
 use Rattle.card_c.proofs.CardApduLemmas.{goes_out, is_over, responds, unwrapped}
 use Rattle.card_c.proofs.card_apdu.carry_out.Goals as goal
 

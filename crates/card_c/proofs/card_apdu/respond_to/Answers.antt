@@ -3,6 +3,7 @@ use Rattle.card_c.specs.declared.card_side.CardSide.{CardSide}
 use Rattle.card_c.specs.declared.card_side.CardSide.TheVariants.{Standing}
 use Rattle.card_c.specs.CardApduCalls.{RespondsTo}
 use Rattle.card_c.proofs.CodeLemmas.{as_it_is}
+use Rattle.card_c.proofs.OwnLemmas.{other_responds}
 use Rattle.card_c.proofs.card_apdu.respond_to.Goals as goal
 
 pub returns-in-Ok : goal.returns-in-Ok
@@ -22,3 +23,11 @@ returns-in-Ok c =
       c.carry_out.ensures,
       refl,
     )))))
+
+pub returns-in_default : goal.returns-in_default
+returns-in_default c =
+    let a = c.args in let code = c.command_own.result in let new = c.command_own.new in
+    subst (λ (z : ℤ). RespondsTo a.apdu.now a.response.now a.len.now new.response new.len a.side.now
+    z new.side) (sym (as_it_is code c.command_own.type_inv))
+    (other_responds a.apdu.now a.response.now a.len.now new.response new.len a.side.now code
+    new.side (λ end plans is. c.in_default.not-Standing end plans is) c.command_own.ensures)

@@ -7,9 +7,9 @@ use Rattle.card_c.proofs.own.receive_own.Goals as goal
 
 pub returns : goal.returns
 returns c =
-    let code = c.receive_all.result in let new = c.receive_all.new.own in
+    let code = c.receive_one.result in let new = c.receive_one.new.own in
     let Done : CardSide → ℤ → Type 0 = λ s z. OwnReceives c.args.bytes.now c.args.count.now
-    c.receive_all.new.count s z (Own new) in
-    subst (λ (z : ℤ). Done c.args.side.now z) (sym (as_it_is code c.receive_all.type_inv))
+    c.receive_one.new.count s z (Own new) in
+    subst (λ (z : ℤ). Done c.args.side.now z) (sym (as_it_is code c.receive_one.type_inv))
     (subst (λ (s : CardSide). Done s code) (sym c.in-Own.is)
-    (new, refl, c.receive_all.ensures))
+    (new, refl, c.receive_one.ensures))

@@ -1,0 +1,411 @@
+/* Tests random sessions with a card of one's own application by each way in turn: characters,
+ * buffers, whole TPDUs and whole commands, under random plans, with resets between and amid
+ * commands. A model of the rules in the header says what goes out, and which command is next. */
+#include "galliumtoad.h"
+#include "check.h"
+
+#ifndef SESSIONS
+#define SESSIONS 10000
+#endif
+
+enum { ROOM = 600, COMMANDS = 6 };
+
+static gt_card card;
+static uint32_t state = 20261129;
+
+/* A number below `limit` (a linear congruential generator, the same on each machine). */
+static size_t any(size_t limit) {
+    state = state * 1664525u + 1013904223u;
+    return (size_t)(state >> 8) % limit;
+}
+
+/* ---- What the terminal sends ----------------------------------------------------------------- */
+
+/* A header, P3, and P3 bytes of data if they go to the card; or a whole command: Le 0 is no Le. */
+typedef struct sent {
+    uint8_t header[4], data[255];
+    size_t p3, n, le;
+} sent;
+
+static uint8_t directions[32];
+static int has_directions;
+
+static int goes_to_card(uint8_t ins) { return directions[ins / 8] >> ins % 8 & 1; }
+
+/* Few headers, so that the same one comes again. */
+static sent any_sent(void) {
+    static const uint8_t INS[] = { 0x10, 0x12, 0x20, 0x22, 0xC0, 0xC0, 0x61, 0x9F };
+    sent s = { { 0 }, { 0 }, 0, 0, 0 };
+    size_t i;
+    s.header[0] = any(3) == 0 ? 0x80 : 0;
+    s.header[1] = INS[any(sizeof INS)];
+    s.header[3] = (uint8_t)any(2);
+    s.p3 = any(3) == 0 ? any(256) : any(5);
+    s.le = any(3) == 0 ? 0 : any(2) == 0 ? 256 : 1 + any(256);
+    s.n = any(2) == 0 ? 0 : 1 + any(255);
+    for (i = 0; i < sizeof s.data; i++) s.data[i] = (uint8_t)any(256);
+    return s;
+}
+
+/* ---- The model: what waits at the card, and what goes out ------------------------------------ */
+
+enum { NOTHING, FETCH, REPEAT };
+
+static struct {
+    int kind;
+    uint8_t header[4], bytes[GT_OWN_LIMIT];
+    size_t from, n;
+    uint16_t status;
+} waits;
+
+/* The response of the application to the command in progress, and what goes out of it. */
+static uint8_t given[GT_OWN_LIMIT], out[ROOM];
+static size_t given_n, out_n;
+static uint16_t given_status;
+static int asked; /* how often the application was asked: once for each of its commands */
+static int fetched, repeated;
+
+static void end_with(uint16_t status) {
+    out[out_n++] = (uint8_t)(status >> 8);
+    out[out_n++] = (uint8_t)status;
+}
+
+static void refuse(uint16_t status) {
+    waits.kind = NOTHING;
+    end_with(status);
+}
+
+/* The first `n` bytes of what waits go out; 61XX announces the rest. */
+static void hand_out(size_t n, size_t cut) {
+    const size_t left = waits.n - waits.from, count = n < left ? n : left, rest = left - count;
+    memcpy(out + out_n, waits.bytes + waits.from, count);
+    out_n += count;
+    waits.from += count;
+    waits.kind = rest > 0 ? FETCH : NOTHING;
+    end_with(rest > 0 ? (uint16_t)(0x6100 + (rest < cut ? rest : cut) % 256) : waits.status);
+}
+
+/* At T=0: all, or 6CXX says how many there are. */
+static void hand_exactly(size_t n, size_t cut) {
+    const size_t left = waits.n - waits.from;
+    if (left > 0 && left < n) end_with((uint16_t)(0x6C00 + left));
+    else hand_out(left == 0 ? 0 : n, cut);
+}
+
+static void keep_given(const sent *s) {
+    waits.kind = REPEAT;
+    memcpy(waits.header, s->header, 4);
+    memcpy(waits.bytes, given, given_n);
+    waits.from = 0;
+    waits.n = given_n;
+    waits.status = given_status;
+}
+
+/* Whether what waits is the answer to a TPDU. */
+static int is_answered(const sent *s) {
+    if (waits.kind == FETCH) return s->header[1] == 0xC0;
+    return waits.kind == REPEAT && memcmp(waits.header, s->header, 4) == 0 && waits.n == s->p3;
+}
+
+static int is_own(uint8_t ins) { return ins >> 4 != 6 && ins >> 4 != 9 && ins != 0xC0; }
+
+static int tpdu_reaches(const sent *s) { return !is_answered(s) && is_own(s->header[1]); }
+
+static int command_is_wrong(const sent *s) {
+    return goes_to_card(s->header[1]) ? s->n == 0 && s->le > 0 : s->n > 0;
+}
+
+/* What the card sends after a TPDU, once the application has answered. */
+static void model_tpdu(const sent *s, size_t cut) {
+    const size_t count = s->p3 > 0 ? s->p3 : 256;
+    if (is_answered(s)) {
+        if (waits.kind == FETCH) fetched++;
+        else repeated++;
+        hand_exactly(count, cut);
+    } else if (!is_own(s->header[1])) {
+        refuse(s->header[1] == 0xC0 ? 0x6985 : 0x6D00);
+    } else {
+        keep_given(s);
+        if (goes_to_card(s->header[1])) hand_out(0, cut);
+        else hand_exactly(count, cut);
+    }
+}
+
+static void model_command(const sent *s) {
+    if (s->header[1] == 0xC0) {
+        if (waits.kind == FETCH) hand_out(s->le, 256);
+        else refuse(0x6985);
+    } else if (command_is_wrong(s)) {
+        refuse(0x6700);
+    } else {
+        keep_given(s);
+        hand_out(s->le, 256);
+    }
+}
+
+/* ---- The application ------------------------------------------------------------------------- */
+
+static const sent *now;       /* what the terminal sends */
+static size_t now_n, now_le;  /* its data and its Le, as the application gets them */
+static size_t reset_in;       /* the card is reset after this number of steps of the application */
+static int was_reset, settled = 1;
+
+static void any_response(void) {
+    static const uint16_t STATUSES[] = { 0x9000, 0x6A82, 0x6282, 0x63C2, 0x9102 };
+    size_t i;
+    given_n = any(3) == 0 ? any(GT_OWN_LIMIT + 1) : any(4) == 0 ? any(600) : any(6);
+    given_status = STATUSES[any(sizeof STATUSES / sizeof *STATUSES)];
+    for (i = 0; i < given_n; i++) given[i] = (uint8_t)any(256);
+}
+
+/* The card is reset. What waits is dropped, and so is a command that has not settled. */
+static void reset(void) {
+    CHECK(gt_card_reset(&card), GT_OK);
+    CHECK(gt_card_respond(&card, given, given_n, given_status), GT_STATE);
+    CHECK(gt_card_settled(&card), settled);
+    waits.kind = NOTHING;
+    was_reset = 1;
+}
+
+/* The card asks for the direction or the response of this command: data, or Le. */
+static void answer(int32_t code) {
+    const int to_card = goes_to_card(now->header[1]);
+    gt_command command;
+    CHECK(gt_card_command(&card, &command), GT_OK);
+    CHECK(command.cla, now->header[0]);
+    CHECK(command.ins, now->header[1]);
+    CHECK(command.p1, now->header[2]);
+    CHECK(command.p2, now->header[3]);
+    if (code == GT_HEADER) {
+        CHECK(has_directions, 0);
+        CHECK(gt_card_respond(&card, given, given_n, given_status), GT_STATE);
+        CHECK(gt_card_direction(&card, to_card), GT_OK);
+        return;
+    }
+    CHECK(command.size, now_n);
+    CHECK(command.le, now_le);
+    CHECK_BYTES(command.data, now->data, now_n);
+    CHECK(gt_card_direction(&card, to_card), GT_STATE);
+    CHECK(gt_card_respond(&card, given, given_n, given_status), GT_OK);
+    CHECK(gt_card_respond(&card, given, given_n, given_status), GT_STATE);
+    settled = 0;
+    asked++;
+}
+
+/* Whether the card asked something, and has its answer: the caller calls it again. */
+static int is_asked(int32_t code) {
+    if (code != GT_COMMAND && code != GT_HEADER) return 0;
+    if (reset_in-- == 0) {
+        reset();
+        return 0;
+    }
+    answer(code);
+    if (reset_in-- > 0) return 1;
+    reset();
+    return 0;
+}
+
+/* ---- By characters and buffers --------------------------------------------------------------- */
+
+static int by_buffers, cut_used; /* whether the TPDU has taken the plan that waits */
+static uint8_t queue[ROOM], came[ROOM];
+static size_t queue_at, queue_n, came_n;
+
+/* The card's next character. */
+static uint8_t next(void) {
+    int32_t code;
+    if (by_buffers && queue_at < queue_n) return queue[queue_at++];
+    do {
+        queue_at = queue_n = 0;
+        code = by_buffers ? gt_card_send_bytes(&card, queue, 1 + any(ROOM), &queue_n)
+                          : gt_card_turn(&card, queue);
+    } while (queue_n == 0 && is_asked(code));
+    if (was_reset) return 0;
+    CHECK(by_buffers ? queue_n > 0 : code == GT_SENDS, 1);
+    if (!by_buffers) queue_n = 1;
+    queue_at = 1;
+    return queue[0];
+}
+
+static void to_card(const uint8_t *bytes, size_t n) {
+    size_t at, taken = 1;
+    for (at = 0; at < n && failed == 0; at += taken) {
+        const size_t piece = by_buffers ? 1 + any(n - at) : 1;
+        if (by_buffers) CHECK(gt_card_receive_bytes(&card, bytes + at, piece, &taken), GT_OK);
+        else CHECK(gt_card_take(&card, bytes[at]), GT_OK);
+        CHECK(taken, piece);
+    }
+}
+
+/* A terminal at T=0: it follows the procedure bytes up to the status. */
+static void by_line(const sent *s, int to) {
+    const size_t total = to ? s->p3 : s->p3 > 0 ? s->p3 : 256;
+    const uint8_t ins = s->header[1], p3 = (uint8_t)s->p3;
+    size_t at = 0, end;
+    to_card(s->header, 4);
+    to_card(&p3, 1);
+    for (;;) {
+        const uint8_t byte = next();
+        if (was_reset || failed > 0) return;
+        cut_used = 1;
+        if (byte == 0x60) continue;
+        if (byte != ins && (byte ^ ins) != 0xFF) {
+            came[came_n++] = byte;
+            came[came_n++] = next();
+            break;
+        }
+        end = byte == ins ? total : at + 1;
+        CHECK(at < total && end <= total, 1);
+        if (to) to_card(s->data + at, end - at);
+        for (; at < end; at++) if (!to) came[came_n++] = next();
+    }
+    CHECK(queue_at, queue_n);
+}
+
+/* ---- As a whole ------------------------------------------------------------------------------ */
+
+typedef int32_t carry(gt_card *, const uint8_t *, size_t, uint8_t *, size_t, size_t *);
+
+/* While a TPDU or a command waits as a whole, no other call begins or continues anything. */
+static void misuse(carry *goes, carry *other) {
+    uint8_t byte = 0x5A, room[GT_ANSWER_LIMIT] = { 0 };
+    size_t n = 7;
+    CHECK(gt_card_take(&card, 0), GT_STATE);
+    CHECK(gt_card_turn(&card, &byte), GT_STATE);
+    CHECK(gt_card_send_bytes(&card, &byte, 1, &n), GT_STATE);
+    CHECK(gt_card_receive_bytes(&card, &byte, 1, &n), GT_STATE);
+    CHECK(goes(&card, room, 5, room, sizeof room, &n), GT_STATE);
+    CHECK(other(&card, NULL, 0, room, sizeof room, &n), GT_STATE);
+    CHECK(goes(&card, NULL, 0, room, 1, &n), GT_BUFFER);
+    CHECK(byte, 0x5A);
+    CHECK(n, 7);
+}
+
+/* Returns the code of the last call. */
+static int32_t by_whole(carry *goes, carry *other, const uint8_t *bytes, size_t n) {
+    int32_t code = goes(&card, bytes, n, came, sizeof came, &came_n);
+    while (code == GT_COMMAND || code == GT_HEADER) {
+        if (any(4) == 0) misuse(goes, other);
+        CHECK(came_n, 0);
+        if (!is_asked(code)) return code;
+        if (any(4) == 0) misuse(goes, other);
+        code = goes(&card, NULL, 0, came, sizeof came, &came_n);
+    }
+    return code;
+}
+
+static void by_tpdu(const sent *s, int to) {
+    uint8_t bytes[GT_TPDU_LIMIT];
+    const size_t n = 5 + (to ? s->p3 : 0);
+    memcpy(bytes, s->header, 4);
+    bytes[4] = (uint8_t)s->p3;
+    memcpy(bytes + 5, s->data, n - 5);
+    cut_used = by_whole(gt_card_tpdu, gt_card_apdu, bytes, n) == GT_OK;
+    CHECK(cut_used, !was_reset);
+}
+
+static int32_t by_command(const sent *s) {
+    uint8_t bytes[GT_APDU_LIMIT];
+    size_t n = 4;
+    memcpy(bytes, s->header, 4);
+    if (s->n > 0) bytes[n++] = (uint8_t)s->n;
+    memcpy(bytes + n, s->data, s->n);
+    n += s->n;
+    if (s->le > 0) bytes[n++] = (uint8_t)s->le;
+    return by_whole(gt_card_apdu, gt_card_tpdu, bytes, n);
+}
+
+/* ---- A session ------------------------------------------------------------------------------- */
+
+static size_t cut = 256; /* of the plan that waits; 256 without one */
+
+/* Plans the next TPDU: NULLs, data one at a time, all data, and any cut of a response. */
+static void plan(void) {
+    static const char LETTERS[] = "noa";
+    char steps[8];
+    size_t n = any(sizeof steps), i;
+    if (cut < 256 || any(2) == 0) return;
+    for (i = 0; i < n; i++) steps[i] = LETTERS[any(sizeof LETTERS - 1)];
+    steps[n] = '\0';
+    cut = 1 + any(255);
+    CHECK(gt_card_plan(&card, steps, (uint16_t)cut), GT_OK);
+}
+
+/* The same card by a TPDU, in any way. Returns whether the application was to be asked. */
+static int any_tpdu(const sent *s) {
+    const int to = goes_to_card(s->header[1]) && is_own(s->header[1]) && !is_answered(s);
+    const int reaches = tpdu_reaches(s);
+    now_n = to ? s->p3 : 0;
+    now_le = to ? 0 : s->p3 > 0 ? s->p3 : 256;
+    cut_used = 0;
+    by_buffers = (int)any(2);
+    if (any(3) > 0) by_line(s, to);
+    else by_tpdu(s, to);
+    if (!was_reset) model_tpdu(s, cut);
+    if (cut_used) cut = 256;
+    return reaches;
+}
+
+static int any_command(const sent *s) {
+    const int reaches = is_own(s->header[1]) && !command_is_wrong(s);
+    const int to = goes_to_card(s->header[1]);
+    int32_t code;
+    now_n = to ? s->n : 0;
+    now_le = to ? 0 : s->le > 0 ? s->le : 256;
+    if (s->header[1] >> 4 == 6 || s->header[1] >> 4 == 9) {
+        CHECK(by_command(s), GT_INVALID_INS);
+        return 0;
+    }
+    code = by_command(s);
+    CHECK(code == GT_OK, !was_reset);
+    if (!was_reset) model_command(s);
+    return reaches;
+}
+
+/* One TPDU or command by any way, and what the card answers. */
+static void one(void) {
+    sent s = any_sent();
+    int before = asked, reaches;
+    if (waits.kind == REPEAT && any(2) == 0) {
+        memcpy(s.header, waits.header, 4);
+        s.p3 = waits.n;
+    }
+    now = &s;
+    any_response();
+    reset_in = any(6) > 0 ? (size_t)COMMANDS : any(4);
+    was_reset = 0;
+    out_n = came_n = queue_at = queue_n = 0;
+    reaches = any(3) > 0 ? any_tpdu(&s) : any_command(&s);
+    if (was_reset) return;
+    CHECK(asked - before, reaches);
+    CHECK(came_n, out_n);
+    CHECK_BYTES(came, out, out_n);
+    settled |= reaches;
+    CHECK(gt_card_settled(&card), settled);
+}
+
+static void session(void) {
+    size_t i, n = 1 + any(COMMANDS);
+    has_directions = any(2) == 0;
+    for (i = 0; i < sizeof directions; i++) directions[i] = (uint8_t)any(256);
+    CHECK(gt_card_own(&card, has_directions ? directions : NULL), GT_OK);
+    waits.kind = NOTHING;
+    cut = 256;
+    settled = 1;
+    for (i = 0; i < n && failed == 0; i++) {
+        plan();
+        one();
+        if (any(12) == 0) {
+            was_reset = 0;
+            reset();
+        }
+    }
+    gt_card_free(&card);
+}
+
+int main(void) {
+    int i;
+    for (i = 0; i < SESSIONS && failed == 0; i++) session();
+    CHECK(asked > SESSIONS && fetched > SESSIONS / 100 && repeated > SESSIONS / 100, 1);
+    return check_result("own_ways");
+}

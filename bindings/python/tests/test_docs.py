@@ -128,7 +128,7 @@ SIMULATION = ("simulate.py", "cards.py", "faults.py", "trials.py")
 def test_the_package_stays_small():
     """Its files, without tests, examples, the batch and the simulation."""
     files = [*TOP.glob("*.py"), *TOP.glob("src/galliumtoad/*.py")]
-    assert 300 < sum(len(code(it)) for it in files if it.name not in SIMULATION) <= 590
+    assert 300 < sum(len(code(it)) for it in files if it.name not in SIMULATION) <= 605
 
 
 def test_the_simulation_stays_small():

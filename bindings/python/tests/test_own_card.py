@@ -2,9 +2,20 @@
 7816-3 and 7816-4 and the rules of the card."""
 
 import threading
+from functools import partial
 
 import pytest
-from galliumtoad import Application, CallError, Command, Exchange, OwnCard, Session, Status
+from galliumtoad import (
+    Application,
+    CallError,
+    Command,
+    CommandError,
+    Exchange,
+    OwnCard,
+    Session,
+    Status,
+    TransportError,
+)
 
 
 def made(count):
@@ -129,6 +140,86 @@ def test_at_t0(room):
             assert (card.send_bytes(), log(card)) == (b"", seen), sent
 
 
+def test_by_tpdus():
+    with own() as card:
+        for sent, answer, seen in AT_T0:
+            assert (card.tpdu(bytes.fromhex(sent)), log(card)) == (answer, seen), sent
+
+
+# The same by whole commands: at most Le bytes come back, and a command settles at once.
+COMMANDS = [
+    ("00B0000505", made(5) + b"\x90\x00", done("00b00005", le=5)),
+    ("00B0000500", made(5) + b"\x90\x00", done("00b00005", le=256)),
+    ("80B2000503", made(3) + b"\x61\x02", done("80b20005", le=3)),
+    ("00C0000001", made(4)[3:] + b"\x61\x01", []),
+    ("00C00000", b"\x61\x01", []),
+    ("A0C0123400", made(5)[4:] + b"\x62\x83", []),
+    ("00C0000001", b"\x69\x85", []),
+    ("00B00005", b"\x61\x05", done("00b00005", le=256)),
+    ("00A4001003414243", b"\x61\x10", done("00a40010", b"ABC")),
+    ("00C0000000", made(16) + b"\x90\x00", []),
+    ("00A40010", b"\x61\x10", done("00a40010")),
+    ("00A400100341424300", made(16) + b"\x90\x00", done("00a40010", b"ABC")),
+    ("00A40010034142430F", made(15) + b"\x61\x01", done("00a40010", b"ABC")),
+    ("00B000050141", b"\x67\x00", []),
+    ("00C0000001", b"\x69\x85", []),
+    ("00A4001010", b"\x67\x00", []),
+    ("00B000050000", b"\x67\x00", []),
+    ("00B0025800", made(256) + b"\x61\x00", done("00b00258", le=256)),
+    ("00C0000000", made(512)[256:] + b"\x61\x58", []),
+    ("00C0000000", made(600)[512:] + b"\x90\x00", []),
+]
+
+
+def test_by_commands():
+    with own() as card:
+        for sent, answer, seen in COMMANDS:
+            assert (card.apdu(bytes.fromhex(sent)), log(card)) == (answer, seen), sent
+        for sent, name in (("0060000000", "GT_INVALID_INS"), ("001000", "GT_TOO_SHORT")):
+            with pytest.raises(CommandError) as found:
+                card.apdu(bytes.fromhex(sent))
+            assert (found.value.name, log(card)) == (name, [])
+
+
+def test_by_all_ways_in_turn():
+    """What one way leaves is there for the next."""
+    with own() as card:
+        assert card.apdu(bytes.fromhex("80B2000503")) == made(3) + b"\x61\x02"
+        assert card.tpdu(bytes.fromhex("00C0000001")) == made(4)[3:] + b"\x61\x01"
+        assert talked(card, "00C0000001") == made(5)[4:] + b"\x62\x83"
+        assert log(card) == done("80b20005", le=3)
+        card.plan("no", 2)
+        assert card.tpdu(bytes.fromhex("00B0000501")) == made(1) + b"\x61\x02"
+        log(card)
+        assert card.receive_bytes(bytes.fromhex("00B0000505")) == 5
+        for call in (card.tpdu, card.apdu):
+            for data in (bytes.fromhex("00B0000505"), b""):
+                with pytest.raises(CallError) as found:
+                    call(data)
+                assert (found.value.name, log(card)) == ("GT_STATE", [])
+
+
+DEADLOCKS = [
+    ("00D6000002", "GT_WANTS_DATA", []),
+    ("00B000050141", "GT_SENDS_DATA", [("did", "00b00005", b"", 1)]),
+]
+
+
+@pytest.mark.parametrize(("tpdu", "name", "seen"), DEADLOCKS)
+def test_a_deadlock_resets_the_application_once(tpdu, name, seen):
+    with own() as card:
+        with pytest.raises(TransportError) as found:
+            card.tpdu(bytes.fromhex(tpdu))
+        assert (found.value.name, log(card)) == (name, [*seen, ("reset",)])
+        assert card.apdu(bytes.fromhex("00B00005")) == b"\x61\x05"
+        log(card)
+        with pytest.raises(TransportError, match="."):  # without a question
+            card.tpdu(bytes.fromhex("00C000000141"))
+        assert log(card) == [("reset",)]
+        assert card.apdu(bytes.fromhex("00B0000100")) == made(1) + b"\x90\x00"
+        assert log(card) == done("00b00001", le=256)
+
+
 def each_way(command):
     """The answer of a terminal to a command from buffers, and what reached the application."""
     for room in (1, 10, 1024):
@@ -183,7 +274,19 @@ def test_a_command_settles_with_its_last_byte(tpdu, le, sent):
             assert log(card) == done("00d60000", b"A")
 
 
-WAYS = {"characters": 1, "buffers": 1024}
+def by_room(room):
+    """A way of a command at a card: by as many characters at once."""
+
+    def carry(card, command):
+        card.receive_bytes(command)
+        while card.send_bytes(room):
+            pass
+
+    return carry
+
+
+WAYS = {"characters": by_room(1), "buffers": by_room(1024), "TPDUs": OwnCard.tpdu,
+        "commands": OwnCard.apdu}
 
 
 def is_as_after_a_reset(card):
@@ -203,9 +306,7 @@ def test_an_exception_resets_the_card(way, fault):
         log(card)
         card.application.fault = fault
         with pytest.raises(KeyboardInterrupt, match=fault):
-            card.receive_bytes(bytes.fromhex("00B0000505"))
-            while card.send_bytes(WAYS[way]):
-                pass
+            WAYS[way](card, bytes.fromhex("00B0000505"))
         is_as_after_a_reset(card)
 
 
@@ -221,9 +322,7 @@ def test_what_no_application_answers(way, answer, error):
     with own() as card:
         card.application.answer = answer
         with pytest.raises(error) as found:
-            card.receive_bytes(bytes.fromhex("00B0000505"))
-            while card.send_bytes(WAYS[way]):
-                pass
+            WAYS[way](card, bytes.fromhex("00B0000505"))
         assert error is not CallError or found.value.name == "GT_ARGUMENT"
         is_as_after_a_reset(card)
 
@@ -243,6 +342,8 @@ def test_a_refused_call_changes_nothing():
             (card.receive_bytes, "text", TypeError),
             (card.send_bytes, -1, ValueError),
             (card.send_bytes, (1 << 30) + 1, ValueError),
+            (card.tpdu, "text", TypeError),
+            (card.apdu, "text", TypeError),
             (Session, card, TypeError),
         ):
             with pytest.raises(error):
@@ -254,7 +355,8 @@ def test_a_refused_call_changes_nothing():
 def test_a_closed_card():
     card = own()
     card.close()
-    for call in (lambda: card.receive_bytes(bytes(5)), card.send_bytes, card.reset):
+    by_bytes = [partial(it, bytes(5)) for it in (card.receive_bytes, card.tpdu, card.apdu)]
+    for call in (*by_bytes, partial(card.plan, ""), card.send_bytes, card.reset):
         with pytest.raises(CallError) as found:
             call()
         assert found.value.name == "GT_EMPTY"

@@ -200,21 +200,6 @@ impl<A: Application> Card<A> {
         Ok(turned(code, byte))
     }
 
-    /// Resets the card, at any time: a TPDU in progress is dropped, and nothing is selected or
-    /// pending. Data objects and the plans that wait stay.
-    ///
-    /// # Errors
-    ///
-    /// None today.
-    pub fn reset(&mut self) -> Result<(), Error> {
-        // SAFETY: a card's handle.
-        done(unsafe { raw::galliumtoad_card_reset(self.0.at()) })?;
-        self.1.was_reset();
-        Ok(())
-    }
-}
-
-impl Card {
     /// Plans how the card answers one more of the TPDUs to come, in turn.
     ///
     /// `steps` are letters, in any order and number, carried out from left to right: `n` a NULL,
@@ -235,6 +220,22 @@ impl Card {
         // SAFETY: a card's handle; a slice with its length.
         done(unsafe { raw::galliumtoad_card_plan(self.0.at(), steps.as_ptr(), steps.len(), cut) })
     }
+
+    /// Resets the card, at any time: a TPDU in progress is dropped, and nothing is selected or
+    /// pending. Data objects and the plans that wait stay.
+    ///
+    /// # Errors
+    ///
+    /// None today.
+    pub fn reset(&mut self) -> Result<(), Error> {
+        // SAFETY: a card's handle.
+        done(unsafe { raw::galliumtoad_card_reset(self.0.at()) })?;
+        self.1.was_reset();
+        Ok(())
+    }
+}
+
+impl Card {
     /// Returns the identifier of the selected application, or `None` if none is selected.
     #[must_use]
     pub fn selected(&self) -> Option<Vec<u8>> {

@@ -63,7 +63,8 @@ pub trait Application {
     /// `6CXX`, which are the card's own.
     fn carry_out(&mut self, command: Command<'_>, response: &mut Response) -> Status;
 
-    /// The last command takes effect, with SW2 of its TPDU, also if that is `61XX` or `6CXX`.
+    /// The last command takes effect, with SW2 of its TPDU, also if that is `61XX` or `6CXX`. A
+    /// whole command takes effect when it is carried out.
     fn settle(&mut self) {}
 
     /// The card is reset. A command that has not settled is dropped: undo it. A panic here aborts
@@ -72,9 +73,10 @@ pub trait Application {
 }
 
 /// A card of an [`Application`] of your own: you write what a command does. It goes over T=0, by
-/// characters and buffers. A command is carried out at most once, by [`turn`](Card::turn) or
-/// [`send_bytes`](Card::send_bytes). The card itself answers GET RESPONSE, the same header after
-/// `6CXX`, and INS `6X` and `9X`.
+/// characters and buffers, as whole TPDUs and as whole commands. A command is carried out at most
+/// once, by [`turn`](Card::turn), [`send_bytes`](Card::send_bytes), [`tpdu`](Card::tpdu) or
+/// [`apdu`](Card::apdu). The card itself answers GET RESPONSE, the same header after `6CXX`, and
+/// INS `6X` and `9X`.
 ///
 /// A panic of the application, or an error after it was called, resets the card and the
 /// application: [`Error::Argument`] for a status or a length that no application may return, and
@@ -161,7 +163,11 @@ impl<A: Application> Card<A> {
     /// Calls a function of the archive until nothing waits for the application.
     #[inline]
     pub(crate) fn run(&mut self, mut call: impl FnMut(*mut Held) -> i32) -> Result<i32, Error> {
-        let mut code = told(call(self.0.at()))?;
+        let first = told(call(self.0.at()));
+        if let Err(Error::WantsData | Error::SendsData) = first {
+            self.1.was_reset();
+        }
+        let mut code = first?;
         let resets = Resets(self);
         while let raw::HEADER | raw::COMMAND = code {
             resets.0.ask(code == raw::HEADER)?;

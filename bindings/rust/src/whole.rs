@@ -2,10 +2,12 @@
 
 use crate::card::Card;
 use crate::error::{done, Error};
+use crate::own_card::Application;
 use crate::raw::{self, Handle, Held};
 use crate::wiped::{room_for, wipe, Wiped};
 use alloc::vec::Vec;
 use core::fmt;
+use core::mem::take;
 
 /// The most bytes of a whole TPDU: header, P3 and 255 bytes of data.
 pub const TPDU_LIMIT: usize = 260;
@@ -87,7 +89,7 @@ pub(crate) fn pdu(handle: &Handle, copies: Copies) -> Result<Option<Pdu>, Error>
 /// A function of the archive that has a card carry out a TPDU or a command.
 type Carries = unsafe extern "C" fn(*mut Held, *const u8, usize, *mut u8, usize, *mut usize) -> i32;
 
-impl Card {
+impl<A: Application> Card<A> {
     /// Carries out a whole TPDU, as the firmware of a reader does, under the next of the plans. Its
     /// answer is data, and then SW1 SW2. It is the caller's: this crate wipes no copy of it.
     ///
@@ -97,7 +99,8 @@ impl Card {
     /// - [`Error::NoTpdu`]: the bytes are not a whole TPDU. Nothing has changed.
     /// - [`Error::Memory`]: it ran out. Nothing has changed.
     /// - [`Error::WantsData`], [`Error::SendsData`]: both ends would deadlock, so the card was
-    ///   reset. The plan is used up.
+    ///   reset, with its application. The plan is used up.
+    /// - Those of the application, see [`OwnCard`](crate::OwnCard).
     pub fn tpdu(&mut self, tpdu: &[u8]) -> Result<Vec<u8>, Error> {
         self.answer_to(raw::galliumtoad_card_tpdu, tpdu)
     }
@@ -124,9 +127,14 @@ impl Card {
     /// case 2, and to GET DATA and GET RESPONSE in any other case. Plans are for TPDUs and
     /// characters alone.
     ///
+    /// A card of your own carries the command out at once, and it settles. At most Le bytes come
+    /// back, none without Le, and `61XX` announces the rest. The card answers `6700` to data where
+    /// none go to the card, and to Le without data where some do.
+    ///
     /// # Errors
     ///
-    /// After each of these nothing has changed.
+    /// After each of these nothing has changed, except after those of the application, see
+    /// [`OwnCard`](crate::OwnCard).
     ///
     /// - [`Error::State`]: characters of a TPDU have passed.
     /// - [`Error::TooShort`], [`Error::InvalidIns`]: the bytes are not a command.
@@ -156,11 +164,15 @@ impl Card {
     }
 
     fn carry_out(&mut self, call: Carries, sent: &[u8], room: &mut [u8]) -> Result<usize, Error> {
-        let (at, mut count) = (sent.as_ptr(), 0);
+        let (mut sent, mut count) = (sent, 0);
         let (to, n) = (room.as_mut_ptr(), room.len());
-        // SAFETY: a card's handle, for a function of a card; slices with their lengths, and
-        // `count`, which are apart.
-        done(unsafe { call(self.0.at(), at, sent.len(), to, n, &mut count) })?;
+        self.run(|card| {
+            // what waits continues without bytes
+            let bytes = take(&mut sent);
+            // SAFETY: a card's handle, for a function of a card; slices with their lengths, and
+            // `count`, which are apart.
+            unsafe { call(card, bytes.as_ptr(), bytes.len(), to, n, &mut count) }
+        })?;
         Ok(count)
     }
 }

@@ -293,6 +293,126 @@ fn by_buffers() {
     }
 }
 
+#[test]
+fn by_tpdus() {
+    let mut card = own();
+    at_t0(|tpdu| (card.tpdu(tpdu).expect("a TPDU"), steps(&card)));
+}
+
+/// The rules of whole commands: at most Le bytes come back, and a command settles at once.
+#[test]
+fn by_commands() {
+    let read = [0x00, 0xB0, 0x00, 0x05];
+    let warns = [0x80, 0xB2, 0x00, 0x05];
+    let select = [0x00, 0xA4, 0x00, 0x10];
+    let long = [0x00, 0xB0, 0x02, 0x58];
+    let by_data = || done(select, b"ABC", 0);
+    let mut card = own();
+    let by = |command: &[u8]| (card.apdu(command).expect("a command"), steps(&card));
+    rows(
+        by,
+        &[
+            (b"\x00\xB0\x00\x05\x05", 0, 5, 0x9000, done(read, b"", 5)),
+            // fewer than asked for: no 6CXX
+            (b"\x00\xB0\x00\x05\x00", 0, 5, 0x9000, done(read, b"", 256)),
+            // more: the rest waits, for any Le
+            (b"\x80\xB2\x00\x05\x03", 0, 3, 0x6102, done(warns, b"", 3)),
+            (b"\x00\xC0\x00\x00\x01", 3, 4, 0x6101, vec![]),
+            (b"\x00\xC0\x00\x00", 4, 4, 0x6101, vec![]),
+            (b"\xA0\xC0\x12\x34\x00", 4, 5, 0x6283, vec![]),
+            (b"\x00\xC0\x00\x00\x01", 0, 0, 0x6985, vec![]),
+            // no Le: case 1 reaches the application with Le 256, case 3 without
+            (b"\x00\xB0\x00\x05", 0, 0, 0x6105, done(read, b"", 256)),
+            (b"\x00\xA4\x00\x10\x03ABC", 0, 0, 0x6110, by_data()),
+            (b"\x00\xC0\x00\x00\x00", 0, 16, 0x9000, vec![]),
+            (b"\x00\xA4\x00\x10", 0, 0, 0x6110, done(select, b"", 0)),
+            (b"\x00\xA4\x00\x10\x03ABC\x00", 0, 16, 0x9000, by_data()),
+            (b"\x00\xA4\x00\x10\x03ABC\x0F", 0, 15, 0x6101, by_data()),
+            // the other direction: no command of the application, and nothing waits
+            (b"\x00\xB0\x00\x05\x01A", 0, 0, 0x6700, vec![]),
+            (b"\x00\xC0\x00\x00\x01", 0, 0, 0x6985, vec![]),
+            (b"\x00\xA4\x00\x10\x10", 0, 0, 0x6700, vec![]),
+            (b"\x00\xB0\x00\x05\x05", 0, 5, 0x9000, done(read, b"", 5)),
+            // wrong lengths
+            (b"\x00\xB0\x00\x05\x00\x00", 0, 0, 0x6700, vec![]),
+            // more than 256 bytes
+            (
+                b"\x00\xB0\x02\x58\x00",
+                0,
+                256,
+                0x6100,
+                done(long, b"", 256),
+            ),
+            (b"\x00\xC0\x00\x00\x00", 256, 512, 0x6158, vec![]),
+            (b"\x00\xC0\x00\x00\x00", 512, 600, 0x9000, vec![]),
+        ],
+    );
+    assert_eq!(card.apdu(b"\x00\x60\x00\x00"), Err(Error::InvalidIns));
+    assert_eq!(card.apdu(b"\x00\x10\x00"), Err(Error::TooShort));
+    assert_eq!(card.apdu(b""), Err(Error::TooShort));
+    assert_eq!(card.tpdu(b""), Err(Error::NoTpdu));
+    assert_eq!(steps(&card), []);
+}
+
+/// By characters, TPDUs and commands in turn, what one leaves is there for the next.
+#[test]
+fn by_all_in_turn() {
+    let mut card = own();
+    assert_eq!(card.apdu(b"\x80\xB2\x00\x05\x03").map(|it| it.len()), Ok(5));
+    assert_eq!(
+        card.tpdu(b"\x00\xC0\x00\x00\x01"),
+        Ok([&bytes(4)[3..], b"\x61\x01"].concat())
+    );
+    assert_eq!(
+        talked(&mut card, b"\x00\xC0\x00\x00\x01"),
+        [&bytes(5)[4..], b"\x62\x83"].concat()
+    );
+    assert_eq!(steps(&card), done([0x80, 0xB2, 0, 5], b"", 3));
+    assert_eq!(card.plan("no", 2), Ok(()));
+    assert_eq!(
+        card.tpdu(b"\x00\xB0\x00\x05\x01"),
+        Ok([&bytes(1)[..], b"\x61\x02"].concat())
+    );
+    assert_eq!(card.plan("x", 2), Err(Error::Argument));
+    // amid a TPDU by characters
+    assert_eq!(card.receive_bytes(b"\x00\xB0\x00\x05\x05"), Ok(()));
+    for call in [Own::tpdu, Own::apdu] {
+        assert_eq!(call(&mut card, b"\x00\xB0\x00\x05\x05"), Err(Error::State));
+        assert_eq!(call(&mut card, b""), Err(Error::State));
+    }
+    assert_eq!(steps(&card), done([0, 0xB0, 0, 5], b"", 1));
+    card.reset().expect("a card");
+    assert_eq!(steps(&card), [Reset]);
+    // too little room: nothing has changed
+    let mut room = [0; 7];
+    let read = b"\x00\xB0\x00\x05\x05";
+    assert_eq!(card.apdu_into(read, &mut room[..6]), Err(Error::Buffer));
+    assert_eq!(card.tpdu_into(read, &mut room[..6]), Err(Error::Buffer));
+    assert_eq!((steps(&card), room), (vec![], [0; 7]));
+    assert_eq!(card.apdu_into(read, &mut room), Ok(7));
+    assert_eq!(room, *[&bytes(5)[..], b"\x90\x00"].concat());
+}
+
+/// Both ends would deadlock: the card is reset, and its application once.
+#[test]
+fn deadlocks() {
+    let mut card = own();
+    assert_eq!(card.tpdu(b"\x00\xD6\x00\x00\x02"), Err(Error::WantsData));
+    assert_eq!(steps(&card), [Reset]);
+    assert_eq!(card.tpdu(b"\x00\xB0\x00\x05\x01A"), Err(Error::SendsData));
+    assert_eq!(steps(&card), [Did([0, 0xB0, 0, 5], vec![], 1), Reset]);
+    // without a question
+    assert_eq!(card.apdu(b"\x00\xB0\x00\x05").map(|it| it.len()), Ok(2));
+    steps(&card);
+    assert_eq!(card.tpdu(b"\x00\xC0\x00\x00\x01A"), Err(Error::SendsData));
+    assert_eq!(steps(&card), [Reset]);
+    assert_eq!(
+        card.apdu(b"\x00\xB0\x00\x01\x00"),
+        Ok([&bytes(1)[..], b"\x90\x00"].concat())
+    );
+    assert_eq!(steps(&card), done([0, 0xB0, 0, 1], b"", 256));
+}
+
 /// The answer of an exchange to a command by characters and by buffers, and what reached the
 /// application.
 fn by_each_way(command: &[u8]) -> [(Vec<u8>, Status, Vec<Step>); 3] {
@@ -442,15 +562,22 @@ fn panics() {
     drop(take_hook());
 }
 
-/// The calls of a card that hand out its next bytes.
-fn calls() -> [fn(&mut Own) -> Result<(), Error>; 2] {
-    let by_characters: fn(&mut Own) -> Result<(), Error> = |card| {
+/// The ways of a command at a card.
+fn calls() -> [fn(&mut Own, &[u8]) -> Result<(), Error>; 4] {
+    let by_characters: fn(&mut Own, &[u8]) -> Result<(), Error> = |card, command| {
+        card.receive_bytes(command).expect("listens");
         while card.turn()? != Turn::Listens {}
         Ok(())
     };
-    [by_characters, |card| {
-        card.send_bytes(&mut [0; 9]).map(|_| ())
-    }]
+    [
+        by_characters,
+        |card, command| {
+            card.receive_bytes(command).expect("listens");
+            card.send_bytes(&mut [0; 9]).map(|_| ())
+        },
+        |card, command| card.tpdu(command).map(|_| ()),
+        |card, command| card.apdu(command).map(|_| ()),
+    ]
 }
 
 /// Has the application fail in this command, by each way: the card is as after a reset.
@@ -462,9 +589,8 @@ fn interrupted(command: &[u8], prepare: impl Fn(&Probe) -> Option<Error>) {
         let waits = talked(&mut card, b"\x00\xB0\x00\x05\x03");
         assert_eq!(waits.len(), 5);
         steps(&card);
-        card.receive_bytes(command).expect("listens");
         let fault = prepare(card.application());
-        let ended = catch_unwind(AssertUnwindSafe(|| call(&mut card)));
+        let ended = catch_unwind(AssertUnwindSafe(|| call(&mut card, command)));
         assert_eq!(ended.ok(), fault.map(Err));
         card.application().fails.set(Fails::Nowhere);
         assert_eq!(steps(&card).iter().filter(|it| **it == Reset).count(), 1);

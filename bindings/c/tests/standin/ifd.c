@@ -402,14 +402,14 @@ static void own_application(void)
     CHECK(create(NONE, "atr 3B9011800100\n"), IFD_SUCCESS);
     check_power(NONE, IFD_POWER_UP, "\x3B\x90\x11\x80\x01\x00", 6);
     CHECK_ANSWER(NONE, "\x80\xDA\x00\x50\x02\x41\x42", "\x90\x00");
-    CHECK_ANSWER(NONE, "\x80\x12\x00\x50\x02", "\x6C\x01");
-    CHECK_ANSWER(NONE, "\x80\x12\x00\x50\x01", "\x41\x90\x00");
-    CHECK_RESPONSE(NONE, "\x80\x12\x00\x50\x02", "\x41\x90\x00");
+    CHECK_ANSWER(NONE, "\x80\xCA\x00\x50\x02", "\x6C\x01");
+    CHECK_ANSWER(NONE, "\x80\xCA\x00\x50\x01", "\x41\x90\x00");
+    CHECK_RESPONSE(NONE, "\x80\xCA\x00\x50\x02", "\x41\x90\x00");
     CHECK_RESPONSE(NONE, "\x80\xDA\x00\x50\x01\x43\x00", "\x90\x00");
-    CHECK_RESPONSE(NONE, "\x80\x12\x00\x50\x00", "\x43\x90\x00");
-    CHECK_RESPONSE(NONE, "\x80\x12\x00\x50\x01\x43", "\x67\x00");
+    CHECK_RESPONSE(NONE, "\x80\xCA\x00\x50\x00", "\x43\x90\x00");
+    CHECK_RESPONSE(NONE, "\x80\xCA\x00\x50\x01\x43", "\x67\x00");
     CHECK_FAULT(NONE, 0, "\x80\xDA\x00\x50\x02", 258, IFD_COMMUNICATION_ERROR);
-    CHECK_ANSWER(NONE, "\x80\x12\x00\x50\x01", "\x43\x90\x00");
+    CHECK_ANSWER(NONE, "\x80\xCA\x00\x50\x01", "\x43\x90\x00");
     CHECK(IFDHCloseChannel(NONE), IFD_SUCCESS);
     table_own = NULL;
 }

@@ -1,7 +1,7 @@
 """`OwnCard`, a card of an `Application` of your own."""
 
 from abc import ABC, abstractmethod
-from typing import NamedTuple
+from typing import Any, Callable, NamedTuple
 
 from ._library import ffi, lib
 from .errors import checked
@@ -37,7 +37,8 @@ class Application(ABC):
         the last byte. It is not 61XX or 6CXX, which are the card's own."""
 
     def settle(self) -> None:
-        """The last command takes effect, with SW2 of its TPDU, also if that is 61XX or 6CXX."""
+        """The last command takes effect, with SW2 of its TPDU, also if that is 61XX or 6CXX. A
+        whole command takes effect when it is carried out."""
 
     def reset(self) -> None:
         """The card is reset. A command that has not settled is dropped: undo it."""
@@ -45,8 +46,9 @@ class Application(ABC):
 
 class OwnCard(Lasting):
     """A card of an `Application` of your own: you write what a command does. It goes over T=0, by
-    characters. A command is carried out at most once, by `send_bytes`. The card itself answers GET
-    RESPONSE, the same header after 6CXX, and INS 6X and 9X.
+    characters, as whole TPDUs and as whole commands. A command is carried out at most once, by
+    `send_bytes`, `tpdu` or `apdu`. The card itself answers GET RESPONSE, the same header after
+    6CXX, and INS 6X and 9X.
 
     An exception in the application resets the card and the application, and is raised again. So
     does `CallError`, GT_ARGUMENT, for a status or data that no application may return.
@@ -59,8 +61,8 @@ class OwnCard(Lasting):
     ...         return 0x9000, b"HELLO"
     >>> with OwnCard(Hello()) as card:
     ...     taken = card.receive_bytes(bytes.fromhex("8010000005"))
-    ...     card.send_bytes().hex()
-    '1048454c4c4f9000'
+    ...     card.send_bytes().hex(), card.apdu(bytes.fromhex("8010000005")).hex()
+    ('1048454c4c4f9000', '48454c4c4f9000')
     """
 
     def __init__(self, application: Application) -> None:
@@ -86,22 +88,62 @@ class OwnCard(Lasting):
         """Returns the card's next characters, as that of `Card`. It carries a command out when all
         its data have arrived."""
         made, count = writable(within(room, 0, 1 << 30, "the room"))
+        copies = b""
+
+        def send(*_: object) -> int:
+            nonlocal copies
+            code = lib.gt_card_send_bytes(self._handle, made, room - len(copies), count)
+            copies += copied(made, count) if code >= 0 else b""
+            return int(code)
+
+        self._run(send)
+        return copies
+
+    def tpdu(self, tpdu: Bytes) -> bytes:
+        """Carries out a whole TPDU under the next plan, as that of `Card`. With GT_WANTS_DATA and
+        GT_SENDS_DATA the application is reset too."""
+        return self._whole(lib.gt_card_tpdu, tpdu)
+
+    def apdu(self, command: Bytes) -> bytes:
+        """Carries out a whole command, which then settles. Returns at most Le bytes, none without
+        Le, and SW1 SW2; 61XX announces the rest.
+
+        The card answers 6700 to bytes whose lengths fit no case of a command, to data where the
+        application takes none, and to Le without data where it takes some. GET RESPONSE fetches,
+        with any Le.
+
+        Errors, besides those of the application, after which nothing has changed: as of `Card`.
+        """
+        return self._whole(lib.gt_card_apdu, command)
+
+    def plan(self, steps: str, cut: int = 256) -> None:
+        """Adds a plan for one more of the TPDUs to come, as that of `Card`."""
+        self._call("plan", str.encode(steps, "ascii"), within(cut, 0, 0xFFFF, "a cut"))
+
+    def _whole(self, call: Callable[..., int], data: Bytes) -> bytes:
+        room = lib.GT_ANSWER_LIMIT
+        answer, count = writable(room)
+        self._run(lambda *sent: call(self._handle, *sent, answer, room, count), data)
+        return copied(answer, count)
+
+    def _run(self, call: Callable[..., int], data: Bytes = b"") -> None:
+        """Makes a call with these bytes, and again without bytes until nothing waits for the
+        application, which then settles."""
         with self._alone():
-            checked(code := lib.gt_card_send_bytes(self._handle, made, room, count))
+            code = call(*readable(data))
+            if code in (lib.GT_WANTS_DATA, lib.GT_SENDS_DATA):
+                self.application.reset()
+            checked(code)
             try:
-                copies = copied(made, count)
                 while code in (lib.GT_HEADER, lib.GT_COMMAND):
                     self._ask(code)
-                    left = room - len(copies)
-                    checked(code := lib.gt_card_send_bytes(self._handle, made, left, count))
-                    copies += copied(made, count)
+                    checked(code := call(*readable(b"")))
                 if not self._is_settled and lib.gt_card_settled(self._handle) == 1:
                     self._is_settled = True
                     self.application.settle()
             except BaseException:
                 self._reset()
                 raise
-        return copies
 
     def _ask(self, code: int) -> None:
         """Asks the application about the header or the command that waits."""

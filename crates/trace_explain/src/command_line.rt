@@ -2,8 +2,7 @@
 
 use crate::describe::mask::{Mask, TagsFault};
 use crate::help;
-use crate::read::form::Form;
-use crate::read::reading::Reading;
+use crate::read::reading::Options;
 use crate::read::ways::Ways;
 use crate::write::layout::{Layout, Medium};
 use clap::error::ErrorKind;
@@ -21,7 +20,7 @@ pub struct Request<'a> {
     /// Whether it continues after an unexpected byte.
     pub resumes: bool,
     /// How the lines of each trace are read.
-    pub reading: Reading,
+    pub options: Options<'a>,
     /// The paths of two traces, A and B, if two are compared.
     pub compared: Option<(&'a str, &'a str)>,
 }
@@ -43,10 +42,14 @@ pub fn parsed<'a>(
     let is_page = matches.get_flag("html");
     let medium = if is_page { Medium::Html } else { Medium::Text };
     let is_summary = matches.get_flag("summary");
+    let form = forms
+        .iter()
+        .find(|name| matches.get_str("form") == Some(**name));
     Ok(Request {
         mask,
-        reading: Reading {
-            form: matches.get_str("form").and_then(Form::of_name),
+        options: Options {
+            form: form.copied(),
+            file: matches.get_str("form-file"),
             swaps: matches.get_flag("swap"),
             is_unsigned: matches.get_flag("unsigned"),
             ways,
@@ -124,6 +127,13 @@ fn command<'a>(alloc: Global, forms: &'a [&'a str]) -> Result<Command<'a>, Alloc
                 .value_name("FORM")
                 .value_parser(forms),
         )?
+        .arg(
+            valued(alloc, "form-file", help::FORM_FILE)
+                .action(ArgAction::Set)
+                .value_name("FILE")
+                .conflicts_with("form")?
+                .conflicts_with("unsigned")?,
+        )?
         .arg(flag(alloc, "swap", help::SWAP))?
         .arg(
             flag(alloc, "unsigned", help::UNSIGNED)
@@ -135,9 +145,7 @@ fn command<'a>(alloc: Global, forms: &'a [&'a str]) -> Result<Command<'a>, Alloc
         .arg(flag(alloc, "summary", help::SUMMARY))?
         .arg(
             flag(alloc, "tpdu", help::TPDU)
-                .conflicts_with("form")?
                 .conflicts_with("resume")?
-                .conflicts_with("swap")?
                 .conflicts_with("unsigned")?,
         )
 }

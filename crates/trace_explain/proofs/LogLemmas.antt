@@ -1,15 +1,39 @@
 -- What the lines of a log add, one step further.
-use Rattle.std.proofs.Common.{◌≡◌, List, [], ◌∷◌, ◌++◌, map, ap, subst, ◌∙◌, append_assoc}
+use Rattle.std.proofs.Common.{◌≡◌, ℕ, List, [], ◌∷◌, ◌++◌, take, drop, map, ap, subst, ◌∙◌, append_assoc}
 use Rattle.std.proofs.lemmas.List.{map-append}
 use Rattle.t0_core.specs.declared.end.End.{End}
 use Rattle.trace_explain.specs.declared.read.log.Log.{Log}
 use Rattle.trace_explain.specs.declared.read.entry.Entry.{Entry}
-use Rattle.trace_explain.specs.Logs.{LogAt, Step, Takes, Took, behind, closed, entry_of, log_at}
+use Rattle.trace_explain.specs.Logs.{LogAt, Note, Pair, Step, Takes, Took, begun, behind, both, closed, command_len, entry_of, log_at, noted, resets}
 use Rattle.trace_explain.specs.Patterns.{ReadsAs}
 
 pub entries_more : (before after : List Entry) (one : Entry) → after ≡ before ++ one ∷ []
     → map entry_of after ≡ map entry_of before ++ entry_of one ∷ []
 entries_more before after one is = ap (map entry_of) is ∙ map-append entry_of before (one ∷ [])
+
+-- A command begins, and its answer is behind it.
+pub pair_took : (at : LogAt) (bytes x y : List ℕ) (a b c : List Entry) (mid : Log)
+    → Took (begun at) a b mid → map entry_of c ≡ map entry_of b ++ Pair x y ∷ []
+    → x ≡ take (command_len bytes) bytes → y ≡ drop (command_len bytes) bytes
+    → Took (both at bytes) a c mid
+pair_took at bytes x y a b c mid first pushed x_is y_is = record {
+  gives_is = pushed ∙ ap (λ cs. cs ++ Pair x y ∷ []) first.gives_is
+      ∙ append_assoc (map entry_of a) (begun at).gives (Pair x y ∷ [])
+      ∙ ap (λ x. map entry_of a ++ (begun at).gives ++ Pair x y ∷ []) x_is
+      ∙ ap (λ y. map entry_of a ++ (begun at).gives ++ Pair (take (command_len bytes) bytes) y ∷ [])
+      y_is;
+  at_is = first.at_is;
+}
+
+-- A reset, and then a note.
+pub noted_took : (at : LogAt) (a b c : List Entry) (mid : Log) → Took (resets at) a b mid
+    → Took (noted (log_at mid)) b c mid
+    → Took (behind (resets at).gives (noted (resets at).at)) a c mid
+noted_took at a b c mid first then_took = record {
+  gives_is = then_took.gives_is ∙ ap (λ cs. cs ++ Note ∷ []) first.gives_is
+      ∙ append_assoc (map entry_of a) (resets at).gives (Note ∷ []);
+  at_is = first.at_is;
+}
 
 -- What is pending ends, and then a line adds something.
 pub both_took : (found : ReadsAs) (at : LogAt) (from : End) (next : Step) (a b c : List Entry)

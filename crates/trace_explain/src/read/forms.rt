@@ -260,7 +260,8 @@ fn row_of(alloc: Global, form: usize, line: &str) -> Result<Option<Row>, AllocEr
     let Some(parts) = parts_of(alloc, pattern.as_bytes())? else {
         return Ok(None);
     };
-    let (front, back) = parts.as_slice().split_at(head_len(parts.as_slice()));
+    let size = head_len(parts.as_slice()).min(parts.len());
+    let (front, back) = parts.as_slice().split_at(size);
     let mut head = Vec::new(alloc);
     head.extend_from_slice(front)?;
     let mut tail = Vec::new(alloc);

@@ -4,7 +4,7 @@ ghost use Rattle.trace_explain.specs.Noted.{are_status};
 ghost use Rattle.trace_explain.specs.Pairs.{status_in};
 ghost use Rattle.trace_explain.specs.Patterns.{all_of, marked_by};
 ghost use Rattle.trace_explain.specs.declared.read.log.Open.TheVariants.{Nothing};
-ghost use Rattle.trace_explain.specs.Logs.{IsBadIn, IsTooMuch, IsTwofold, Step, Takes, TakesLogLine, Took, answered, at_first, begun, behind, both, closed, command_len, continued, ended, entry_of, given_up, left_of, log_at, opens, read_log, rest_in, resets, started};
+ghost use Rattle.trace_explain.specs.Logs.{IsBadIn, IsTooMuch, IsTwofold, Step, Takes, TakesLogLine, Took, answered, at_first, begun, behind, both, closed, command_len, continued, ended, entry_of, given_up, left_of, log_at, noted, opens, read_log, rest_in, resets, started};
 
 use crate::follow::tpdu::are_status;
 use crate::instructions::instruction;
@@ -181,12 +181,11 @@ impl Log {
             Found::Row(_, Saying::Sends(from), marks) => Ok(self.take_first(from, marks, entries)?),
             Found::Row(_, Saying::Both, marks) => Ok(self.take_both(marks, entries)?),
             Found::Row(_, Saying::Reset, _) => Ok(self.reset(entries)?),
-            Found::Row(_, Saying::Atr, _) => {
-                self.reset(entries)?;
-                Ok(push(entries, Entry::Note)?)
-            }
+            Found::Row(_, Saying::Atr, _) => Ok(self.take_atr(entries)?),
             Found::Unread => Err(LineFault::Hex),
-            _ => Ok(push(entries, Entry::Note)?),
+            Found::Other | Found::Row(_, Saying::Rest | Saying::Perhaps | Saying::Note, _) => {
+                Ok(self.note(entries)?)
+            }
         }
     }
 
@@ -209,6 +208,7 @@ impl Log {
     }
 
     /// Takes a command with its answer behind it.
+    #[tactic(auto, using(crate::proofs::LogLemmas::pair_took))]
     fn take_both(&mut self, marks: Marks, entries: &mut Vec<Entry>) -> Result<(), AllocError>
         ensures { OnOk result (Took (both (log_at self.old) (all_of (marked_by marks)))
             entries.old.items entries.new.items self.new) }
@@ -217,8 +217,7 @@ impl Log {
         self.begin(entries)?;
         let mut command = marks.all()?;
         let answer = command.split_off(command_len(command.as_slice()))?;
-        self.command = Some(command);
-        self.answer(answer, entries)
+        push(entries, Entry::Pair(command, answer))
     }
 
     /// Takes a reset.
@@ -228,6 +227,24 @@ impl Log {
     {
         self.cut_off(entries)?;
         push(entries, Entry::Reset)
+    }
+
+    /// Takes an answer to reset, which is shown as a note.
+    #[tactic(auto, using(crate::proofs::LogLemmas::noted_took))]
+    fn take_atr(&mut self, entries: &mut Vec<Entry>) -> Result<(), AllocError>
+        ensures { OnOk result (Took (behind (resets (log_at self.old)).gives
+            (noted (resets (log_at self.old)).at)) entries.old.items entries.new.items self.new) }
+    {
+        self.reset(entries)?;
+        self.note(entries)
+    }
+
+    /// Takes a note.
+    fn note(&self, entries: &mut Vec<Entry>) -> Result<(), AllocError>
+        ensures { OnOk result (Took (noted (log_at self.now)) entries.old.items entries.new.items
+            self.now) }
+    {
+        push(entries, Entry::Note)
     }
 
     /// Takes bytes of a command or an answer. They are the last ones if it is not open.

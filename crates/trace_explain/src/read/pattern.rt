@@ -1,6 +1,6 @@
 //! Patterns of lines: what each part marks in a line, and what follows it.
 ghost use Rattle.std.specs.Prelude.{◌≡◌, ◌≤◌, Some, None, IfOk, IfErr, OnOk, length, replicate};
-ghost use Rattle.trace_explain.specs.Patterns.{IsBadField, all_of, begun, behind, behind_field, behind_prefix, behind_row, column, ends_word, field, has_gap, is_of_prefix, marked, marked_by, marks_in, number_in, row_in, unmarked, with_bytes};
+ghost use Rattle.trace_explain.specs.Patterns.{IsBadField, all_of, begun, behind, behind_field, behind_prefix, behind_row, column, ends_word, field, has_gap, is_of_prefix, marked, marked_by, marks_in, number_in, row, row_in, unmarked, with_bytes};
 
 use crate::read::digits::spelled;
 use crate::read::time::{behind_spaces, behind_time, place_of};
@@ -171,7 +171,7 @@ impl Marks {
         match part {
             Part::Bytes(stop) => self.take_bytes(spelled(alloc, false, field(stop, line))?)?,
             Part::Short(stop) => self.take_bytes(spelled(alloc, true, field(stop, line))?)?,
-            Part::Row => self.take_bytes(row(alloc, left.min(ROW), line)?)?,
+            Part::Row => self.take_bytes(row(alloc, left, line)?)?,
             Part::Zeros => self.take_bytes(zeros(alloc, left)?)?,
             Part::Status(stop) => {
                 let status = spelled(alloc, false, field(stop, line))?;
@@ -211,16 +211,17 @@ impl Marks {
     }
 }
 
-/// Returns this many bytes of a dump, with a space behind each.
+/// Returns the next bytes of a dump, with a space behind each, if this many are left.
 ///
 /// # Errors
 ///
 /// - `Hex`: the line is too short, or does not begin with as many bytes.
 /// - `OutOfMemory`: memory ran out.
-fn row(alloc: Global, count: usize, line: &[u8]) -> Result<Vec<u8>, LineFault>
-    ensures says { IfOk result (λ bytes. row_in count line.now ≡ Some bytes.items) }
-    ensures refused { IfErr result (λ why. IsBadField why (row_in count line.now)) }
+fn row(alloc: Global, left: usize, line: &[u8]) -> Result<Vec<u8>, LineFault>
+    ensures says { IfOk result (λ bytes. row_in (row left) line.now ≡ Some bytes.items) }
+    ensures refused { IfErr result (λ why. IsBadField why (row_in (row left) line.now)) }
 {
+    let count = left.min(ROW);
     if line.len() < 3 * count {
         return Err(LineFault::Hex);
     }

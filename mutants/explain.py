@@ -17,7 +17,7 @@ BELOW = ("apdu_core", "tlv_core", "t0_core", "atr_core")
 SOURCE = TOP / "crates" / "trace_explain" / "src"
 FOLDERS = ("read", "follow", "describe", "write")
 # The files that read arguments and streams, which the program below replaces, and the folders' own.
-LEFT_OUT = ("main", "main_status", "command_line", "help", *FOLDERS)
+LEFT_OUT = ("main", "main_status", "command_line", "detect", "help", *FOLDERS)
 # A copy is one flat module.
 PATH = re.compile(rf"\bcrate::(?:(?:{'|'.join(FOLDERS)})::)?")
 # The most faults in one program. A program of 50 took 8 GB of memory to build.
@@ -139,12 +139,16 @@ fn run{number}(rt: &HostRuntime, part: &[u8]) {{
     let resumes = part[1] == b'r';
     let is_summary = part[2] == b's';
     let layout = m{number}::layout::Layout {{ medium, is_summary }};
-    let reading = m{number}::reading::Reading {{
-        form: m{number}::form::Form::of_name(form),
+    let options = m{number}::reading::Options {{
+        form: Some(form).filter(|name| !name.is_empty()),
+        file: None,
         swaps: part[4] == b'w',
         is_unsigned: part[5] == b'u',
         ways,
         of_tpdus: part[5] == b't',
+    }};
+    let Some(reading) = reading{number}(rt, &options) else {{
+        return;
     }};
     let mut trace = &part[size + 1..];
     let mask = if words.len() > 6 {{
@@ -155,7 +159,10 @@ fn run{number}(rt: &HostRuntime, part: &[u8]) {{
     }};
     let mut out = io::writer(rt);
     if words[3] == b'd' {{
-        return diff{number}(rt, mask, resumes, reading, trace);
+        let Some(other) = reading{number}(rt, &options) else {{
+            return;
+        }};
+        return diff{number}(rt, mask, resumes, (reading, other), trace);
     }}
     let outcome = m{number}::explain::explain(
         rt.alloc(),
@@ -173,11 +180,19 @@ fn run{number}(rt: &HostRuntime, part: &[u8]) {{
     let _ = out.write_all(b"\\x1e");
 }}
 
+fn reading{number}(
+    rt: &HostRuntime,
+    options: &m{number}::reading::Options<'_>,
+) -> Option<m{number}::reading::Reading> {{
+    let forms = m{number}::forms::Forms::of(rt.alloc(), m{number}::forms::FORMS).ok()?;
+    options.reading(rt.alloc(), forms).ok()
+}}
+
 fn diff{number}(
     rt: &HostRuntime,
     mask: m{number}::mask::Mask,
     resumes: bool,
-    reading: m{number}::reading::Reading,
+    readings: (m{number}::reading::Reading, m{number}::reading::Reading),
     traces: &[u8],
 ) {{
     let mut parts = traces.split(|byte| *byte == 0x1C);
@@ -185,7 +200,7 @@ fn diff{number}(
     let mut b = parts.next().unwrap_or(&[]);
     let mut out = io::writer(rt);
     let outcome =
-        m{number}::diff::diff(rt.alloc(), mask, resumes, reading, (&mut a, &mut b), &mut out);
+        m{number}::diff::diff(rt.alloc(), mask, resumes, readings, (&mut a, &mut b), &mut out);
     let _ = out.write_all(b"\\x1e");
     if let Err(fault) = outcome {{
         let _ = out.writeln(&fault);

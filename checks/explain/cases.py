@@ -18,8 +18,9 @@
   - bare.cases: commands without data whose card repeats INS.
   - unsigned.cases: lines without signs; logs.cases: logs of whole TPDUs.
   - loose.cases: headers and commands that a mask hides.
+  - forms.cases: forms of logs of many programs.
 
-Only cases/ lists the last block. Elsewhere `block_of` counts what is above it. In the nine tables
+Only cases/ lists the last block. Elsewhere `block_of` counts what is above it. In the ten tables
 a line that begins with `#` is a comment."""
 
 import re
@@ -46,8 +47,9 @@ HEX = re.compile(r"\b(?:[0-9A-F]{2})+\b")
 ENDS = '<div class="ends"><span>Terminal</span><span>Card</span></div><div>'
 ODD = re.compile(rb"\\x([0-9A-F]{2})")
 # The program's signs, the longer ones first. A line has one after an optional time or count.
-FORM = HERE.parents[1] / "crates/trace_explain/src/read/form.rt"
-SIGNS = sum(re.findall(r'Row\(.+, "(.+)", "(.+)"\)', FORM.read_text(encoding="utf-8")), ())
+FORMS = HERE.parents[1] / "crates/trace_explain/src/read/forms.rt"
+OF_CHARACTERS = FORMS.read_text(encoding="utf-8").partition(": commands")[0]
+SIGNS = re.findall(r"^(?:command|answer): (.+) \{bytes\}$", OF_CHARACTERS, re.M)
 ANY_SIGN = "|".join(sorted(map(re.escape, SIGNS), key=len, reverse=True)).encode()
 SIGNED = re.compile(
     rb"^((?:\xEF\xBB\xBF)?(?:\[ *[\d:.]+\] *|\+[\d:.]+ +[mu]?s +|\d+[:.][\d:.]* +)?)"
@@ -81,6 +83,8 @@ TOLD_BY_SIGNS = {
     "the status of a hidden command is worded as that of any command",
     "a comparison of two such traces",
     "a page",
+    # separators other than spaces
+    "colons, commas and 0x between bytes",
     # notes that consist of digits
     "digits without a sign are notes after a line that has one",
     "a sign without characters is one, too",
@@ -384,20 +388,20 @@ def lines_of(lines):
 
 
 def tables():
-    """The cases of the nine tables, those of secrets, and the long ones."""
+    """The cases of the ten tables, those of secrets, and the long ones."""
     ways = [], ["--html"], ["--resume"], ["--summary", "--resume"]
     long = long_cases([*long_traces.traces(), *long_traces.at_limits()])
     return [*rows_and_stories(), *secret_cases(ways), *long]
 
 
 def rows_and_stories():
-    """The cases of the nine tables. Those with signs are also tried without."""
+    """The cases of the ten tables. Those with signs are also tried without."""
     signed = table_cases()
     return [*signed, *unsigned_cases([*signed, *whole_cases()])]
 
 
 def table_cases():
-    """The cases of the nine tables."""
+    """The cases of the ten tables."""
     return [
         status_case(),
         title_case(),
@@ -408,6 +412,7 @@ def table_cases():
         *story_cases("unsigned.cases", "shown"),
         *story_cases("logs.cases", "shown"),
         *story_cases("loose.cases", "shown"),
+        *story_cases("forms.cases", "shown"),
         *link_cases(),
     ]
 

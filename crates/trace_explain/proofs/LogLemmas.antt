@@ -1,27 +1,51 @@
 -- What the lines of a log add, one step further.
-use Rattle.std.proofs.Common.{◌≡◌, List, [], ◌∷◌, ◌++◌, map, ap, subst, ◌∙◌, append_assoc}
+use Rattle.std.proofs.Common.{◌≡◌, ℕ, List, [], ◌∷◌, ◌++◌, take, drop, map, ap, subst, ◌∙◌, append_assoc}
 use Rattle.std.proofs.lemmas.List.{map-append}
-use Rattle.t0_core.specs.declared.end.End.TheVariants as end
+use Rattle.t0_core.specs.declared.end.End.{End}
 use Rattle.trace_explain.specs.declared.read.log.Log.{Log}
 use Rattle.trace_explain.specs.declared.read.entry.Entry.{Entry}
-use Rattle.trace_explain.specs.declared.read.log_line.LogLine.{LogLine}
-use Rattle.trace_explain.specs.Logs.{LogAt, Took, behind_answer, entry_of, closed, log_at, taken}
+use Rattle.trace_explain.specs.Logs.{LogAt, Note, Pair, Step, Takes, Took, begun, behind, both, closed, command_len, entry_of, log_at, noted, resets}
+use Rattle.trace_explain.specs.Patterns.{ReadsAs}
 
 pub entries_more : (before after : List Entry) (one : Entry) → after ≡ before ++ one ∷ []
     → map entry_of after ≡ map entry_of before ++ entry_of one ∷ []
 entries_more before after one is = ap (map entry_of) is ∙ map-append entry_of before (one ∷ [])
 
--- An answer ends, and then a line says something.
-pub both_took : (at : LogAt) (log_line : LogLine) (a b c : List Entry) (mid new : Log)
-    → Took (closed at end.Card) a b mid → Took (taken (log_at mid) log_line) b c new
-    → Took (behind_answer at log_line) a c new
-both_took at log_line a b c mid new first next =
-    let P : LogAt → Type 0 = λ x. Took (taken x log_line) b c new in
-    let then_took = subst P first.at_is next in
-    record {
-      gives_is = then_took.gives_is
-          ∙ ap (λ cs. cs ++ (taken (closed at end.Card).at log_line).gives) first.gives_is
-          ∙ append_assoc (map entry_of a) (closed at end.Card).gives
-          (taken (closed at end.Card).at log_line).gives;
-      at_is = then_took.at_is;
-    }
+-- A command begins, and its answer is behind it.
+pub pair_took : (at : LogAt) (bytes x y : List ℕ) (a b c : List Entry) (mid : Log)
+    → Took (begun at) a b mid → map entry_of c ≡ map entry_of b ++ Pair x y ∷ []
+    → x ≡ take (command_len bytes) bytes → y ≡ drop (command_len bytes) bytes
+    → Took (both at bytes) a c mid
+pair_took at bytes x y a b c mid first pushed x_is y_is = record {
+  gives_is = pushed ∙ ap (λ cs. cs ++ Pair x y ∷ []) first.gives_is
+      ∙ append_assoc (map entry_of a) (begun at).gives (Pair x y ∷ [])
+      ∙ ap (λ x. map entry_of a ++ ((begun at).gives ++ Pair x y ∷ [])) x_is
+      ∙ ap (λ y.
+      map entry_of a ++ ((begun at).gives ++ Pair (take (command_len bytes) bytes) y ∷ [])) y_is;
+  at_is = first.at_is;
+}
+
+-- A reset, and then a note.
+pub noted_took : (at : LogAt) (a b c : List Entry) (mid : Log) → Took (resets at) a b mid
+    → Took (noted (log_at mid)) b c mid
+    → Took (behind (resets at).gives (noted (resets at).at)) a c mid
+noted_took at a b c mid first then_took = record {
+  gives_is = then_took.gives_is ∙ ap (λ cs. cs ++ Note ∷ []) first.gives_is
+      ∙ append_assoc (map entry_of a) (resets at).gives (Note ∷ []);
+  at_is = first.at_is;
+}
+
+-- What is pending ends, and then a line adds something.
+pub both_took : (found : ReadsAs) (at : LogAt) (from : End) (next : Step) (a b c : List Entry)
+    (mid new : Log) → Took (closed at from) a b mid → Takes found (log_at mid) next
+    → Took next b c new
+    → Takes found (closed at from).at next × Took (behind (closed at from).gives next) a c new
+both_took found at from next a b c mid new first takes then_took =
+    let P : LogAt → Type 0 = λ x. Takes found x next in (
+      subst P first.at_is takes,
+      record {
+        gives_is = then_took.gives_is ∙ ap (λ cs. cs ++ next.gives) first.gives_is
+            ∙ append_assoc (map entry_of a) (closed at from).gives next.gives;
+        at_is = then_took.at_is;
+      },
+    )

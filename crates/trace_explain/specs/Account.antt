@@ -10,7 +10,7 @@ use Rattle.trace_explain.specs.declared.write.sheet.Sheet.{Sheet}
 use Rattle.trace_explain.specs.declared.write.teller.Teller.{Teller}
 use Rattle.trace_explain.specs.Boxes.{IsBox, PutsBox}
 use Rattle.trace_explain.specs.Noted.{ended_by}
-use Rattle.trace_explain.specs.Reports.{Report, one_more, report_of}
+use Rattle.trace_explain.specs.Reports.{Report, one_more}
 use Rattle.trace_explain.specs.Words.{IsWords}
 
 -- how a teller writes: whether it keeps the boxes, what it hides, and its layout

@@ -2,10 +2,10 @@ pub mod Reports
 pub mod Noted
 pub mod Openings
 pub mod Times
+pub mod Patterns
 pub mod Lines
 pub mod WaysOf
 pub mod Turns
-pub mod LogLines
 pub mod Pairs
 pub mod Logs
 pub mod Explained

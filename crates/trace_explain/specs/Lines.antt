@@ -1,16 +1,10 @@
 -- The lines of a trace, with or without signs, and the events that each leads to.
-use Rattle.std.specs.Prelude.{MatchBool, ◌≡◌, ◌≢◌, ◌⊎◌, ℕ, ◌+◌, ◌*◌, List, [], ◌∷◌, ◌++◌, take, drop, codes, length, eqb, Option, Some, None, Ok, Bool, true, false, not, nat_le, ◌==◌, ◌&&◌, ◌||◌, if◌then◌else◌, ◌-◌, nat_eq}
-use Rattle.std.specs.List.{AllByRecursion, starts_with}
-use Rattle.std.specs.Cmp.Lexicographic.{pointwise}
-use Rattle.std.specs.Option.{is_some}
-use Rattle.hex.specs.Hex.{hex_digit_value, is_hex_digit}
+use Rattle.std.specs.Prelude.{MatchBool, ◌≡◌, ◌≢◌, ◌⊎◌, ℕ, List, [], ◌∷◌, ◌++◌, Option, Some, None, Ok, Bool, true, false, ◌||◌, if◌then◌else◌}
+use Rattle.std.specs.List.{AllByRecursion}
 use Rattle.t0_core.specs.declared.end.End.{End}
-use Rattle.t0_core.specs.declared.end.End.TheVariants as end
-use Rattle.trace_explain.specs.declared.read.form.Form.{Form}
-use Rattle.trace_explain.specs.declared.read.form.Form.TheVariants as form
-use Rattle.trace_explain.specs.declared.read.form.Row.{Row}
-use Rattle.trace_explain.specs.declared.read.form.Sign.{Sign as Found}
 use Rattle.trace_explain.specs.declared.read.reading.Reading.{Reading}
+use Rattle.trace_explain.specs.declared.read.form_row.Saying.{Saying}
+use Rattle.trace_explain.specs.declared.read.form_row.Saying.TheVariants as saying
 use Rattle.trace_explain.specs.declared.follow.listener.Listener.{Listener}
 use Rattle.trace_explain.specs.declared.read.trace_line.LineFault.{LineFault}
 use Rattle.trace_explain.specs.declared.read.trace_line.LineFault.TheVariants as bad
@@ -20,182 +14,90 @@ use Rattle.trace_explain.specs.declared.read.entry.Entry.{Entry}
 use Rattle.trace_explain.specs.declared.read.entry.Entry.TheVariants as entry
 use Rattle.trace_explain.specs.Noted.{Event, HasNoted, IsNoted, NoneContinues, Part, Passed, Reset, events_in}
 use Rattle.trace_explain.specs.Openings.{Opening, begins_answer, has_begun, is_dialogue, is_loose, opens, role_of, unopened}
-use Rattle.trace_explain.specs.Times.{behind_clock, behind_time, place_of}
+use Rattle.trace_explain.specs.Patterns.{Found, NoRow, ReadsAs, BadRow, all_of, bytes_in, is_digits, reads}
+use Rattle.trace_explain.specs.Times.{behind_clock, behind_time}
 use Rattle.trace_explain.specs.Reports.{Report}
 use Rattle.trace_explain.specs.Turns.{source_at}
 
--- The signs of each form, the terminal's first.
-abbrev pub signs_of : Form → List ℕ × List ℕ
-signs_of form.Angle = (codes ">", codes "<")
-signs_of form.Angles = (codes ">>", codes "<<")
-signs_of form.Arrow = (codes "->", codes "<-")
-signs_of form.Double = (codes "=>", codes "<=")
-signs_of form.Wire = (codes "TX", codes "RX")
-signs_of form.WireColon = (codes "TX:", codes "RX:")
-signs_of form.WireMixed = (codes "Tx:", codes "Rx:")
-signs_of form.Letter = (codes "T:", codes "C:")
-signs_of form.Device = (codes "IFD", codes "ICC")
-signs_of form.DeviceColon = (codes "IFD:", codes "ICC:")
+-- How the rows of a trace read a line, perhaps behind a time.
+abbrev pub read_of : Reading → List ℕ → ReadsAs
+read_of reading line = reads reading.rows.first.items 0 (behind_time line)
 
--- The sign before the characters of this end.
-abbrev pub sign_of : Form → End → List ℕ
-sign_of form end.Terminal = (signs_of form).0
-sign_of form end.Card = (signs_of form).1
-
--- Each form.
-abbrev pub forms : List Form
-forms = form.Angle ∷ form.Angles ∷ form.Arrow ∷ form.Double ∷ form.Wire ∷ form.WireColon
-    ∷ form.WireMixed ∷ form.Letter ∷ form.Device ∷ form.DeviceColon ∷ []
-
--- A line up to its first space, and the rest.
-abbrev pub first_word : List ℕ → List ℕ
-first_word line = take (place_of 32 line) line
-
-abbrev pub behind_word : List ℕ → List ℕ
-behind_word line = drop (place_of 32 line) line
-
--- The byte of two digits, in either case.
-abbrev pub byte_of : Option ℕ → Option ℕ → Option ℕ
-byte_of None low = None
-byte_of (Some high) None = None
-byte_of (Some high) (Some low) = Some (high * 16 + low)
-
--- The bytes that digits spell: two digits each, with any number of spaces between bytes. Other
--- bytes, and perhaps the first digit of the next one, precede them.
-abbrev pub bytes_from : List ℕ → Option ℕ → List ℕ → Option (List ℕ)
-bytes_from bytes None [] = Some bytes
-bytes_from bytes (Some high) [] = None
-bytes_from bytes None (b ∷ rest) =
-    if b == 32 then bytes_from bytes None rest else bytes_from bytes (Some b) rest
-bytes_from bytes (Some high) (b ∷ rest) =
-    elim (byte_of (hex_digit_value high) (hex_digit_value b)) [
-      | None ↦ None
-      | Some byte ↦ bytes_from (bytes ++ byte ∷ []) None rest
-    ]
-
-abbrev pub bytes_in : List ℕ → Option (List ℕ)
-bytes_in digits = bytes_from [] None digits
-
--- Why digits spell no bytes: a digit is missing, or there is something else among them.
-abbrev pub AreBadDigits : LineFault → List ℕ → Type 0
-AreBadDigits bad.Hex digits = bytes_in digits ≡ None
-AreBadDigits bad.OutOfMemory digits = Unit {0}
-AreBadDigits other digits = ⊥
-
--- The characters of one end: perhaps a time, then the sign of a form, and digits if it has any.
-pub record SpellsCharacters (form : Form) (line : List ℕ) (from : End) (bytes : List ℕ) : Type 0
-  where
-    pub sign_is : first_word (behind_time line) ≡ sign_of form from
-    pub digits_are : bytes_in (behind_word (behind_time line)) ≡ Some bytes
-
--- A word ends if no letter or digit follows.
-abbrev pub is_in : ℕ → ℕ → ℕ → Bool
-is_in first last b = nat_le first b && nat_le b last
-
-abbrev pub ends_word : List ℕ → Bool
-ends_word [] = true
-ends_word (b ∷ rest) = not (is_in 48 57 b || is_in 65 90 b || is_in 97 122 b)
-
--- The line begins with this, or with this sign. A sign of letters alone must be a whole word.
-abbrev pub begins_with : List ℕ → List ℕ → Bool
-begins_with line text = starts_with eqb line text
-
-abbrev pub begins_with_sign : List ℕ → List ℕ → Bool
-begins_with_sign line sign = begins_with line sign
-    && (ends_word (drop (length sign - 1) sign) || ends_word (drop (length sign) line))
-
--- The first sign of these forms that passes a test.
-abbrev pub sign_in : (List ℕ → Bool) → List Form → Option Found
-sign_in test [] = None
-sign_in test (form ∷ forms) =
-    if test (signs_of form).0 then Some (record { form = form; from = end.Terminal })
-    else if test (signs_of form).1 then Some (record { form = form; from = end.Card })
-    else sign_in test forms
-
--- The line begins with a sign of some form.
-abbrev pub is_signed : List ℕ → Bool
-is_signed line = is_some (sign_in (begins_with_sign line) forms)
-
--- The line is this sign, or else begins with it.
-abbrev pub fits : List ℕ → Bool → List ℕ → Bool
-fits line is_whole sign =
-    if is_whole then pointwise nat_eq line sign else begins_with_sign line sign
-
--- A row of the code's table: its signs are those of its form.
-abbrev pub IsRow : Row → Type 0
-IsRow row = (row.2.now ≡ (signs_of row.0).0) × (row.3.now ≡ (signs_of row.0).1)
-
--- The rest of a line contains digits and spaces alone, and the line begins with a digit.
-abbrev pub is_digits_from : Bool → List ℕ → Bool
-is_digits_from has_digit [] = has_digit
-is_digits_from has_digit (b ∷ line) = if is_hex_digit b then is_digits_from true line
-    else if (b == 32) && has_digit then is_digits_from has_digit line else false
-
-abbrev pub is_digits : List ℕ → Bool
-is_digits line = is_digits_from false line
-
--- The same for a whole line, or for what follows a time.
+-- A whole line contains digits alone, or what follows a time does.
 abbrev pub are_digits : List ℕ → Bool
 are_digits line = is_digits line || is_digits (behind_time line)
 
 -- A line may have signs of this form: of any if no line had one before, otherwise of the same.
-abbrev pub Suits : Option Form → Form → Type 0
+abbrev pub Suits : Option ℕ → ℕ → Type 0
 Suits None form = Unit {0}
 Suits (Some known) form = form ≡ known
 
--- What a line with signs of this form, if known, says: characters after a sign, a reset, or a note.
-abbrev pub SaysSigned : Option Form → List ℕ → Entry → Type 0
-SaysSigned known line (entry.Characters (Sign form from) bytes) =
-    SpellsCharacters form line from bytes.items × Suits known form
-SaysSigned known line (entry.Characters Turn bytes) = ⊥
-SaysSigned known line entry.Reset = behind_time line ≡ codes "reset"
-SaysSigned known line entry.Note = (is_signed (behind_time line) ≡ false)
-    × (behind_time line ≢ codes "reset") × (known ≡ None → are_digits line ≡ false)
-SaysSigned known line of_log = ⊥
+-- What a line without bytes says: a reset, or a note.
+abbrev pub SaysNone : ReadsAs → Entry → Type 0
+SaysNone (Found form saying.Reset m) entry.Reset = Unit {0}
+SaysNone (Found form saying.Note m) entry.Note = Unit {0}
+SaysNone NoRow entry.Note = Unit {0}
+SaysNone other entry = ⊥
+
+-- What a line with signs of this form, if known, says: characters as its row marks them, or none.
+-- Digits alone are no note if no form is known.
+abbrev pub SaysSigned : Option ℕ → Bool → ReadsAs → Entry → Type 0
+SaysSigned known digits (Found form (saying.Sends from) m) (entry.Characters (Sign f end) bytes) =
+    (f ≡ form) × (end ≡ from) × (bytes.items ≡ all_of m) × Suits known form
+SaysSigned known digits NoRow entry =
+    SaysNone NoRow entry × (known ≡ None → digits ≡ false)
+SaysSigned known digits found entry = SaysNone found entry
 
 -- The same without signs: characters are digits, perhaps after a time.
-abbrev pub SaysUnsigned : List ℕ → Entry → Type 0
-SaysUnsigned line (entry.Characters (Sign form from) bytes) = ⊥
-SaysUnsigned line (entry.Characters Turn bytes) = (is_digits (behind_clock line) ≡ true)
+abbrev pub SaysUnsigned : List ℕ → ReadsAs → Entry → Type 0
+SaysUnsigned line found (entry.Characters (Sign form from) bytes) = ⊥
+SaysUnsigned line found (entry.Characters Turn bytes) = (is_digits (behind_clock line) ≡ true)
     × (bytes_in (behind_clock line) ≡ Some bytes.items)
-SaysUnsigned line entry.Reset = behind_time line ≡ codes "reset"
-SaysUnsigned line entry.Note = (is_digits (behind_clock line) ≡ false)
-    × (is_signed (behind_time line) ≡ false) × (behind_time line ≢ codes "reset")
-SaysUnsigned line of_log = ⊥
+SaysUnsigned line found entry =
+    (is_digits (behind_clock line) ≡ false) × SaysNone found entry
 
 -- What a line says.
 abbrev pub Says : Reading → List ℕ → Entry → Type 0
-Says reading line entry = MatchBool reading.is_unsigned (SaysUnsigned line entry)
-    (SaysSigned reading.form line entry)
+Says reading line entry = MatchBool reading.is_unsigned
+    (SaysUnsigned line (read_of reading line) entry)
+    (SaysSigned reading.form (are_digits line) (read_of reading line) entry)
 
--- These are not characters of an end in any form.
-abbrev pub SpellsNothing : List ℕ → Type 0
-SpellsNothing line = (form : Form) (from : End) (bytes : List ℕ)
-    → SpellsCharacters form line from bytes → ⊥
+-- A row of whole TPDUs, which no trace of characters has.
+abbrev pub is_of_log : Saying → Bool
+is_of_log (saying.Sends from) = false
+is_of_log saying.Reset = false
+is_of_log saying.Note = false
+is_of_log other = true
 
--- A refused line begins with a sign and is of no form; is of another form than the lines before; or
--- contains digits alone, and no line before has a sign.
-abbrev pub IsBadSigned : LineFault → Option Form → List ℕ → Type 0
-IsBadSigned bad.Hex known line = (is_signed (behind_time line) ≡ true) × SpellsNothing line
-IsBadSigned (bad.OtherForm expected) known line = (known ≡ Some expected)
-    × (form : Form) × (from : End) × (bytes : List ℕ) × SpellsCharacters form line from bytes
-    × (form ≢ expected)
-IsBadSigned bad.NoSign known line = (known ≡ None) × (are_digits line ≡ true)
-    × (is_signed (behind_time line) ≡ false)
-IsBadSigned bad.OutOfMemory known line = Unit {0}
-IsBadSigned other known line = ⊥
+-- A refused line only begins as a row; is of another form than the lines before; or contains
+-- digits alone, and no line before has a sign.
+abbrev pub IsBadSigned : LineFault → Option ℕ → Bool → ReadsAs → Type 0
+IsBadSigned bad.Hex known digits BadRow = Unit {0}
+IsBadSigned bad.Hex known digits (Found form says m) = is_of_log says ≡ true
+IsBadSigned (bad.OtherForm expected) known digits (Found form (saying.Sends from) m) =
+    (known ≡ Some expected) × (form ≢ expected)
+IsBadSigned bad.NoSign known digits NoRow = (known ≡ None) × (digits ≡ true)
+IsBadSigned bad.OutOfMemory known digits found = Unit {0}
+IsBadSigned other known digits found = ⊥
 
 -- Without signs, a refused line has digits that are not two for each byte, or begins with a sign.
-abbrev pub IsBadUnsigned : LineFault → List ℕ → Type 0
-IsBadUnsigned bad.Hex line = (is_digits (behind_clock line) ≡ true)
+abbrev pub has_sign : ReadsAs → Bool
+has_sign NoRow = false
+has_sign (Found form saying.Reset m) = false
+has_sign (Found form saying.Note m) = false
+has_sign other = true
+
+abbrev pub IsBadUnsigned : LineFault → List ℕ → ReadsAs → Type 0
+IsBadUnsigned bad.Hex line found = (is_digits (behind_clock line) ≡ true)
     × (bytes_in (behind_clock line) ≡ None)
-IsBadUnsigned bad.Signed line = is_signed (behind_time line) ≡ true
-IsBadUnsigned bad.OutOfMemory line = Unit {0}
-IsBadUnsigned other line = ⊥
+IsBadUnsigned bad.Signed line found = has_sign found ≡ true
+IsBadUnsigned bad.OutOfMemory line found = Unit {0}
+IsBadUnsigned other line found = ⊥
 
 abbrev pub IsBadLine : LineFault → Reading → List ℕ → Type 0
-IsBadLine why reading line = MatchBool reading.is_unsigned (IsBadUnsigned why line)
-    (IsBadSigned why reading.form line)
+IsBadLine why reading line = MatchBool reading.is_unsigned
+    (IsBadUnsigned why line (read_of reading line))
+    (IsBadSigned why reading.form (are_digits line) (read_of reading line))
 
 -- The state of a trace between two lines: the opening since it began or the card was reset; whether
 -- a character of either end was received; how its next lines are read.

@@ -1,21 +1,25 @@
 -- A log of whole TPDUs or APDUs, line by line: which command has which answer.
-use Rattle.std.specs.Prelude.{◌≡◌, ◌<◌, ℕ, ◌+◌, ◌-◌, List, [], ◌∷◌, ◌++◌, length, map, Option, Some, None, Bool, true, false, ◌==◌}
+use Rattle.std.specs.Prelude.{◌≡◌, ◌<◌, ℕ, ◌+◌, ◌-◌, List, [], ◌∷◌, ◌++◌, take, drop, length, map, slice_index, Option, Some, None, Bool, true, false, ◌==◌, ◌&&◌, nat_lt, nat_le, if◌then◌else◌}
+use Rattle.t0_core.specs.declared.direction.Direction.{Direction}
+use Rattle.t0_core.specs.declared.direction.Direction.TheVariants.{ToCard, FromCard}
 use Rattle.t0_core.specs.declared.end.End.{End}
 use Rattle.t0_core.specs.declared.end.End.TheVariants as end
 use Rattle.trace_explain.specs.declared.read.entry.Entry.{Entry}
 use Rattle.trace_explain.specs.declared.read.entry.Entry.TheVariants as entry
 use Rattle.trace_explain.specs.declared.read.entry.Source.{Source}
 use Rattle.trace_explain.specs.declared.read.log.Log.{Log}
-use Rattle.trace_explain.specs.declared.read.log_line.Open.{Open}
-use Rattle.trace_explain.specs.declared.read.log_line.Open.TheVariants as going
-use Rattle.trace_explain.specs.declared.read.log_line.LogLine.{LogLine}
-use Rattle.trace_explain.specs.declared.read.log_line.LogLine.TheVariants as log_line
+use Rattle.trace_explain.specs.declared.read.log.Open.{Open}
+use Rattle.trace_explain.specs.declared.read.log.Open.TheVariants as going
+use Rattle.trace_explain.specs.declared.read.form_row.Rows.{Rows}
+use Rattle.trace_explain.specs.declared.read.form_row.Saying.{Saying}
+use Rattle.trace_explain.specs.declared.read.form_row.Saying.TheVariants as saying
 use Rattle.trace_explain.specs.declared.read.trace_line.LineFault.{LineFault}
 use Rattle.trace_explain.specs.declared.read.trace_line.LineFault.TheVariants as bad
-use Rattle.trace_explain.specs.LogLines.{IsBadDump, IsBadLogLine, SaysLog, dumped_in, left_of, rest_in, rest_open, some_bytes}
 use Rattle.trace_explain.specs.Noted.{are_status}
 use Rattle.trace_explain.specs.Pairs.{status_in}
-use Rattle.trace_explain.specs.Times.{place_of}
+use Rattle.trace_explain.specs.Patterns.{Found, Marked, ReadsAs, BadRow, all_of, reads}
+use Rattle.trace_explain.specs.Times.{behind_time}
+use Rattle.trace_explain.specs.WaysOf.{by_standard}
 
 -- What an entry says.
 pub data EntryOf : Type 0 where
@@ -38,21 +42,51 @@ entry_of (entry.Part from bytes) = Part from bytes.items
 entry_of entry.Reset = Reset
 entry_of entry.Note = Note
 
--- The state of a log between two lines: what the next one may continue, the bytes of that so far,
--- and the last command if it has no answer yet.
+-- How the rows of a log read a line while nothing is pending, perhaps behind a time.
+abbrev pub read_log : Rows → List ℕ → ReadsAs
+read_log rows line = reads rows.first.items 0 (behind_time line)
+
+-- What a line adds to what is pending, by its row: bytes, or nothing. A dump has this many left.
+abbrev pub some_bytes : ReadsAs → Option (Saying × Marked)
+some_bytes (Found form says m) = if length m.bytes == 0 then None else Some (says, m)
+some_bytes other = None
+
+abbrev pub rest_in : Rows → ℕ → List ℕ → Option (Saying × Marked)
+rest_in rows left line = some_bytes (reads rows.rest.items left line)
+
+-- What a line leaves open: a dump of as many bytes as it says, or bytes that fill a line.
+abbrev pub line_if : Bool → End → Open
+line_if true from = going.Line from
+line_if false from = going.Nothing
+
+abbrev pub left_of : End → ℕ → Open
+left_of from left = if left == 0 then going.Nothing else going.Dump from left
+
+abbrev pub opens : End → Marked → Open
+opens from m = if nat_lt 0 m.count then going.Dump from m.count
+    else line_if (m.goes_on && (length m.bytes == 16)) from
+
+-- The state of a log between two lines: what the next one may continue, with its bytes so far and
+-- those behind them. If the last command has no answer yet, that too.
 pub record LogAt : Type 0 where
   pub pending : Open
   pub bytes : List ℕ
+  pub status : List ℕ
   pub command : Option (List ℕ)
 
 abbrev pub at_first : LogAt
-at_first = record { pending = going.Nothing; bytes = []; command = None }
+at_first = record { pending = going.Nothing; bytes = []; status = []; command = None }
 
 abbrev pub command_at : Log → Option (List ℕ)
 command_at l = elim l.command [ None ↦ None | Some command ↦ Some command.items ]
 
 abbrev pub log_at : Log → LogAt
-log_at l = record { pending = l.pending; bytes = l.bytes.items; command = command_at l }
+log_at l = record {
+  pending = l.pending;
+  bytes = l.bytes.items;
+  status = l.status.items;
+  command = command_at l;
+}
 
 -- An answer belongs to the last command, if there is one.
 abbrev pub to_command : Option (List ℕ) → List ℕ → EntryOf
@@ -64,109 +98,167 @@ abbrev pub unanswered : Option (List ℕ) → List EntryOf
 unanswered None = []
 unanswered (Some command) = Unanswered command ∷ []
 
+abbrev pub without_command : LogAt → LogAt
+without_command at =
+    record { pending = at.pending; bytes = at.bytes; status = at.status; command = None }
+
 -- What a step adds, and the state after it.
 pub record Step : Type 0 where
   pub gives : List EntryOf
   pub at : LogAt
 
 abbrev pub answered : LogAt → List ℕ → Step
-answered at answer = record {
-  gives = to_command at.command answer ∷ [];
-  at = record { pending = at.pending; bytes = at.bytes; command = None };
-}
+answered at answer =
+    record { gives = to_command at.command answer ∷ []; at = without_command at }
 
 -- What is pending has ended.
+abbrev pub closed_at : LogAt → Option (List ℕ) → LogAt
+closed_at at command =
+    record { pending = going.Nothing; bytes = []; status = []; command = command }
+
 abbrev pub closed : LogAt → End → Step
-closed at end.Terminal = record {
-  gives = [];
-  at = record { pending = going.Nothing; bytes = []; command = Some at.bytes };
-}
-closed at end.Card =
-    answered (record { pending = going.Nothing; bytes = []; command = at.command }) at.bytes
+closed at end.Terminal =
+    record { gives = []; at = closed_at at (Some (at.bytes ++ at.status)) }
+closed at end.Card = answered (closed_at at at.command) (at.bytes ++ at.status)
 
 -- More bytes of this end: the last ones, unless something may continue them.
-abbrev pub with_bytes : LogAt → List ℕ → Open → LogAt
-with_bytes at more next =
-    record { pending = next; bytes = at.bytes ++ more; command = at.command }
+abbrev pub with_bytes : LogAt → Marked → Open → LogAt
+with_bytes at m next = record {
+  pending = next;
+  bytes = at.bytes ++ m.bytes;
+  status = at.status ++ m.status;
+  command = at.command;
+}
 
-abbrev pub continued : LogAt → End → List ℕ → Open → Step
-continued at from more going.Nothing = closed (with_bytes at more going.Nothing) from
-continued at from more next = record { gives = []; at = with_bytes at more next }
+abbrev pub continued : LogAt → End → Marked → Open → Step
+continued at from m going.Nothing = closed (with_bytes at m going.Nothing) from
+continued at from m next = record { gives = []; at = with_bytes at m next }
 
 -- These were added before.
 abbrev pub behind : List EntryOf → Step → Step
 behind gives step = record { gives = gives ++ step.gives; at = step.at }
 
--- The last command has no answer; and then a command begins.
+-- The last command has no answer; and then a command begins, or the card is reset.
 abbrev pub given_up : LogAt → Step
-given_up at = record {
-  gives = unanswered at.command;
-  at = record { pending = at.pending; bytes = at.bytes; command = None };
-}
+given_up at = record { gives = unanswered at.command; at = without_command at }
 
 abbrev pub begun : LogAt → Step
-begun at = record {
-  gives = unanswered at.command ++ Begins ∷ [];
-  at = record { pending = at.pending; bytes = at.bytes; command = None };
+begun at = record { gives = unanswered at.command ++ Begins ∷ []; at = without_command at }
+
+abbrev pub resets : LogAt → Step
+resets at = record { gives = unanswered at.command ++ Reset ∷ []; at = without_command at }
+
+-- The first bytes of a command or an answer.
+abbrev pub started : LogAt → End → Marked → Step
+started at end.Terminal m = behind (begun at).gives
+    (continued (begun at).at end.Terminal m (opens end.Terminal m))
+started at end.Card m = continued at end.Card m (opens end.Card m)
+
+-- A command and its answer in one line: the command has data if the terminal sends these, and as
+-- many as P3 says are before the status.
+abbrev pub is_to_card : Option Direction → Bool
+is_to_card (Some ToCard) = true
+is_to_card (Some FromCard) = false
+is_to_card None = false
+
+abbrev pub command_len : List ℕ → ℕ
+command_len bytes = if nat_lt (length bytes) 5 then length bytes
+    else if is_to_card (by_standard (slice_index bytes 0) (slice_index bytes 1))
+    && nat_le (slice_index bytes 4 + 7) (length bytes) then slice_index bytes 4 + 5 else 5
+
+abbrev pub both : LogAt → List ℕ → Step
+both at bytes = record {
+  gives = (begun at).gives
+      ++ Pair (take (command_len bytes) bytes) (drop (command_len bytes) bytes) ∷ [];
+  at = without_command at;
 }
 
--- What a line adds if nothing is pending.
-abbrev pub taken : LogAt → LogLine → Step
-taken at (log_line.Bytes end.Terminal bytes next) =
-    behind (begun at).gives (continued (begun at).at end.Terminal bytes.items next)
-taken at (log_line.Bytes end.Card bytes next) = continued at end.Card bytes.items next
-taken at log_line.Reset = record {
-  gives = unanswered at.command ++ Reset ∷ [];
-  at = (given_up at).at;
-}
-taken at log_line.Note = record { gives = Note ∷ []; at = at }
+-- What a line adds if nothing is pending, as its row says.
+abbrev pub noted : LogAt → Step
+noted at = record { gives = Note ∷ []; at = at }
 
--- What a line adds that ends an answer and does not continue it.
-abbrev pub behind_answer : LogAt → LogLine → Step
-behind_answer at log_line =
-    behind (closed at end.Card).gives (taken (closed at end.Card).at log_line)
+abbrev pub Takes : ReadsAs → LogAt → Step → Type 0
+Takes (Found form (saying.Sends from) m) at step = step ≡ started at from m
+Takes (Found form saying.Both m) at step = step ≡ both at (all_of m)
+Takes (Found form saying.Reset m) at step = step ≡ resets at
+Takes (Found form saying.Atr m) at step = step ≡ behind (resets at).gives (noted (resets at).at)
+Takes BadRow at step = ⊥
+Takes other at step = step ≡ noted at
 
--- What the next line adds if an answer is pending: more of it, or the answer has ended before.
-abbrev pub TakesRest : Bool → LogAt → List ℕ → Step → Type 0
-TakesRest true at line step = (log_line : LogLine) × SaysLog line log_line
-    × (step ≡ behind_answer at log_line)
-TakesRest false at line step = step ≡ continued at end.Card (rest_in line) (rest_open line)
+-- What the next line adds if bytes are pending: more of them, or they have ended before.
+abbrev pub TakesRest : Option (Saying × Marked) → End → Rows → LogAt → List ℕ → Step → Type 0
+TakesRest None from rows at line step = (next : Step)
+    × Takes (read_log rows line) (closed at from).at next
+    × (step ≡ behind (closed at from).gives next)
+TakesRest (Some (says, m)) from rows at line step = step ≡ continued at from m (opens from m)
 
-abbrev pub TakesIn : Open → LogAt → List ℕ → Step → Type 0
-TakesIn going.Nothing at line step = (log_line : LogLine) × SaysLog line log_line
-    × (step ≡ taken at log_line)
-TakesIn going.Answer at line step = TakesRest (length (rest_in line) == 0) at line step
-TakesIn (going.Dump from count) at line step = (bytes : List ℕ)
-    × (dumped_in count line ≡ Some bytes)
-    × (step ≡ continued at from bytes (left_of from (count - length bytes)))
+-- What it adds to a dump with this many bytes left.
+abbrev pub is_rest : Saying → Bool
+is_rest saying.Rest = true
+is_rest other = false
 
-abbrev pub TakesLogLine : LogAt → List ℕ → Step → Type 0
-TakesLogLine at line step = TakesIn at.pending at line step
+abbrev pub within_dump : ℕ → Option (Saying × Marked) → Option Marked
+within_dump left None = None
+within_dump left (Some (says, m)) =
+    if is_rest says && nat_le (length m.bytes) left then Some m else None
+
+abbrev pub dumped_in : Rows → ℕ → List ℕ → Option Marked
+dumped_in rows left line = within_dump left (rest_in rows left line)
+
+abbrev pub TakesIn : Rows → Open → LogAt → List ℕ → Step → Type 0
+TakesIn rows going.Nothing at line step = Takes (read_log rows line) at step
+TakesIn rows (going.Line from) at line step =
+    TakesRest (rest_in rows 0 line) from rows at line step
+TakesIn rows (going.Dump from left) at line step = (m : Marked)
+    × (dumped_in rows left line ≡ Some m)
+    × (step ≡ continued at from m (left_of from (left - length m.bytes)))
+
+abbrev pub TakesLogLine : Rows → LogAt → List ℕ → Step → Type 0
+TakesLogLine rows at line step = TakesIn rows at.pending at line step
 
 -- With more bytes what is pending exceeds the limit.
 abbrev pub IsTooMuch : List ℕ → List ℕ → Type 0
 IsTooMuch bytes more = 4194304 < length bytes + length more
 
--- A line without a colon is the last that may continue an answer, which ends with a status with its
--- bytes and without them.
-pub record IsTwofold (bytes line more : List ℕ) : Type 0 where
-  pub no_colon : place_of 58 line ≡ length line
+-- Only digits say that the last line continues an answer, which ends with a status with its bytes
+-- and without them.
+pub record IsTwofold (from : End) (says : Saying) (bytes : List ℕ) (more : Marked) : Type 0 where
+  pub from_is : from ≡ end.Card
+  pub says_is : says ≡ saying.Perhaps
+  pub is_last : opens from more ≡ going.Nothing
   pub before : are_status (status_in bytes) ≡ true
-  pub after : are_status (status_in (bytes ++ more)) ≡ true
+  pub after : are_status (status_in (bytes ++ more.bytes)) ≡ true
 
 -- A line can't be read after these bytes if this is pending.
-abbrev pub IsBadIn : Open → List ℕ → LineFault → List ℕ → Type 0
-IsBadIn going.Answer bytes bad.Twofold line = IsTwofold bytes line (rest_in line)
-IsBadIn going.Answer bytes bad.TooLong line = IsTooMuch bytes (rest_in line)
-IsBadIn (going.Dump from count) bytes bad.TooLong line =
-    IsTooMuch bytes (some_bytes (dumped_in count line))
-IsBadIn (going.Dump from count) bytes why line = IsBadDump why count line
-IsBadIn other bytes why line = IsBadLogLine why line
+abbrev pub IsBadRest : LineFault → End → List ℕ → Option (Saying × Marked) → ReadsAs → Type 0
+IsBadRest bad.Twofold from bytes (Some (says, m)) found = IsTwofold from says bytes m
+IsBadRest bad.TooLong from bytes (Some (says, m)) found = IsTooMuch bytes m.bytes
+IsBadRest bad.Hex from bytes None found = found ≡ BadRow
+IsBadRest bad.OutOfMemory from bytes rest found = Unit {0}
+IsBadRest other from bytes rest found = ⊥
+
+abbrev pub IsBadDump : LineFault → List ℕ → Option Marked → Type 0
+IsBadDump bad.Hex bytes dumped = dumped ≡ None
+IsBadDump bad.TooLong bytes (Some m) = IsTooMuch bytes m.bytes
+IsBadDump bad.OutOfMemory bytes dumped = Unit {0}
+IsBadDump other bytes dumped = ⊥
+
+abbrev pub IsBadFirst : LineFault → ReadsAs → Type 0
+IsBadFirst bad.Hex found = found ≡ BadRow
+IsBadFirst bad.OutOfMemory found = Unit {0}
+IsBadFirst other found = ⊥
+
+abbrev pub IsBadIn : Rows → Open → List ℕ → LineFault → List ℕ → Type 0
+IsBadIn rows going.Nothing bytes why line = IsBadFirst why (read_log rows line)
+IsBadIn rows (going.Line from) bytes why line =
+    IsBadRest why from bytes (rest_in rows 0 line) (read_log rows line)
+IsBadIn rows (going.Dump from left) bytes why line =
+    IsBadDump why bytes (dumped_in rows left line)
 
 -- What the end of a log adds.
 abbrev pub ended_in : Open → LogAt → List EntryOf
 ended_in going.Nothing at = unanswered at.command
-ended_in going.Answer at = (closed at end.Card).gives
+ended_in (going.Line from) at = (closed at from).gives ++ unanswered (closed at from).at.command
 ended_in (going.Dump from count) at = Part from at.bytes ∷ unanswered at.command
 
 abbrev pub ended : LogAt → List EntryOf

@@ -10,9 +10,12 @@ abbrev pub behind_spaces : List ℕ → List ℕ
 behind_spaces [] = []
 behind_spaces (b ∷ line) = if b == 32 then behind_spaces line else b ∷ line
 
--- Digits, points and colons.
+-- Digits, points, colons and commas.
+abbrev pub is_digit : ℕ → Bool
+is_digit b = nat_le 48 b && nat_le b 57
+
 abbrev pub is_of_time : ℕ → Bool
-is_of_time b = (nat_le 48 b && nat_le b 57) || (b == 46) || (b == 58)
+is_of_time b = is_digit b || (b == 46) || (b == 58) || (b == 44)
 
 abbrev pub are_of_time : List ℕ → Bool
 are_of_time [] = true
@@ -21,7 +24,7 @@ are_of_time (b ∷ bytes) = is_of_time b && are_of_time bytes
 -- A digit, and then such bytes.
 abbrev pub is_stamp : List ℕ → Bool
 is_stamp [] = false
-is_stamp (b ∷ rest) = nat_le 48 b && nat_le b 57 && are_of_time rest
+is_stamp (b ∷ rest) = is_digit b && are_of_time rest
 
 abbrev pub is_unit : List ℕ → Bool
 is_unit [] = false
@@ -49,10 +52,51 @@ shift_len rest = if is_stamp (take (place_of 32 rest) rest)
     && is_unit (take (place_of 32 (unit_behind rest)) (unit_behind rest))
     then unit_end rest (unit_behind rest) else 0
 
+-- A date before a time of day, with `T` or a space between: `2026-11-27`. Behind the time there may
+-- be a zone.
+abbrev pub is_date : List ℕ → Bool
+is_date (a ∷ b ∷ c ∷ d ∷ e ∷ f ∷ g ∷ h ∷ i ∷ j ∷ k ∷ rest) = is_digit a && is_digit b && is_digit c
+    && is_digit d && (e == 45) && is_digit f && is_digit g && (h == 45) && is_digit i && is_digit j
+    && ((k == 84) || (k == 32))
+is_date other = false
+
+abbrev pub is_of_zone : ℕ → Bool
+is_of_zone b = is_of_time b || (b == 43) || (b == 45) || (b == 90)
+
+abbrev pub are_of_zone : List ℕ → Bool
+are_of_zone [] = true
+are_of_zone (b ∷ bytes) = is_of_zone b && are_of_zone bytes
+
+abbrev pub is_zoned : List ℕ → Bool
+is_zoned [] = false
+is_zoned (b ∷ rest) = is_digit b && are_of_zone rest
+
+abbrev pub dated_len : List ℕ → ℕ
+dated_len time = if is_zoned (take (place_of 32 time) time) then 11 + place_of 32 time else 0
+
 abbrev pub time_len : List ℕ → ℕ
 time_len [] = 0
 time_len (b ∷ rest) = if b == 91 then bracket_len rest
-    else if b == 43 then shift_len rest else stamp_len (b ∷ rest)
+    else if b == 43 then shift_len rest
+    else if is_date (b ∷ rest) then dated_len (drop 11 (b ∷ rest)) else stamp_len (b ∷ rest)
+
+-- Labels of Python's `logging` between a time and the rest: `- WORD - `, or two words.
+abbrev pub begins_dash : List ℕ → Bool
+begins_dash (a ∷ b ∷ line) = (a == 45) && (b == 32)
+begins_dash other = false
+
+abbrev pub behind_word : List ℕ → List ℕ
+behind_word line = drop (place_of 32 (drop 2 line) + 1) (drop 2 line)
+
+abbrev pub is_labelled : List ℕ → Bool
+is_labelled line = begins_dash line && begins_dash (behind_word line)
+
+abbrev pub behind_next : List ℕ → List ℕ
+behind_next line = if is_labelled line then behind_word line else line
+
+abbrev pub behind_label : List ℕ → List ℕ
+behind_label line =
+    if is_labelled line then drop 2 (behind_next (behind_word line)) else line
 
 -- A line without the byte order mark of UTF-8 before it.
 abbrev pub behind_mark : List ℕ → List ℕ
@@ -62,13 +106,13 @@ behind_mark (a ∷ b ∷ []) = a ∷ b ∷ []
 behind_mark (a ∷ b ∷ c ∷ line) =
     if (a == 0xEF) && (b == 0xBB) && (c == 0xBF) then line else a ∷ b ∷ c ∷ line
 
--- The time before a line's sign, and what follows it and its spaces.
+-- The time before a line's sign, and what follows it, its spaces and its labels.
 abbrev pub time_of : List ℕ → List ℕ
 time_of line = take (time_len line) line
 
 abbrev pub behind_time_of : List ℕ → List ℕ
 behind_time_of line =
-    if time_len line == 0 then line else behind_spaces (drop (time_len line) line)
+    if time_len line == 0 then line else behind_label (behind_spaces (drop (time_len line) line))
 
 abbrev pub time_in : List ℕ → List ℕ
 time_in line = time_of (behind_mark line)
@@ -79,7 +123,7 @@ behind_time line = behind_time_of (behind_mark line)
 -- Without signs, decimal digits alone are bytes and not a time.
 abbrev pub are_decimal : List ℕ → Bool
 are_decimal [] = true
-are_decimal (b ∷ bytes) = nat_le 48 b && nat_le b 57 && are_decimal bytes
+are_decimal (b ∷ bytes) = is_digit b && are_decimal bytes
 
 abbrev pub behind_clock : List ℕ → List ℕ
 behind_clock line = if are_decimal (time_in line) then behind_mark line else behind_time line

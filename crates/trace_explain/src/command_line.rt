@@ -2,8 +2,7 @@
 
 use crate::describe::mask::{Mask, TagsFault};
 use crate::help;
-use crate::read::form::Form;
-use crate::read::reading::Reading;
+use crate::read::reading::Options;
 use crate::read::ways::Ways;
 use crate::write::layout::{Layout, Medium};
 use clap::error::ErrorKind;
@@ -21,7 +20,7 @@ pub struct Request<'a> {
     /// Whether it continues after an unexpected byte.
     pub resumes: bool,
     /// How the lines of each trace are read.
-    pub reading: Reading,
+    pub options: Options<'a>,
     /// The paths of two traces, A and B, if two are compared.
     pub compared: Option<(&'a str, &'a str)>,
 }
@@ -43,10 +42,14 @@ pub fn parsed<'a>(
     let is_page = matches.get_flag("html");
     let medium = if is_page { Medium::Html } else { Medium::Text };
     let is_summary = matches.get_flag("summary");
+    let form = forms
+        .iter()
+        .find(|name| matches.get_str("form") == Some(**name));
     Ok(Request {
         mask,
-        reading: Reading {
-            form: matches.get_str("form").and_then(Form::of_name),
+        options: Options {
+            form: form.copied(),
+            file: matches.get_str("form-file"),
             swaps: matches.get_flag("swap"),
             is_unsigned: matches.get_flag("unsigned"),
             ways,
@@ -125,16 +128,23 @@ enum Takes {
     Paths,
     Tags,
     Form,
+    File,
     Instructions,
 }
 
 /// The options, in the order of the help.
-static OPTIONS: [Row; 11] = [
+static OPTIONS: [Row; 12] = [
     Row("diff", help::DIFF, Takes::Paths, &["html", "summary"]),
     Row("html", help::HTML, Takes::Nothing, &[]),
     Row("mask", help::MASK, Takes::Tags, &[]),
     Row("resume", help::RESUME, Takes::Nothing, &[]),
     Row("form", help::FORM, Takes::Form, &[]),
+    Row(
+        "form-file",
+        help::FORM_FILE,
+        Takes::File,
+        &["form", "unsigned"],
+    ),
     Row("swap", help::SWAP, Takes::Nothing, &[]),
     Row(
         "unsigned",
@@ -145,12 +155,7 @@ static OPTIONS: [Row; 11] = [
     Row("to-card", help::TO_CARD, Takes::Instructions, &[]),
     Row("from-card", help::FROM_CARD, Takes::Instructions, &[]),
     Row("summary", help::SUMMARY, Takes::Nothing, &[]),
-    Row(
-        "tpdu",
-        help::TPDU,
-        Takes::Nothing,
-        &["form", "resume", "swap", "unsigned"],
-    ),
+    Row("tpdu", help::TPDU, Takes::Nothing, &["resume", "unsigned"]),
 ];
 
 /// The option of a row.
@@ -184,6 +189,7 @@ fn taking<'a>(takes: Takes, option: Arg<'a>, forms: &'a [&'a str]) -> Result<Arg
                 .value_name("FORM")
                 .value_parser(forms),
         ),
+        Takes::File => Ok(option.action(ArgAction::Set).value_name("FILE")),
         Takes::Instructions => option
             .action(ArgAction::Set)
             .value_name("INS")

@@ -5,6 +5,7 @@ use crate::describe::mask::Mask;
 use crate::explain::{CHUNK, TRACE_LIMIT, explain_chunk, explain_last};
 use crate::explain_fault::ExplainFault;
 use crate::explainer::Explainer;
+use crate::read::forms::FormsFault;
 use crate::read::reading::Reading;
 use crate::write::kept::Kept;
 use crate::write::layout::{Layout, Medium};
@@ -29,12 +30,21 @@ pub enum DiffFault {
     /// This trace, `A` or `B`, has this fault, or memory ran out. Both begin with the same TPDUs.
     #[error("{0}: {1}")]
     Trace(&'static str, ExplainFault),
+    /// The forms can't be read.
+    #[error("{0}")]
+    Forms(FormsFault),
     /// The writer failed. How much it took is unknown.
     #[error("write fault")]
     Write,
     /// Memory ran out.
     #[error("out of memory")]
     OutOfMemory,
+}
+
+impl From<FormsFault> for DiffFault {
+    fn from(fault: FormsFault) -> DiffFault {
+        DiffFault::Forms(fault)
+    }
 }
 
 impl From<AllocError> for DiffFault {
@@ -72,14 +82,15 @@ pub fn diff<R: Read, S: Read, W: Write>(
     alloc: Global,
     mask: Mask,
     resumes: bool,
-    reading: Reading,
+    readings: (Reading, Reading),
     readers: (&mut R, &mut S),
     writer: &mut W,
 ) -> Result<bool, DiffFault> {
     let (reader_a, reader_b) = readers;
     let other = mask.copied(alloc)?;
-    let mut a = Trace::new(alloc, "A", other, resumes, reading, reader_a);
-    let mut b = Trace::new(alloc, "B", mask, resumes, reading, reader_b);
+    let (reading_a, reading_b) = readings;
+    let mut a = Trace::new(alloc, "A", other, resumes, reading_a, reader_a);
+    let mut b = Trace::new(alloc, "B", mask, resumes, reading_b, reader_b);
     let mut text = Sheet::new(alloc, LAYOUT);
     let alike = compare(&mut a, &mut b, &mut text)?;
     text.is_whole()?;

@@ -334,7 +334,7 @@ impl Explainer {
         ensures of_lines { IfErr result IsOfLines }
     {
         let mut entries = Vec::new(self.alloc);
-        let taken = self.log.take(line, &mut entries);
+        let taken = self.log.take(&self.reading.rows, line, &mut entries);
         self.has_characters = self.has_characters || self.log.has_begun();
         for entry in entries {
             if let Entry::Pair(command, answer) = &entry

@@ -16,7 +16,9 @@ pub const MASK: &str = "Shows `**` for reference data, and for objects with tags
 
 pub const RESUME: &str = "Continues after an unexpected byte";
 
-pub const FORM: &str = "Sets the signs of the lines, in place of the first sign";
+pub const FORM: &str = "Sets the form of the lines, in place of the first ones";
+
+pub const FORM_FILE: &str = "Reads lines by the first form in this file";
 
 pub const SWAP: &str = "Takes each sign for that of the other end, if TX is the card's";
 
@@ -38,16 +40,19 @@ The trace is on standard input, in lines as `card_trace play` prints them:
   < HEX    characters of the card, or `<` alone for none
   reset    the card was reset
 
-HEX is two digits for each byte, in either case, with or without spaces between bytes. In place of
-`>` and `<` the lines may have other signs: `>>` and `<<`, `->` and `<-`, `=>` and `<=`, `TX` and
-`RX`, `TX:` and `RX:`, `Tx:` and `Rx:`, `T:` and `C:`, `IFD` and `ICC`, or `IFD:` and `ICC:`. All
-lines have the form of the first sign. `--form` sets it before, by the terminal's sign, or by the
-names of the first four: `angle`, `angles`, `arrow` and `double`.
+HEX is two digits for each byte, in either case, with or without spaces between bytes. Right behind
+a byte there may be a comma, or a colon and the next byte, and `0x` before each. In place of `>`
+and `<` the lines may have other signs: `>>` and `<<`, `->` and `<-`, `=>` and `<=`, `TX` and `RX`,
+`TX:` and `RX:`, `Tx:` and `Rx:`, `T:` and `C:`, `IFD` and `ICC`, `IFD:` and `ICC:`, or `TX -` and
+`RX -`. All lines have the form of the first sign. `--form` sets it before, by the terminal's sign,
+or by the names `angle`, `angles`, `arrow`, `double` and `QXDM`. The other forms are logs of whole
+TPDUs or APDUs. Without an option about lines, the program tries each form on at most 64 lines. It
+takes the one that reads most of them without a fault, and names a log's form on standard error.
 
 A time may precede a sign or `reset`, with a space after it. It is the time of day, as
-`12:34:56.789`; seconds, as `[0.001234]`; the time since the line before, as `+0.5 ms`, `us` or `s`;
-or a count of microseconds. A TPDU shows the time of the line in which it begins, and how much later
-that is than for the last TPDU.
+`12:34:56.789`, perhaps behind a date as `2026-11-27`; seconds, as `[0.001234]`; the time since the
+line before, as `+0.5 ms`, `us` or `s`; or a count of microseconds. A TPDU shows the time of the
+line in which it begins, and how much later that is than for the last TPDU.
 
 Every other line is a note, and is shown after `| `. A note within a TPDU is shown before it. But a
 line that begins with a sign and can't be read is a fault. So are digits alone, with no space before
@@ -75,12 +80,13 @@ line `reset`. An answer whose first character is `3B` or `3F` may begin after ea
 `--resume` the program continues only at a line `reset`.
 
 With `--tpdu` the lines are a log of whole TPDUs or APDUs, and an answer follows each command. They
-are `> HEX` and `< HEX`, as `gt_pcsc -v` and `scriptor` write them, with `reset` or `> RESET`;
-`APDU: HEX` and `SW: HEX` of `pcscd --apdu`, with or without colours; and the dumps of OpenSC, as of
-`opensc-tool -vvv`. A command without an answer is shown as cut off, and an answer without a command
-as before one. A command that is not short, and an answer without SW1-SW2 at its end, are protocol
-errors: the program shows what is wrong, and continues. Every other line is a note, but one that
-begins as one of these and can't be read is a fault. So are characters of T=0, with INS before data.
+have the form of `--form`. Without it they are `> HEX` and `< HEX`, as `gt_pcsc -v` and `scriptor`
+write them, with `reset` or `> RESET`; `APDU: HEX` and `SW: HEX` of `pcscd --apdu`, with or without
+colours; and the dumps of OpenSC, as of `opensc-tool -vvv`. A command without an answer is shown as
+cut off, and an answer without a command as before one. A command that is not short, and an answer
+without SW1-SW2 at its end, are protocol errors: the program shows what is wrong, and continues.
+Every other line is a note, but one that begins as one of these and can't be read is a fault. So are
+characters of T=0, with INS before data.
 
 With `--mask` reference data are shown as `**`: the data of VERIFY, CHANGE REFERENCE DATA, DISABLE
 and ENABLE VERIFICATION REQUIREMENT and RESET RETRY COUNTER. So are objects with the given tags,

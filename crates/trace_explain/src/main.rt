@@ -3,6 +3,7 @@
 
 mod command_line;
 mod describe;
+mod detect;
 mod diff;
 mod explain;
 mod explain_fault;

@@ -2,19 +2,20 @@
 ghost use Rattle.std.specs.Prelude.{◌≡◌, ◌≤◌, OnOk, IfErr};
 ghost use Rattle.trace_explain.specs.Trace.{status_of};
 
-use crate::command_line::parsed;
+use crate::command_line::{Request, parsed};
 use crate::describe::mask::Mask;
+use crate::detect::{forms_of, head_of};
 use crate::diff::{DiffFault, diff};
 use crate::explain::explain;
 use crate::explain_fault::ExplainFault;
 use crate::help;
-use crate::read::form::Form;
-use crate::read::reading::Reading;
+use crate::read::forms::{FORMS, Forms, FormsFault};
+use crate::read::reading::{Options, Reading};
 use clap::Error;
 use clap::error::ErrorKind;
 use std::alloc::Global;
 use std::fs::File;
-use std::io::{Read, Write};
+use std::io::{Read, Write, read_to_string};
 use std::rt::Files;
 use std::{fmt, io};
 
@@ -37,36 +38,118 @@ pub fn main_status<D: Files, R: Read, W: Write, F: Write>(
 ) -> u8
     ensures status { result ≤ 2 }
 {
-    let forms = Form::names();
-    let asked = match parsed(alloc, words, &forms) {
+    let names = match names(alloc) {
+        Ok(names) => names,
+        Err(fault) => return print_fault(&fault, faults),
+    };
+    let asked = match parsed(alloc, words, names.as_slice()) {
         Ok(request) => request,
         Err(error) => return answered(&error, output, faults),
     };
-    let (layout, mask, resumes, reading) = (asked.layout, asked.mask, asked.resumes, asked.reading);
     let Some(paths) = asked.compared else {
-        let outcome = explain(alloc, layout, mask, resumes, reading, input, output);
+        let (head, reading) = match begin(alloc, &asked, files, input, faults) {
+            Ok(begun) => begun,
+            Err(fault) => return refused(fault, faults),
+        };
+        let (layout, mask, resumes) = (asked.layout, asked.mask, asked.resumes);
+        let mut trace = head.as_slice().chain(input);
+        let outcome = explain(alloc, layout, mask, resumes, reading, &mut trace, output);
         return status(&outcome, faults);
     };
-    match diff_files(alloc, mask, resumes, reading, files, paths, output) {
+    match diff_files(alloc, asked, files, paths, output) {
         Ok(alike) => u8::from(!alike),
         Err(fault) => print_fault(&fault, faults),
     }
 }
 
+/// Returns the bytes that were read to find the form of a trace, and how its lines are read. Writes
+/// the form to `faults` if it is one of whole commands.
+fn begin<D: Files, R: Read, F: Write>(
+    alloc: Global,
+    asked: &Request<'_>,
+    files: &D,
+    input: &mut R,
+    faults: &mut F,
+) -> Result<(Vec<u8>, Reading), FormsFault> {
+    let mut options = asked.options;
+    let mut head = Vec::new(alloc);
+    if options.is_open() && !asked.resumes {
+        head = head_of(alloc, input)?;
+        let forms = forms_of(alloc, &options, head.as_slice())?;
+        if let Some(form) = forms.first() {
+            options.form = Some(*form);
+            print_forms(forms.as_slice(), faults);
+        }
+    }
+    let reading = reading(alloc, &options, files)?;
+    if reading.of_tpdus && asked.resumes {
+        return Err(FormsFault::Resume);
+    }
+    Ok((head, reading))
+}
+
+/// Writes why the forms are refused to `faults`. Returns 2 for the command line, otherwise 1.
+fn refused<F: Write>(fault: FormsFault, faults: &mut F) -> u8
+    ensures status { result ≤ 2 }
+{
+    let _ = faults.writeln(&fault);
+    match fault {
+        FormsFault::Resume => 2,
+        _ => 1,
+    }
+}
+
+/// Writes the form, and others that read as many lines.
+fn print_forms<F: Write>(forms: &[&str], faults: &mut F) {
+    let mut before = "form: ";
+    for form in forms {
+        let _ = write!(faults, "{before}{form}");
+        before = " or ";
+    }
+    let _ = faults.writeln("");
+}
+
+/// Returns the names of the forms.
+fn names(alloc: Global) -> Result<Vec<&'static str>, FormsFault> {
+    Ok(Forms::of(alloc, FORMS)?.names(alloc)?)
+}
+
+/// Returns how lines are read with these options.
+fn reading<D: Files>(
+    alloc: Global,
+    options: &Options<'_>,
+    files: &D,
+) -> Result<Reading, FormsFault> {
+    let Some(path) = options.file else {
+        return Ok(options.reading(alloc, Forms::of(alloc, FORMS)?)?);
+    };
+    let file = File::open(files, path).map_err(|_| FormsFault::Open)?;
+    let text = read_to_string(alloc, file).map_err(|_| FormsFault::Open)?;
+    let forms = Forms::of(alloc, text.as_str())?;
+    if forms.forms.is_empty() {
+        return Err(FormsFault::Line(1));
+    }
+    Ok(options.reading(alloc, forms)?)
+}
+
 /// Compares the traces of two files.
 fn diff_files<D: Files, W: Write>(
     alloc: Global,
-    mask: Mask,
-    resumes: bool,
-    reading: Reading,
+    asked: Request<'_>,
     files: &D,
     paths: (&str, &str),
     output: &mut W,
 ) -> Result<bool, DiffFault> {
     let (path_a, path_b) = paths;
+    let options = asked.options;
     let mut a = File::open(files, path_a).map_err(|_| DiffFault::Open("A"))?;
     let mut b = File::open(files, path_b).map_err(|_| DiffFault::Open("B"))?;
-    diff(alloc, mask, resumes, reading, (&mut a, &mut b), output)
+    let readings = (
+        reading(alloc, &options, files)?,
+        reading(alloc, &options, files)?,
+    );
+    let readers = (&mut a, &mut b);
+    diff(alloc, asked.mask, asked.resumes, readings, readers, output)
 }
 
 /// The status for an error of the parser. Help goes to `output`, and a refusal to `faults`.

@@ -135,6 +135,7 @@ impl Clock {
 impl Moment {
     /// The moment of this text. `None` if it is empty, or too large a number.
     fn of(time: &[u8]) -> Option<Moment> {
+        let time = of_day(time);
         let measure = Measure::of(time)?;
         let mut fields: u64 = 0;
         let mut field: u64 = 0;
@@ -153,7 +154,7 @@ impl Moment {
                     fields = fields.checked_add(field)?.checked_mul(60)?;
                     field = 0;
                 }
-                b'.' => scale = SECOND,
+                b'.' | b',' => scale = SECOND,
                 _ => {}
             }
         }
@@ -197,6 +198,16 @@ impl Measure {
             Measure::Shift => SECOND,
         }
     }
+}
+
+/// Returns a time of day without the date before it and the zone behind it; another time as it is.
+fn of_day(time: &[u8]) -> &[u8] {
+    let [_, _, _, _, b'-', _, _, _, _, _, _, time @ ..] = time else {
+        return time;
+    };
+    time.split(|byte| matches!(byte, b'Z' | b'+' | b'-'))
+        .next()
+        .unwrap_or(time)
 }
 
 /// How much later the second moment is, if both count from the same start. Days end at midnight.

@@ -1,39 +1,82 @@
-//! Bytes as hexadecimal digits, with spaces between them.
+//! Bytes as hexadecimal digits, with separators between them.
 ghost use Rattle.std.specs.Prelude.{◌≡◌, ◌++◌, ◌∷◌, [], IfOk, IfErr, OnOk};
 ghost use Rattle.hex.specs.Hex.{hex_digit_value};
-ghost use Rattle.trace_explain.specs.Lines.{AreBadDigits, byte_of, bytes_in, is_digits};
+ghost use Rattle.trace_explain.specs.Patterns.{IsBadField, byte_at, byte_of, bytes_in, is_digits, next_spot, spelled};
 
 use crate::read::trace_line::LineFault;
 use std::alloc::{AllocError, Global};
 
+/// A place in the digits of bytes.
+#[derive(Clone, Copy)]
+pub enum Spot {
+    /// Before the first byte, or behind a space or comma.
+    Between,
+    /// Right behind a byte.
+    Behind,
+    /// Behind a colon or `0x`: a byte follows.
+    Bound,
+    /// Behind the first digit of a byte.
+    Within(u8),
+}
+
 /// Returns the bytes that digits spell: two each, in either case, with any spaces around bytes.
+/// Right behind a byte, a comma or a colon may precede the next one, and `0x` each. If `is_short`,
+/// one digit before a space or the end is a byte, too.
 ///
 /// # Errors
 ///
 /// - `Hex`: `digits` contains anything else.
 /// - `OutOfMemory`: memory ran out.
-pub fn bytes_of(alloc: Global, digits: &[u8]) -> Result<Vec<u8>, LineFault>
-    ensures says { IfOk result (λ bytes. bytes_in digits.now ≡ Some bytes.items) }
-    ensures refused { IfErr result (λ why. AreBadDigits why digits.now) }
+pub fn spelled(alloc: Global, is_short: bool, digits: &[u8]) -> Result<Vec<u8>, LineFault>
+    ensures says { IfOk result (λ bytes. spelled is_short digits.now ≡ Some bytes.items) }
+    ensures refused { IfErr result (λ why. IsBadField why (spelled is_short digits.now)) }
 {
     let mut bytes = Vec::new(alloc);
-    let mut first = None;
+    let mut spot = Spot::Between;
     for &digit in digits {
-        match first {
-            None if digit == b' ' => {}
-            None => first = Some(digit),
-            Some(high) => {
-                let Some(byte) = byte_of(high, digit) else {
-                    return Err(LineFault::Hex);
-                };
-                push(&mut bytes, byte)?;
-                first = None;
+        if let Spot::Within(high) = spot {
+            if high == b'0' && digit == b'x' {
+                spot = Spot::Bound;
+                continue;
             }
+            let byte = byte_at(is_short, high, digit).ok_or(LineFault::Hex)?;
+            push(&mut bytes, byte)?;
         }
+        spot = next_spot(spot, digit);
     }
-    match first {
-        None => Ok(bytes),
-        Some(_) => Err(LineFault::Hex),
+    match spot {
+        Spot::Between | Spot::Behind => Ok(bytes),
+        Spot::Within(high) if is_short => {
+            let byte = value_of(high).ok_or(LineFault::Hex)?;
+            push(&mut bytes, byte)?;
+            Ok(bytes)
+        }
+        Spot::Bound | Spot::Within(_) => Err(LineFault::Hex),
+    }
+}
+
+/// Returns the place behind this character.
+fn next_spot(spot: Spot, digit: u8) -> Spot
+    ensures { result ≡ next_spot spot digit }
+{
+    match (spot, digit) {
+        (Spot::Between | Spot::Behind | Spot::Within(_), b' ') | (Spot::Behind, b',') => {
+            Spot::Between
+        }
+        (Spot::Behind, b':') => Spot::Bound,
+        (Spot::Within(_), _) => Spot::Behind,
+        _ => Spot::Within(digit),
+    }
+}
+
+/// Returns the byte that ends with this character; `None` if no byte does.
+fn byte_at(is_short: bool, high: u8, low: u8) -> Option<u8>
+    ensures { result ≡ byte_at is_short high low }
+{
+    if is_short && low == b' ' {
+        value_of(high)
+    } else {
+        byte_of(high, low)
     }
 }
 

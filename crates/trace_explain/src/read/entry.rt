@@ -1,13 +1,12 @@
 //! What the lines of a trace contain: each reader of lines gives these entries.
 
-use crate::read::form::Form;
 use t0_core::End;
 
 /// Who sends the characters of a line.
 #[derive(Clone, Copy)]
 pub enum Source {
-    /// The end of the line's sign, which has this form.
-    Sign(Form, End),
+    /// The end of the line's row, which is of this form.
+    Sign(usize, End),
     /// The end whose turn it is.
     Turn,
 }

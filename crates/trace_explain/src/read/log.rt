@@ -1,22 +1,38 @@
 //! A log of whole TPDUs or APDUs, read line by line: pairs each command with its answer.
-ghost use Rattle.std.specs.Prelude.{◌≡◌, ◌++◌, ◌∷◌, [], IfErr, IfOk, OnOk, map, true};
+ghost use Rattle.std.specs.Prelude.{◌≡◌, ◌≤◌, ◌++◌, ◌∷◌, [], None, Some, IfErr, IfOk, OnOk, length, map, true};
 ghost use Rattle.trace_explain.specs.Noted.{are_status};
 ghost use Rattle.trace_explain.specs.Pairs.{status_in};
-ghost use Rattle.trace_explain.specs.LogLines.{IsBadLogLine, SaysLog};
-ghost use Rattle.trace_explain.specs.declared.read.log_line.Open.TheVariants.{Nothing};
-ghost use Rattle.trace_explain.specs.Logs.{IsBadIn, IsTooMuch, IsTwofold, Step, TakesLogLine, Took, answered, at_first, begun, behind_answer, closed, continued, ended, entry_of, given_up, log_at, taken};
+ghost use Rattle.trace_explain.specs.Patterns.{all_of, marked_by};
+ghost use Rattle.trace_explain.specs.declared.read.log.Open.TheVariants.{Nothing};
+ghost use Rattle.trace_explain.specs.Logs.{IsBadIn, IsTooMuch, IsTwofold, Step, Takes, TakesLogLine, Took, answered, at_first, begun, behind, both, closed, command_len, continued, ended, entry_of, given_up, left_of, log_at, noted, opens, read_log, rest_in, resets, started};
 
 use crate::follow::tpdu::are_status;
+use crate::instructions::instruction;
 use crate::read::entry::Entry;
-use crate::read::log_line::{LogLine, Open, left_of, read_dump, read_log_line, read_rest};
-use crate::read::time::place_of;
+use crate::read::form_row::{Found, Rows, Saying, read_rows};
+use crate::read::pattern::Marks;
+use crate::read::time::cut_time;
 use crate::read::trace_line::LineFault;
 use std::alloc::{AllocError, Global};
 use std::mem;
-use t0_core::End;
+use t0_core::{Direction, End};
 
 /// The most bytes of an answer or a dump in several lines (this project's profile).
 const READ_LIMIT: usize = 4_194_304;
+
+/// The bytes of a line that may continue in the next one.
+const ROW: usize = 16;
+
+/// What the next line may continue.
+#[derive(Clone, Copy)]
+pub enum Open {
+    /// Nothing.
+    Nothing,
+    /// The bytes of this end.
+    Line(End),
+    /// A dump of this end's bytes, with the number of bytes left.
+    Dump(End, usize),
+}
 
 /// A log: what may continue, and the last command if it has no answer yet.
 #[derive(Drop)]
@@ -25,6 +41,8 @@ pub struct Log {
     pending: Open,
     /// The bytes so far of what may continue.
     bytes: Vec<u8>,
+    /// The bytes that follow all of these.
+    status: Vec<u8>,
     command: Option<Vec<u8>>,
     has_begun: bool,
 }
@@ -38,6 +56,7 @@ impl Log {
             alloc,
             pending: Open::Nothing,
             bytes: Vec::new(alloc),
+            status: Vec::new(alloc),
             command: None,
             has_begun: false,
         }
@@ -52,38 +71,49 @@ impl Log {
     ///
     /// # Errors
     ///
-    /// - `Hex`: the line can't be read. If an answer was open, it has ended before this line.
+    /// - `Hex`: the line can't be read. If something was open, it has ended before this line.
     /// - `Twofold`, `TooLong`: the line may continue what is open, or exceeds the limit with it.
     ///   Nothing changes.
     /// - `OutOfMemory`: don't use the log any more.
-    pub fn take(&mut self, line: &[u8], entries: &mut Vec<Entry>) -> Result<(), LineFault>
-        ensures takes { OnOk result ((step : Step) × TakesLogLine (log_at self.old) line.now step
-            × Took step entries.old.items entries.new.items self.new) }
-        ensures refused { IfErr result (λ why. IsBadIn self.old.pending
+    pub fn take(
+        &mut self,
+        rows: &Rows,
+        line: &[u8],
+        entries: &mut Vec<Entry>,
+    ) -> Result<(), LineFault>
+        ensures takes { OnOk result ((step : Step) × TakesLogLine rows.now (log_at self.old)
+            line.now step × Took step entries.old.items entries.new.items self.new) }
+        ensures refused { IfErr result (λ why. IsBadIn rows.now self.old.pending
             self.old.bytes.items why line.now) }
     {
         match self.pending {
-            Open::Nothing => self.take_line(line, entries),
-            Open::Answer => {
-                let (bytes, next) = read_rest(self.alloc, line)?;
-                if bytes.is_empty() {
-                    return self.take_behind_answer(line, entries);
-                }
-                if self.is_full(bytes.as_slice()) {
+            Open::Nothing => self.take_line(rows, line, entries),
+            Open::Line(from) => {
+                let Some((says, marks)) = read_rest(self.alloc, rows, 0, line)? else {
+                    return self.take_behind(from, rows, line, entries);
+                };
+                if self.is_full(marks.bytes.as_slice()) {
                     return Err(LineFault::TooLong);
                 }
-                if matches!(next, Open::Nothing) && self.is_twofold(line, bytes.as_slice())? {
+                if self.is_twofold(from, says, &marks)? {
                     return Err(LineFault::Twofold);
                 }
-                Ok(self.take_bytes(End::Card, bytes, next, entries)?)
+                let next = opens(from, &marks);
+                Ok(self.take_bytes(from, marks, next, entries)?)
             }
             Open::Dump(from, left) => {
-                let bytes = read_dump(self.alloc, left, line)?;
-                let next = left_of(from, left.saturating_sub(bytes.len()));
-                if self.is_full(bytes.as_slice()) {
+                let rest = read_rest(self.alloc, rows, left, line)?;
+                let Some((says, marks)) = rest else {
+                    return Err(LineFault::Hex);
+                };
+                if !matches!(says, Saying::Rest) || marks.bytes.len() > left {
+                    return Err(LineFault::Hex);
+                }
+                if self.is_full(marks.bytes.as_slice()) {
                     return Err(LineFault::TooLong);
                 }
-                Ok(self.take_bytes(from, bytes, next, entries)?)
+                let next = left_of(from, left - marks.bytes.len());
+                Ok(self.take_bytes(from, marks, next, entries)?)
             }
         }
     }
@@ -95,47 +125,67 @@ impl Log {
         more.len() > READ_LIMIT.saturating_sub(self.bytes.len())
     }
 
-    /// Whether bytes of a line may continue the open answer or not: the line has no colon, and the
-    /// answer ends with a status with and without them.
-    fn is_twofold(&self, line: &[u8], more: &[u8]) -> Result<bool, AllocError>
+    /// Whether the last bytes of a line may continue the open answer or not: only digits say so,
+    /// and the answer ends with a status with and without them.
+    fn is_twofold(&self, from: End, says: Saying, more: &Marks) -> Result<bool, AllocError>
         ensures { IfOk result (λ is. is ≡ true →
-            IsTwofold self.now.bytes.items line.now more.now) }
+            IsTwofold from says self.now.bytes.items (marked_by more.now)) }
     {
-        if place_of(b':', line) < line.len() || !ends_well(self.bytes.as_slice()) {
+        let is_last = matches!(opens(from, more), Open::Nothing);
+        if from == End::Terminal
+            || !is_last
+            || !matches!(says, Saying::Perhaps)
+            || !ends_well(self.bytes.as_slice())
+        {
             return Ok(false);
         }
         let mut all = self.bytes.clone()?;
-        all.extend_from_slice(more)?;
+        all.extend_from_slice(more.bytes.as_slice())?;
         Ok(ends_well(all.as_slice()))
     }
 
-    /// Takes a line that ends an open answer and does not continue it.
+    /// Takes a line that ends what is open and does not continue it.
     #[tactic(auto, using(crate::proofs::LogLemmas::both_took))]
-    fn take_behind_answer(&mut self, line: &[u8], entries: &mut Vec<Entry>) -> Result<(), LineFault>
-        ensures takes { OnOk result ((log_line : LogLine) × SaysLog line.now log_line
-            × Took (behind_answer (log_at self.old) log_line) entries.old.items entries.new.items
-            self.new) }
-        ensures refused { IfErr result (λ why. IsBadLogLine why line.now) }
+    fn take_behind(
+        &mut self,
+        from: End,
+        rows: &Rows,
+        line: &[u8],
+        entries: &mut Vec<Entry>,
+    ) -> Result<(), LineFault>
+        ensures takes { OnOk result ((next : Step)
+            × Takes (read_log rows.now line.now) (closed (log_at self.old) from).at next
+            × Took (behind (closed (log_at self.old) from).gives next) entries.old.items
+            entries.new.items self.new) }
+        ensures refused { IfErr result (λ why. IsBadIn rows.now Nothing [] why line.now) }
     {
-        self.close(End::Card, entries)?;
-        self.take_line(line, entries)
+        self.close(from, entries)?;
+        self.take_line(rows, line, entries)
     }
 
     /// Takes a line while nothing is open.
-    fn take_line(&mut self, line: &[u8], entries: &mut Vec<Entry>) -> Result<(), LineFault>
-        ensures takes { OnOk result ((log_line : LogLine) × SaysLog line.now log_line × Took
-            (taken (log_at self.old) log_line) entries.old.items entries.new.items self.new) }
-        ensures refused { IfErr result (λ why. IsBadLogLine why line.now) }
+    fn take_line(
+        &mut self,
+        rows: &Rows,
+        line: &[u8],
+        entries: &mut Vec<Entry>,
+    ) -> Result<(), LineFault>
+        ensures takes { OnOk result ((step : Step)
+            × Takes (read_log rows.now line.now) (log_at self.old) step
+            × Took step entries.old.items entries.new.items self.new) }
+        ensures refused { IfErr result (λ why. IsBadIn rows.now Nothing [] why line.now) }
     {
-        match read_log_line(self.alloc, line)? {
-            LogLine::Bytes(from, bytes, next) => {
-                Ok(self.take_first(from, bytes, next, entries)?)
+        let (_, text) = cut_time(line);
+        let found = read_rows(self.alloc, rows.first.as_slice(), 0, text)?;
+        match found {
+            Found::Row(_, Saying::Sends(from), marks) => Ok(self.take_first(from, marks, entries)?),
+            Found::Row(_, Saying::Both, marks) => Ok(self.take_both(marks, entries)?),
+            Found::Row(_, Saying::Reset, _) => Ok(self.reset(entries)?),
+            Found::Row(_, Saying::Atr, _) => Ok(self.take_atr(entries)?),
+            Found::Unread => Err(LineFault::Hex),
+            Found::Other | Found::Row(_, Saying::Rest | Saying::Perhaps | Saying::Note, _) => {
+                Ok(self.note(entries)?)
             }
-            LogLine::Reset => {
-                self.cut_off(entries)?;
-                Ok(push(entries, Entry::Reset)?)
-            }
-            LogLine::Note => Ok(push(entries, Entry::Note)?),
         }
     }
 
@@ -143,36 +193,76 @@ impl Log {
     fn take_first(
         &mut self,
         from: End,
-        bytes: Vec<u8>,
-        next: Open,
+        marks: Marks,
         entries: &mut Vec<Entry>,
     ) -> Result<(), AllocError>
-        ensures { OnOk result (Took (taken (log_at self.old) (LogLine.Bytes from bytes next))
+        ensures { OnOk result (Took (started (log_at self.old) from (marked_by marks))
             entries.old.items entries.new.items self.new) }
     {
         self.has_begun = true;
         if from == End::Terminal {
             self.begin(entries)?;
         }
-        self.take_bytes(from, bytes, next, entries)
+        let next = opens(from, &marks);
+        self.take_bytes(from, marks, next, entries)
+    }
+
+    /// Takes a command with its answer behind it.
+    fn take_both(&mut self, marks: Marks, entries: &mut Vec<Entry>) -> Result<(), AllocError>
+        ensures { OnOk result (Took (both (log_at self.old) (all_of (marked_by marks)))
+            entries.old.items entries.new.items self.new) }
+    {
+        self.has_begun = true;
+        self.begin(entries)?;
+        let mut command = marks.all()?;
+        let answer = command.split_off(command_len(command.as_slice()))?;
+        push(entries, Entry::Pair(command, answer))
+    }
+
+    /// Takes a reset.
+    fn reset(&mut self, entries: &mut Vec<Entry>) -> Result<(), AllocError>
+        ensures { OnOk result (Took (resets (log_at self.old)) entries.old.items
+            entries.new.items self.new) }
+    {
+        self.cut_off(entries)?;
+        push(entries, Entry::Reset)
+    }
+
+    /// Takes an answer to reset, which is shown as a note.
+    #[tactic(auto, using(crate::proofs::LogLemmas::noted_took))]
+    fn take_atr(&mut self, entries: &mut Vec<Entry>) -> Result<(), AllocError>
+        ensures { OnOk result (Took (behind (resets (log_at self.old)).gives
+            (noted (resets (log_at self.old)).at)) entries.old.items entries.new.items self.new) }
+    {
+        self.reset(entries)?;
+        self.note(entries)
+    }
+
+    /// Takes a note.
+    fn note(&self, entries: &mut Vec<Entry>) -> Result<(), AllocError>
+        ensures { OnOk result (Took (noted (log_at self.now)) entries.old.items entries.new.items
+            self.now) }
+    {
+        push(entries, Entry::Note)
     }
 
     /// Takes bytes of a command or an answer. They are the last ones if it is not open.
     fn take_bytes(
         &mut self,
         from: End,
-        bytes: Vec<u8>,
+        marks: Marks,
         next: Open,
         entries: &mut Vec<Entry>,
     ) -> Result<(), AllocError>
-        ensures { OnOk result (Took (continued (log_at self.old) from bytes.items next)
+        ensures { OnOk result (Took (continued (log_at self.old) from (marked_by marks) next)
             entries.old.items entries.new.items self.new) }
     {
-        self.bytes.extend_from_slice(bytes.as_slice())?;
+        self.bytes.extend_from_slice(marks.bytes.as_slice())?;
+        self.status.extend_from_slice(marks.status.as_slice())?;
         self.pending = next;
         match next {
             Open::Nothing => self.close(from, entries),
-            Open::Answer | Open::Dump(..) => Ok(()),
+            Open::Line(_) | Open::Dump(..) => Ok(()),
         }
     }
 
@@ -181,7 +271,9 @@ impl Log {
         ensures { OnOk result (Took (closed (log_at self.old) from) entries.old.items
             entries.new.items self.new) }
     {
-        let bytes = self.cut();
+        let mut bytes = self.cut();
+        let status = mem::replace(&mut self.status, Vec::new(self.alloc));
+        bytes.extend_from_slice(status.as_slice())?;
         match from {
             End::Terminal => {
                 self.command = Some(bytes);
@@ -195,7 +287,7 @@ impl Log {
     fn cut(&mut self) -> Vec<u8>
         ensures bytes { result.items ≡ self.old.bytes.items }
         ensures left { (self.new.pending ≡ Nothing) × (self.new.bytes.items ≡ [])
-            × (self.new.command ≡ self.old.command) }
+            × (self.new.status ≡ self.old.status) × (self.new.command ≡ self.old.command) }
     {
         self.pending = Open::Nothing;
         mem::replace(&mut self.bytes, Vec::new(self.alloc))
@@ -241,13 +333,69 @@ impl Log {
     {
         match self.pending {
             Open::Nothing => {}
-            Open::Answer => self.close(End::Card, entries)?,
+            Open::Line(from) => self.close(from, entries)?,
             Open::Dump(from, _) => {
                 let bytes = self.cut();
                 push(entries, Entry::Part(from, bytes))?;
             }
         }
         self.cut_off(entries)
+    }
+}
+
+/// Returns what a line leaves open with these bytes of an end.
+fn opens(from: End, marks: &Marks) -> Open
+    ensures { result ≡ opens from (marked_by marks.now) }
+{
+    if marks.count > 0 {
+        Open::Dump(from, marks.count)
+    } else if marks.goes_on && marks.bytes.len() == ROW {
+        Open::Line(from)
+    } else {
+        Open::Nothing
+    }
+}
+
+/// Returns what a dump with `left` more bytes leaves open.
+fn left_of(from: End, left: usize) -> Open
+    ensures { result ≡ left_of from left }
+{
+    if left == 0 {
+        Open::Nothing
+    } else {
+        Open::Dump(from, left)
+    }
+}
+
+/// Returns what a line adds to what is open; `None` if it has no bytes for it.
+fn read_rest(
+    alloc: Global,
+    rows: &Rows,
+    left: usize,
+    line: &[u8],
+) -> Result<Option<(Saying, Marks)>, AllocError>
+    ensures { IfOk result (λ rest. rest_in rows.now left line.now
+        ≡ elim rest [ None ↦ None | Some pair ↦ Some (pair.0, marked_by pair.1) ]) }
+{
+    match read_rows(alloc, rows.rest.as_slice(), left, line)? {
+        Found::Row(_, says, marks) if !marks.bytes.is_empty() => Ok(Some((says, marks))),
+        _ => Ok(None),
+    }
+}
+
+/// Returns the length of the command before its answer: with the terminal's data, if the answer has
+/// SW1-SW2 behind as many as P3 says.
+fn command_len(bytes: &[u8]) -> usize
+    ensures value { result ≡ command_len bytes.now }
+    ensures within { result ≤ length bytes.now }
+{
+    let [cla, ins, _, _, p3, ..] = bytes else {
+        return bytes.len();
+    };
+    let whole = usize::from(*p3) + 5;
+    match instruction(*cla, *ins) {
+        Some((_, Direction::ToCard, _)) if bytes.len() >= whole + 2 => whole,
+        _ => 5,
     }
 }
 

@@ -5,16 +5,72 @@ ghost use Rattle.trace_explain.specs.Lines.{read_on};
 ghost use Rattle.trace_explain.specs.Turns.{sender};
 
 use crate::read::entry::Source;
-use crate::read::form::Form;
+use crate::read::form_row::Rows;
+use crate::read::forms::{Forms, LOG};
 use crate::read::time::are_decimal;
 use crate::read::ways::Ways;
+use std::alloc::{AllocError, Global};
 use t0_core::End;
 
-/// How the lines of a trace are read, by the options and the lines before.
+/// What the command line says of the lines of a trace.
 #[derive(Clone, Copy)]
+pub struct Options<'a> {
+    /// The name of their form.
+    pub form: Option<&'a str>,
+    /// The file whose first form is theirs.
+    pub file: Option<&'a str>,
+    /// As in `Reading`.
+    pub swaps: bool,
+    /// As in `Reading`.
+    pub is_unsigned: bool,
+    /// As in `Reading`.
+    pub ways: Ways,
+    /// Whether they are a log of whole TPDUs, whatever their form says.
+    pub of_tpdus: bool,
+}
+
+impl Options<'_> {
+    /// Whether the lines show their form.
+    pub fn is_open(&self) -> bool {
+        !self.of_tpdus && !self.is_unsigned && self.form.is_none() && self.file.is_none()
+    }
+
+    /// Returns how the lines of a trace are read, with these forms.
+    ///
+    /// # Errors
+    ///
+    /// - `AllocError`: memory ran out.
+    pub fn reading(&self, alloc: Global, forms: Forms<'_>) -> Result<Reading, AllocError> {
+        let form = match self.file {
+            Some(_) => Some(0),
+            None => self.form.and_then(|name| forms.place_of(name)),
+        };
+        let is_whole = form.is_some_and(|place| forms.is_whole(place));
+        let of_tpdus = self.of_tpdus || is_whole;
+        let rows = if of_tpdus {
+            let place = form.or(forms.place_of(LOG)).unwrap_or(0);
+            forms.of_log(alloc, place, self.swaps)?
+        } else {
+            forms.of_characters(alloc)?
+        };
+        Ok(Reading {
+            rows,
+            form,
+            swaps: self.swaps,
+            is_unsigned: self.is_unsigned,
+            ways: self.ways,
+            of_tpdus,
+        })
+    }
+}
+
+/// How the lines of a trace are read, by the options and the lines before.
+#[derive(Drop)]
 pub struct Reading {
-    /// The form of the lines, once it is known.
-    pub form: Option<Form>,
+    /// The rows of the forms that lines may have.
+    pub rows: Rows,
+    /// The form of the lines, once it is known: its place among all forms.
+    pub form: Option<usize>,
     /// Whether the other end sends what follows each sign.
     pub swaps: bool,
     /// Whether lines have no signs.
@@ -37,10 +93,10 @@ impl Reading {
     }
 
     /// Returns the time that counts, before this rest of a line. Without signs, digits alone are
-    /// bytes. In a log a time precedes a sign or `reset`.
+    /// bytes. In a log they count only before a sign or `reset`.
     pub fn counted<'a>(&self, time: &'a [u8], rest: &[u8]) -> &'a [u8] {
-        let counts = if self.of_tpdus {
-            matches!(rest, [b'>' | b'<', ..] | b"reset")
+        let counts = if self.of_tpdus && !matches!(rest, [b'>' | b'<', ..] | b"reset") {
+            !are_decimal(time)
         } else {
             !(self.is_unsigned && are_decimal(time))
         };

@@ -1,6 +1,6 @@
 //! The time before the sign of a line, or before digits without one.
-ghost use Rattle.std.specs.Prelude.{◌≡◌, ◌≤◌, ◌+◌, length};
-ghost use Rattle.trace_explain.specs.Times.{are_decimal, are_of_time, behind_clock, behind_mark, behind_spaces, behind_time, bracket_len, is_stamp, is_unit, place_of, shift_len, stamp_len, time_in, time_len};
+ghost use Rattle.std.specs.Prelude.{◌≡◌, ◌≤◌, ◌+◌, length, true};
+ghost use Rattle.trace_explain.specs.Times.{are_decimal, are_of_time, are_of_zone, begins_dash, behind_clock, behind_label, behind_mark, behind_spaces, behind_time, behind_time_of, behind_word, bracket_len, dated_len, is_date, is_labelled, is_stamp, is_unit, is_zoned, place_of, shift_len, stamp_len, time_in, time_len};
 
 /// Returns the time that a line begins with, and what follows it and its spaces. Without a time the
 /// first is empty, and the second is the whole line. A byte order mark before it is skipped.
@@ -14,7 +14,55 @@ pub fn cut_time(line: &[u8]) -> (&[u8], &[u8])
         return (&line[..0], line);
     }
     let (time, rest) = line.split_at(size);
-    (time, behind_spaces(rest))
+    (time, behind_label(behind_spaces(rest)))
+}
+
+/// Returns what follows the time that a line begins with, and its spaces.
+pub fn behind_time(line: &[u8]) -> &[u8]
+    ensures { result.now ≡ behind_time_of line.now }
+{
+    let size = time_len(line);
+    if size == 0 {
+        return line;
+    }
+    behind_label(behind_spaces(&line[size..]))
+}
+
+/// Returns what follows the labels `- WORD - ` or `- WORD - WORD - ` of Python's `logging`.
+fn behind_label(line: &[u8]) -> &[u8]
+    ensures { result.now ≡ behind_label line.now }
+{
+    if !is_labelled(line) {
+        return line;
+    }
+    let next = behind_word(line);
+    if is_labelled(next) {
+        &behind_word(next)[2..]
+    } else {
+        &next[2..]
+    }
+}
+
+/// Whether the line begins with a dash, a word and another dash, with a space after each.
+fn is_labelled(line: &[u8]) -> bool
+    ensures { result ≡ is_labelled line.now }
+{
+    begins_dash(line) && begins_dash(behind_word(line))
+}
+
+/// Returns what follows a dash, a word and a space.
+fn behind_word(line: &[u8]) -> &[u8]
+    ensures { result.now ≡ behind_word line.now }
+{
+    let word = line.get(2..).unwrap_or(&[]);
+    word.get(place_of(b' ', word) + 1..).unwrap_or(&[])
+}
+
+/// Whether the line begins with a dash and a space.
+fn begins_dash(line: &[u8]) -> bool
+    ensures { result ≡ begins_dash line.now }
+{
+    matches!(line, [b'-', b' ', ..])
 }
 
 /// Returns a line without the byte order mark of UTF-8 before it.
@@ -61,8 +109,68 @@ fn time_len(line: &[u8]) -> usize
     match line {
         [b'[', rest @ ..] => bracket_len(rest),
         [b'+', rest @ ..] => shift_len(rest),
+        _ if is_date(line) => dated_len(&line[11..]),
         _ => stamp_len(line),
     }
+}
+
+/// Whether a date precedes a time: `2026-11-27`, and `T` or a space.
+fn is_date(line: &[u8]) -> bool
+    ensures value { result ≡ is_date line.now }
+    ensures within { result ≡ true → 11 ≤ length line.now }
+{
+    matches!(
+        line,
+        [
+            b'0'..=b'9',
+            b'0'..=b'9',
+            b'0'..=b'9',
+            b'0'..=b'9',
+            b'-',
+            b'0'..=b'9',
+            b'0'..=b'9',
+            b'-',
+            b'0'..=b'9',
+            b'0'..=b'9',
+            b'T' | b' ',
+            ..
+        ]
+    )
+}
+
+/// The same for a date and what follows it, a time of day and perhaps a zone.
+fn dated_len(time: &[u8]) -> usize
+    ensures value { result ≡ dated_len time.now }
+    ensures within { result ≤ length time.now + 11 }
+{
+    let size = place_of(b' ', time);
+    if is_zoned(&time[..size]) {
+        11 + size
+    } else {
+        0
+    }
+}
+
+/// Whether the word is a digit, and then bytes of a time or zone.
+fn is_zoned(word: &[u8]) -> bool
+    ensures { result ≡ is_zoned word.now }
+{
+    match word {
+        [b'0'..=b'9', rest @ ..] => are_of_zone(rest),
+        _ => false,
+    }
+}
+
+/// Whether each byte may be part of a time or zone.
+fn are_of_zone(bytes: &[u8]) -> bool
+    ensures { result ≡ are_of_zone bytes.now }
+{
+    for &byte in bytes {
+        if !matches!(byte, b'0'..=b'9' | b'.' | b':' | b',' | b'+' | b'-' | b'Z') {
+            return false;
+        }
+    }
+    true
 }
 
 /// The same for digits with points and colons between them.
@@ -116,7 +224,7 @@ pub fn place_of(byte: u8, line: &[u8]) -> usize
 }
 
 /// Returns the line without its leading spaces.
-fn behind_spaces(line: &[u8]) -> &[u8]
+pub fn behind_spaces(line: &[u8]) -> &[u8]
     ensures value { result.now ≡ behind_spaces line.now }
     ensures within { length result.now ≤ length line.now }
 {
@@ -128,7 +236,7 @@ fn behind_spaces(line: &[u8]) -> &[u8]
     &[]
 }
 
-/// Whether the word is a digit, and then digits, points and colons.
+/// Whether the word is a digit, and then digits, points, colons and commas.
 fn is_stamp(word: &[u8]) -> bool
     ensures { result ≡ is_stamp word.now }
 {
@@ -145,12 +253,12 @@ fn is_unit(word: &[u8]) -> bool
     matches!(word, b"s" | b"ms" | b"us")
 }
 
-/// Whether each byte is a digit, a point or a colon.
+/// Whether each byte is a digit, a point, a colon or a comma.
 fn are_of_time(bytes: &[u8]) -> bool
     ensures { result ≡ are_of_time bytes.now }
 {
     for &byte in bytes {
-        if !matches!(byte, b'0'..=b'9' | b'.' | b':') {
+        if !matches!(byte, b'0'..=b'9' | b'.' | b':' | b',') {
             return false;
         }
     }

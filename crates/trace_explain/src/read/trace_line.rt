@@ -1,13 +1,15 @@
 //! The lines of a trace of characters, with or without signs.
 ghost use Rattle.std.specs.Prelude.{◌≡◌, IfOk, IfErr};
 ghost use Rattle.trace_explain.specs.Lines.{Says, SaysSigned, SaysUnsigned, IsBadLine, IsBadSigned, IsBadUnsigned};
+ghost use Rattle.trace_explain.specs.Patterns.{reads_as};
 ghost use Rattle.trace_explain.specs.Times.{behind_time, time_in};
 
-use crate::read::digits::{bytes_of, is_digits};
+use crate::read::digits::{is_digits, spelled};
 use crate::read::entry::{Entry, Source};
-use crate::read::form::{Form, Sign, is_signed};
+use crate::read::form_row::{Found, Saying, read_rows};
+use crate::read::forms::Signs;
 use crate::read::reading::Reading;
-use crate::read::time::{behind_clock, place_of};
+use crate::read::time::behind_clock;
 use std::alloc::{AllocError, Global};
 use thiserror::Error;
 
@@ -21,8 +23,8 @@ pub enum LineFault {
     #[error("bad hex")]
     Hex,
     /// Its sign has another form than this one, which `--form` or a line before gave.
-    #[error("a sign of another form than {0}")]
-    OtherForm(Form),
+    #[error("a sign of another form than {}", Signs(*.0))]
+    OtherForm(usize),
     /// It has digits alone, perhaps after a time; no line before has a sign; no `--form`.
     #[error("no sign says which end sent these digits, and no line before has one: \
         `--unsigned` reads such lines")]
@@ -74,59 +76,57 @@ pub fn read_line(
     ensures says { IfOk result (λ entry. Says reading.now line.now entry) }
     ensures refused { IfErr result (λ why. IsBadLine why reading.now line.now) }
 {
+    let found = read_rows(alloc, reading.rows.first.as_slice(), 0, rest)?;
     if reading.is_unsigned {
-        read_unsigned(alloc, line, time, rest)
+        read_unsigned(alloc, line, time, rest, &found)
     } else {
-        read_signed(alloc, reading.form, line, rest)
+        read_signed(reading.form, is_digits(line) || is_digits(rest), found)
     }
 }
 
-/// Reads a line of a trace with signs; `known` is their form.
-fn read_signed(
-    alloc: Global,
-    known: Option<Form>,
-    line: &[u8],
-    rest: &[u8],
-) -> Result<Entry, LineFault>
-    requires { rest.now ≡ behind_time line.now }
-    ensures says { IfOk result (λ entry. SaysSigned known line.now entry) }
-    ensures refused { IfErr result (λ why. IsBadSigned why known line.now) }
+/// Reads a line of a trace with signs; `known` is their form. `digits`: it has digits alone.
+fn read_signed(known: Option<usize>, digits: bool, found: Found) -> Result<Entry, LineFault>
+    ensures says { IfOk result (λ entry. SaysSigned known digits (reads_as found) entry) }
+    ensures refused { IfErr result (λ why. IsBadSigned why known digits (reads_as found)) }
 {
-    let (word, digits) = rest.split_at(place_of(b' ', rest));
-    let Some(sign) = Sign::of_word(word) else {
-        return match rest {
-            b"reset" => Ok(Entry::Reset),
-            _ if is_signed(rest) => Err(LineFault::Hex),
-            _ if known.is_none() && (is_digits(line) || is_digits(rest)) => Err(LineFault::NoSign),
-            _ => Ok(Entry::Note),
-        };
-    };
-    let bytes = bytes_of(alloc, digits)?;
-    match known {
-        Some(expected) if expected != sign.form => Err(LineFault::OtherForm(expected)),
-        _ => Ok(Entry::Characters(Source::Sign(sign.form, sign.from), bytes)),
+    match found {
+        Found::Other if known.is_none() && digits => Err(LineFault::NoSign),
+        Found::Other | Found::Row(_, Saying::Note, _) => Ok(Entry::Note),
+        Found::Row(_, Saying::Reset, _) => Ok(Entry::Reset),
+        Found::Row(form, Saying::Sends(from), marks) => match known {
+            Some(expected) if expected != form => Err(LineFault::OtherForm(expected)),
+            _ => Ok(Entry::Characters(Source::Sign(form, from), marks.all()?)),
+        },
+        _ => Err(LineFault::Hex),
     }
 }
 
-/// Reads a line of a trace without signs.
+/// Reads a line of a trace without signs. `found`: how rows read what follows its time.
 ///
 /// # Errors
 ///
 /// - `Hex`: it has digits and spaces alone, but not two digits for each byte.
 /// - `Signed`: it begins with a sign.
-fn read_unsigned(alloc: Global, line: &[u8], time: &[u8], rest: &[u8]) -> Result<Entry, LineFault>
+fn read_unsigned(
+    alloc: Global,
+    line: &[u8],
+    time: &[u8],
+    rest: &[u8],
+    found: &Found,
+) -> Result<Entry, LineFault>
     requires time { time.now ≡ time_in line.now }
     requires rest { rest.now ≡ behind_time line.now }
-    ensures says { IfOk result (λ entry. SaysUnsigned line.now entry) }
-    ensures refused { IfErr result (λ why. IsBadUnsigned why line.now) }
+    ensures says { IfOk result (λ entry. SaysUnsigned line.now (reads_as found.now) entry) }
+    ensures refused { IfErr result (λ why. IsBadUnsigned why line.now (reads_as found.now)) }
 {
     let digits = behind_clock(line, time, rest);
     if is_digits(digits) {
-        return Ok(Entry::Characters(Source::Turn, bytes_of(alloc, digits)?));
+        let bytes = spelled(alloc, false, digits)?;
+        return Ok(Entry::Characters(Source::Turn, bytes));
     }
-    match rest {
-        b"reset" => Ok(Entry::Reset),
-        _ if is_signed(rest) => Err(LineFault::Signed),
-        _ => Ok(Entry::Note),
+    match found {
+        Found::Row(_, Saying::Reset, _) => Ok(Entry::Reset),
+        Found::Row(_, Saying::Note, _) | Found::Other => Ok(Entry::Note),
+        _ => Err(LineFault::Signed),
     }
 }

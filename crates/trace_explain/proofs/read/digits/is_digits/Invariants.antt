@@ -1,5 +1,5 @@
 use Rattle.std.proofs.Common.{◌≡◌, drop}
-use Rattle.trace_explain.specs.Lines.{is_digits, is_digits_from}
+use Rattle.trace_explain.specs.Patterns.{is_digits, is_digits_from}
 use Rattle.trace_explain.proofs.read.digits.is_digits.Given as goal
 
 -- The rest decides, and whether there was a digit.

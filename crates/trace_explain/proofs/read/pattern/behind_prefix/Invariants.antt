@@ -1,6 +1,6 @@
 use Rattle.std.proofs.Common.{◌≡◌, drop}
-use Rattle.trace_explain.specs.LogLines.{behind_prefix}
-use Rattle.trace_explain.proofs.read.log_line.behind_prefix.Given as goal
+use Rattle.trace_explain.specs.Patterns.{behind_prefix}
+use Rattle.trace_explain.proofs.read.pattern.behind_prefix.Given as goal
 
 -- Nothing else precedes this place.
 abbrev pub invariant-loop-place : goal.invariant-loop-place

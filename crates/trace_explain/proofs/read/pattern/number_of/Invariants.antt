@@ -1,6 +1,6 @@
 use Rattle.std.proofs.Common.{◌≡◌, ◌≤◌, drop}
-use Rattle.trace_explain.specs.LogLines.{number_from}
-use Rattle.trace_explain.proofs.read.log_line.number_of.Given as goal
+use Rattle.trace_explain.specs.Patterns.{number_from}
+use Rattle.trace_explain.proofs.read.pattern.number_of.Given as goal
 
 -- The number so far, and the digits that are left.
 abbrev pub invariant-loop-digit : goal.invariant-loop-digit

@@ -1,0 +1,369 @@
+//! Forms of lines: which pattern says what. The program's own forms and those of a file are written
+//! in the same language, which `docs/TRACES.md` teaches.
+
+use crate::read::form_row::{Row, Rows, Saying};
+use crate::read::pattern::{Part, Stop, number_of};
+use crate::read::time::place_of;
+use std::alloc::{AllocError, Global};
+use std::fmt;
+use t0_core::End;
+use thiserror::Error;
+
+/// ESC, which begins a colour.
+const ESC: u8 = 0x1B;
+
+/// The form of a log without `--form`.
+pub const LOG: &str = "pcsc";
+
+/// The program's forms. Those of characters at T=0 come first.
+pub const FORMS: &str = "\
+form angle: characters
+reset: reset
+command: > {bytes}
+answer: < {bytes}
+form angles: characters
+command: >> {bytes}
+answer: << {bytes}
+form arrow: characters
+command: -> {bytes}
+answer: <- {bytes}
+form double: characters
+command: => {bytes}
+answer: <= {bytes}
+form TX: characters
+command: TX {bytes}
+answer: RX {bytes}
+form TX:: characters
+command: TX: {bytes}
+answer: RX: {bytes}
+form Tx:: characters
+command: Tx: {bytes}
+answer: Rx: {bytes}
+form T:: characters
+command: T: {bytes}
+answer: C: {bytes}
+form IFD: characters
+command: IFD {bytes}
+answer: ICC {bytes}
+form IFD:: characters
+command: IFD: {bytes}
+answer: ICC: {bytes}
+form QXDM: characters
+command: TX - {bytes}
+answer: RX - {bytes}
+form pcsc: commands
+reset: reset
+reset: > RESET{any}
+command: > {bytes}
+note: < OK:{any}
+note: < KO:{any}
+note: <-{any}
+answer: < [] {bytes}
+answer: < {bytes}: {any}
+answer: < {bytes}{more}
+rest: {row}{any}
+rest: {bytes}:{any}
+perhaps: {bytes}{more}
+command: {prefix}APDU: {bytes}{colour}
+answer: {prefix}SW: {bytes}{colour}
+command: Outgoing APDU ({count} byte):{any}
+command: Outgoing APDU ({count} bytes):{any}
+answer: Incoming APDU ({count} byte):{any}
+answer: Incoming APDU ({count} bytes):{any}
+form pyscard: commands
+command: > {bytes}
+answer: < [] {short}
+answer: < {short}
+form C-APDU: commands
+command: C-APDU: {bytes}
+answer: R-APDU: {bytes}
+form sent: commands
+command: Sent APDU: {bytes}
+answer: Received APDU: {bytes}
+form gp: commands
+command: A>> T={any} ({any}) {bytes}
+answer: A<< ({any}) ({any}) {bytes}
+form gpshell: commands
+command: Command --> {bytes}
+answer: Response <-- {bytes}
+form gscriptor: commands
+command: Sending: {bytes}
+answer: Received: {bytes}{more}
+perhaps: {bytes}{more}
+form jcshell: commands
+command: {spaces}=> {column}{any}{more}
+answer: {spaces}<= {column}{any}{more}
+rest:  {column}{any}{more}
+form pysim: commands
+command: -> {bytes}
+answer: <- {status}: {bytes}
+form scdaemon: commands
+command: {any} DBG: PCSC_data: {bytes}
+answer: {any} DBG: response: sw={status} datalen={count}
+rest: {time}{any} DBG: dump: [all zero]{zeros}
+rest: {time}{any} DBG: dump: {bytes}
+form simtrace2: commands
+both: TPDU: {bytes}
+atr: Parsed ATR: {bytes}
+";
+
+/// A form: its name, and whether its bytes are whole commands and answers.
+#[derive(Clone, Copy)]
+pub struct Form<'t> {
+    pub name: &'t str,
+    pub is_whole: bool,
+}
+
+/// Forms with all their rows.
+#[derive(Drop)]
+pub struct Forms<'t> {
+    pub forms: Vec<Form<'t>>,
+    rows: Vec<Row>,
+}
+
+/// The two signs of the program's form at this place, the terminal's first.
+#[derive(Clone, Copy)]
+pub struct Signs(pub usize);
+
+impl fmt::Display for Signs {
+    fn fmt<W: fmt::Write>(&self, f: &mut fmt::Formatter<W>) -> fmt::Result {
+        let place = self.0.saturating_add(1);
+        let rows = FORMS.split("form ").nth(place).unwrap_or("");
+        let mut between = "";
+        for line in rows.split('\n') {
+            if let Some((_, pattern)) = line.split_once(": ")
+                && let Some(sign) = pattern.strip_suffix(" {bytes}")
+            {
+                write!(f, "{between}{sign}")?;
+                between = " and ";
+            }
+        }
+        Ok(())
+    }
+}
+
+/// Why a text is not a list of forms.
+#[derive(Clone, Copy, Debug, Error)]
+pub enum FormsFault {
+    /// The form is of whole commands, and `--resume` is for characters.
+    #[error("error: `--resume` cannot be used with a form of whole commands")]
+    Resume,
+    /// The file can't be read.
+    #[error("the file of forms can't be read")]
+    Open,
+    /// This line is neither the head of a form, nor a row of one.
+    #[error("the file of forms, line {0}: neither the head of a form nor a row of one")]
+    Line(usize),
+    /// Memory ran out.
+    #[error("out of memory")]
+    OutOfMemory,
+}
+
+impl From<AllocError> for FormsFault {
+    fn from(_error: AllocError) -> FormsFault {
+        FormsFault::OutOfMemory
+    }
+}
+
+impl<'t> Forms<'t> {
+    /// Reads forms. Empty lines and those that begin with `#` don't count.
+    pub fn of(alloc: Global, text: &'t str) -> Result<Forms<'t>, FormsFault> {
+        let mut forms = Vec::new(alloc);
+        let mut rows = Vec::new(alloc);
+        for (place, line) in text.split('\n').enumerate() {
+            let bad = FormsFault::Line(place.saturating_add(1));
+            if line.is_empty() || line.starts_with('#') {
+                continue;
+            }
+            if let Some(head) = line.strip_prefix("form ") {
+                forms
+                    .push(form_of(head).ok_or(bad)?)
+                    .map_err(AllocError::from)?;
+            } else {
+                let place = forms.len().checked_sub(1).ok_or(bad)?;
+                let row = row_of(alloc, place, line)?.ok_or(bad)?;
+                rows.push(row).map_err(AllocError::from)?;
+            }
+        }
+        Ok(Forms { forms, rows })
+    }
+
+    /// Returns the place of the form with this name.
+    pub fn place_of(&self, name: &str) -> Option<usize> {
+        self.forms.iter().position(|form| form.name == name)
+    }
+
+    /// Whether the bytes of this form are whole commands and answers.
+    pub fn is_whole(&self, place: usize) -> bool {
+        self.forms.get(place).is_some_and(|form| form.is_whole)
+    }
+
+    /// Returns the names of the forms.
+    pub fn names(&self, alloc: Global) -> Result<Vec<&'t str>, AllocError> {
+        let mut names = Vec::new(alloc);
+        for form in &self.forms {
+            names.push(form.name)?;
+        }
+        Ok(names)
+    }
+
+    /// Returns the rows of a log of this form.
+    pub fn of_log(self, alloc: Global, place: usize, swaps: bool) -> Result<Rows, AllocError> {
+        let mut chosen = Rows::none(alloc);
+        for mut row in self.rows {
+            if row.form == place {
+                if swaps {
+                    row.says = row.says.swapped();
+                }
+                chosen.push(row)?;
+            }
+        }
+        Ok(chosen)
+    }
+
+    /// Returns the rows of characters, of all forms.
+    pub fn of_characters(self, alloc: Global) -> Result<Rows, AllocError> {
+        let mut chosen = Rows::none(alloc);
+        let forms = self.forms;
+        for row in self.rows {
+            if forms.get(row.form).is_some_and(|form| !form.is_whole) {
+                chosen.push(row)?;
+            }
+        }
+        Ok(chosen)
+    }
+}
+
+/// Returns the form of a head, behind `form `.
+fn form_of(head: &str) -> Option<Form<'_>> {
+    if let Some(name) = head.strip_suffix(": characters") {
+        return Some(Form {
+            name,
+            is_whole: false,
+        });
+    }
+    let name = head.strip_suffix(": commands")?;
+    Some(Form {
+        name,
+        is_whole: true,
+    })
+}
+
+/// Returns a row; `None` if the line is not one.
+fn row_of(alloc: Global, form: usize, line: &str) -> Result<Option<Row>, AllocError> {
+    let Some((kind, pattern)) = line.split_once(": ") else {
+        return Ok(None);
+    };
+    let Some(says) = saying_of(kind) else {
+        return Ok(None);
+    };
+    let Some(parts) = parts_of(alloc, pattern.as_bytes())? else {
+        return Ok(None);
+    };
+    let size = head_len(parts.as_slice()).min(parts.len());
+    let (front, back) = parts.as_slice().split_at(size);
+    let mut head = Vec::new(alloc);
+    head.extend_from_slice(front)?;
+    let mut tail = Vec::new(alloc);
+    tail.extend_from_slice(back)?;
+    Ok(Some(Row {
+        form,
+        says,
+        head,
+        tail,
+    }))
+}
+
+/// Returns what a row of this kind says.
+fn saying_of(kind: &str) -> Option<Saying> {
+    Some(match kind.as_bytes() {
+        b"command" => Saying::Sends(End::Terminal),
+        b"answer" => Saying::Sends(End::Card),
+        b"both" => Saying::Both,
+        b"reset" => Saying::Reset,
+        b"atr" => Saying::Atr,
+        b"rest" => Saying::Rest,
+        b"perhaps" => Saying::Perhaps,
+        b"note" => Saying::Note,
+        _ => return None,
+    })
+}
+
+/// Returns the parts of a pattern; `None` if a brace is open, or has no part's name in it.
+fn parts_of(alloc: Global, pattern: &[u8]) -> Result<Option<Vec<Part>>, AllocError> {
+    let mut parts = Vec::new(alloc);
+    let mut rest = pattern;
+    for _place in 0..pattern.len() {
+        match rest {
+            [] => break,
+            [b'{', name @ ..] => {
+                let (name, behind) = name.split_at(place_of(b'}', name));
+                let [_, behind @ ..] = behind else {
+                    return Ok(None);
+                };
+                let Some(part) = part_of(name, stop_before(behind)) else {
+                    return Ok(None);
+                };
+                parts.push(part)?;
+                rest = behind;
+            }
+            [b' ', behind @ ..] => {
+                parts.push(Part::Gap)?;
+                parts.push(Part::Spaces)?;
+                rest = behind;
+            }
+            [byte, behind @ ..] => {
+                parts.push(Part::Is(*byte))?;
+                if byte.is_ascii_alphanumeric() && matches!(behind, [] | [b' ' | b'{', ..]) {
+                    parts.push(Part::WordEnd)?;
+                }
+                rest = behind;
+            }
+        }
+    }
+    Ok(Some(parts))
+}
+
+/// Returns the part with this name, if its field ends so.
+fn part_of(name: &[u8], stop: Stop) -> Option<Part> {
+    Some(match name {
+        b"any" => Part::Any(stop),
+        b"bytes" => Part::Bytes(stop),
+        b"short" => Part::Short(stop),
+        b"status" => Part::Status(stop),
+        b"count" => Part::Count(stop),
+        b"column" => Part::Bytes(Stop::Column),
+        b"colour" => Part::Any(Stop::End),
+        b"row" => Part::Row,
+        b"zeros" => Part::Zeros,
+        b"spaces" => Part::Spaces,
+        b"time" => Part::Time,
+        b"prefix" => Part::Prefix,
+        b"more" => Part::More,
+        _ => Part::Skip(number_of(name.strip_prefix(b"skip ")?)?),
+    })
+}
+
+/// Returns where a field ends before this rest of a pattern.
+fn stop_before(behind: &[u8]) -> Stop {
+    match behind {
+        _ if behind.starts_with(b"{colour}") => Stop::Before(ESC),
+        [] | [b'{', ..] => Stop::End,
+        [byte, ..] => Stop::Before(*byte),
+    }
+}
+
+/// Returns the number of parts up to the end of the first text. Only parts without bytes precede
+/// it.
+fn head_len(parts: &[Part]) -> usize {
+    let mut len = 0;
+    for (place, part) in parts.iter().enumerate() {
+        match part {
+            Part::Is(_) | Part::WordEnd => len = place.saturating_add(1),
+            Part::Gap | Part::Spaces => {}
+            Part::Any(_) | Part::Time | Part::Prefix if len == 0 => {}
+            _ => break,
+        }
+    }
+    len
+}

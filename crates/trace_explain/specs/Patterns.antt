@@ -39,16 +39,11 @@ next_spot (Within high) b = if b == 32 then Between else Behind
 
 -- The bytes that digits spell: any spaces between them, or right behind a byte a comma or a colon;
 -- `0x` may precede a byte. These bytes precede them.
-abbrev pub more_bytes : List ℕ → Option ℕ → Option (List ℕ)
-more_bytes bytes None = None
-more_bytes bytes (Some byte) = Some (bytes ++ byte ∷ [])
-
 abbrev pub spelled_from : Bool → List ℕ → Spot → List ℕ → Option (List ℕ)
 spelled_from is_short bytes Between [] = Some bytes
 spelled_from is_short bytes Behind [] = Some bytes
 spelled_from is_short bytes Bound [] = None
-spelled_from is_short bytes (Within high) [] =
-    if is_short then more_bytes bytes (hex_digit_value high) else None
+spelled_from is_short bytes (Within high) [] = None
 spelled_from is_short bytes (Within high) (b ∷ rest) =
     if (high == 48) && (b == 120) then spelled_from is_short bytes Bound rest
     else elim (byte_at is_short high b) [

@@ -45,7 +45,7 @@ pub fn head_of<R: Read>(alloc: Global, reader: &mut R) -> Result<Vec<u8>, AllocE
 }
 
 /// Returns the forms of whole commands that read most of these lines, if characters at T=0 read
-/// fewer, or not without a fault. The first form in the table comes first.
+/// fewer; or as many, and not without a fault. The first form in the table comes first.
 pub fn forms_of(
     alloc: Global,
     options: &Options<'_>,
@@ -53,7 +53,9 @@ pub fn forms_of(
 ) -> Result<Vec<&'static str>, FormsFault> {
     let lines = whole_lines(head);
     let mut found = Vec::new(alloc);
-    let mut most = read_by(alloc, options, lines, 1)?;
+    let reading = options.reading(alloc, Forms::of(alloc, FORMS)?)?;
+    let begun = lines_read(alloc, &reading.rows, lines)?;
+    let mut most = read_by(alloc, options, lines, 1)?.max(begun.saturating_sub(1));
     for form in &Forms::of(alloc, FORMS)?.forms {
         if !form.is_whole {
             continue;

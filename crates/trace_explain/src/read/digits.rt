@@ -21,7 +21,7 @@ pub enum Spot {
 
 /// Returns the bytes that digits spell: two each, in either case, with any spaces around bytes.
 /// Right behind a byte, a comma or a colon may precede the next one, and `0x` each. If `is_short`,
-/// one digit before a space or the end is a byte, too.
+/// one digit before a space is a byte, too: at the end it may be cut off.
 ///
 /// # Errors
 ///
@@ -46,11 +46,6 @@ pub fn spelled(alloc: Global, is_short: bool, digits: &[u8]) -> Result<Vec<u8>, 
     }
     match spot {
         Spot::Between | Spot::Behind => Ok(bytes),
-        Spot::Within(high) if is_short => {
-            let byte = value_of(high).ok_or(LineFault::Hex)?;
-            push(&mut bytes, byte)?;
-            Ok(bytes)
-        }
         Spot::Bound | Spot::Within(_) => Err(LineFault::Hex),
     }
 }

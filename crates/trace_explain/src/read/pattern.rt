@@ -43,7 +43,7 @@ pub enum Part {
     Any(Stop),
     /// A field of bytes, two digits each.
     Bytes(Stop),
-    /// A field of bytes, one digit or two each.
+    /// A field of bytes, two digits each, or one and a space.
     Short(Stop),
     /// A field of bytes that follow all others, as SW1-SW2 before the data.
     Status(Stop),

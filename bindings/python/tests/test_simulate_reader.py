@@ -61,6 +61,15 @@ def lacks():
 
 pytestmark = pytest.mark.skipif(lacks() is not None, reason=str(lacks()))
 
+# Prints whether the reader is there, without a card.
+IS_EMPTY = """
+import sys
+from smartcard import scard
+_, context = scard.SCardEstablishContext(scard.SCARD_SCOPE_USER)
+_, found = scard.SCardGetStatusChange(context, 0, [(sys.argv[1], scard.SCARD_STATE_UNAWARE)])
+print(bool(found and found[0][1] & scard.SCARD_STATE_EMPTY))
+"""
+
 
 class Desk:
     """A pcscd with vpcd's reader, and programs around it."""
@@ -108,6 +117,12 @@ class Desk:
         *answers, last = done.stdout.splitlines()
         self.number, seconds = last.split()
         return answers, float(seconds)
+
+    def is_empty(self):
+        """Whether pcscd has seen that the card is gone: it may miss one that comes back at once."""
+        said = subprocess.run([sys.executable, "-c", IS_EMPTY, READER], text=True,
+                              capture_output=True, env=self.environment, timeout=SECONDS)
+        return said.stdout == "True\n"
 
     def end(self):
         for it in reversed(self.made):
@@ -205,6 +220,7 @@ def test_a_batch_whose_cards_are_pulled(desk):
             wait_until(lambda: look(row) == f"row {row}, card {row:02X}: {word}\n")
         card.terminate()
         card.wait()
+        wait_until(desk.is_empty)
     assert run.wait(SECONDS) == 1
     assert (path / "out").read_text().endswith("5 of 15 rows done, 10 to decide\n")
 

@@ -34,8 +34,7 @@ def writable(room: int) -> tuple[Any, Any]:
 
 def copied(made: Any, count: Any) -> bytes:
     """Copies the bytes that the library wrote into a buffer."""
-    found: bytes = ffi.buffer(made, count[0])[:]
-    return found
+    return bytes(ffi.buffer(made, count[0]))
 
 
 def shown(record: Any) -> str:

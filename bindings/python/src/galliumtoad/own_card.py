@@ -87,8 +87,7 @@ class OwnCard(Lasting):
     def send_bytes(self, room: int = 1024) -> bytes:
         """Returns the card's next characters, as that of `Card`. It carries a command out when all
         its data have arrived."""
-        made, count = writable(within(room, 0, 1 << 30, "the room"))
-        copies = b""
+        (made, count), copies = writable(within(room, 0, 1 << 30, "the room")), b""
 
         def send(*_: object) -> int:
             nonlocal copies

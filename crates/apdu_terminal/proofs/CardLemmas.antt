@@ -33,8 +33,8 @@ use Rattle.card_terminal.specs.declared.attempt.Attempt.{Attempt}
 use Rattle.card_terminal.specs.declared.attempt.Next.TheVariants as next
 use Rattle.card_terminal.specs.Attempts.{following, most_begun, one_more}
 use Rattle.apdu_terminal.specs.declared.stage.Stage.TheVariants.{Going, Done, Failed}
-use Rattle.apdu_terminal.specs.declared.apdu_fault.ApduFault.{ApduFault}
-use Rattle.apdu_terminal.specs.declared.apdu_fault.ApduFault.TheVariants as why
+use Rattle.apdu_terminal.specs.declared.apdu_fault.CarryFault.{CarryFault}
+use Rattle.apdu_terminal.specs.declared.apdu_fault.CarryFault.TheVariants as why
 use Rattle.apdu_terminal.specs.Apdus.{Pair, first_place, may_bring, GoesThrough, all_content, StallsAt}
 use Rattle.apdu_terminal.specs.ApduSide.{ApduExchangeOf, IsSound, ComesTo, place_of, command_of, excess, due_of, is_going, to_go, response_fault, answered_by}
 use Rattle.apdu_terminal.specs.CardApdu.{p3_of, tpdu_command, le_of, IsTpduOf, GoesAs, HasCome, HasFailed, HasResponse, Responds, HasHad, StopsBy}
@@ -443,7 +443,7 @@ response_is Own mid last old done content told due is (status, over, responds) e
 
 -- the card carries out each command that is agreed with it
 pub never_left : {C A : Type 0} (card : Ghosts C) (state_of : card.State → CardState) (c : Command)
-    (old new : card.State) (r : Result A ApduFault)
+    (old new : card.State) (r : Result A CarryFault)
     → StandsFor card.Does card.after_reset state_of → IsAgreed card.MayReceive card.MaySend c
     → IfErr r (λ f. HasFailed card c old f new) → ((x : A) → r ≡ Ok x → ⊥) → ⊥
 never_left card state_of c old new (Ok x) means agreed failed never = never x refl

@@ -6,8 +6,8 @@ use Rattle.apdu_core.specs.CommandBytes.{Command}
 use Rattle.t0_core.specs.declared.tpdu_card.TpduCard.{Ghosts}
 use Rattle.t0_core.specs.Meaning.{Tpdu}
 use Rattle.object_card.specs.CarryingOut.{get_response}
-use Rattle.apdu_terminal.specs.declared.apdu_fault.ApduFault.{ApduFault}
-use Rattle.apdu_terminal.specs.declared.apdu_fault.ApduFault.TheVariants as why
+use Rattle.apdu_terminal.specs.declared.apdu_fault.CarryFault.{CarryFault}
+use Rattle.apdu_terminal.specs.declared.apdu_fault.CarryFault.TheVariants as why
 use Rattle.apdu_terminal.specs.Apdus.{Pair, Place, first_place, Goes, Stalls, Ends, follow, GoesThrough}
 use Rattle.apdu_terminal.specs.CardApdu.{GoesAs, GoesBy, HasFailed, Responds, le_of, tpdu_command}
 use Rattle.apdu_terminal.specs.TurnLaws.{turns_apart}
@@ -105,7 +105,7 @@ module _ {C A : Type 0} (card : Ghosts C) (tables : card.State → A)
     → Changes card.Does tables t.header t.status old new)
     (resets : (s : card.State) → tables (card.after_reset s) ≡ tables s) where
   -- a command without a response
-  pub failure_keeps : (c : Command) (old new : card.State) (fault : ApduFault)
+  pub failure_keeps : (c : Command) (old new : card.State) (fault : CarryFault)
       → HasFailed card c old fault new → tables new ≡ tables old
   failure_keeps c old new why.UnderWay h = absurd h
   failure_keeps c old new why.OutOfMemory h = absurd h

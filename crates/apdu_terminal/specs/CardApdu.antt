@@ -14,8 +14,8 @@ use Rattle.t0_core.specs.Meaning.{Tpdu}
 use Rattle.object_card.specs.Agreed.{IsAgreed}
 use Rattle.card_terminal.specs.declared.wanted.Wanted.TheVariants.{Bytes}
 use Rattle.card_terminal.specs.declared.wanted.Wanted.{Wanted}
-use Rattle.apdu_terminal.specs.declared.apdu_fault.ApduFault.{ApduFault}
-use Rattle.apdu_terminal.specs.declared.apdu_fault.ApduFault.TheVariants as why
+use Rattle.apdu_terminal.specs.declared.apdu_fault.CarryFault.{CarryFault}
+use Rattle.apdu_terminal.specs.declared.apdu_fault.CarryFault.TheVariants as why
 use Rattle.apdu_terminal.specs.declared.stage.Stage.TheVariants.{Done}
 use Rattle.apdu_terminal.specs.Apdus.{Pair, Place, first_place, may_bring, GoesThrough, Brings, StallsAt}
 use Rattle.apdu_terminal.specs.ApduSide.{ApduExchangeOf, ComesTo}
@@ -106,7 +106,7 @@ StopsBy MayReceive MaySend c TooLong = ⊥
 -- The state of a card that gives no response to a whole command. The command is not agreed with
 -- it: it did not finish the TPDU after these, for this reason, and is reset. Or a GET RESPONSE
 -- brought no data, and the card announced more.
-abbrev pub HasFailed : {C : Type 0} (card : Ghosts C) → Command → card.State → ApduFault
+abbrev pub HasFailed : {C : Type 0} (card : Ghosts C) → Command → card.State → CarryFault
     → card.State → Type 0
 HasFailed card c old why.UnderWay new = ⊥
 HasFailed card c old why.OutOfMemory new = ⊥
@@ -119,7 +119,7 @@ HasFailed card c old (why.Response fault) new = (fault ≡ Stalled) × ((pairs :
     × StallsAt (tpdu_command c) (le_of c) pairs × GoesBy card.Does old pairs new)
 
 -- Or the command has not begun, and nothing has changed.
-abbrev pub IsLeft : {C : Type 0} (card : Ghosts C) → Command → EndOf C → ApduFault → EndOf C
+abbrev pub IsLeft : {C : Type 0} (card : Ghosts C) → Command → EndOf C → CarryFault → EndOf C
     → Type 0
 IsLeft card c old why.UnderWay new = (rests old.stage ≡ false) × (new ≡ old)
 IsLeft card c old why.OutOfMemory new = new ≡ old

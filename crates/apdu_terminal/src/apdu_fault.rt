@@ -4,7 +4,7 @@ use t0_core::{AnswerFault, TpduFault};
 
 /// Why a card's end does not carry out a whole command, and the state after each fault.
 #[derive(Clone, Copy, Debug, PartialEq, Eq)]
-pub enum ApduFault {
+pub enum CarryFault {
     /// Memory for the response ran out. Nothing changes.
     OutOfMemory,
     /// A TPDU is in progress at the card's end. Nothing changes.
@@ -17,13 +17,13 @@ pub enum ApduFault {
     Response(AnswerFault),
 }
 
-impl From<AllocError> for ApduFault {
+impl From<AllocError> for CarryFault {
     ghost use Rattle.std.specs.Prelude.{◌≡◌};
-    ghost use Rattle.apdu_terminal.specs.declared.apdu_fault.ApduFault.TheVariants.{OutOfMemory};
+    ghost use Rattle.apdu_terminal.specs.declared.apdu_fault.CarryFault.TheVariants.{OutOfMemory};
 
     ghost from_gives = { λ _ fault. fault ≡ OutOfMemory };
 
-    fn from(_: AllocError) -> ApduFault {
-        ApduFault::OutOfMemory
+    fn from(_: AllocError) -> CarryFault {
+        CarryFault::OutOfMemory
     }
 }

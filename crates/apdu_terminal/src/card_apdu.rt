@@ -1,6 +1,6 @@
 //! Carries out a whole command at a card whose end takes TPDUs.
 ghost use Rattle.std.specs.Prelude.{◌≡◌, ◌≤◌, ◌⊎◌, ℕ, [], Some, None, Err, false, true, IfOk, IfErr, OnOk, MatchResult, length};
-ghost use Rattle.apdu_terminal.specs.declared.apdu_fault.ApduFault.TheVariants as ApduFault;
+ghost use Rattle.apdu_terminal.specs.declared.apdu_fault.CarryFault.TheVariants as CarryFault;
 ghost use Rattle.apdu_core.specs.CommandBytes as spec;
 ghost use Rattle.apdu_core.specs.StatusWord.{StatusWord};
 ghost use Rattle.t0_core.specs.CardTpdu.{rests};
@@ -11,7 +11,7 @@ ghost use Rattle.apdu_terminal.specs.ApduSide.{has_failed};
 ghost use Rattle.apdu_terminal.specs.CardApdu.{HasCome, HasFailed, HasResponse, IsLeft, IsTpduOf, StopsBy, tpdu_command};
 ghost use Rattle.apdu_terminal.specs.declared.stage.Stage.TheVariants.{Done};
 
-use crate::apdu_fault::ApduFault;
+use crate::apdu_fault::CarryFault;
 use crate::command_bytes::{COMMAND_LIMIT, write_command};
 use crate::exchange::ApduExchange;
 use apdu_core::{Command, Status};
@@ -37,17 +37,17 @@ pub fn apdu<'c, C: TpduCard, A: Allocator + Copy>(
     alloc: A,
     end: &mut CardEnd<C>,
     command: Command<'c>,
-) -> Result<ApduExchange<'c, A>, ApduFault>
+) -> Result<ApduExchange<'c, A>, CarryFault>
     ensures responds { IfOk result
         (HasResponse C.Does (C.standing end.old.card) command.entry (C.standing end.new.card)) }
     ensures within { IfOk result (λ ex. length ex.gather.bytes ≤ may_bring command.entry.le) }
     ensures left { IfErr result
         (λ f. IsLeft C.TpduCard command.entry end.old f end.new) }
     ensures rests { rests end.new.stage ≡ rests end.old.stage }
-    ensures under_way { rests end.old.stage ≡ false → result ≡ Err ApduFault.UnderWay }
+    ensures under_way { rests end.old.stage ≡ false → result ≡ Err CarryFault.UnderWay }
 {
     if !end.is_at_rest() {
-        return Err(ApduFault::UnderWay);
+        return Err(CarryFault::UnderWay);
     }
     let room = Gather::with_room(alloc, 256)?;
     let mut gather = Gather::with_room(alloc, 256)?;
@@ -60,7 +60,7 @@ pub(crate) fn carry_out<'c, C: TpduCard, A: Allocator, B: Allocator>(
     command: Command<'c>,
     mut room: Gather<A>,
     gather: &mut Gather<B>,
-) -> Result<ApduExchange<'c, A>, ApduFault>
+) -> Result<ApduExchange<'c, A>, CarryFault>
     requires rests { rests end.old.stage ≡ true }
     requires room { (256 ≤ room.limit) × (room.limit ≤ response_limit) × (256 ≤ gather.old.limit) }
     ensures responds { IfOk result
@@ -94,7 +94,7 @@ fn converse<C: TpduCard, A: Allocator, B: Allocator>(
     end: &mut CardEnd<C>,
     exchange: &mut ApduExchange<'_, A>,
     gather: &mut Gather<B>,
-) -> Result<(), ApduFault>
+) -> Result<(), CarryFault>
     requires rests { rests end.old.stage ≡ true }
     requires going { has_failed exchange.old.stage ≡ false }
     requires room { (256 ≤ exchange.old.gather.limit) × (256 ≤ gather.old.limit) }
@@ -114,11 +114,11 @@ fn converse<C: TpduCard, A: Allocator, B: Allocator>(
         gather.clear();
         let status = match sent(end, &due, gather) {
             Ok(status) => status,
-            Err(fault) => return Err(ApduFault::Tpdu(fault)),
+            Err(fault) => return Err(CarryFault::Tpdu(fault)),
         };
         match exchange.responded(gather.bytes(), status) {
             Ok(()) => {}
-            Err(fault) => return Err(ApduFault::Response(fault)),
+            Err(fault) => return Err(CarryFault::Response(fault)),
         }
     }
     Ok(())

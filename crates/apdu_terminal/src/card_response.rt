@@ -6,10 +6,10 @@ ghost use Rattle.t0_core.specs.CardTpdu.{rests};
 ghost use Rattle.card_terminal.specs.ExchangeSide.{response_limit};
 ghost use Rattle.apdu_terminal.specs.Apdus.{may_bring};
 ghost use Rattle.apdu_terminal.specs.CardApdu.{HasResponse};
-ghost use Rattle.apdu_terminal.specs.declared.apdu_fault.ApduFault.TheVariants as ApduFault;
+ghost use Rattle.apdu_terminal.specs.declared.apdu_fault.CarryFault.TheVariants as CarryFault;
 ghost use Rattle.apdu_terminal.specs.declared.stage.Stage.TheVariants.{Done};
 
-use crate::apdu_fault::ApduFault;
+use crate::apdu_fault::CarryFault;
 use crate::card_apdu::carry_out;
 use crate::exchange::ApduExchange;
 use apdu_core::{Command, Status};
@@ -29,7 +29,7 @@ pub fn respond<'c, C: DataCard, A: Allocator + Copy>(
     alloc: A,
     end: &mut CardEnd<C>,
     command: Command<'c>,
-) -> Result<ApduExchange<'c, A>, ApduFault>
+) -> Result<ApduExchange<'c, A>, CarryFault>
     ensures refuses { (IsAgreed MayReceive MaySend command.entry → ⊥) →
         (end.new ≡ end.old) × IfOk result
         (λ ex. (ex.stage ≡ Done (0x67, 0x00)) × (ex.gather.bytes ≡ [])) }
@@ -38,12 +38,12 @@ pub fn respond<'c, C: DataCard, A: Allocator + Copy>(
     ensures within { IfOk result (λ ex. length ex.gather.bytes ≤ may_bring command.entry.le) }
     ensures rests { rests end.new.stage ≡ rests end.old.stage }
     ensures fault { IfErr result (λ f. (end.new ≡ end.old)
-        × (((f ≡ ApduFault.UnderWay) × (rests end.old.stage ≡ false))
-        ⊎ ((f ≡ ApduFault.OutOfMemory) × (rests end.old.stage ≡ true)))) }
+        × (((f ≡ CarryFault.UnderWay) × (rests end.old.stage ≡ false))
+        ⊎ ((f ≡ CarryFault.OutOfMemory) × (rests end.old.stage ≡ true)))) }
     ensures under_way { rests end.old.stage ≡ false → IfOk result (λ _. ⊥) }
 {
     if !end.is_at_rest() {
-        return Err(ApduFault::UnderWay);
+        return Err(CarryFault::UnderWay);
     }
     if !is_agreed(&command) {
         return Ok(ApduExchange::refused(alloc, command, wrong_length())?);

@@ -1,6 +1,6 @@
 //! Laws of exchanges by whole commands. Each function's contract is a law, for proofs above.
 ghost use Rattle.std.specs.Prelude.{◌≡◌, ◌≤◌, ◌++◌, ◌∷◌, ℕ, List, length, Some, true, ◌+◌, ◌*◌, ◌⊎◌};
-ghost use Rattle.apdu_terminal.specs.declared.apdu_fault.ApduFault.{ApduFault};
+ghost use Rattle.apdu_terminal.specs.declared.apdu_fault.CarryFault.{CarryFault};
 ghost use Rattle.apdu_core.specs.CommandBytes.{Command};
 ghost use Rattle.apdu_core.specs.StatusWord.{StatusWord, ok};
 ghost use Rattle.card_terminal.specs.declared.wanted.Wanted.{Wanted};
@@ -94,7 +94,7 @@ pub fn only_a_put_command_changes_entries<C: DataCard>()
         ((state_of new).applications ≡ (state_of old).applications)
         ⊎ ((p.command.header.cla ≡ 0x00) × (p.command.header.ins ≡ 0xDA) × (p.status ≡ ok)) }
     ensures failed { (state_of : C.State → CardState) → StandsFor C.Does C.after_reset state_of →
-        (old new : C.State) (c : Command) (fault : ApduFault) →
+        (old new : C.State) (c : Command) (fault : CarryFault) →
         HasFailed C.TpduCard c old fault new →
         (state_of new).applications ≡ (state_of old).applications }
 {

@@ -4,7 +4,7 @@
 //! An [`ApduTerminal`] carries out operations, without a borrow. [`write_command`] writes its
 //! commands. An [`ApduExchange`] is one command with all that follows it, and [`Stage`] its stage.
 //! [`apdu`] carries a command out at a card that takes TPDUs, and [`respond`] at a card of data
-//! objects. [`run`] joins both ends for a list of operations. [`ApduFault`] is the card's error.
+//! objects. [`run`] joins both ends for a list of operations. [`CarryFault`] is the card's error.
 //! The body of a terminal's loop:
 //!
 //! ```rust
@@ -36,7 +36,7 @@ pub mod stop_laws;
 mod terminal;
 pub mod terminal_laws;
 
-pub use apdu_fault::ApduFault;
+pub use apdu_fault::CarryFault;
 pub use card_apdu::apdu;
 pub use card_response::respond;
 pub use command_bytes::{COMMAND_LIMIT, write_command};

@@ -3,7 +3,7 @@ use Rattle.std.proofs.Common.{◌≡◌, ◌≢◌, ℕ, suc, ◌+◌, ◌-◌, 
 use Rattle.atr_core.specs.FirstFault.{Plain, end_fault, fault}
 use Rattle.atr_core.specs.Reading.{IsAt, fault_at, Fails, FailsAtHistorical, HasHistorical, Ranges}
 use Rattle.atr_core.specs.declared.fault.AtrFault.{AtrFault}
-use Rattle.atr_core.specs.declared.fault.Reason.TheVariants.{TooLong, Surplus, CheckMissing, CheckNotDue}
+use Rattle.atr_core.specs.declared.fault.AtrReason.TheVariants.{TooLong, Surplus, CheckMissing, CheckNotDue}
 use Rattle.atr_core.proofs.Steps.{read_at, is_33, not_33_is}
 
 -- the historical bytes so far, i of k

@@ -4,7 +4,7 @@ use Rattle.std.proofs.lemmas.List.{drop_all}
 use Rattle.std.proofs.lemmas.Grind.{common_steps}
 use Rattle.atr_core.specs.FirstFault.{Due, wrong_with, due_after, last_after, checked_after, fault, fault_from}
 use Rattle.atr_core.specs.Reading.{IsAt, fault_at, Fails}
-use Rattle.atr_core.specs.declared.fault.Reason.TheVariants.{Cut, TooLong}
+use Rattle.atr_core.specs.declared.fault.AtrReason.TheVariants.{Cut, TooLong}
 
 pub not_33 : (place : ℕ) → place < 33 → (place == 33) ≡ false
 not_33 place h = grind (arith, common_steps)

@@ -9,7 +9,7 @@ use Rattle.atr_core.specs.PpsBytes.{pps_characters, pps_fault, agreed}
 use Rattle.atr_core.specs.Values.{protocols_of, fi_of, di_of, guard_time, waiting_integer, waiting_time, mode_of, clock_stop_of, classes_of, supply_code}
 use Rattle.atr_core.specs.declared.convention.Convention.TheVariants.{Direct, Inverse}
 use Rattle.atr_core.specs.declared.edc.Edc.TheVariants.{Lrc, Crc}
-use Rattle.atr_core.specs.declared.fault.Reason.TheVariants.{NoTs, Cut, TooLong, OutOfOrder, Surplus, CheckMissing, CheckNotDue, CheckWrong}
+use Rattle.atr_core.specs.declared.fault.AtrReason.TheVariants.{NoTs, Cut, TooLong, OutOfOrder, Surplus, CheckMissing, CheckNotDue, CheckWrong}
 use Rattle.atr_core.specs.declared.historical.Category.TheVariants as category
 use Rattle.atr_core.specs.declared.pps.Pps.{Pps}
 use Rattle.atr_core.specs.declared.pps.PpsFault.TheVariants as pps

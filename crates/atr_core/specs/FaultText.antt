@@ -1,7 +1,7 @@
 -- The texts of errors.
 use Rattle.std.specs.Prelude.{ℕ, List, ◌++◌, codes, decimal}
-use Rattle.atr_core.specs.declared.fault.Reason.{Reason}
-use Rattle.atr_core.specs.declared.fault.Reason.TheVariants.{NoTs, Cut, TooLong, OutOfOrder, Surplus, CheckMissing, CheckNotDue, CheckWrong}
+use Rattle.atr_core.specs.declared.fault.AtrReason.{AtrReason}
+use Rattle.atr_core.specs.declared.fault.AtrReason.TheVariants.{NoTs, Cut, TooLong, OutOfOrder, Surplus, CheckMissing, CheckNotDue, CheckWrong}
 use Rattle.atr_core.specs.declared.fault.AtrFault.{AtrFault}
 use Rattle.atr_core.specs.declared.pps.PpsFault.{PpsFault}
 use Rattle.atr_core.specs.declared.pps.PpsFault.TheVariants as pps
@@ -9,7 +9,7 @@ use Rattle.atr_core.specs.declared.build_fault.BuildFault.{BuildFault}
 use Rattle.atr_core.specs.declared.build_fault.BuildFault.TheVariants as build
 
 -- why bytes are not an answer to reset
-abbrev pub reason_text : Reason → List ℕ
+abbrev pub reason_text : AtrReason → List ℕ
 reason_text NoTs = codes "no TS"
 reason_text Cut = codes "cut"
 reason_text TooLong = codes "too long"

@@ -4,8 +4,8 @@ use Rattle.std.specs.Prelude.{ℕ, ◌+◌, ◌/◌, ◌%◌, ◌==◌, ◌||◌
 use Rattle.atr_core.specs.Answer.{may_follow, xor_of}
 use Rattle.atr_core.specs.Conventions.{convention_of}
 use Rattle.atr_core.specs.declared.fault.AtrFault.{AtrFault}
-use Rattle.atr_core.specs.declared.fault.Reason.{Reason}
-use Rattle.atr_core.specs.declared.fault.Reason.TheVariants.{NoTs, Cut, TooLong, OutOfOrder, Surplus, CheckMissing, CheckNotDue, CheckWrong}
+use Rattle.atr_core.specs.declared.fault.AtrReason.{AtrReason}
+use Rattle.atr_core.specs.declared.fault.AtrReason.TheVariants.{NoTs, Cut, TooLong, OutOfOrder, Surplus, CheckMissing, CheckNotDue, CheckWrong}
 
 -- A kind of expected character: TS, T0, a TD, or one that announces nothing (a TA, TB, TC or
 -- historical byte).
@@ -37,22 +37,22 @@ checked_after Td b checked = checked || not (b % 16 == 0)
 checked_after _ b checked = checked
 
 -- the fault of an expected character at a place from 0 to 32, if any
-abbrev pub wrong_with : Due → ℕ → Option ℕ → Option Reason
+abbrev pub wrong_with : Due → ℕ → Option ℕ → Option AtrReason
 wrong_with Ts b last = if is_some (convention_of b) then None else Some NoTs
 wrong_with Td b last = if may_follow last (b % 16) then None else Some OutOfOrder
 wrong_with _ b last = None
 
 -- the fault of an expected character at this place, if any
-abbrev pub wrong_at : ℕ → Due → ℕ → Option ℕ → Option Reason
+abbrev pub wrong_at : ℕ → Due → ℕ → Option ℕ → Option AtrReason
 wrong_at place character b last =
     if place == 33 then Some TooLong else wrong_with character b last
 
-abbrev pub fault : ℕ → Reason → Option AtrFault
+abbrev pub fault : ℕ → AtrReason → Option AtrFault
 fault place reason = Some (record { place = place; reason = reason })
 
 -- A character is expected, and the bytes end here. After 33 bytes none may follow (8.2.1: at most
 -- 32 characters after TS).
-abbrev pub missing : ℕ → Reason → Option AtrFault
+abbrev pub missing : ℕ → AtrReason → Option AtrFault
 missing place reason = fault place (if place == 33 then TooLong else reason)
 
 -- The fault of the bytes from a place on, if only a check byte can be expected there. `checked`
@@ -70,7 +70,7 @@ end_fault all true place (b ∷ c ∷ rest) =
     if place == 33 then fault place TooLong else fault (place + 1) Surplus
 
 -- the fault of a character at this place, if any, else the first one after it
-abbrev pub first_of : ℕ → Option Reason → Option AtrFault → Option AtrFault
+abbrev pub first_of : ℕ → Option AtrReason → Option AtrFault → Option AtrFault
 first_of place (Some reason) behind = fault place reason
 first_of place None behind = behind
 

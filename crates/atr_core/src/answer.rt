@@ -13,7 +13,7 @@ use crate::characters::{
     names_other_than_0, typed_groups,
 };
 use crate::convention::Convention;
-use crate::fault::{AtrFault, Reason};
+use crate::fault::{AtrFault, AtrReason};
 use crate::group::{Group, TypedGroup};
 use crate::written::{are_in_order, size, written};
 use arrayvec::ArrayVec;
@@ -59,7 +59,7 @@ impl Atr {
     /// # Errors
     ///
     /// - `AtrFault`: the bytes are not an answer to reset. It is the leftmost fault. At one place
-    ///   it is the first of `Reason`, and a wrong check byte counts only if nothing else is wrong
+    ///   it is the first of `AtrReason`, and a wrong check byte counts only if nothing else is wrong
     ///   (profile).
     pub fn read(bytes: &[u8]) -> Result<Atr, AtrFault>
         ensures answer { IfOk result (λ a. IsAnswer a × (bytes.now ≡ characters a)) }
@@ -164,7 +164,7 @@ fn whole(bytes: &[u8]) -> Result<Atr, AtrFault>
     let Some(convention) = Convention::of_ts(ts) else {
         return Err(AtrFault {
             place: 0,
-            reason: Reason::NoTs,
+            reason: AtrReason::NoTs,
         });
     };
     let t0 = character(bytes, 1)?;

@@ -5,7 +5,7 @@ ghost use Rattle.atr_core.specs.Answer.{xor_of, may_follow, names_other_than_0};
 ghost use Rattle.atr_core.specs.FirstFault.{Plain, when, end_fault};
 ghost use Rattle.atr_core.specs.Reading.{IsAt, Fails, FailsBefore, FailsAtGroups, FailsAtHistorical, HasMaybe, HasGroup, HasGroups, HasHistorical, SaysFault, group_due};
 
-use crate::fault::{AtrFault, Reason};
+use crate::fault::{AtrFault, AtrReason};
 use crate::group::{Group, TypedGroup};
 use arrayvec::ArrayVec;
 
@@ -27,12 +27,12 @@ pub(crate) fn character(bytes: &[u8], place: usize) -> Result<u8, AtrFault>
     if place == LONGEST {
         Err(AtrFault {
             place,
-            reason: Reason::TooLong,
+            reason: AtrReason::TooLong,
         })
     } else if place == bytes.len() {
         Err(AtrFault {
             place,
-            reason: Reason::Cut,
+            reason: AtrReason::Cut,
         })
     } else {
         Ok(bytes[place])
@@ -92,7 +92,7 @@ pub(crate) fn typed_groups(
         if !may_follow(last, t) {
             return Err(AtrFault {
                 place,
-                reason: Reason::OutOfOrder,
+                reason: AtrReason::OutOfOrder,
             });
         }
         let (group, end) = group(bytes, place + 1, td / 16)?;
@@ -164,22 +164,22 @@ pub(crate) fn check_end(bytes: &[u8], place: usize, is_due: bool) -> Result<(), 
     let reason = if !is_due {
         match behind {
             0 => return Ok(()),
-            1 => Reason::CheckNotDue,
-            _ => Reason::Surplus,
+            1 => AtrReason::CheckNotDue,
+            _ => AtrReason::Surplus,
         }
     } else if place == LONGEST {
-        Reason::TooLong
+        AtrReason::TooLong
     } else if behind == 0 {
-        Reason::CheckMissing
+        AtrReason::CheckMissing
     } else if behind > 1 {
         return Err(AtrFault {
             place: place + 1,
-            reason: Reason::Surplus,
+            reason: AtrReason::Surplus,
         });
     } else if bytes[place] == xor_of(&bytes[1..place]) {
         return Ok(());
     } else {
-        Reason::CheckWrong
+        AtrReason::CheckWrong
     };
     Err(AtrFault { place, reason })
 }

@@ -4,7 +4,7 @@ use std::fmt;
 
 /// Why bytes are not an answer to reset (ISO/IEC 7816-3, 8.2).
 #[derive(Clone, Copy, Debug, PartialEq, Eq, Hash)]
-pub enum Reason {
+pub enum AtrReason {
     /// The first byte is neither `3B` nor `3F`.
     NoTs,
     /// The bytes end before an announced character, and there are fewer than 33. One more byte may
@@ -33,10 +33,10 @@ pub enum Reason {
 #[derive(Clone, Copy, Debug, PartialEq, Eq, Hash)]
 pub struct AtrFault {
     pub place: usize,
-    pub reason: Reason,
+    pub reason: AtrReason,
 }
 
-impl fmt::Display for Reason {
+impl fmt::Display for AtrReason {
     ghost use Rattle.std.specs.Prelude.{Some};
     ghost use Rattle.atr_core.specs.FaultText.{reason_text};
 
@@ -44,14 +44,14 @@ impl fmt::Display for Reason {
 
     fn fmt<W: fmt::Write>(&self, f: &mut fmt::Formatter<W>) -> fmt::Result {
         f.write_str(match self {
-            Reason::NoTs => "no TS",
-            Reason::Cut => "cut",
-            Reason::TooLong => "too long",
-            Reason::OutOfOrder => "T out of order",
-            Reason::Surplus => "characters behind the end",
-            Reason::CheckMissing => "check byte missing",
-            Reason::CheckNotDue => "check byte not due",
-            Reason::CheckWrong => "wrong check byte",
+            AtrReason::NoTs => "no TS",
+            AtrReason::Cut => "cut",
+            AtrReason::TooLong => "too long",
+            AtrReason::OutOfOrder => "T out of order",
+            AtrReason::Surplus => "characters behind the end",
+            AtrReason::CheckMissing => "check byte missing",
+            AtrReason::CheckNotDue => "check byte not due",
+            AtrReason::CheckWrong => "wrong check byte",
         })
     }
 }

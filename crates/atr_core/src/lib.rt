@@ -42,7 +42,7 @@ pub use blocks::block_guard_time;
 pub use build_fault::BuildFault;
 pub use convention::Convention;
 pub use edc::Edc;
-pub use fault::{AtrFault, Reason};
+pub use fault::{AtrFault, AtrReason};
 pub use group::{Group, TypedGroup};
 pub use historical::{CardStatus, Category};
 pub use mode::Mode;

@@ -1,7 +1,7 @@
 pub mod AtrLemmas
 pub mod BufferLemmas
 pub mod CardApduLemmas
-pub mod CardHeldKind
+pub mod HeldCardKind
 pub mod CardT1Lemmas
 pub mod CardTpduLemmas
 pub mod CodeLemmas

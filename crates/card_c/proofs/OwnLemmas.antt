@@ -4,7 +4,7 @@ use Rattle.std.specs.Prelude.{is_some}
 use Rattle.t0_core.specs.CardSide.{EndOf}
 use Rattle.t0_core.specs.Plan.{Cursor}
 use Rattle.object_card.specs.CardView.{CardView}
-use Rattle.command_card.specs.declared.application.TheConstants.{RESPONSE_LIMIT}
+use Rattle.command_card.specs.declared.application.TheConstants.{OWN_RESPONSE_LIMIT}
 use Rattle.command_card.specs.Carrying.{IsOwn}
 use Rattle.card_c.specs.declared.card_side.CardSide.{CardSide}
 use Rattle.card_c.specs.declared.card_side.CardSide.TheVariants.{Building, Standing, Joined, AtT1, Own}

@@ -5,7 +5,7 @@ use Rattle.t0_core.specs.CardTpdu.{rests}
 use Rattle.t0_core.specs.Plan.{Cursor}
 use Rattle.t1_core.specs.declared.applet.Applet.{Ghosts}
 use Rattle.t1_core.specs.declared.card.Reply.{Reply}
-use Rattle.t1_core.specs.declared.pcb.Reason.{Reason}
+use Rattle.t1_core.specs.declared.pcb.BlockReason.{BlockReason}
 use Rattle.t1_core.specs.BlockBytes.{arrival_of, bytes_of, is_whole}
 use Rattle.t1_core.specs.CardSide.{card_after, card_damaged, card_hears, forgets, replies}
 use Rattle.t1_core.specs.Doing.{Goes, Keeps, Steps}
@@ -83,7 +83,7 @@ HearsBytes bytes n' old code new = (block : List ℕ) × (block ≡ old.block ++
     × Keeps applet forgets old.end new.end))
 
 -- no valid block arrived, for this reason
-abbrev pub Misses : Reason → CardT1Side → ℤ → CardT1Side → Type 0
+abbrev pub Misses : BlockReason → CardT1Side → ℤ → CardT1Side → Type 0
 Misses why old code new = (reply : Reply) × (code ≡ gt_sends)
     × (new ≡ record old { block = []; reply = Some reply })
     × Goes (λ c. card_damaged why c) old.end reply new.end

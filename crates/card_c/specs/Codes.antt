@@ -1,6 +1,6 @@
 -- The numbers of the codes that exports return.
 use Rattle.std.specs.Prelude.{ℤ, pos, negsuc}
-use Rattle.atr_core.specs.declared.fault.Reason as atr
+use Rattle.atr_core.specs.declared.fault.AtrReason as atr
 use Rattle.atr_core.specs.declared.pps.PpsFault as pps
 use Rattle.object_card.specs.declared.builder_fault.BuilderFault as builder
 use Rattle.t0_core.specs.declared.data_sent.DataSent as sent
@@ -9,7 +9,7 @@ use Rattle.tlv_core.specs.declared.fault.Reason as reason
 use Rattle.apdu_core.specs.declared.command.ApduFault as command
 use Rattle.t0_core.specs.declared.answer_fault.AnswerFault as answer
 use Rattle.t0_core.specs.declared.tpdu_fault.TpduFault as tpdu
-use Rattle.t1_core.specs.declared.terminal.BeginFault as begin
+use Rattle.t1_core.specs.declared.terminal.CommandFault as begin
 use Rattle.t1_core.specs.declared.terminal.Cause as cause
 use Rattle.t1_core.specs.declared.terminal.Outcome as outcome
 
@@ -122,7 +122,7 @@ tpdu_code tpdu.TheVariants.WantsData = negsuc 64
 tpdu_code tpdu.TheVariants.SendsData = negsuc 65
 tpdu_code tpdu.TheVariants.TooLong = negsuc 31
 
-abbrev pub atr_code : atr.Reason → ℤ
+abbrev pub atr_code : atr.AtrReason → ℤ
 atr_code atr.TheVariants.NoTs = negsuc 69
 atr_code atr.TheVariants.Cut = negsuc 70
 atr_code atr.TheVariants.TooLong = negsuc 71
@@ -139,7 +139,7 @@ pps_code pps.TheVariants.Reserved = negsuc 81
 pps_code pps.TheVariants.Surplus = negsuc 82
 pps_code pps.TheVariants.CheckWrong = negsuc 83
 
-abbrev pub begin_code : begin.BeginFault → ℤ
+abbrev pub begin_code : begin.CommandFault → ℤ
 begin_code begin.TheVariants.NotReady = gt_state
 begin_code begin.TheVariants.OutOfMemory = gt_memory
 

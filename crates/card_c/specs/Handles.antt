@@ -1,6 +1,6 @@
 -- What the handles of C hold, and what a call does to it.
 use Rattle.std.specs.Prelude.{◌≡◌, ℤ, Option, Some, None, if◌then◌else◌, MatchOption}
-use Rattle.card_c.specs.declared.card_held.GtCard.{GtCard}
+use Rattle.card_c.specs.declared.held_card.CardHandle.{CardHandle}
 use Rattle.card_c.specs.declared.card_side.CardSide.{CardSide}
 use Rattle.card_c.specs.declared.held_exchange.ExchangeHandle.{ExchangeHandle}
 use Rattle.card_c.specs.declared.held_t1.T1Handle.{T1Handle}
@@ -11,7 +11,7 @@ use Rattle.card_c.specs.declared.exchange_side.ExchangeSide.{ExchangeSide}
 use Rattle.card_c.specs.Codes.{gt_empty}
 
 -- nothing, if the handle is not live
-abbrev pub held_by : GtCard → Option CardSide
+abbrev pub held_by : CardHandle → Option CardSide
 held_by handle = if handle.live then handle.held.value else None
 
 abbrev pub exchange_in : ExchangeHandle → Option ExchangeSide

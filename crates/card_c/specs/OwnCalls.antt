@@ -18,7 +18,7 @@ use Rattle.command_card.specs.declared.given.Directions.{Directions}
 use Rattle.command_card.specs.declared.given.Directions.TheVariants as way
 use Rattle.command_card.specs.declared.own.Wanted.{Wanted}
 use Rattle.command_card.specs.declared.own.Wanted.TheVariants as wanted
-use Rattle.command_card.specs.declared.application.TheConstants.{RESPONSE_LIMIT}
+use Rattle.command_card.specs.declared.application.TheConstants.{OWN_RESPONSE_LIMIT}
 use Rattle.command_card.specs.Carrying.{IsOwn}
 use Rattle.command_card.specs.Given.{Answers, GivenState, after_drop, settled, takes_data, with_answer}
 use Rattle.command_card.specs.Meaning.{Does}
@@ -254,7 +254,7 @@ word_of number = (number / 256, number % 256)
 
 abbrev pub MayBeGiven : List ℕ → ℕ → Type 0
 MayBeGiven bytes number = IsStatusWord (word_of number) × IsOwn (word_of number)
-    × (length bytes ≤ RESPONSE_LIMIT)
+    × (length bytes ≤ OWN_RESPONSE_LIMIT)
 
 -- The command in progress gets this response, and no other goes out for it. Or it is refused.
 abbrev pub GivesOne : List ℕ → ℕ → EndOf OwnCard → ℤ → EndOf OwnCard → Type 0

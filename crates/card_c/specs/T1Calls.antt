@@ -4,7 +4,7 @@ use Rattle.t1_core.specs.declared.block.Control.TheVariants.{Wtx}
 use Rattle.t1_core.specs.declared.settings.Edc.TheVariants.{Lrc}
 use Rattle.t1_core.specs.declared.settings.Settings.{Settings}
 use Rattle.t1_core.specs.declared.terminal.Fault.{Fault}
-use Rattle.t1_core.specs.declared.pcb.Reason.{Reason}
+use Rattle.t1_core.specs.declared.pcb.BlockReason.{BlockReason}
 use Rattle.t1_core.specs.Block.{Block, Response, Bad}
 use Rattle.t1_core.specs.BlockBytes.{arrival_of, bytes_of, is_whole}
 use Rattle.t1_core.specs.Settings as settings
@@ -75,7 +75,7 @@ ReceivesBytes bytes n n' old code new =
     × (new ≡ record { end = takes old.end (arrival_of block); block = [] }))))
 
 -- no valid block arrived, for this reason, while one is expected
-abbrev pub Misses : Reason → T1Side → ℤ → T1Side → Type 0
+abbrev pub Misses : BlockReason → T1Side → ℤ → T1Side → Type 0
 Misses why old code new =
     ((has_stopped old.end.phase ≡ true) × (code ≡ gt_state) × (new ≡ old))
     ⊎ ((has_stopped old.end.phase ≡ false) × (code ≡ gt_ok)

@@ -5,10 +5,10 @@ ghost use Rattle.card_c.specs.Handles.{held_by, OnHandle, OnHandleOr};
 ghost use Rattle.card_c.specs.CardT1Calls.{at_t0};
 ghost use Rattle.card_c.specs.CardCalls.{Begins, AddsApplication, AddsObject, Finishes, TakesOne, HandsOutCharacter, Turns, TurnsEnd, Resets};
 
-use crate::card_held::GtCard;
 use crate::card_side::CardSide;
 use crate::card_t1::leave;
 use crate::handle::{Handle, on, with};
+use crate::held_card::CardHandle;
 use crate::tag_number::tag_of;
 use crate::{code, own};
 use object_card::{Aid, CardBuilder, ObjectCard};
@@ -18,7 +18,7 @@ use t0_core::{CardEnd, LineFault, PlanQueue, Turn};
 
 /// Starts to build a card, which has no applications yet.
 #[unsafe(no_mangle)]
-pub extern "C" fn galliumtoad_card_new(alloc: Global, card: &mut GtCard) -> i32
+pub extern "C" fn galliumtoad_card_new(alloc: Global, card: &mut CardHandle) -> i32
     ensures { Begins (held_by card.old) result (held_by card.new) }
 {
     if card.is_live() {
@@ -35,7 +35,7 @@ pub extern "C" fn galliumtoad_card_new(alloc: Global, card: &mut GtCard) -> i32
 
 /// Frees the memory of a handle, which is empty then.
 #[unsafe(no_mangle)]
-pub extern "C" fn galliumtoad_card_free(alloc: Global, card: &mut GtCard)
+pub extern "C" fn galliumtoad_card_free(alloc: Global, card: &mut CardHandle)
     ensures { held_by card.new ≡ None }
 {
     drop(card.take_out(alloc));
@@ -43,7 +43,7 @@ pub extern "C" fn galliumtoad_card_free(alloc: Global, card: &mut GtCard)
 
 /// Adds an application without data objects. `aid` is its identifier, of 5 to 16 bytes.
 #[unsafe(no_mangle)]
-pub extern "C" fn galliumtoad_card_app(alloc: Global, card: &mut GtCard, aid: &[u8]) -> i32
+pub extern "C" fn galliumtoad_card_app(alloc: Global, card: &mut CardHandle, aid: &[u8]) -> i32
     ensures { OnHandle (AddsApplication aid.now) (held_by card.old) result (held_by card.new) }
 {
     with(alloc, card, |side| {
@@ -64,7 +64,7 @@ pub extern "C" fn galliumtoad_card_app(alloc: Global, card: &mut GtCard, aid: &[
 #[unsafe(no_mangle)]
 pub extern "C" fn galliumtoad_card_object(
     alloc: Global,
-    card: &mut GtCard,
+    card: &mut CardHandle,
     tag: u32,
     value: &[u8],
     locked: bool,
@@ -97,7 +97,7 @@ fn add_object(side: &mut CardSide, number: u32, value: &[u8], locked: bool) -> i
 
 /// Ends the building of a card. It speaks T=0 and listens, with nothing selected, and has no plans.
 #[unsafe(no_mangle)]
-pub extern "C" fn galliumtoad_card_finish(alloc: Global, card: &mut GtCard) -> i32
+pub extern "C" fn galliumtoad_card_finish(alloc: Global, card: &mut CardHandle) -> i32
     ensures { OnHandle Finishes (held_by card.old) result (held_by card.new) }
 {
     with(alloc, card, |side| {
@@ -122,7 +122,7 @@ pub extern "C" fn galliumtoad_card_finish(alloc: Global, card: &mut GtCard) -> i
 
 /// Takes a character of the terminal.
 #[unsafe(no_mangle)]
-pub extern "C" fn galliumtoad_card_take(alloc: Global, card: &mut GtCard, byte: u8) -> i32
+pub extern "C" fn galliumtoad_card_take(alloc: Global, card: &mut CardHandle, byte: u8) -> i32
     ensures { OnHandle (TakesOne byte) (held_by card.old) result (held_by card.new) }
 {
     with(alloc, card, |side| take(side, byte))
@@ -142,7 +142,7 @@ fn take(side: &mut CardSide, byte: u8) -> i32
 
 /// Writes the card's next character to `byte`, if it does not listen. Then it counts as sent.
 #[unsafe(no_mangle)]
-pub extern "C" fn galliumtoad_card_turn(alloc: Global, card: &mut GtCard, byte: &mut u8) -> i32
+pub extern "C" fn galliumtoad_card_turn(alloc: Global, card: &mut CardHandle, byte: &mut u8) -> i32
     ensures { OnHandleOr (byte.new ≡ byte.old) (Turns byte.old byte.new)
         (held_by card.old) result (held_by card.new) }
 {
@@ -193,7 +193,7 @@ pub(crate) fn next_of(end: &mut CardEnd<ObjectCard>, plans: &mut PlanQueue) -> O
 
 /// Resets the card, which speaks T=0 then. Its data objects and the plans that wait stay.
 #[unsafe(no_mangle)]
-pub extern "C" fn galliumtoad_card_reset(alloc: Global, card: &mut GtCard) -> i32
+pub extern "C" fn galliumtoad_card_reset(alloc: Global, card: &mut CardHandle) -> i32
     ensures { OnHandle Resets (held_by card.old) result (held_by card.new) }
 {
     with(alloc, card, |side| reset(alloc, side))

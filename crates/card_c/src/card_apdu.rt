@@ -5,9 +5,9 @@ ghost use Rattle.card_c.specs.Handles.{held_by, OnHandleOr};
 ghost use Rattle.card_c.specs.CardApduCalls.{RespondsTo, RespondsToCommand};
 ghost use Rattle.card_c.specs.WholeCalls.{RefusesLength};
 
-use crate::card_held::GtCard;
 use crate::card_side::CardSide;
 use crate::handle::{Handle, on};
+use crate::held_card::CardHandle;
 use crate::whole_tpdu::hand_out;
 use crate::{code, own_whole};
 use apdu_core::{ApduFault, Command, Status};
@@ -20,7 +20,7 @@ use t0_core::CardEnd;
 #[unsafe(no_mangle)]
 pub extern "C" fn galliumtoad_card_apdu(
     alloc: Global,
-    card: &mut GtCard,
+    card: &mut CardHandle,
     apdu: &[u8],
     response: &mut [u8],
     len: &mut usize,

@@ -6,9 +6,9 @@ ghost use Rattle.card_c.specs.Handles.{held_by, OnHandleOr};
 ghost use Rattle.card_c.specs.BufferCalls.{CardSends, CardReceives, HandsOutAll, TakesAll};
 
 use crate::card::next_of;
-use crate::card_held::GtCard;
 use crate::card_side::CardSide;
 use crate::handle::{Handle, on};
+use crate::held_card::CardHandle;
 use crate::{code, own};
 use object_card::ObjectCard;
 use std::alloc::Global;
@@ -18,7 +18,7 @@ use t0_core::{CardEnd, LineFault, PlanQueue, TpduCard};
 #[unsafe(no_mangle)]
 pub extern "C" fn galliumtoad_card_send_bytes(
     alloc: Global,
-    card: &mut GtCard,
+    card: &mut CardHandle,
     bytes: &mut [u8],
     count: &mut usize,
 ) -> i32
@@ -87,7 +87,7 @@ fn hand_run<C: TpduCard>(end: &mut CardEnd<C>, bytes: &mut [u8], at: usize) -> u
 #[unsafe(no_mangle)]
 pub extern "C" fn galliumtoad_card_receive_bytes(
     alloc: Global,
-    card: &mut GtCard,
+    card: &mut CardHandle,
     bytes: &[u8],
     count: &mut usize,
 ) -> i32

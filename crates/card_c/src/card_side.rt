@@ -24,7 +24,7 @@ pub enum CardSide {
 /// A card at T=1, until its next reset.
 #[derive(Drop)]
 pub struct CardT1Side {
-    pub end: t1_core::CardEnd<DataApplet<ObjectCard>>,
+    pub end: t1_core::BlockCard<DataApplet<ObjectCard>>,
     /// The received bytes of the terminal's block.
     pub block: Receiver,
     /// The answer to its last block. `None` before the first, and after memory ran out at one.

@@ -1,24 +1,24 @@
 //! The exports of a card at T=1.
 ghost use Rattle.std.specs.Prelude.{◌≡◌, ⊤, if◌then◌else◌};
-ghost use Rattle.t1_core.specs.declared.pcb.Reason.TheVariants as reason;
+ghost use Rattle.t1_core.specs.declared.pcb.BlockReason.TheVariants as reason;
 ghost use Rattle.card_c.specs.Handles.{held_by, OnHandle, OnHandleOr};
 ghost use Rattle.card_c.specs.CardT1Calls.{BeginsT1, HearsBytes, Misses, OnLine, SendsReply, at_t0};
 
-use crate::card_held::GtCard;
 use crate::card_side::{CardSide, CardT1Side};
 use crate::code;
 use crate::copied::copied;
 use crate::handle::{Handle, on, with};
+use crate::held_card::CardHandle;
 use object_card::CardBuilder;
 use std::alloc::Global;
 use std::mem;
 use t1_core::spelling::write;
-use t1_core::{CardEnd, Receiver};
+use t1_core::{BlockCard, Receiver};
 use t1_terminal::DataApplet;
 
 /// Lets the card speak T=1, until its next reset. It has no block to send yet.
 #[unsafe(no_mangle)]
-pub extern "C" fn galliumtoad_card_t1_begin(alloc: Global, card: &mut GtCard) -> i32
+pub extern "C" fn galliumtoad_card_t1_begin(alloc: Global, card: &mut CardHandle) -> i32
     ensures { OnHandle BeginsT1 (held_by card.old) result (held_by card.new) }
 {
     with(alloc, card, |side| begin(alloc, side))
@@ -38,7 +38,7 @@ fn begin(alloc: Global, side: &mut CardSide) -> i32
         return code::STATE;
     }
     *side = CardSide::AtT1(CardT1Side {
-        end: CardEnd::new(alloc, DataApplet::new(alloc, end)),
+        end: BlockCard::new(alloc, DataApplet::new(alloc, end)),
         block: Receiver::new(),
         reply: None,
         plans,
@@ -64,7 +64,7 @@ pub(crate) fn leave(alloc: Global, side: &mut CardSide)
 #[unsafe(no_mangle)]
 pub extern "C" fn galliumtoad_card_t1_send_bytes(
     alloc: Global,
-    card: &mut GtCard,
+    card: &mut CardHandle,
     bytes: &mut [u8],
     count: &mut usize,
 ) -> i32
@@ -96,7 +96,7 @@ fn send(alloc: Global, side: &CardSide, bytes: &mut [u8], count: &mut usize) -> 
 #[unsafe(no_mangle)]
 pub extern "C" fn galliumtoad_card_t1_receive_bytes(
     alloc: Global,
-    card: &mut GtCard,
+    card: &mut CardHandle,
     bytes: &[u8],
     count: &mut usize,
 ) -> i32
@@ -135,7 +135,7 @@ fn receive(side: &mut CardSide, bytes: &[u8], count: &mut usize) -> i32
 /// Reports that the terminal's block stopped. The answer asks for the block because of another
 /// error than the EDC.
 #[unsafe(no_mangle)]
-pub extern "C" fn galliumtoad_card_t1_missed(alloc: Global, card: &mut GtCard) -> i32
+pub extern "C" fn galliumtoad_card_t1_missed(alloc: Global, card: &mut CardHandle) -> i32
     ensures { OnHandle (OnLine (Misses reason.Other) ⊤) (held_by card.old) result
         (held_by card.new) }
 {
@@ -145,7 +145,7 @@ pub extern "C" fn galliumtoad_card_t1_missed(alloc: Global, card: &mut GtCard) -
 /// Reports that a character of the terminal's block had a wrong parity. The answer asks for the
 /// block because of that.
 #[unsafe(no_mangle)]
-pub extern "C" fn galliumtoad_card_t1_damaged(alloc: Global, card: &mut GtCard) -> i32
+pub extern "C" fn galliumtoad_card_t1_damaged(alloc: Global, card: &mut CardHandle) -> i32
     ensures { OnHandle (OnLine (Misses reason.Edc) ⊤) (held_by card.old) result (held_by card.new) }
 {
     with(alloc, card, |side| misses(side, true))

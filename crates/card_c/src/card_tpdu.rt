@@ -6,9 +6,9 @@ ghost use Rattle.card_c.specs.Handles.{held_by, OnHandleOr};
 ghost use Rattle.card_c.specs.CardTpduCalls.{CarriesOut};
 ghost use Rattle.card_c.specs.WholeCalls.{IsCarriedOut};
 
-use crate::card_held::GtCard;
 use crate::card_side::CardSide;
 use crate::handle::{Handle, on};
+use crate::held_card::CardHandle;
 use crate::whole_tpdu::hand_out;
 use crate::{code, own_whole};
 use std::alloc::Global;
@@ -18,7 +18,7 @@ use t0_core::{CardEnd, Gather, PlanQueue, TpduCard, WholeTpdu};
 #[unsafe(no_mangle)]
 pub extern "C" fn galliumtoad_card_tpdu(
     alloc: Global,
-    card: &mut GtCard,
+    card: &mut CardHandle,
     tpdu: &[u8],
     answer: &mut [u8],
     len: &mut usize,

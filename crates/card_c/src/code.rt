@@ -8,10 +8,10 @@ ghost use Rattle.card_c.specs.BufferCalls.{stop_code};
 ghost use Rattle.card_c.specs.TpduCalls.{answered_code};
 
 use apdu_core::ApduFault;
-use atr_core::{PpsFault, Reason as AtrReason};
+use atr_core::{AtrReason, PpsFault};
 use object_card::BuilderFault;
 use t0_core::{AnswerFault, DataSent, HostTurn, LineFault, TpduFault};
-use t1_core::{BeginFault, Cause, Outcome};
+use t1_core::{Cause, CommandFault, Outcome};
 use tlv_core::Reason;
 
 /// Success. Of a turn: the end listens.
@@ -217,12 +217,12 @@ pub fn of_pps(fault: PpsFault) -> i32
 }
 
 /// Returns why a command does not begin at T=1. The end is unchanged.
-pub fn of_t1_begin(fault: BeginFault) -> i32
+pub fn of_t1_begin(fault: CommandFault) -> i32
     ensures { result ≡ begin_code fault }
 {
     match fault {
-        BeginFault::NotReady => STATE,
-        BeginFault::OutOfMemory => MEMORY,
+        CommandFault::NotReady => STATE,
+        CommandFault::OutOfMemory => MEMORY,
     }
 }
 

@@ -2,10 +2,10 @@
 ghost use Rattle.std.specs.Prelude.{◌≡◌, Some, None};
 ghost use Rattle.card_c.specs.Handles.{held_by, exchange_in, terminal_in, t1_in};
 
-use crate::card_held::{CardHeld, GtCard};
 use crate::card_side::CardSide;
 use crate::exchange_side::ExchangeSide;
 use crate::handle::Handle;
+use crate::held_card::{CardHandle, HeldCard};
 use crate::held_exchange::{ExchangeHandle, HeldExchange};
 use crate::held_t1::{HeldT1, T1Handle};
 use crate::held_terminal::{HeldTerminal, TerminalHandle};
@@ -15,7 +15,7 @@ use crate::terminal_side::TerminalSide;
 use std::alloc::Global;
 use std::mem;
 
-impl Handle for GtCard {
+impl Handle for CardHandle {
     type Content = CardSide;
 
     ghost content = { held_by };
@@ -29,7 +29,7 @@ impl Handle for GtCard {
             return None;
         }
         self.live = false;
-        let held = mem::replace(&mut self.held, CardHeld::empty(alloc));
+        let held = mem::replace(&mut self.held, HeldCard::empty(alloc));
         Some(held.into_loose().into_box())
     }
 
@@ -37,7 +37,7 @@ impl Handle for GtCard {
         requires { held_by self.old ≡ None }
         ensures { held_by self.new ≡ Some value.value }
     {
-        self.held = CardHeld::of(Loose::of(value));
+        self.held = HeldCard::of(Loose::of(value));
         self.live = true;
     }
 }

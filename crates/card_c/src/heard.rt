@@ -3,11 +3,11 @@ ghost use Rattle.std.specs.Prelude.{◌≡◌, ◌≤◌, ◌++◌, drop, length
 ghost use Rattle.card_c.specs.Handles.{held_by, OnHandle, OnLook};
 ghost use Rattle.card_c.specs.HeardCalls.{Listens, IsHeard, TellsHeard, character_record};
 
-use crate::card_held::GtCard;
 use crate::card_side::CardSide;
 use crate::character_record::CharacterRecord;
 use crate::code;
 use crate::handle::{Handle, on, with};
+use crate::held_card::CardHandle;
 use crate::listener::Listener;
 use crate::session_side::SessionSide;
 use std::alloc::Global;
@@ -15,7 +15,7 @@ use t0_core::End;
 
 /// Records the characters of each later operation, and drops those recorded before.
 #[unsafe(no_mangle)]
-pub extern "C" fn galliumtoad_session_listen(alloc: Global, session: &mut GtCard) -> i32
+pub extern "C" fn galliumtoad_session_listen(alloc: Global, session: &mut CardHandle) -> i32
     ensures { OnHandle Listens (held_by session.old) result (held_by session.new) }
 {
     with(alloc, session, |side| listen(alloc, side))
@@ -43,7 +43,7 @@ fn hear(alloc: Global, joined: &mut SessionSide)
 #[unsafe(no_mangle)]
 pub extern "C" fn galliumtoad_session_heard(
     alloc: Global,
-    session: &mut GtCard,
+    session: &mut CardHandle,
     line: &mut [CharacterRecord],
     count: &mut usize,
 ) -> i32

@@ -5,7 +5,7 @@
 //! call takes, writes and returns, and the state after each code.
 //!
 //! - Without a handle: `objects` and `find` read data objects, `atr` and `pps` answers to reset.
-//! - [`card_held::GtCard`]: a card that C builds and drives, or a session with one.
+//! - [`held_card::CardHandle`]: a card that C builds and drives, or a session with one.
 //! - [`held_exchange::ExchangeHandle`]: a terminal's exchange of one command.
 //! - [`held_terminal::TerminalHandle`]: a terminal, operation by operation.
 //! - [`held_t1::T1Handle`]: the terminal's end of a line at T=1.
@@ -21,7 +21,6 @@ mod atr_record;
 mod card;
 mod card_apdu;
 mod card_buffers;
-mod card_held;
 mod card_side;
 mod card_t1;
 mod card_tpdu;
@@ -40,6 +39,7 @@ mod handle;
 mod handles;
 mod head;
 mod heard;
+mod held_card;
 mod held_exchange;
 mod held_t1;
 mod held_terminal;

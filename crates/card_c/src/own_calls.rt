@@ -3,11 +3,11 @@ ghost use Rattle.std.specs.Prelude.{◌≡◌, ◌≤◌, ⊤, length};
 ghost use Rattle.card_c.specs.Handles.{held_by, OnHandle, OnLook};
 ghost use Rattle.card_c.specs.OwnCalls.{BeginsOwn, Decides, GivesOne, IsRecord, RespondsOwn, TellsCommand, TellsSettled, IsDirections};
 
-use crate::card_held::GtCard;
 use crate::card_side::CardSide;
 use crate::code;
 use crate::command_record::CommandRecord;
 use crate::handle::{Handle, on, with};
+use crate::held_card::CardHandle;
 use crate::own_side::OwnSide;
 use crate::own_whole::wanted_in;
 use apdu_core::{Header, Status};
@@ -17,7 +17,11 @@ use t0_core::CardEnd;
 
 /// Makes a card of an own application, which listens at T=0. `directions` are 32 bytes, or none.
 #[unsafe(no_mangle)]
-pub extern "C" fn galliumtoad_card_own(alloc: Global, card: &mut GtCard, directions: &[u8]) -> i32
+pub extern "C" fn galliumtoad_card_own(
+    alloc: Global,
+    card: &mut CardHandle,
+    directions: &[u8],
+) -> i32
     ensures { BeginsOwn directions.now (held_by card.old) result (held_by card.new) }
 {
     if card.is_live() {
@@ -54,7 +58,7 @@ fn directions_in(bytes: &[u8]) -> Option<Directions>
 #[unsafe(no_mangle)]
 pub extern "C" fn galliumtoad_card_command(
     alloc: Global,
-    card: &mut GtCard,
+    card: &mut CardHandle,
     command: &mut CommandRecord,
 ) -> i32
     ensures { OnLook (command.new ≡ command.old) (TellsCommand command.old command.new)
@@ -99,7 +103,11 @@ fn record_of(header: Header, bytes: &[u8], le: u16) -> CommandRecord
 
 /// Answers which way the data of the header that waits go.
 #[unsafe(no_mangle)]
-pub extern "C" fn galliumtoad_card_direction(alloc: Global, card: &mut GtCard, to_card: bool) -> i32
+pub extern "C" fn galliumtoad_card_direction(
+    alloc: Global,
+    card: &mut CardHandle,
+    to_card: bool,
+) -> i32
     ensures { OnHandle (Decides to_card) (held_by card.old) result (held_by card.new) }
 {
     with(alloc, card, |side| direction(side, to_card))
@@ -128,7 +136,7 @@ fn direction(side: &mut CardSide, to_card: bool) -> i32
 #[unsafe(no_mangle)]
 pub extern "C" fn galliumtoad_card_respond(
     alloc: Global,
-    card: &mut GtCard,
+    card: &mut CardHandle,
     bytes: &[u8],
     status: u16,
 ) -> i32
@@ -169,7 +177,7 @@ fn give_to(end: &mut CardEnd<CommandCard<Given>>, bytes: &[u8], status: u16) -> 
 
 /// Returns whether the last command that got a response has settled.
 #[unsafe(no_mangle)]
-pub extern "C" fn galliumtoad_card_settled(alloc: Global, card: &mut GtCard) -> i32
+pub extern "C" fn galliumtoad_card_settled(alloc: Global, card: &mut CardHandle) -> i32
     ensures { OnLook ⊤ TellsSettled (held_by card.old) result (held_by card.new) }
 {
     on!(alloc, card, side => settled(&side))

@@ -3,10 +3,10 @@ ghost use Rattle.std.specs.Prelude.{◌≡◌, [], ◌∷◌, ◌++◌, OnOk, On
 ghost use Rattle.card_c.specs.Handles.{held_by, OnHandle};
 ghost use Rattle.card_c.specs.PlanCalls.{IsButPlans, Queues, QueuesAtCard, QueuesInSession};
 
-use crate::card_held::GtCard;
 use crate::card_side::CardSide;
 use crate::code;
 use crate::handle::with;
+use crate::held_card::CardHandle;
 use crate::plan_letters::plan_of;
 use crate::session_side::SessionSide;
 use std::alloc::{AllocError, Global};
@@ -16,7 +16,7 @@ use t0_core::{Plan, PlanQueue};
 #[unsafe(no_mangle)]
 pub extern "C" fn galliumtoad_card_plan(
     alloc: Global,
-    card: &mut GtCard,
+    card: &mut CardHandle,
     steps: &[u8],
     cut: u16,
 ) -> i32
@@ -52,7 +52,7 @@ fn queue_plan(alloc: Global, plans: &mut PlanQueue, steps: &[u8], cut: u16) -> i
 #[unsafe(no_mangle)]
 pub extern "C" fn galliumtoad_session_plan(
     alloc: Global,
-    session: &mut GtCard,
+    session: &mut CardHandle,
     steps: &[u8],
     cut: u16,
 ) -> i32

@@ -4,10 +4,10 @@ ghost use Rattle.object_card.specs.Instructions.{MayReceive, MaySend};
 ghost use Rattle.card_c.specs.Handles.{held_by, OnHandle};
 ghost use Rattle.card_c.specs.SendCalls.{SendsAgreed, SendsBytes};
 
-use crate::card_held::GtCard;
 use crate::card_side::CardSide;
 use crate::code;
 use crate::handle::with;
+use crate::held_card::CardHandle;
 use crate::listener::Listener;
 use crate::session_side::{SessionSide, room_for_next};
 use apdu_core::Command;
@@ -19,7 +19,7 @@ use t0_core::Plans;
 #[unsafe(no_mangle)]
 pub extern "C" fn galliumtoad_session_send(
     alloc: Global,
-    session: &mut GtCard,
+    session: &mut CardHandle,
     command: &[u8],
 ) -> i32
     ensures { OnHandle (SendsBytes command.now) (held_by session.old) result

@@ -5,11 +5,11 @@ ghost use Rattle.object_card.specs.OneStep.{Put};
 ghost use Rattle.card_c.specs.Handles.{held_by, OnHandle, OnLook};
 ghost use Rattle.card_c.specs.SessionCalls.{Starts, Finishes, Joins, Parts, Performs, Selects, Gets, Puts, TellsAnswer, TellsIdle, IsReset, ResetsSession};
 
-use crate::card_held::GtCard;
 use crate::card_side::CardSide;
 use crate::code;
 use crate::copied::copied;
 use crate::handle::{Handle, on, with};
+use crate::held_card::CardHandle;
 use crate::listener::Listener;
 use crate::session_side::{SessionSide, room_for_next};
 use crate::tag_number::tag_of;
@@ -24,8 +24,8 @@ use tlv_core::ObjectTag;
 #[unsafe(no_mangle)]
 pub extern "C" fn galliumtoad_session_start(
     alloc: Global,
-    session: &mut GtCard,
-    card: &mut GtCard,
+    session: &mut CardHandle,
+    card: &mut CardHandle,
 ) -> i32
     ensures { Starts (held_by session.old) (held_by card.old) result
         (held_by session.new) (held_by card.new) }
@@ -68,8 +68,8 @@ fn join(alloc: Global, side: &mut CardSide) -> bool
 #[unsafe(no_mangle)]
 pub extern "C" fn galliumtoad_session_end(
     alloc: Global,
-    session: &mut GtCard,
-    card: &mut GtCard,
+    session: &mut CardHandle,
+    card: &mut CardHandle,
 ) -> i32
     ensures { Finishes (held_by session.old) (held_by card.old) result
         (held_by session.new) (held_by card.new) }
@@ -103,7 +103,7 @@ fn part(alloc: Global, side: &mut CardSide) -> bool
 
 /// Frees the memory of a session and of its card. The handle is empty then.
 #[unsafe(no_mangle)]
-pub extern "C" fn galliumtoad_session_free(alloc: Global, session: &mut GtCard)
+pub extern "C" fn galliumtoad_session_free(alloc: Global, session: &mut CardHandle)
     ensures { held_by session.new ≡ None }
 {
     drop(session.take_out(alloc));
@@ -111,7 +111,7 @@ pub extern "C" fn galliumtoad_session_free(alloc: Global, session: &mut GtCard)
 
 /// Resets the card: nothing is selected or pending. The rest of the session stays.
 #[unsafe(no_mangle)]
-pub extern "C" fn galliumtoad_session_reset(alloc: Global, session: &mut GtCard) -> i32
+pub extern "C" fn galliumtoad_session_reset(alloc: Global, session: &mut CardHandle) -> i32
     ensures { OnHandle ResetsSession (held_by session.old) result (held_by session.new) }
 {
     with(alloc, session, |side| reset(side))
@@ -135,7 +135,11 @@ fn reset_session(joined: &mut SessionSide)
 
 /// Carries out SELECT of the application with this identifier.
 #[unsafe(no_mangle)]
-pub extern "C" fn galliumtoad_session_select(alloc: Global, session: &mut GtCard, aid: &[u8]) -> i32
+pub extern "C" fn galliumtoad_session_select(
+    alloc: Global,
+    session: &mut CardHandle,
+    aid: &[u8],
+) -> i32
     ensures { OnHandle (Selects aid.now) (held_by session.old) result (held_by session.new) }
 {
     with(alloc, session, |side| select(alloc, side, aid))
@@ -155,7 +159,7 @@ fn select(alloc: Global, side: &mut CardSide, aid: &[u8]) -> i32
 
 /// Carries out GET DATA of the object with this tag.
 #[unsafe(no_mangle)]
-pub extern "C" fn galliumtoad_session_get(alloc: Global, session: &mut GtCard, tag: u32) -> i32
+pub extern "C" fn galliumtoad_session_get(alloc: Global, session: &mut CardHandle, tag: u32) -> i32
     ensures { OnHandle (Gets tag) (held_by session.old) result (held_by session.new) }
 {
     with(alloc, session, |side| get(alloc, side, tag))
@@ -178,7 +182,7 @@ fn get(alloc: Global, side: &mut CardSide, number: u32) -> i32
 #[unsafe(no_mangle)]
 pub extern "C" fn galliumtoad_session_put(
     alloc: Global,
-    session: &mut GtCard,
+    session: &mut CardHandle,
     tag: u32,
     value: &[u8],
 ) -> i32
@@ -216,7 +220,7 @@ fn store(alloc: Global, joined: &mut SessionSide, tag: ObjectTag, value: &[u8]) 
 #[unsafe(no_mangle)]
 pub extern "C" fn galliumtoad_session_answer(
     alloc: Global,
-    session: &mut GtCard,
+    session: &mut CardHandle,
     status: &mut u16,
     content: &mut [u8],
     len: &mut usize,
@@ -246,7 +250,7 @@ fn tell(side: &CardSide, status: &mut u16, content: &mut [u8], len: &mut usize) 
 
 /// Returns 1 if no chain is pending at the card, and otherwise 0.
 #[unsafe(no_mangle)]
-pub extern "C" fn galliumtoad_session_idle(alloc: Global, session: &mut GtCard) -> i32
+pub extern "C" fn galliumtoad_session_idle(alloc: Global, session: &mut CardHandle) -> i32
     ensures { OnLook ⊤ TellsIdle (held_by session.old) result (held_by session.new) }
 {
     with(alloc, session, |side| {

@@ -1,6 +1,6 @@
 //! The exports of a terminal's end of a line at T=1, which pass its blocks as bytes.
 ghost use Rattle.std.specs.Prelude.{◌≡◌, Option, Some, None, MatchOption, if◌then◌else◌};
-ghost use Rattle.t1_core.specs.declared.pcb.Reason.TheVariants as reason;
+ghost use Rattle.t1_core.specs.declared.pcb.BlockReason.TheVariants as reason;
 ghost use Rattle.t1_core.specs.declared.settings.Settings.{Settings};
 ghost use Rattle.t1_core.specs.Block.{said};
 ghost use Rattle.card_c.specs.Handles.{t1_in, OnHandle, OnHandleOr};

@@ -4,11 +4,11 @@ ghost use Rattle.object_card.specs.State.{entry_at};
 ghost use Rattle.card_c.specs.Handles.{held_by, OnLook};
 ghost use Rattle.card_c.specs.TableCalls.{TellsBytes, TellsAid, TellsEntry, TellsEntryAt, aid_at};
 
-use crate::card_held::GtCard;
 use crate::card_side::CardSide;
 use crate::code;
 use crate::copied::copied;
 use crate::handle::{Handle, on};
+use crate::held_card::CardHandle;
 use crate::tag_number::number_of;
 use object_card::{Aid, ObjectCard};
 use std::alloc::Global;
@@ -17,7 +17,7 @@ use std::alloc::Global;
 #[unsafe(no_mangle)]
 pub extern "C" fn galliumtoad_card_selected(
     alloc: Global,
-    card: &mut GtCard,
+    card: &mut CardHandle,
     aid: &mut [u8],
     len: &mut usize,
 ) -> i32
@@ -43,7 +43,7 @@ fn selected(side: &CardSide, aid: &mut [u8], len: &mut usize) -> i32
 #[unsafe(no_mangle)]
 pub extern "C" fn galliumtoad_card_app_at(
     alloc: Global,
-    card: &mut GtCard,
+    card: &mut CardHandle,
     place: usize,
     aid: &mut [u8],
     len: &mut usize,
@@ -79,7 +79,7 @@ fn tell(found: Option<Aid>, aid: &mut [u8], len: &mut usize) -> i32
 #[unsafe(no_mangle)]
 pub extern "C" fn galliumtoad_card_entry_at(
     alloc: Global,
-    card: &mut GtCard,
+    card: &mut CardHandle,
     app: usize,
     place: usize,
     tag: &mut u32,
@@ -144,7 +144,7 @@ fn tell_entry(
 #[unsafe(no_mangle)]
 pub extern "C" fn galliumtoad_session_selected(
     alloc: Global,
-    session: &mut GtCard,
+    session: &mut CardHandle,
     aid: &mut [u8],
     len: &mut usize,
 ) -> i32
@@ -160,7 +160,7 @@ pub extern "C" fn galliumtoad_session_selected(
 #[unsafe(no_mangle)]
 pub extern "C" fn galliumtoad_session_app_at(
     alloc: Global,
-    session: &mut GtCard,
+    session: &mut CardHandle,
     place: usize,
     aid: &mut [u8],
     len: &mut usize,
@@ -177,7 +177,7 @@ pub extern "C" fn galliumtoad_session_app_at(
 #[unsafe(no_mangle)]
 pub extern "C" fn galliumtoad_session_entry_at(
     alloc: Global,
-    session: &mut GtCard,
+    session: &mut CardHandle,
     app: usize,
     place: usize,
     tag: &mut u32,

@@ -1,5 +1,5 @@
 //! Shows that a handle may move to another thread.
-use crate::card_held::GtCard;
+use crate::held_card::CardHandle;
 use crate::held_exchange::ExchangeHandle;
 use crate::held_t1::T1Handle;
 use crate::held_terminal::TerminalHandle;
@@ -8,7 +8,7 @@ fn goes<T: Send>() {}
 
 /// Compiles only if each handle is `Send`.
 pub fn handles_go() {
-    goes::<GtCard>();
+    goes::<CardHandle>();
     goes::<ExchangeHandle>();
     goes::<T1Handle>();
     goes::<TerminalHandle>();

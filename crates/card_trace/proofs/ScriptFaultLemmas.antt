@@ -9,7 +9,7 @@ use Rattle.std.specs.Str.Lines.{lines, lines_of_parts}
 use Rattle.std.proofs.KnownBytes.{Appends-nil}
 use Rattle.card_trace.specs.declared.play_fault.PlayFault.{PlayFault}
 use Rattle.card_trace.specs.declared.play_fault.PlayFault.TheVariants.{Script as Refused, Read, Write, InputTooLong, OutOfMemory}
-use Rattle.card_trace.specs.declared.script.reason.Reason.{Reason}
+use Rattle.card_trace.specs.declared.script.reason.LineReason.{LineReason}
 use Rattle.card_trace.specs.declared.script.reading.TheConstants.{SCRIPT_LIMIT}
 use Rattle.card_trace.specs.declared.script.refusal.Refusal.{Refusal}
 use Rattle.card_trace.specs.declared.script.refusal.Refusal.TheVariants.{Line, OutOfMemory as NoMemory}
@@ -71,9 +71,9 @@ fault_passed (Ok x) e Q same h = absurd same
 fault_passed (Err f) e Q same h = subst Q (sym same) h
 
 -- a refusal of the line, for which nothing is written
-pub of_refusal : (R S : Reason → Type 0) (number : ℕ) (written : Option (List ℕ))
+pub of_refusal : (R S : LineReason → Type 0) (number : ℕ) (written : Option (List ℕ))
     (refusal : Refusal) (fault : PlayFault) → fault ≡ fault_at number refusal
-    → ((reason : Reason) → R reason → S reason) → OnReason refusal R
+    → ((reason : LineReason) → R reason → S reason) → OnReason refusal R
     → IsFaultOfLine S number written written fault
 of_refusal R S number written (Line reason) fault is f h =
     subst (λ x. IsFaultOfLine S number written written x) (sym is) (refl, f reason h, refl)

@@ -1,28 +1,29 @@
 -- What holds of a refusal that a call passes on.
 use Rattle.std.proofs.Common.{◌≡◌, Result, Ok, Err, subst, sym}
 use Rattle.std.specs.Prelude.{IfOk, IfErr, IsErrAnd}
-use Rattle.card_trace.specs.declared.script.reason.Reason.{Reason}
+use Rattle.card_trace.specs.declared.script.reason.LineReason.{LineReason}
 use Rattle.card_trace.specs.declared.script.refusal.Refusal.{Refusal}
 use Rattle.card_trace.specs.declared.script.refusal.Refusal.TheVariants.{Line, OutOfMemory}
 use Rattle.card_trace.specs.ScriptReasons.{OnReason}
 
-pub reason_implies : (refusal : Refusal) (P Q : Reason → Type 0)
-    → ((reason : Reason) → P reason → Q reason)
+pub reason_implies : (refusal : Refusal) (P Q : LineReason → Type 0)
+    → ((reason : LineReason) → P reason → Q reason)
     → OnReason refusal P → OnReason refusal Q
 reason_implies (Line reason) P Q f h = f reason h
 reason_implies OutOfMemory P Q f h = tt
 
 -- a refusal that a call passes on
-pub passed_on : {T : Type 0} (r : Result T Refusal) (refusal : Refusal) (P Q : Reason → Type 0)
-    → IsErrAnd r (λ e. e ≡ refusal) → ((reason : Reason) → P reason → Q reason) → OnReason refusal P
+pub passed_on : {T : Type 0} (r : Result T Refusal) (refusal : Refusal) (P Q : LineReason → Type 0)
+    → IsErrAnd r (λ e. e ≡ refusal) → ((reason : LineReason) → P reason → Q reason)
+    → OnReason refusal P
     → IfErr r (λ e. OnReason e Q)
 passed_on (Ok x) refusal P Q same f h = absurd same
 passed_on (Err e) refusal P Q same f h =
     let R : Refusal → Type 0 = λ x. OnReason x Q in
     subst R (sym same) (reason_implies refusal P Q f h)
 
-pub refuses_more : {T : Type 0} (r : Result T Refusal) (P Q : Reason → Type 0)
-    → ((reason : Reason) → P reason → Q reason) → IfErr r (λ e. OnReason e P)
+pub refuses_more : {T : Type 0} (r : Result T Refusal) (P Q : LineReason → Type 0)
+    → ((reason : LineReason) → P reason → Q reason) → IfErr r (λ e. OnReason e P)
     → IfErr r (λ e. OnReason e Q)
 refuses_more (Ok x) P Q f h = tt
 refuses_more (Err e) P Q f h = reason_implies e P Q f h

@@ -2,8 +2,8 @@
 use Rattle.std.specs.Prelude.{◌≡◌, ℕ, List, [], take, drop, Option, Some, None, is_some, true}
 use Rattle.atr_core.specs.Answer.{Answer, IsAnswer, characters}
 use Rattle.atr_core.specs.FirstFault.{first_fault}
-use Rattle.card_trace.specs.declared.script.reason.Reason.{Reason}
-use Rattle.card_trace.specs.declared.script.reason.Reason.TheVariants.{BadAtr, AtrTwice}
+use Rattle.card_trace.specs.declared.script.reason.LineReason.{LineReason}
+use Rattle.card_trace.specs.declared.script.reason.LineReason.TheVariants.{BadAtr, AtrTwice}
 
 -- All its characters, and those that are left to hand out. Both are empty for a card without one.
 pub record AnswerToReset : Type 0 where
@@ -39,7 +39,7 @@ AreOfAnswer bytes = (a : Answer) × IsAnswer a × (bytes ≡ characters a)
 
 -- Why a card refuses these bytes as its answer: they are no answer, with their first fault; or they
 -- are one, but the card already has one.
-abbrev pub RefusesAnswer : Option (List ℕ) → List ℕ → Reason → Type 0
+abbrev pub RefusesAnswer : Option (List ℕ) → List ℕ → LineReason → Type 0
 RefusesAnswer kept bytes (BadAtr fault) = first_fault bytes ≡ Some fault
 RefusesAnswer kept bytes AtrTwice = AreOfAnswer bytes × (is_some kept ≡ true)
 RefusesAnswer kept bytes _ = ⊥

@@ -13,7 +13,7 @@ use Rattle.object_card.specs.Tables.{Application}
 use Rattle.object_card.specs.State.{CardState, after_reset}
 use Rattle.object_card.specs.CardMeaning.{Does}
 use Rattle.object_card.specs.Builder.{new_card}
-use Rattle.card_trace.specs.declared.script.reason.Reason.{Reason}
+use Rattle.card_trace.specs.declared.script.reason.LineReason.{LineReason}
 use Rattle.card_trace.specs.declared.script.refusal.Refusal.TheVariants.{Line}
 use Rattle.card_trace.specs.AnswerToReset.{AnswerToReset, at_first, characters_of, up_to, without, AreOfAnswer, RefusesAnswer}
 use Rattle.card_trace.specs.PrintedText.{reset_text, not_listening_text}
@@ -173,7 +173,7 @@ IsBuilt old (Atr bytes) new =
 IsBuilt old (Plan plan) new = new ≡ record old { plans = old.plans ++ plan ∷ [] }
 
 -- why a part is refused: the builder's reason; or it is no answer to reset, or the second one
-abbrev pub IsNotBuilt : Built → Part → Reason → Type 0
+abbrev pub IsNotBuilt : Built → Part → LineReason → Type 0
 IsNotBuilt old (Adds addition) reason = IsNotAdded old.tables addition (Line reason)
 IsNotBuilt old (Atr bytes) reason = RefusesAnswer old.answer bytes reason
 IsNotBuilt old (Plan plan) reason = ⊥

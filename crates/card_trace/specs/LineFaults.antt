@@ -2,11 +2,11 @@
 use Rattle.std.specs.Prelude.{◌≡◌, ℕ, List, Option}
 use Rattle.card_trace.specs.declared.play_fault.PlayFault.{PlayFault}
 use Rattle.card_trace.specs.declared.play_fault.PlayFault.TheVariants.{Script, Read, Write, InputTooLong, OutOfMemory}
-use Rattle.card_trace.specs.declared.script.reason.Reason.{Reason}
+use Rattle.card_trace.specs.declared.script.reason.LineReason.{LineReason}
 
 -- A fault of the line with this number. If the line is refused, or memory runs out, it writes
 -- nothing.
-abbrev pub IsFaultOfLine : (Reason → Type 0) → ℕ → Option (List ℕ) → Option (List ℕ) → PlayFault
+abbrev pub IsFaultOfLine : (LineReason → Type 0) → ℕ → Option (List ℕ) → Option (List ℕ) → PlayFault
     → Type 0
 IsFaultOfLine Refuses number old new (Script line reason) =
     (line ≡ number) × Refuses reason × (new ≡ old)

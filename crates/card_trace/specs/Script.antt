@@ -3,7 +3,7 @@ use Rattle.std.specs.Prelude.{◌≡◌, ◌≢◌, ◌⊎◌, ℕ, List, [], �
 use Rattle.std.specs.Str.Lines.{lines}
 use Rattle.std.specs.Io.KnownBytes.{Appends}
 use Rattle.card_trace.specs.declared.script.keyword.Keyword.{Keyword}
-use Rattle.card_trace.specs.declared.script.reason.Reason.{Reason}
+use Rattle.card_trace.specs.declared.script.reason.LineReason.{LineReason}
 use Rattle.card_trace.specs.declared.script.section.Section.{Section}
 use Rattle.card_trace.specs.declared.script.section.Section.TheVariants as sections
 use Rattle.card_trace.specs.ScriptKeywords.{keyword_text}
@@ -22,7 +22,7 @@ pub record Script : Type 1 where
   -- the empty table, a table with one more part, and why a part is refused
   pub empty : Table
   pub Adds : Table → Part → Table → Type 0
-  pub Refuses : Table → Part → Reason → Type 0
+  pub Refuses : Table → Part → LineReason → Type 0
   -- the card of a table, and what an act prints and does
   pub Begins : Table → Card → Type 0
   pub Does : Card → Act → List ℕ → Card → Type 0
@@ -71,7 +71,7 @@ DoesMeaning s old (Runs act) text new =
     (card next : s.Card) × RunsOn s old card × s.Does card act text next × (new ≡ Running next)
 
 -- what a line says is refused for this reason
-abbrev pub RefusesMeaning : (s : Script) → State s → Meaning s → Reason → Type 0
+abbrev pub RefusesMeaning : (s : Script) → State s → Meaning s → LineReason → Type 0
 RefusesMeaning s (Building table) (Builds part) reason = s.Refuses table part reason
 RefusesMeaning s state meaning reason = ⊥
 
@@ -84,7 +84,7 @@ DoesLine s old line text new =
 
 -- A line is refused: its words say nothing in this section, or what they say is refused for this
 -- reason.
-abbrev pub RefusesLine : (s : Script) → State s → List ℕ → Reason → Type 0
+abbrev pub RefusesLine : (s : Script) → State s → List ℕ → LineReason → Type 0
 RefusesLine s state line reason = SaysNothing s (section_of s state) line
     ⊎ ((meaning : Meaning s) × Says s (section_of s state) (words_of line) meaning
     × RefusesMeaning s state meaning reason)

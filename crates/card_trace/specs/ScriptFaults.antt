@@ -5,14 +5,14 @@ use Rattle.std.specs.Io.KnownBytes.{Appends}
 use Rattle.card_trace.specs.declared.play_fault.PlayFault.{PlayFault}
 use Rattle.card_trace.specs.declared.play_fault.PlayFault.TheVariants.{Script as Refused, Read, Write, InputTooLong, OutOfMemory}
 use Rattle.card_trace.specs.declared.script.reading.TheConstants.{SCRIPT_LIMIT}
-use Rattle.card_trace.specs.declared.script.reason.Reason.{Reason}
+use Rattle.card_trace.specs.declared.script.reason.LineReason.{LineReason}
 use Rattle.card_trace.specs.ScriptReading.{IsReadingFault}
 use Rattle.card_trace.specs.Script.{Script, State, Building, DoesAll, RefusesLine}
 
 -- The line with this number, counted from 1, is refused for this reason. The lines before it are
 -- carried out, and print this text.
 pub record IsRefusedAt (s : Script) (all : List (List ℕ)) (text : List ℕ) (number : ℕ)
-    (reason : Reason) : Type 0 where
+    (reason : LineReason) : Type 0 where
   pub before : List (List ℕ)
   pub line : List ℕ
   pub others : List (List ℕ)

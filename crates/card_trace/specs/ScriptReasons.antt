@@ -5,15 +5,15 @@ use Rattle.apdu_core.specs.declared.command.ApduFault.TheVariants as command
 use Rattle.atr_core.specs.FaultText.{fault_text}
 use Rattle.object_card.specs.declared.builder_fault.BuilderFault.{BuilderFault}
 use Rattle.object_card.specs.declared.builder_fault.BuilderFault.TheVariants as builder
-use Rattle.card_trace.specs.declared.script.reason.Reason.{Reason}
-use Rattle.card_trace.specs.declared.script.reason.Reason.TheVariants.{UnknownWord, LateTableLine, WrongWordCount, BadHex, BadTag, BadPlan, BadNumber, BadAid, BadAtr, ValueTooLong, CommandTooShort, BadCommandLength, InvalidIns, AtrTwice, AidTwice, TooManyApps, NoApp, NotObjects, TableFull}
+use Rattle.card_trace.specs.declared.script.reason.LineReason.{LineReason}
+use Rattle.card_trace.specs.declared.script.reason.LineReason.TheVariants.{UnknownWord, LateTableLine, WrongWordCount, BadHex, BadTag, BadPlan, BadNumber, BadAid, BadAtr, ValueTooLong, CommandTooShort, BadCommandLength, InvalidIns, AtrTwice, AidTwice, TooManyApps, NoApp, NotObjects, TableFull}
 use Rattle.card_trace.specs.declared.script.refusal.Refusal.{Refusal}
 use Rattle.card_trace.specs.declared.script.refusal.Refusal.TheVariants.{Line, OutOfMemory}
 use Rattle.card_trace.specs.declared.play_fault.PlayFault.{PlayFault}
 use Rattle.card_trace.specs.declared.play_fault.PlayFault.TheVariants as play
 
 -- the texts of the reasons
-abbrev pub reason_text : Reason → List ℕ
+abbrev pub reason_text : LineReason → List ℕ
 reason_text UnknownWord = codes "unknown word"
 reason_text LateTableLine = codes "table line after the first run line"
 reason_text WrongWordCount = codes "wrong number of words"
@@ -35,7 +35,7 @@ reason_text NotObjects = codes "not objects"
 reason_text TableFull = codes "table full"
 
 -- the reason for bytes that are no command
-abbrev pub reason_of_command : ApduFault → Reason
+abbrev pub reason_of_command : ApduFault → LineReason
 reason_of_command command.TooShort = CommandTooShort
 reason_of_command command.BadLength = BadCommandLength
 reason_of_command command.InvalidIns = InvalidIns
@@ -56,6 +56,6 @@ fault_at line (Line reason) = play.Script line reason
 fault_at line OutOfMemory = play.OutOfMemory
 
 -- this holds of the reason; if memory ran out, nothing is promised
-abbrev pub OnReason : Refusal → (Reason → Type 0) → Type 0
+abbrev pub OnReason : Refusal → (LineReason → Type 0) → Type 0
 OnReason (Line reason) P = P reason
 OnReason OutOfMemory P = Unit {0}

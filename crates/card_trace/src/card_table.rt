@@ -7,7 +7,7 @@ ghost use Rattle.card_trace.specs.AnswerToReset.{AreOfAnswer, RefusesAnswer};
 ghost use Rattle.card_trace.specs.ScriptReasons.{OnReason};
 
 use crate::script::card_line::CardPart;
-use crate::script::reason::Reason;
+use crate::script::reason::LineReason;
 use crate::script::refusal::Refusal;
 use crate::script::table_line::add;
 use atr_core::Atr;
@@ -60,7 +60,7 @@ impl<A: Allocator + Copy> CardTable<A> {
     /// # Errors
     /// - `BadAtr`: they are no answer to reset; this is their first fault. The table is unchanged.
     /// - `AtrTwice`: they are one, but the table already has one. The table is unchanged.
-    fn answer(&mut self, answer: Bytes<A>) -> Result<(), Reason>
+    fn answer(&mut self, answer: Bytes<A>) -> Result<(), LineReason>
         ensures kept { OnOk result ((self.old.answer ≡ None) × AreOfAnswer answer
             × (self.new.answer ≡ Some answer)) }
         ensures refused { IfErr result (RefusesAnswer self.old.answer answer) }
@@ -69,7 +69,7 @@ impl<A: Allocator + Copy> CardTable<A> {
     {
         Atr::read(answer.bytes())?;
         if self.answer.is_some() {
-            return Err(Reason::AtrTwice);
+            return Err(LineReason::AtrTwice);
         }
         self.answer = Some(answer);
         Ok(())

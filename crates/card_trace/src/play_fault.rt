@@ -1,5 +1,5 @@
 //! The errors of a script, with their texts.
-use crate::script::reason::Reason;
+use crate::script::reason::LineReason;
 use std::alloc::AllocError;
 use std::error::Error;
 use std::fmt;
@@ -9,7 +9,7 @@ use std::fmt;
 pub enum PlayFault {
     /// The line with this number, counted from 1, is refused; those before it were carried out, and
     /// their text was written.
-    Script { line: usize, reason: Reason },
+    Script { line: usize, reason: LineReason },
     /// The reader failed; nothing was written.
     Read,
     /// The writer failed; it is not known how much it took.

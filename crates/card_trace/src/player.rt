@@ -12,7 +12,7 @@ use crate::runner::Runner;
 use crate::script::line::{Line, read_line};
 use crate::script::lines::Lines;
 use crate::script::reading::{SCRIPT_LIMIT, read_script};
-use crate::script::reason::Reason;
+use crate::script::reason::LineReason;
 use crate::script::refusal::Refusal;
 use crate::script::section::Section;
 use std::alloc::AllocError;
@@ -133,7 +133,7 @@ fn add<R: Runner>(
         OnReason refusal (RefusesMeaning R.script state (Builds (R.part_of part)))) }
 {
     match player {
-        Player::Running(_) => Err(Refusal::Line(Reason::LateTableLine)),
+        Player::Running(_) => Err(Refusal::Line(LineReason::LateTableLine)),
         Player::Building(mut table) => {
             R::add(&mut table, part)?;
             Ok(Player::Building(table))

@@ -3,7 +3,7 @@ use Rattle.std.specs.Prelude.{◌≡◌, ◌⊎◌, ℕ, ◌<◌, ◌≤◌, Lis
 use Rattle.apdu_core.specs.declared.header.Header.{Header}
 use Rattle.apdu_core.specs.CommandBytes.{Command}
 use Rattle.apdu_core.specs.StatusWord.{StatusWord, announces, corrects}
-use Rattle.command_card.specs.declared.application.TheConstants.{RESPONSE_LIMIT}
+use Rattle.command_card.specs.declared.application.TheConstants.{OWN_RESPONSE_LIMIT}
 
 -- a command that an application has carried out, its response, and its status
 pub record Did : Type 0 where
@@ -26,7 +26,7 @@ pub record IsTooLong {S : Type 0} (Act : S → Did → S → Type 0) (old : S) (
     pub next : S
     pub acts : Act old did next
     pub command_is : did.command ≡ c
-    pub long : RESPONSE_LIMIT < length did.response
+    pub long : OWN_RESPONSE_LIMIT < length did.response
 
 -- The application carries the command out, in one step. If its response is too long, the status is
 -- 6F00 without a response, and the application is unchanged.
@@ -34,7 +34,7 @@ abbrev pub Makes : {S : Type 0} → (S → Did → S → Type 0) → S → Comma
     → Type 0
 Makes Act old c response status new =
     (Act old (record { command = c; response = response; status = status }) new × IsOwn status
-    × (length response ≤ RESPONSE_LIMIT))
+    × (length response ≤ OWN_RESPONSE_LIMIT))
     ⊎ ((new ≡ old) × (response ≡ []) × (status ≡ (0x6F, 0x00)) × IsTooLong Act old c)
 
 -- the command as its header and P3 tell it, before data, and with the data that came

@@ -7,7 +7,7 @@ use Rattle.t0_core.specs.Character.{Character}
 use Rattle.t0_core.specs.History.{Event, Item, Whole, Cut_off, events_of, passed}
 use Rattle.t0_core.specs.Meaning.{Tpdu, tpdu_of}
 use Rattle.apdu_core.specs.CommandBytes.{Command}
-use Rattle.command_card.specs.declared.application.TheConstants.{RESPONSE_LIMIT}
+use Rattle.command_card.specs.declared.application.TheConstants.{OWN_RESPONSE_LIMIT}
 use Rattle.command_card.specs.Carrying.{Did, IsTooLong}
 use Rattle.command_card.specs.State.{is_fetch}
 
@@ -19,7 +19,7 @@ pub data Deed : Type 0 where
   Resets : Deed
 
 abbrev pub StepsBy : {S : Type 0} → (S → Did → S → Type 0) → (S → S) → S → Deed → S → Type 0
-StepsBy Act reset old (Made did) new = Act old did new × (length did.response ≤ RESPONSE_LIMIT)
+StepsBy Act reset old (Made did) new = Act old did new × (length did.response ≤ OWN_RESPONSE_LIMIT)
 StepsBy Act reset old (Dropped c) new = IsTooLong Act old c × (new ≡ old)
 StepsBy Act reset old Resets new = new ≡ reset old
 

@@ -12,7 +12,7 @@ ghost use Rattle.command_card.specs.State.{Hand, For_repeat, same_header, pendin
 ghost use Rattle.command_card.specs.Meaning.{Does};
 ghost use Rattle.command_card.specs.View.{left_of, state_of, state_after, ask_of, prepared_of, buffer_of, bytes_of, sends, IsReady, IsEnded, Prepares, MaySend, WaitsFor, LeavesFor};
 
-use crate::application::{Application, GET_RESPONSE, RESPONSE_LIMIT};
+use crate::application::{Application, GET_RESPONSE, OWN_RESPONSE_LIMIT};
 use crate::ready::{Ending, Ready, Waiting};
 use apdu_core::{Command, Header, Status, count};
 use std::mem::swap;
@@ -108,7 +108,7 @@ pub(crate) fn carried_out<A: Application>(
         wipe(response);
         return (word(0x65, 0x81), false);
     };
-    if response.len() > RESPONSE_LIMIT {
+    if response.len() > OWN_RESPONSE_LIMIT {
         wipe(response);
         return (word(0x6F, 0x00), false);
     }

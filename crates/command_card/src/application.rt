@@ -3,7 +3,7 @@ use apdu_core::{Command, Header, Status};
 use std::alloc::AllocError;
 
 /// The longest response of an application, in bytes without the status (profile).
-pub const RESPONSE_LIMIT: usize = 4_096;
+pub const OWN_RESPONSE_LIMIT: usize = 4_096;
 
 /// INS of GET RESPONSE (ISO/IEC 7816-4, GET RESPONSE).
 pub const GET_RESPONSE: u8 = 0xC0;
@@ -41,7 +41,7 @@ pub trait Application {
     fn takes_data(&self, header: Header) -> bool
         ensures { result ≡ takes (standing self.now) header };
 
-    /// Carries out a command, and writes its response of at most `RESPONSE_LIMIT` bytes into
+    /// Carries out a command, and writes its response of at most `OWN_RESPONSE_LIMIT` bytes into
     /// `response`, which is empty. The status must not be `61XX` or `6CXX`. The command is as T=0
     /// shows it: data without Le, or Le without data. A command that was carried out and did not
     /// settle is dropped.

@@ -32,7 +32,7 @@ pub trait Eager {
     fn takes_data(&self, header: Header) -> bool
         ensures { result ≡ takes (standing self.now) header };
 
-    /// Carries out a command, and writes its response of at most `RESPONSE_LIMIT` bytes into
+    /// Carries out a command, and writes its response of at most `OWN_RESPONSE_LIMIT` bytes into
     /// `response`, which is empty. The status must not be `61XX` or `6CXX`.
     ///
     /// # Errors

@@ -1,6 +1,6 @@
 //! An application whose responses come from outside, one for each command.
 ghost use Rattle.std.specs.Prelude.{◌≡◌, ◌<◌, ◌≤◌, ◌^◌, length, true, None, is_some, IfOk, OnOk, OnErr};
-ghost use Rattle.command_card.specs.declared.application.TheConstants.{RESPONSE_LIMIT};
+ghost use Rattle.command_card.specs.declared.application.TheConstants.{OWN_RESPONSE_LIMIT};
 ghost use Rattle.command_card.specs.Carrying.{IsOwn};
 ghost use Rattle.command_card.specs.Given.{IsGiven, after_drop, forgotten, go_to_card, settled, with_answer, without_answer};
 ghost use Rattle.command_card.specs.declared.given.Directions.TheVariants as way;
@@ -67,7 +67,7 @@ pub struct Given {
 
 impl Model for Given {
     ghost use Rattle.std.specs.Prelude.{◌≡◌, ◌≤◌, false, length, MatchOption, ⊤};
-    ghost use Rattle.command_card.specs.declared.application.TheConstants.{RESPONSE_LIMIT};
+    ghost use Rattle.command_card.specs.declared.application.TheConstants.{OWN_RESPONSE_LIMIT};
     ghost use Rattle.command_card.specs.Carrying.{IsOwn};
     ghost use Rattle.command_card.specs.Given.{GivenState, answer_of};
 
@@ -81,7 +81,7 @@ impl Model for Given {
 
     ghost invariant = { λ g. (g.used ≡ false → g.spare.items ≡ g.bytes.items)
         × MatchOption g.status ⊤ (λ status. IsOwn status
-        × (length g.bytes.items ≤ RESPONSE_LIMIT)) };
+        × (length g.bytes.items ≤ OWN_RESPONSE_LIMIT)) };
 }
 
 impl Given {
@@ -127,7 +127,7 @@ impl Given {
     pub(crate) fn give(&mut self, bytes: &[u8], status: Status) -> Result<(), AllocError>
         requires none { self.old.given ≡ None }
         requires own { IsOwn status }
-        requires short { length bytes.now ≤ RESPONSE_LIMIT }
+        requires short { length bytes.now ≤ OWN_RESPONSE_LIMIT }
         ensures failed { OnErr result (self.new ≡ self.old) }
         ensures done { OnOk result (self.new ≡ with_answer self.old bytes.now status) }
     {
@@ -160,7 +160,7 @@ impl Given {
         ensures failed { OnErr result ((self.new ≡ self.old) × (into.new ≡ into.old)) }
         ensures own { IfOk result IsOwn }
         ensures given { IfOk result (λ status. IsGiven self.old.given into.new.items status
-            × (length into.new.items ≤ RESPONSE_LIMIT) × (self.new ≡ settled self.old)) }
+            × (length into.new.items ≤ OWN_RESPONSE_LIMIT) × (self.new ≡ settled self.old)) }
     {
         let Some(status) = self.status else {
             return Err(AllocError);

@@ -27,7 +27,7 @@ mod own;
 mod ready;
 
 pub use applet::{AppletOf, RESPONSE_ROOM};
-pub use application::{Application, GET_RESPONSE, RESPONSE_LIMIT};
+pub use application::{Application, GET_RESPONSE, OWN_RESPONSE_LIMIT};
 pub use card::CommandCard;
 pub use copied::{Copied, Eager};
 pub use given::{Directions, Given};

@@ -3,7 +3,7 @@ ghost use Rattle.std.specs.Prelude.{◌≡◌, ◌+◌, ◌≤◌, ◌<◌, [], 
 ghost use Rattle.apdu_core.specs.declared.header.Header.{Header};
 ghost use Rattle.command_card.specs.declared.own.GiveFault.TheVariants as fault;
 ghost use Rattle.command_card.specs.declared.given.Directions.TheVariants as way;
-ghost use Rattle.command_card.specs.declared.application.TheConstants.{RESPONSE_LIMIT};
+ghost use Rattle.command_card.specs.declared.application.TheConstants.{OWN_RESPONSE_LIMIT};
 ghost use Rattle.command_card.specs.declared.applet.TheConstants.{RESPONSE_ROOM};
 ghost use Rattle.command_card.specs.Carrying.{IsOwn};
 ghost use Rattle.command_card.specs.Given.{Gives, settled, takes_data, with_answer};
@@ -13,7 +13,7 @@ ghost use Rattle.command_card.specs.Wanted.{IsWanted, RespondsAs, is_open, is_kn
 
 use crate::answer::{pending_for, wipe, word};
 use crate::applet::{RESPONSE_ROOM, hand_out, write};
-use crate::application::{Application, GET_RESPONSE, RESPONSE_LIMIT};
+use crate::application::{Application, GET_RESPONSE, OWN_RESPONSE_LIMIT};
 use crate::card::CommandCard;
 use crate::given::{Directions, Given};
 use crate::ready::{Ready, Waiting};
@@ -50,7 +50,7 @@ pub enum Wanted<'a> {
 pub enum GiveFault {
     /// It has a response already, or has begun to answer.
     NotWanted,
-    /// The response exceeds `RESPONSE_LIMIT`.
+    /// The response exceeds `OWN_RESPONSE_LIMIT`.
     TooLong,
     /// The status is `61XX` or `6CXX`, which are the card's own.
     CardsOwn,
@@ -109,24 +109,24 @@ impl CommandCard<Given> {
     /// # Errors
     /// In this order; nothing has changed:
     /// - `NotWanted`: it has one, or has begun to answer.
-    /// - `TooLong`: the response exceeds `RESPONSE_LIMIT`.
+    /// - `TooLong`: the response exceeds `OWN_RESPONSE_LIMIT`.
     /// - `CardsOwn`: the status is `61XX` or `6CXX`.
     /// - `OutOfMemory`.
     pub fn give(&mut self, bytes: &[u8], status: Status) -> Result<(), GiveFault>
         ensures prepared { prepared_in (λ s. s) settled self.new
             ≡ prepared_in (λ s. s) settled self.old }
         ensures failed { OnErr result (self.new ≡ self.old) }
-        ensures done { OnOk result (IsOwn status × (length bytes.now ≤ RESPONSE_LIMIT)
+        ensures done { OnOk result (IsOwn status × (length bytes.now ≤ OWN_RESPONSE_LIMIT)
             × (self.new ≡ record self.old { app = with_answer self.old.app bytes.now status })) }
         ensures wanted { result ≡ Err fault.NotWanted →
             ¬ ((is_open self.old.ready ≡ true) × (self.old.app.given ≡ None)) }
-        ensures long { result ≡ Err fault.TooLong → RESPONSE_LIMIT < length bytes.now }
+        ensures long { result ≡ Err fault.TooLong → OWN_RESPONSE_LIMIT < length bytes.now }
         ensures own { result ≡ Err fault.CardsOwn → ¬ IsOwn status }
     {
         if !is_open(&self.ready) || self.application.has_response() {
             return Err(GiveFault::NotWanted);
         }
-        if bytes.len() > RESPONSE_LIMIT {
+        if bytes.len() > OWN_RESPONSE_LIMIT {
             return Err(GiveFault::TooLong);
         }
         if status.announces().is_some() || status.corrects().is_some() {
@@ -360,13 +360,13 @@ pub fn give(
 ) -> Result<(), GiveFault>
     ensures stage { end.new.stage ≡ end.old.stage }
     ensures failed { OnErr result (end.new.card ≡ end.old.card) }
-    ensures done { OnOk result (IsOwn status × (length bytes.now ≤ RESPONSE_LIMIT)
+    ensures done { OnOk result (IsOwn status × (length bytes.now ≤ OWN_RESPONSE_LIMIT)
         × (end.new.card ≡ record end.old.card {
           app = with_answer end.old.card.app bytes.now status;
         })) }
     ensures wanted { result ≡ Err fault.NotWanted →
         ¬ ((is_open end.old.card.ready ≡ true) × (end.old.card.app.given ≡ None)) }
-    ensures long { result ≡ Err fault.TooLong → RESPONSE_LIMIT < length bytes.now }
+    ensures long { result ≡ Err fault.TooLong → OWN_RESPONSE_LIMIT < length bytes.now }
     ensures own { result ≡ Err fault.CardsOwn → ¬ IsOwn status }
 {
     end.with_card(|card| card.give(bytes, status))

@@ -8,8 +8,8 @@ use Rattle.t1_core.specs.declared.terminal.Out.{Out}
 use Rattle.t1_core.specs.declared.terminal.Out.TheVariants.{Own, Asks, Grants}
 use Rattle.t1_core.specs.declared.terminal.Phase.{Phase}
 use Rattle.t1_core.specs.declared.terminal.Phase.TheVariants.{Opening, Sending, Receiving, Aborting, Over, GivenUp}
-use Rattle.t1_core.specs.declared.pcb.Reason.{Reason}
-use Rattle.t1_core.specs.declared.pcb.Reason.TheVariants.{Other}
+use Rattle.t1_core.specs.declared.pcb.BlockReason.{BlockReason}
+use Rattle.t1_core.specs.declared.pcb.BlockReason.TheVariants.{Other}
 use Rattle.t1_core.specs.Block.{I, R, Request, Response, Arrival, Came, Bad, other, same, is_size}
 use Rattle.t1_core.specs.BlockBytes.{arrival_of}
 use Rattle.t1_core.specs.History.{Event, Begins, Takes, Misses, Resets, happens, Account, nothing, stays, without_step, counted, counts, account, after, accounts, reason, cause_in, IsAccounted}
@@ -239,7 +239,7 @@ module _ (s : Settings) where
     )
     answered_next n more (b ∷ bytes) f = spent _ Sending (Asks Other) tt refl
 
-    acknowledged_next : (n : Bool) (error : Reason) (rest : List ℕ)
+    acknowledged_next : (n : Bool) (error : BlockReason) (rest : List ℕ)
         → Next (Came (R n error)) (on Sending t) (acknowledged rest (on Sending t)) a
     acknowledged_next n error [] = spent _ Sending (Asks Other) tt refl
     acknowledged_next n error (b ∷ bytes) =

@@ -4,8 +4,8 @@ use Rattle.std.specs.List.{slice_range}
 use Rattle.std.proofs.Math.Seq.{take-append_seam, get_or-append_seam}
 use Rattle.t1_core.specs.declared.pcb.Pcb.{Pcb}
 use Rattle.t1_core.specs.declared.pcb.Pcb.TheVariants.{Information, Ready, Supervisory}
-use Rattle.t1_core.specs.declared.pcb.Reason.{Reason}
-use Rattle.t1_core.specs.declared.pcb.Reason.TheVariants.{NoError, Edc, Other}
+use Rattle.t1_core.specs.declared.pcb.BlockReason.{BlockReason}
+use Rattle.t1_core.specs.declared.pcb.BlockReason.TheVariants.{NoError, Edc, Other}
 use Rattle.t1_core.specs.declared.pcb.Subject.TheVariants.{Resynch}
 use Rattle.t1_core.specs.declared.line.Fate.{Fate}
 use Rattle.t1_core.specs.declared.line.Fate.TheVariants.{Delivers, Damages, Loses}
@@ -114,13 +114,13 @@ reads_written b bytes few filled is =
     ∙ block_again b filled
 
 -- a block that was read has a field if its more-data bit is set
-controlled_is_filled : (reason : Reason) (response : Bool) (c : Option Control)
+controlled_is_filled : (reason : BlockReason) (response : Bool) (c : Option Control)
     → are_filled (arrives_as reason (controlled response c)) ≡ true
 controlled_is_filled reason response None = refl
 controlled_is_filled reason true (Some c) = refl
 controlled_is_filled reason false (Some c) = refl
 
-block_is_filled : (reason : Reason) (parts : Option (Pcb × List ℕ))
+block_is_filled : (reason : BlockReason) (parts : Option (Pcb × List ℕ))
     → are_filled (arrives_as reason (block_in parts)) ≡ true
 block_is_filled reason (Some (Information number true, [])) = refl
 block_is_filled reason (Some (Ready number error, x ∷ field)) = refl

@@ -4,8 +4,8 @@ use Rattle.std.proofs.lemmas.List.{take-append-drop}
 use Rattle.t1_core.specs.declared.line.Fate.{Fate}
 use Rattle.t1_core.specs.declared.line.Fate.TheVariants.{Delivers, Damages, Loses}
 use Rattle.t1_core.specs.declared.line.Fates.{Fates}
-use Rattle.t1_core.specs.declared.pcb.Reason.{Reason}
-use Rattle.t1_core.specs.declared.pcb.Reason.TheVariants.{Edc, Other}
+use Rattle.t1_core.specs.declared.pcb.BlockReason.{BlockReason}
+use Rattle.t1_core.specs.declared.pcb.BlockReason.TheVariants.{Edc, Other}
 use Rattle.t1_core.specs.declared.settings.Settings.{Settings}
 use Rattle.t1_core.specs.declared.terminal.Cause.{Cause}
 use Rattle.t1_core.specs.declared.terminal.Cause.TheVariants.{TriesSpent, ExtensionsSpent}
@@ -137,7 +137,7 @@ module _ (m : Meaning) (before : List (List ℕ)) (f : ℕ) where
       unasked k s left tries extensions
       (asked k s left tries tries extensions (omega arith) h)
 
-  missed : (why : Reason) (out : Out) (k : Kept) (s : Spot) (left tries extensions : ℕ)
+  missed : (why : BlockReason) (out : Out) (k : Kept) (s : Spot) (left tries extensions : ℕ)
       → Calm (left + 1) k s tries extensions
       → Goes left (k.number, k.due) (misses m before why out k s tries extensions)
   missed why out k (Opens rest asks) left zero extensions h =
@@ -274,7 +274,7 @@ module _ (m : Meaning) (before : List (List ℕ)) (f : ℕ) where
       next_goes (is_long k got) out (numbered first k) k.number got rest left tries extensions refl
       h.0
 
-  garbled_goes : (up : Fate) (k : Kept) (s : Spot) (why : Reason) (left tries extensions : ℕ)
+  garbled_goes : (up : Fate) (k : Kept) (s : Spot) (why : BlockReason) (left tries extensions : ℕ)
       → Calm (left + 1) k s tries extensions
       → Goes left (k.number, k.due) (garbled m before up k s why tries extensions)
   garbled_goes up k s why left tries extensions h =
@@ -284,7 +284,7 @@ module _ (m : Meaning) (before : List (List ℕ)) (f : ℕ) where
       (asked k s left tries tries extensions (omega arith) h))
 
   -- the card's reply does not arrive
-  replied_goes : (now : Reason) (out : Out) (k : Kept) (s : Spot) (left tries extensions : ℕ)
+  replied_goes : (now : BlockReason) (out : Out) (k : Kept) (s : Spot) (left tries extensions : ℕ)
       → Calm (left + 1) k s tries extensions
       → Goes left (k.number, k.due)
       (misses m before now out (heard m before k s).0 (heard m before k s).1 tries extensions)

@@ -6,7 +6,7 @@ use Rattle.t1_core.specs.declared.applet.Applet.{Ghosts}
 use Rattle.t1_core.specs.declared.applet.Requests.{Requests}
 use Rattle.t1_core.specs.declared.card.Reply.{Reply}
 use Rattle.t1_core.specs.declared.card.Reply.TheVariants.{Ready}
-use Rattle.t1_core.specs.declared.pcb.Reason.TheVariants.{NoError}
+use Rattle.t1_core.specs.declared.pcb.BlockReason.TheVariants.{NoError}
 use Rattle.t1_core.specs.Block.{R, other}
 use Rattle.t1_core.specs.CardHistory.{Call, Replies, Fails, Resets, Happens, HappenAll}
 use Rattle.t1_core.specs.CardSide.{Card, Did, Meaning, Turn, carries_out, collects, forgets, replies, responds, turn}

@@ -7,7 +7,7 @@ use Rattle.t1_core.specs.declared.block.Control.{Control}
 use Rattle.t1_core.specs.declared.block.Control.TheVariants.{Ifs, Wtx}
 use Rattle.t1_core.specs.declared.gathered.Progress.{Progress}
 use Rattle.t1_core.specs.declared.gathered.Progress.TheVariants.{Nothing, Begun, Whole, Unknown}
-use Rattle.t1_core.specs.declared.pcb.Reason.{Reason}
+use Rattle.t1_core.specs.declared.pcb.BlockReason.{BlockReason}
 use Rattle.t1_core.specs.declared.reading.End.{End}
 use Rattle.t1_core.specs.declared.reading.End.TheVariants.{Terminal, Card}
 use Rattle.t1_core.specs.declared.reading.Reading.{Reading}
@@ -132,7 +132,7 @@ module _ (P : Reading → Story → Type 0) (s : Story) where
 
   -- R changes only whether the card has asked for a block again
   pub ready_again : (tn cn : Bool) (turn : End) (within : Bool) (old new : Option Shape)
-      (again : Bool) (from : End) (n : Bool) (why : Reason)
+      (again : Bool) (from : End) (n : Bool) (why : BlockReason)
       → ((now : Bool) → P (reading tn cn turn within old new now) s)
       → One P (reading tn cn turn within old new again) s from (R n why)
   ready_again tn cn turn within old new again Terminal n why h =
@@ -167,7 +167,7 @@ module _ (P : Reading → Story → Type 0) (s : Story) where
         by false = (refl, subst (P _) (sym (stays s)) (h _))
 
   -- the card has not received the newest I-block
-  pub asks_again : (n cn more : Bool) (old new : Option Shape) (again : Bool) (why : Reason)
+  pub asks_again : (n cn more : Bool) (old new : Option Shape) (again : Bool) (why : BlockReason)
       → P (reading (other n) cn (cond more Terminal Card) more old new true) s
       → One P (reading (other n) cn (cond more Terminal Card) more old new again) s Card (R n why)
   asks_again true cn true old new true why h = (refl, subst (P _) (sym (stays s)) h)

@@ -9,8 +9,8 @@ use Rattle.t1_core.specs.declared.settings.Settings.{Settings}
 use Rattle.t1_core.specs.declared.line.Fates.{Fates}
 use Rattle.t1_core.specs.declared.line.Fate.{Fate}
 use Rattle.t1_core.specs.declared.line.Fate.TheVariants.{Delivers, Damages, Loses}
-use Rattle.t1_core.specs.declared.pcb.Reason.{Reason}
-use Rattle.t1_core.specs.declared.pcb.Reason.TheVariants.{NoError, Edc, Other}
+use Rattle.t1_core.specs.declared.pcb.BlockReason.{BlockReason}
+use Rattle.t1_core.specs.declared.pcb.BlockReason.TheVariants.{NoError, Edc, Other}
 use Rattle.t1_core.specs.declared.reading.End.{End}
 use Rattle.t1_core.specs.declared.reading.End.TheVariants.{Terminal, Card}
 use Rattle.t1_core.specs.declared.reading.Reading.{Reading}
@@ -36,14 +36,14 @@ use Rattle.t1_core.proofs.Places.{world_after, Kept, Spot, Place, Going, Opens, 
 
 -- ---- the blocks of an exchange
 
-abbrev pub sent_at : Kept → Spot → Reason → Block
+abbrev pub sent_at : Kept → Spot → BlockReason → Block
 sent_at k (Opens rest asks) why = Request (Ifs longest)
 sent_at k (Behind false collected rest answering) why = I k.number (more rest) k.field
 sent_at k (Waits rest n size true) why = Response (Wtx k.multiple)
 sent_at k (Grows rest size true) why = Response (Ifs size)
 sent_at k s why = R k.due why
 
-pub sends_it : (k : Kept) (s : Spot) (why : Reason) (tries extensions : ℕ)
+pub sends_it : (k : Kept) (s : Spot) (why : BlockReason) (tries extensions : ℕ)
     → sends (terminal_at (out_at k s why) k s tries extensions) ≡ Some (sent_at k s why)
 sends_it k (Opens rest true) why tries extensions = refl
 sends_it k (Behind true collected rest answering) why tries extensions = refl
@@ -77,7 +77,7 @@ module _ (m : Meaning) (before : List (List ℕ)) where
   replies_now k rest zero None = refl
 
   -- the card's reply to a block that arrives
-  pub replies_it : (k : Kept) (s : Spot) (why : Reason) → (error : Reason)
+  pub replies_it : (k : Kept) (s : Spot) (why : BlockReason) → (error : BlockReason)
       × ((card_takes m (sent_at k s why) (card_at m before k s)).block
       ≡ Some (reply_of m before error (heard m before k s).0 (heard m before k s).1))
   replies_it k (Opens rest asks) why = (NoError, refl)
@@ -454,7 +454,7 @@ module _ (m : Meaning) (before commands : List (List ℕ)) where
   starts_mid Terminal k rest zero None r t is h = h
 
   -- the card's reply to a whole command is its first request, or the first field of the response
-  starts_replies : (error : Reason) (k : Kept) (rest : List ℕ) (n : ℕ) (size : Option ℕ)
+  starts_replies : (error : BlockReason) (k : Kept) (rest : List ℕ) (n : ℕ) (size : Option ℕ)
       (r : Reading) (t : Story) → Asked r t (other k.number) k.due (D k) (k.last ++ rest)
       → One (Mid Card k (starts rest n size)) r t Card (reply_of m before error k (starts rest n
       size))
@@ -498,12 +498,12 @@ module _ (m : Meaning) (before commands : List (List ℕ)) where
   abbrev Last : Kept → Spot → Reading → Story → Type 0
   Last k s r t = Mid Card (heard m before k s).0 (heard m before k s).1 r t
 
-  abbrev Two : Reason → Kept → Spot → Reading → Story → Type 0
+  abbrev Two : BlockReason → Kept → Spot → Reading → Story → Type 0
   Two error k s r t =
       One (Last k s) r t Card (reply_of m before error (heard m before k s).0 (heard m before k
       s).1)
 
-  hears_both : (e : Reason) (k : Kept) (s : Spot) (why : Reason) (r : Reading) (t : Story)
+  hears_both : (e : BlockReason) (k : Kept) (s : Spot) (why : BlockReason) (r : Reading) (t : Story)
       → Mid Card k s r t → One (Two e k s) r t Terminal (sent_at k s why)
   hears_both e k (Opens rest asks) why r t h =
       let s : Spot = Opens rest asks in
@@ -559,7 +559,7 @@ module _ (m : Meaning) (before commands : List (List ℕ)) where
 
   -- ---- the terminal's block, at its connector
 
-  sends_one : (k : Kept) (s : Spot) (why : Reason) (r : Reading) (t : Story)
+  sends_one : (k : Kept) (s : Spot) (why : BlockReason) (r : Reading) (t : Story)
       → Inv Terminal k s r t → One (Mid Terminal k s) r t Terminal (sent_at k s why)
   sends_one k (Opens rest asks) why r t h =
       requested (Mid Terminal k (Opens rest asks)) t r Terminal (Ifs longest) h
@@ -592,7 +592,7 @@ module _ (m : Meaning) (before commands : List (List ℕ)) where
       answering_ready (Mid Terminal k (Sent false got rest)) r t Terminal k.due why h (λ now so. so)
 
   -- the card's reply, at the terminal's connector
-  reply_one : (e : Reason) (k : Kept) (s : Spot) (r : Reading) (t : Story) → IsHeard k s
+  reply_one : (e : BlockReason) (k : Kept) (s : Spot) (r : Reading) (t : Story) → IsHeard k s
       → Mid Terminal k s r t → One (Post Terminal k s) r t Card (reply_of m before e k s)
   reply_one e k (Opens rest asks) r t a h =
       ifs_granted (Post Terminal k (Opens rest asks)) t r Card longest h
@@ -667,7 +667,7 @@ module _ (m : Meaning) (before commands : List (List ℕ)) where
   asking_inv Terminal k (Behind asks collected rest answering) r t h = h
   asking_inv at k _ r t h = h
 
-  misses_tap : (at : End) (why : Reason) (out : Out) (k : Kept) (s : Spot)
+  misses_tap : (at : End) (why : BlockReason) (out : Out) (k : Kept) (s : Spot)
       (tries extensions : ℕ) (r : Reading) (t : Story) → Holds m before commands k s
       → Mid at k s r t → TapAt at (misses m before why out k s tries extensions) r t
   misses_tap at why out k (Opens rest asks) zero extensions r t holds h =
@@ -790,7 +790,7 @@ module _ (m : Meaning) (before commands : List (List ℕ)) where
       misses_tap Card Other out k s tries extensions r t holds h
 
   -- the card's reply, if it arrives at the terminal
-  arrived_terminal : (error : Reason) (out : Out) (up : Fate) (k : Kept) (s : Spot)
+  arrived_terminal : (error : BlockReason) (out : Out) (up : Fate) (k : Kept) (s : Spot)
       (tries extensions : ℕ) (r : Reading) (t : Story) → IsHeard k s
       → Holds m before commands k s → Mid Terminal k s r t
       → Then (TapAt Terminal (arrived m before out up k s tries extensions)) r t
@@ -819,7 +819,7 @@ module _ (m : Meaning) (before commands : List (List ℕ)) where
   unread_terminal out Loses k s tries extensions r t holds h =
       misses_tap Terminal Other out k s tries extensions r t holds h
 
-  garbled_terminal : (up : Fate) (k : Kept) (s : Spot) (why : Reason) (tries extensions : ℕ)
+  garbled_terminal : (up : Fate) (k : Kept) (s : Spot) (why : BlockReason) (tries extensions : ℕ)
       (r : Reading) (t : Story) → Holds m before commands k s → Mid Terminal k s r t
       → Then (TapAt Terminal (garbled m before up k s why tries extensions)) r t
       (passes false Card up (Some (garble_at k s)))
@@ -839,7 +839,7 @@ module _ (m : Meaning) (before commands : List (List ℕ)) where
   abbrev After : End → Fate → Fate → Place → Reading → Story → Type 0
   After at down up p r t = TapAt at (step m before down up p) r t
 
-  going : (at : End) (down up : Fate) (k : Kept) (s : Spot) (why : Reason)
+  going : (at : End) (down up : Fate) (k : Kept) (s : Spot) (why : BlockReason)
       (tries extensions : ℕ) (r : Reading) (t : Story) → Holds m before commands k s
       → Inv at k s r t
       → Then (After at down up (Going k s why tries extensions)) r t

@@ -2,7 +2,7 @@
 use Rattle.std.proofs.Common.{◌≡◌, ◌≢◌, refl, sym, ap, subst, ◌∙◌, ℕ, Bool, true, false, List, [], ◌∷◌, ◌++◌, length, Option, Some, append_assoc, cond}
 use Rattle.t1_core.specs.declared.gathered.Progress.{Progress}
 use Rattle.t1_core.specs.declared.gathered.Progress.TheVariants.{Begun, Whole}
-use Rattle.t1_core.specs.declared.pcb.Reason.{Reason}
+use Rattle.t1_core.specs.declared.pcb.BlockReason.{BlockReason}
 use Rattle.t1_core.specs.declared.reading.End.{End}
 use Rattle.t1_core.specs.declared.reading.End.TheVariants.{Terminal, Card}
 use Rattle.t1_core.specs.declared.reading.Reading.{Reading}
@@ -81,7 +81,7 @@ pub record Replied (r : Reading) (s : Story) (tn cn : Bool) (done : List Message
 
 module _ (P : Reading → Story → Type 0) (r : Reading) (s : Story) where
   pub on_ready : {tn cn : Bool} {turn : End} {within : Bool}
-      (from : End) (n : Bool) (why : Reason)
+      (from : End) (n : Bool) (why : BlockReason)
       → At r tn cn turn within
       → ((now : Reading) → At now tn cn turn within → P now s) → One P r s from (R n why)
   on_ready {tn} {cn} {turn} {within} from n why at after =
@@ -91,7 +91,7 @@ module _ (P : Reading → Story → Type 0) (r : Reading) (s : Story) where
       (record { old = at.old; new = at.new; again = now; is = refl })))
 
   pub quiet_ready : {tn cn : Bool} {done : List Message}
-      (from : End) (n : Bool) (why : Reason)
+      (from : End) (n : Bool) (why : BlockReason)
       → Quiet r s tn cn done → ((now : Reading) → Quiet now s tn cn done → P now s)
       → One P r s from (R n why)
   quiet_ready {tn} {cn} {done} from n why h after =
@@ -99,7 +99,7 @@ module _ (P : Reading → Story → Type 0) (r : Reading) (s : Story) where
       (λ now at. after now (record { at = at; told = h.told; idle = h.idle }))
 
   pub sending_ready : {tn cn : Bool} {done : List Message} {collected : List ℕ}
-      (from : End) (n : Bool) (why : Reason)
+      (from : End) (n : Bool) (why : BlockReason)
       → Sending r s tn cn done collected
       → ((now : Reading) → Sending now s tn cn done collected → P now s)
       → One P r s from (R n why)
@@ -108,7 +108,7 @@ module _ (P : Reading → Story → Type 0) (r : Reading) (s : Story) where
       (λ now at. after now (record { at = at; newest = h.newest }))
 
   pub command_ready : (within tn cn : Bool) (done : List Message) (collected : List ℕ)
-      (from : End) (n : Bool) (why : Reason) → InCommand within r s tn cn done collected
+      (from : End) (n : Bool) (why : BlockReason) → InCommand within r s tn cn done collected
       → ((now : Reading) → InCommand within now s tn cn done collected → P now s)
       → One P r s from (R n why)
   command_ready false tn cn done collected from n why h after =
@@ -117,7 +117,7 @@ module _ (P : Reading → Story → Type 0) (r : Reading) (s : Story) where
       sending_ready from n why h after
 
   pub asked_ready : {tn cn : Bool} {done : List Message} {response : List ℕ}
-      (from : End) (n : Bool) (why : Reason)
+      (from : End) (n : Bool) (why : BlockReason)
       → Asked r s tn cn done response
       → ((now : Reading) → Asked now s tn cn done response → P now s)
       → One P r s from (R n why)
@@ -132,7 +132,7 @@ module _ (P : Reading → Story → Type 0) (r : Reading) (s : Story) where
       }))
 
   pub answering_ready : {tn cn : Bool} {done : List Message} {got response : List ℕ}
-      (from : End) (n : Bool) (why : Reason)
+      (from : End) (n : Bool) (why : BlockReason)
       → Answering r s tn cn done got response
       → ((now : Reading) → Answering now s tn cn done got response → P now s)
       → One P r s from (R n why)
@@ -148,7 +148,7 @@ module _ (P : Reading → Story → Type 0) (r : Reading) (s : Story) where
 
   pub passing_ready : {number due : Bool} {done : List Message} {more : Bool} {collected field :
       List ℕ} {again : Bool}
-      (from : End) (n : Bool) (why : Reason)
+      (from : End) (n : Bool) (why : BlockReason)
       → Passing r s number due done more collected field again
       → ((now : Reading) (again' : Bool)
       → Passing now s number due done more collected field again' → P now s)
@@ -162,7 +162,7 @@ module _ (P : Reading → Story → Type 0) (r : Reading) (s : Story) where
 
   pub replied_ready : {tn cn : Bool} {done : List Message} {more : Bool} {got last response : List
       ℕ}
-      (from : End) (n : Bool) (why : Reason)
+      (from : End) (n : Bool) (why : BlockReason)
       → Replied r s tn cn done more got last response
       → ((now : Reading) → Replied now s tn cn done more got last response → P now s)
       → One P r s from (R n why)
@@ -183,7 +183,7 @@ module _ (P : Reading → Story → Type 0) (r : Reading) (s : Story) where
   -- the card has not received the terminal's field
   pub passing_asked : {number due : Bool} {done : List Message} {more : Bool} {collected field :
       List ℕ} {again : Bool}
-      (why : Reason)
+      (why : BlockReason)
       → Passing r s number due done more collected field again
       → ((now : Reading) → Passing now s number due done more collected field true → P now s)
       → One P r s Card (R number why)

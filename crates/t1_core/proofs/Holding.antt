@@ -4,8 +4,8 @@ use Rattle.std.proofs.lemmas.List.{take-append-drop}
 use Rattle.t1_core.specs.declared.line.Fate.{Fate}
 use Rattle.t1_core.specs.declared.line.Fate.TheVariants.{Delivers, Damages, Loses}
 use Rattle.t1_core.specs.declared.line.Fates.{Fates}
-use Rattle.t1_core.specs.declared.pcb.Reason.{Reason}
-use Rattle.t1_core.specs.declared.pcb.Reason.TheVariants.{NoError, Edc, Other}
+use Rattle.t1_core.specs.declared.pcb.BlockReason.{BlockReason}
+use Rattle.t1_core.specs.declared.pcb.BlockReason.TheVariants.{NoError, Edc, Other}
 use Rattle.t1_core.specs.declared.settings.Settings.{Settings}
 use Rattle.t1_core.specs.declared.terminal.Cause.{Cause}
 use Rattle.t1_core.specs.declared.terminal.Cause.TheVariants.{TriesSpent, ExtensionsSpent, TooLong}
@@ -197,7 +197,7 @@ module _ (m : Meaning) (before commands : List (List ℕ)) where
     few_taken k.size (k.field ++ rest),
   )
 
-  misses_hold : (why : Reason) (out : Out) (k : Kept) (s : Spot) (tries extensions : ℕ)
+  misses_hold : (why : BlockReason) (out : Out) (k : Kept) (s : Spot) (tries extensions : ℕ)
       → Holds k s → HoldsAt (misses m before why out k s tries extensions)
   misses_hold why out k (Opens rest asks) zero extensions h = begins_hold k rest asks extensions h
   misses_hold why out k (Opens rest asks) (suc n) extensions h = h

@@ -6,8 +6,8 @@ use Rattle.std.proofs.Math.Nat.{suc-mul, mul-le-mul_left, mul-le-mul_right, div-
 use Rattle.t1_core.specs.declared.line.Fate.{Fate}
 use Rattle.t1_core.specs.declared.line.Fate.TheVariants.{Delivers, Damages, Loses}
 use Rattle.t1_core.specs.declared.line.Fates.{Fates}
-use Rattle.t1_core.specs.declared.pcb.Reason.{Reason}
-use Rattle.t1_core.specs.declared.pcb.Reason.TheVariants.{NoError, Edc, Other}
+use Rattle.t1_core.specs.declared.pcb.BlockReason.{BlockReason}
+use Rattle.t1_core.specs.declared.pcb.BlockReason.TheVariants.{NoError, Edc, Other}
 use Rattle.t1_core.specs.declared.settings.Settings.{Settings}
 use Rattle.t1_core.specs.declared.terminal.Cause.{Cause}
 use Rattle.t1_core.specs.declared.terminal.Cause.TheVariants.{TriesSpent, ExtensionsSpent}
@@ -148,7 +148,7 @@ module _ (m : Meaning) (before commands : List (List ℕ)) where
   some_behind : (rest later : ℕ) → 1 ≤ rest + 1 + later
   some_behind rest later = omega arith
 
-  some_left : (k : Kept) (s : Spot) (why : Reason) (tries extensions : ℕ)
+  some_left : (k : Kept) (s : Spot) (why : BlockReason) (tries extensions : ℕ)
       → 1 ≤ measure (Going k s why tries extensions)
   some_left k (Opens rest asks) why tries extensions =
       some_weight k _ tries extensions (some_ahead _ _ _)
@@ -179,7 +179,7 @@ module _ (m : Meaning) (before commands : List (List ℕ)) where
       (ahead k bytes (blocks k.size (length bytes))) tries extensions
       (sooner _ _ _ _ _ e (drop_less k.size bytes some))
 
-  misses_less : (why : Reason) (out : Out) (k : Kept) (s : Spot) (tries extensions : ℕ)
+  misses_less : (why : BlockReason) (out : Out) (k : Kept) (s : Spot) (tries extensions : ℕ)
       → 1 ≤ k.size → measure (misses m before why out k s tries extensions) + 1
       ≤ measure (Going k s why tries extensions)
   misses_less why out k (Opens rest asks) zero extensions some =
@@ -328,7 +328,7 @@ module _ (m : Meaning) (before commands : List (List ℕ)) where
       next_less (is_long k got) out (numbered first k) got rest tries extensions h.1
 
   -- the card's reply does not arrive
-  replied_less : (now : Reason) (out : Out) (k : Kept) (s : Spot) (tries extensions : ℕ)
+  replied_less : (now : BlockReason) (out : Out) (k : Kept) (s : Spot) (tries extensions : ℕ)
       → Holds m before commands k s
       → measure
       (misses m before now out (heard m before k s).0 (heard m before k s).1 tries extensions) + 1
@@ -339,7 +339,7 @@ module _ (m : Meaning) (before commands : List (List ℕ)) where
       (heard_holds m before commands k s h).1 in
       omega (arith, le, less)
 
-  step_less : (down up : Fate) (k : Kept) (s : Spot) (why : Reason) (tries extensions : ℕ)
+  step_less : (down up : Fate) (k : Kept) (s : Spot) (why : BlockReason) (tries extensions : ℕ)
       → Holds m before commands k s
       → measure (step m before down up (Going k s why tries extensions)) + 1
       ≤ measure (Going k s why tries extensions)

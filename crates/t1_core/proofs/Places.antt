@@ -5,8 +5,8 @@ use Rattle.t1_core.specs.declared.applet.Requests.{Requests}
 use Rattle.t1_core.specs.declared.block.Control.TheVariants.{Ifs, Wtx}
 use Rattle.t1_core.specs.declared.line.Fate.{Fate}
 use Rattle.t1_core.specs.declared.line.Fate.TheVariants.{Delivers, Damages, Loses}
-use Rattle.t1_core.specs.declared.pcb.Reason.{Reason}
-use Rattle.t1_core.specs.declared.pcb.Reason.TheVariants.{NoError, Edc, Other}
+use Rattle.t1_core.specs.declared.pcb.BlockReason.{BlockReason}
+use Rattle.t1_core.specs.declared.pcb.BlockReason.TheVariants.{NoError, Edc, Other}
 use Rattle.t1_core.specs.declared.settings.Settings.{Settings}
 use Rattle.t1_core.specs.declared.terminal.Cause.{Cause}
 use Rattle.t1_core.specs.declared.terminal.Cause.TheVariants.{TriesSpent, ExtensionsSpent, TooLong}
@@ -53,15 +53,15 @@ pub data Spot : Type 0 where
 
 pub data Place : Type 0 where
   -- `why` is the error of the terminal's R-block
-  Going : (k : Kept) → (s : Spot) → (why : Reason) → (tries extensions : ℕ) → Place
+  Going : (k : Kept) → (s : Spot) → (why : BlockReason) → (tries extensions : ℕ) → Place
   Given_up : (w : World) → (cause : Cause) → Place
   Finished : (w : World) → Place
 
-abbrev pub out_of : Reason → Bool → Out
+abbrev pub out_of : BlockReason → Bool → Out
 out_of why true = Asks why
 out_of why false = Own
 
-abbrev pub out_at : Kept → Spot → Reason → Out
+abbrev pub out_at : Kept → Spot → BlockReason → Out
 out_at k (Opens rest asks) why = out_of why asks
 out_at k (Behind asks collected rest answering) why = out_of why asks
 out_at k (Waits rest n size true) why = Grants (Wtx k.multiple)
@@ -210,7 +210,7 @@ module _ (m : Meaning) (before : List (List ℕ)) where
   world_of (Finished w) = with_phase Over w
 
   -- the card's reply, after it has taken the terminal's block; an R-block has any error
-  abbrev pub reply_of : Reason → Kept → Spot → Block
+  abbrev pub reply_of : BlockReason → Kept → Spot → Block
   reply_of error k (Opens rest asks) = Response (Ifs longest)
   reply_of error k (Behind asks collected rest answering) = R k.number error
   reply_of error k (Taken collected b bytes) = R (other k.number) error
@@ -251,7 +251,7 @@ module _ (m : Meaning) (before : List (List ℕ)) where
   is_heard k _ = tt
 
   -- the card's block does not arrive
-  abbrev pub misses : Reason → Out → Kept → Spot → (tries extensions : ℕ) → Place
+  abbrev pub misses : BlockReason → Out → Kept → Spot → (tries extensions : ℕ) → Place
   misses why out k (Opens rest asks) zero extensions = begins k rest extensions
   misses why out k s tries extensions =
       uses TriesSpent tries (world_at out k s tries extensions)
@@ -317,12 +317,12 @@ module _ (m : Meaning) (before : List (List ℕ)) where
   arrived out Loses k s tries extensions = misses Other out k s tries extensions
 
   -- the error of a block that brings no progress
-  abbrev pub error_of : Fate → Reason
+  abbrev pub error_of : Fate → BlockReason
   error_of Damages = Edc
   error_of _ = Other
 
   -- The card has received a damaged block. Its R-block has no effect in the first three.
-  abbrev pub garbled : Fate → Kept → Spot → Reason → (tries extensions : ℕ) → Place
+  abbrev pub garbled : Fate → Kept → Spot → BlockReason → (tries extensions : ℕ) → Place
   garbled up k (Opens rest asks) why tries extensions =
       misses (error_of up) (out_of why asks) k (Opens rest asks) tries extensions
   garbled up k (Between got b bytes) why tries extensions =
@@ -341,9 +341,9 @@ module _ (m : Meaning) (before : List (List ℕ)) where
       misses Other (out_at k s why) k s tries extensions
 
   -- A step is one of these, so what holds of each holds of it.
-  pub garbled_by : (P : Place → Type 0) (up : Fate) (k : Kept) (s : Spot) (why : Reason)
+  pub garbled_by : (P : Place → Type 0) (up : Fate) (k : Kept) (s : Spot) (why : BlockReason)
       (tries extensions : ℕ)
-      → ((now : Reason) → P (misses now (out_at k s why) k s tries extensions))
+      → ((now : BlockReason) → P (misses now (out_at k s why) k s tries extensions))
       → (IsHeard k s → P (comes (out_at k s why) k s tries extensions))
       → P (garbled up k s why tries extensions)
   garbled_by P up k (Opens rest asks) why tries extensions missed came = missed (error_of up)
@@ -360,7 +360,7 @@ module _ (m : Meaning) (before : List (List ℕ)) where
       let w : World = world_at out k s tries extensions in
       settled (record w { terminal = takes w.terminal b })
 
-  missed : (why : Reason) (out : Out) (k : Kept) (tries extensions : ℕ) (s : Spot)
+  missed : (why : BlockReason) (out : Out) (k : Kept) (tries extensions : ℕ) (s : Spot)
       → took out k s tries extensions (Bad why) ≡ world_of (misses why out k s tries extensions)
   missed why out k zero extensions (Opens rest asks) = refl
   missed why out k zero extensions (Sent true got rest) = refl
@@ -402,7 +402,7 @@ module _ (m : Meaning) (before : List (List ℕ)) where
       }) k.todo out (got ++ k.last) tries extensions))
   next_is out k got tries extensions _ _ _ e = rw (same_self k.due) (rw e refl)
 
-  comes_is : (error : Reason) (out : Out) (k : Kept) (s : Spot) (tries extensions : ℕ)
+  comes_is : (error : BlockReason) (out : Out) (k : Kept) (s : Spot) (tries extensions : ℕ)
       → took out k s tries extensions (Came (reply_of error k s))
       ≡ world_of (comes out k s tries extensions)
   comes_is error out k (Opens rest asks) tries extensions = refl
@@ -420,7 +420,7 @@ module _ (m : Meaning) (before : List (List ℕ)) where
   comes_is error out k (Sent first got rest) tries extensions =
       next_is out k got tries extensions (is_long k got) first rest refl
 
-  ups : (error : Reason) (out : Out) (up : Fate) (k : Kept) (s : Spot) (tries extensions : ℕ)
+  ups : (error : BlockReason) (out : Out) (up : Fate) (k : Kept) (s : Spot) (tries extensions : ℕ)
       → took out k s tries extensions (arrives up (Some (reply_of error k s)))
       ≡ world_of (arrived out up k s tries extensions)
   ups error out Delivers k s tries extensions = comes_is error out k s tries extensions
@@ -460,7 +460,7 @@ module _ (m : Meaning) (before : List (List ℕ)) where
   After down up p = exchange m (record { down = down; up = up }) (world_of p)
 
   runs_now : (up : Fate) (k : Kept) (collected : List ℕ) (answering : Bool) (tries extensions : ℕ)
-      (why : Reason)
+      (why : BlockReason)
       → let p : Place = Going k (Behind false collected [] answering) why tries extensions in
       After Delivers up p ≡ world_of (step Delivers up p)
   runs_now up k collected answering tries extensions why =
@@ -473,7 +473,7 @@ module _ (m : Meaning) (before : List (List ℕ)) where
       ∙ answers_now Own up (runs k done) (drop k.ifsd (m.does (before ++ done)))
       (m.asks (before ++ done)).extensions (m.asks (before ++ done)).size tries extensions)
 
-  sends_some : (k : Kept) (s : Spot) (why : Reason) (tries extensions : ℕ)
+  sends_some : (k : Kept) (s : Spot) (why : BlockReason) (tries extensions : ℕ)
       → (b : Block) × (sends (terminal_at (out_at k s why) k s tries extensions) ≡ Some b)
   sends_some k (Opens rest true) why tries extensions = (_, refl)
   sends_some k (Behind true collected rest answering) why tries extensions = (_, refl)
@@ -482,7 +482,7 @@ module _ (m : Meaning) (before : List (List ℕ)) where
   sends_some k (Sent true got rest) why tries extensions = (_, refl)
   sends_some k _ why tries extensions = (_, refl)
 
-  lost : (up : Fate) (k : Kept) (s : Spot) (why : Reason) (tries extensions : ℕ)
+  lost : (up : Fate) (k : Kept) (s : Spot) (why : BlockReason) (tries extensions : ℕ)
       → After Loses up (Going k s why tries extensions)
       ≡ world_of (misses Other (out_at k s why) k s tries extensions)
   lost up k s why tries extensions =
@@ -491,7 +491,7 @@ module _ (m : Meaning) (before : List (List ℕ)) where
       ∙ missed Other (out_at k s why) k tries extensions s
 
   -- the card replies to a damaged block with this one
-  garbles : (up : Fate) (k : Kept) (s : Spot) (why : Reason) (tries extensions : ℕ) (b : Block)
+  garbles : (up : Fate) (k : Kept) (s : Spot) (why : BlockReason) (tries extensions : ℕ) (b : Block)
       → card_damaged Edc (card_at k s) ≡ turn (card_at k s) b
       → After Damages up (Going k s why tries extensions)
       ≡ took (out_at k s why) k s tries extensions (arrives up (Some b))

@@ -8,8 +8,8 @@ use Rattle.t1_core.specs.declared.block.Control.{Control}
 use Rattle.t1_core.specs.declared.block.Control.TheVariants.{Resynch, Ifs, Abort, Wtx}
 use Rattle.t1_core.specs.declared.line.Fate.{Fate}
 use Rattle.t1_core.specs.declared.line.Fate.TheVariants.{Delivers, Damages, Loses}
-use Rattle.t1_core.specs.declared.pcb.Reason.{Reason}
-use Rattle.t1_core.specs.declared.pcb.Reason.TheVariants.{NoError, Edc, Other}
+use Rattle.t1_core.specs.declared.pcb.BlockReason.{BlockReason}
+use Rattle.t1_core.specs.declared.pcb.BlockReason.TheVariants.{NoError, Edc, Other}
 use Rattle.t1_core.specs.Block.{Block, I, R, Request, Response, Arrival, Came, Bad, other, same, more, answers, is_size}
 
 -- The behaviour of the card above the end, as a function of all its commands, the newest last.
@@ -80,11 +80,11 @@ after_request (suc n) left = record left { extensions = n }
 after_request zero left = record left { size = None }
 
 -- R, which asks for the terminal's block
-abbrev pub asks_for : Reason → Card → Turn
+abbrev pub asks_for : BlockReason → Card → Turn
 asks_for reason c = turn c (R c.due reason)
 
 -- the reply to an invalid or unexpected block (rules of error handling)
-abbrev pub again : Option Control → Reason → Card → Turn
+abbrev pub again : Option Control → BlockReason → Card → Turn
 again None reason c = asks_for reason c
 again (Some control) reason c = turn c (Request control)
 
@@ -178,7 +178,7 @@ abbrev pub card_takes : Meaning → Block → Card → Turn
 card_takes m b c = takes_at m (request_of c.left) b c
 
 -- an invalid block
-abbrev pub card_damaged : Reason → Card → Turn
+abbrev pub card_damaged : BlockReason → Card → Turn
 card_damaged reason c = again (request_of c.left) reason c
 
 abbrev pub card_hears : Meaning → Arrival → Card → Turn

@@ -6,7 +6,7 @@ use Rattle.t1_core.specs.declared.terminal.Cause.{Cause}
 use Rattle.t1_core.specs.declared.terminal.Cause.TheVariants.{TriesSpent, ExtensionsSpent, Aborted, TooLong}
 use Rattle.t1_core.specs.declared.terminal.Phase.{Phase}
 use Rattle.t1_core.specs.declared.terminal.Phase.TheVariants.{Opening, Aborting, GivenUp}
-use Rattle.t1_core.specs.declared.pcb.Reason.{Reason}
+use Rattle.t1_core.specs.declared.pcb.BlockReason.{BlockReason}
 use Rattle.t1_core.specs.Block.{I, Request, Arrival, Came, Bad, same, is_size}
 use Rattle.t1_core.specs.BlockBytes.{arrival_of}
 use Rattle.t1_core.specs.TerminalSide.{Terminal, fresh, begins, takes, is_ready, has_stopped}
@@ -15,7 +15,7 @@ use Rattle.t1_core.specs.TerminalSide.{Terminal, fresh, begins, takes, is_ready,
 pub data Event : Type 0 where
   Begins : (command : List ℕ) → Event
   Takes : (bytes : List ℕ) → Event
-  Misses : (reason : Reason) → Event  -- `timed_out` or `damaged`
+  Misses : (reason : BlockReason) → Event  -- `timed_out` or `damaged`
   Resets : Event
 
 abbrev pub happens : Event → Terminal → Terminal

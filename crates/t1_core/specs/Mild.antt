@@ -6,7 +6,7 @@ use Rattle.t1_core.specs.declared.line.Fates.{Fates}
 use Rattle.t1_core.specs.declared.settings.Settings.{Settings}
 use Rattle.t1_core.specs.Block.{Bad, is_size}
 use Rattle.t1_core.specs.BlockBytes.{arrival_of}
-use Rattle.t1_core.specs.declared.pcb.Reason.TheVariants.{Other}
+use Rattle.t1_core.specs.declared.pcb.BlockReason.TheVariants.{Other}
 use Rattle.t1_core.specs.CardSide.{Meaning}
 use Rattle.t1_core.specs.TerminalSide.{Terminal, takes}
 use Rattle.t1_core.specs.World.{World, exchange}

@@ -7,7 +7,7 @@ use Rattle.t1_core.specs.declared.line.Fate.{Fate}
 use Rattle.t1_core.specs.declared.line.Fate.TheVariants.{Delivers, Damages, Loses}
 use Rattle.t1_core.specs.declared.line.Fates.{Fates}
 use Rattle.t1_core.specs.Block.{Bad, Block, are_filled}
-use Rattle.t1_core.specs.declared.pcb.Reason.TheVariants.{Other}
+use Rattle.t1_core.specs.declared.pcb.BlockReason.TheVariants.{Other}
 use Rattle.t1_core.specs.BlockBytes.{arrival_of}
 use Rattle.t1_core.specs.CardSide.{Card, Meaning, Turn, card_hears, card_meets, replies}
 use Rattle.t1_core.specs.Doing.{Carries, EndOf}

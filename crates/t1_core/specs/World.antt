@@ -3,7 +3,7 @@ use Rattle.std.specs.Prelude.{◌≡◌, ℕ, zero, suc, ◌+◌, ◌*◌, ◌/�
 use Rattle.t1_core.specs.declared.line.Fate.{Fate}
 use Rattle.t1_core.specs.declared.line.Fate.TheVariants.{Delivers, Damages, Loses}
 use Rattle.t1_core.specs.declared.line.Fates.{Fates}
-use Rattle.t1_core.specs.declared.pcb.Reason.TheVariants.{Edc, Other}
+use Rattle.t1_core.specs.declared.pcb.BlockReason.TheVariants.{Edc, Other}
 use Rattle.t1_core.specs.declared.settings.Settings.{Settings}
 use Rattle.t1_core.specs.declared.terminal.Cause.{Cause}
 use Rattle.t1_core.specs.declared.terminal.Phase.{Phase}

@@ -1,5 +1,5 @@
 //! A block, as an end sends and takes it.
-use crate::pcb::Reason;
+use crate::pcb::BlockReason;
 
 /// A block whose bytes are valid (ISO/IEC 7816-3, clause 11). N(S) and N(R) are 0 (`false`) or 1.
 #[derive(Clone, Copy, Debug)]
@@ -13,7 +13,7 @@ pub enum Block<'a> {
     /// An R-block: N(R), and the error that it reports, which has no effect.
     Ready {
         number: bool,
-        reason: Reason,
+        reason: BlockReason,
     },
     /// An S-block with a request.
     Request(Control),

@@ -6,7 +6,7 @@ ghost use Rattle.t1_core.specs.Conversing.{Conversed};
 ghost use Rattle.t1_core.specs.TerminalSide.{fault_of, has_stopped, is_ready};
 
 use crate::applet::Applet;
-use crate::card::CardEnd;
+use crate::card::BlockCard;
 use crate::line::{Fates, Line};
 use crate::pass::pass;
 use crate::settings::Settings;
@@ -19,7 +19,7 @@ use std::marker::Model;
 #[derive(Drop)]
 pub struct Ends<C: Applet> {
     terminal: TerminalEnd,
-    card: CardEnd<C>,
+    card: BlockCard<C>,
 }
 
 impl<C: Applet> Model for Ends<C> {
@@ -39,7 +39,7 @@ impl<C: Applet> Ends<C> {
     {
         Ends {
             terminal: TerminalEnd::new(alloc, settings),
-            card: CardEnd::new(alloc, applet),
+            card: BlockCard::new(alloc, applet),
         }
     }
 

@@ -9,7 +9,7 @@ ghost use Rattle.t1_core.specs.World.{arrives};
 
 use crate::applet::Applet;
 use crate::block::Block;
-use crate::card::{CardEnd, Reply};
+use crate::card::{BlockCard, Reply};
 use crate::line::{Fate, Fates};
 use crate::terminal::TerminalEnd;
 use std::alloc::AllocError;
@@ -20,7 +20,7 @@ use std::alloc::AllocError;
 /// - `AllocError`: memory ran out; each end is as its own `take` leaves it.
 pub(crate) fn pass<C: Applet>(
     terminal: &mut TerminalEnd,
-    card: &mut CardEnd<C>,
+    card: &mut BlockCard<C>,
     fates: Fates,
 ) -> Result<(), AllocError>
     ensures { OnOk result
@@ -35,7 +35,7 @@ pub(crate) fn pass<C: Applet>(
 
 /// A block of the terminal reaches the card, or does not. Returns the card's reply.
 fn hear<C: Applet>(
-    card: &mut CardEnd<C>,
+    card: &mut BlockCard<C>,
     fate: Fate,
     block: Block<'_>,
 ) -> Result<Option<Reply>, AllocError>
@@ -52,7 +52,7 @@ fn hear<C: Applet>(
 /// The card's reply, if any, reaches the terminal, or does not.
 fn bring<C: Applet>(
     terminal: &mut TerminalEnd,
-    card: &CardEnd<C>,
+    card: &BlockCard<C>,
     fate: Fate,
     reply: Option<Reply>,
 ) -> Result<(), AllocError>

@@ -7,7 +7,7 @@ ghost use Rattle.t1_core.specs.declared.pcb.Pcb.{Pcb};
 ghost use Rattle.t1_core.specs.declared.pcb.Pcb.TheVariants.{Supervisory};
 
 use crate::block::{Block, Control};
-use crate::pcb::{Pcb, Reason, Subject};
+use crate::pcb::{BlockReason, Pcb, Subject};
 use std::alloc::{AllocError, Global};
 
 /// The exclusive-or of all bytes (ISO/IEC 7816-3, clause 11: LRC).
@@ -87,13 +87,13 @@ pub fn read(bytes: &[u8]) -> Option<Block<'_>>
 
 /// Returns the error that R reports of bytes that are no valid block: `Edc` if their LRC is wrong,
 /// otherwise `Other`.
-pub(crate) fn fault(bytes: &[u8]) -> Reason
+pub(crate) fn fault(bytes: &[u8]) -> BlockReason
     ensures { result ≡ fault_of bytes.now }
 {
     if lrc(bytes) == 0 {
-        Reason::Other
+        BlockReason::Other
     } else {
-        Reason::Edc
+        BlockReason::Edc
     }
 }
 
@@ -131,7 +131,7 @@ pub(crate) fn block_in(pcb: Pcb, info: &[u8]) -> Option<Block<'_>>
         Pcb::Information { more: true, .. } if info.is_empty() => None,
         Pcb::Information { number, more } => Some(Block::Information { number, more, info }),
         Pcb::Ready { number, error } if info.is_empty() => {
-            let reason = Reason::of(error);
+            let reason = BlockReason::of(error);
             Some(Block::Ready { number, reason })
         }
         Pcb::Ready { .. } => None,

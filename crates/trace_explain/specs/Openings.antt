@@ -6,8 +6,8 @@ use Rattle.atr_core.specs.PpsBytes.{pps_end}
 use Rattle.atr_core.specs.declared.convention.Convention.{Convention}
 use Rattle.atr_core.specs.declared.convention.Convention.TheVariants.{Direct, Inverse}
 use Rattle.atr_core.specs.declared.fault.AtrFault.{AtrFault}
-use Rattle.atr_core.specs.declared.fault.Reason.{Reason}
-use Rattle.atr_core.specs.declared.fault.Reason.TheVariants.{Cut, CheckMissing}
+use Rattle.atr_core.specs.declared.fault.AtrReason.{AtrReason}
+use Rattle.atr_core.specs.declared.fault.AtrReason.TheVariants.{Cut, CheckMissing}
 use Rattle.t0_core.specs.declared.end.End.{End}
 use Rattle.t0_core.specs.declared.end.End.TheVariants.{Terminal, Card}
 use Rattle.trace_explain.specs.declared.follow.opening.Stage.{Stage}
@@ -88,7 +88,7 @@ abbrev pub role_of : Opening → End → ℕ → Role
 role_of o from b = role_at o.stage (may_ask o) from b
 
 -- an answer so far wants nothing but more characters
-abbrev pub is_short : Reason → Bool
+abbrev pub is_short : AtrReason → Bool
 is_short Cut = true
 is_short CheckMissing = true
 is_short other = false

@@ -234,7 +234,7 @@ fn block(alloc: Global, rt: &impl Abort, pcb: u8, field: &[u8]) -> Vec<u8> {
 #[test]
 fn a_block_waits_for_its_response(rt: HostRuntime) {
     let alloc = rt.alloc();
-    let mut card = t1_core::CardEnd::new(alloc, GivenApplet::new(alloc, end(alloc)));
+    let mut card = t1_core::BlockCard::new(alloc, GivenApplet::new(alloc, end(alloc)));
     let ok = Status::new(0x90, 0).expect(&rt, "status");
     let command = [0, 0x10, 0, 0, 1, 7];
     let sent = block(alloc, &rt, 0, &command);
@@ -246,7 +246,7 @@ fn a_block_waits_for_its_response(rt: HostRuntime) {
     // A new end takes the same block as its first one.
     let mut applet = card.into_applet();
     assert!(&rt; give(&mut applet.end, &[], ok) == Ok(()));
-    let mut card = t1_core::CardEnd::new(alloc, applet);
+    let mut card = t1_core::BlockCard::new(alloc, applet);
     let reply = card.take_bytes(&sent).expect(&rt, "memory");
     assert!(&rt; card.applet().asked.is_empty());
     let bytes = t1_core::spelling::write(alloc, card.block(reply)).expect(&rt, "memory");

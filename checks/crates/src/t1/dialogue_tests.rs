@@ -5,7 +5,7 @@ use std::alloc::{AllocGlobal, Global};
 use std::process::Abort;
 use t1_core::spelling::write;
 use t1_core::{
-    CardEnd, Cause, Edc, Fate, Fates, Fault, Line, Outcome, Settings, SettingsFault, TerminalEnd,
+    BlockCard, Cause, Edc, Fate, Fates, Fault, Line, Outcome, Settings, SettingsFault, TerminalEnd,
     converse,
 };
 
@@ -195,7 +195,7 @@ fn each_fault(rt: HostRuntime) {
 
 #[test]
 fn a_card_answers(rt: HostRuntime) {
-    let mut end = CardEnd::new(rt.alloc(), Echo::new(rt.alloc()));
+    let mut end = BlockCard::new(rt.alloc(), Echo::new(rt.alloc()));
     let waits = b"\x00\xC3\x01\x03\xC1".as_slice();
     for [sent, answer] in &[
         [OPEN, OPENED],

@@ -5,7 +5,7 @@ use super::random::Random;
 use std::alloc::Global;
 use std::process::Abort;
 use t1_core::spelling::write;
-use t1_core::{CardEnd, Fault, Received, Receiver, Reply, Settings, TerminalEnd};
+use t1_core::{BlockCard, Fault, Received, Receiver, Reply, Settings, TerminalEnd};
 
 /// What a line does with one block.
 #[derive(Clone, Copy, PartialEq, Eq)]
@@ -26,7 +26,7 @@ enum Way {
 pub struct Line {
     alloc: Global,
     terminal: TerminalEnd,
-    card: CardEnd<Echo>,
+    card: BlockCard<Echo>,
     late: Option<Vec<u8>>,
     on_the_way: Vec<Vec<u8>>,
     random: Random,
@@ -43,7 +43,7 @@ impl Line {
         Line {
             alloc,
             terminal: TerminalEnd::new(alloc, settings),
-            card: CardEnd::new(alloc, Echo::new(alloc)),
+            card: BlockCard::new(alloc, Echo::new(alloc)),
             late: None,
             on_the_way: Vec::new(alloc),
             random,

@@ -5,7 +5,7 @@ use super::random::Random;
 use std::alloc::{AllocGlobal, Global};
 use std::process::Abort;
 use t1_core::spelling::write;
-use t1_core::{CardEnd, Cause, Edc, End, Gathered, Progress, Role, Settings, Tap, TerminalEnd};
+use t1_core::{BlockCard, Cause, Edc, End, Gathered, Progress, Role, Settings, Tap, TerminalEnd};
 
 /// A tap at a connector, and the whole commands and responses that it gave.
 #[derive(Drop)]
@@ -92,7 +92,7 @@ enum Way {
 struct Line {
     alloc: Global,
     terminal: TerminalEnd,
-    card: CardEnd<Echo>,
+    card: BlockCard<Echo>,
     at_terminal: Listener,
     at_card: Listener,
     random: Random,
@@ -190,7 +190,7 @@ fn session(rt: &(impl Abort + AllocGlobal), seed: u64) -> Ending {
     let mut line = Line {
         alloc: rt.alloc(),
         terminal: TerminalEnd::new(rt.alloc(), settings),
-        card: CardEnd::new(rt.alloc(), Echo::new(rt.alloc())),
+        card: BlockCard::new(rt.alloc(), Echo::new(rt.alloc())),
         at_terminal: Listener::new(rt.alloc()),
         at_card: Listener::new(rt.alloc()),
         random,

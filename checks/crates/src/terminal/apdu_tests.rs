@@ -3,7 +3,7 @@
 use super::data_objects::{NAME, are_answered, card_of, holds, operations};
 use super::trace::{bytes, word};
 use apdu_core::{Command, Status};
-use apdu_terminal::{ApduExchange, ApduFault, respond, run};
+use apdu_terminal::{ApduExchange, CarryFault, respond, run};
 use card_terminal::{Answers, Op};
 use linked_list_allocator::LocalHeap;
 use object_card::{DataCard, ObjectCard};
@@ -210,7 +210,7 @@ fn refused<A: Allocator + Copy, C: DataCard>(
     rt: &(impl Abort + AllocGlobal),
     end: &mut CardEnd<C>,
     memory: A,
-) -> Option<ApduFault> {
+) -> Option<CarryFault> {
     let select = bytes(rt, SELECT);
     let command = Command::read(&select).expect(rt, "a command");
     respond(memory, end, command).err()
@@ -221,7 +221,7 @@ fn refused<A: Allocator + Copy, C: DataCard>(
 fn no_memory_for_a_response(rt: HostRuntime) {
     let heap = LocalHeap::new(rt.alloc(), 256).expect(&rt, "memory");
     let mut end = end_over(&rt, rt.alloc(), NAME);
-    assert!(rt; refused(&rt, &mut end, &heap) == Some(ApduFault::OutOfMemory));
+    assert!(rt; refused(&rt, &mut end, &heap) == Some(CarryFault::OutOfMemory));
     responds(&rt, &mut end, "00CA5F2000 = 6985");
     assert!(rt; refused(&rt, &mut end, rt.alloc()).is_none());
 }

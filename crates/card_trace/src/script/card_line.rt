@@ -8,7 +8,7 @@ ghost use Rattle.card_trace.specs.ScriptCard.{Part, Act, part_of, act_of, IsMost
 
 use crate::script::fields::{read_hex, read_number, read_plan};
 use crate::script::keyword::Keyword;
-use crate::script::reason::Reason;
+use crate::script::reason::LineReason;
 use crate::script::refusal::Refusal;
 use crate::script::table_line::{TableLine, read_table_line};
 use crate::script::words::{at_most_one_word, no_word, one_word, two_words};
@@ -58,7 +58,7 @@ pub fn read_part<A: Allocator + Copy>(
             let (steps, cut) = two_words(rest)?;
             Ok(CardPart::Plan(read_plan(alloc, steps, cut)?))
         }
-        _ => Err(Refusal::Line(Reason::UnknownWord)),
+        _ => Err(Refusal::Line(LineReason::UnknownWord)),
     }
 }
 
@@ -84,7 +84,7 @@ pub fn read_act<A: Allocator>(
             no_word(rest)?;
             Ok(CardAct::Table)
         }
-        _ => Err(Refusal::Line(Reason::UnknownWord)),
+        _ => Err(Refusal::Line(LineReason::UnknownWord)),
     }
 }
 
@@ -107,7 +107,7 @@ fn read_characters<A: Allocator>(alloc: A, rest: &[u8]) -> Result<Bytes<A>, Refu
 ///
 /// # Errors
 /// - `WrongWordCount`, `BadNumber`: there is more than one word, or it is no number of 1 to 65,535.
-fn read_most(rest: &[u8]) -> Result<Option<u16>, Reason>
+fn read_most(rest: &[u8]) -> Result<Option<u16>, LineReason>
     ensures ok { IfOk result (λ most. IsMostText (words_in rest.now) most) }
     ensures refused { IfErr result (λ _. (most : Option ℕ) →
         ¬ IsMostText (words_in rest.now) most) }
@@ -115,7 +115,7 @@ fn read_most(rest: &[u8]) -> Result<Option<u16>, Reason>
     match at_most_one_word(rest)? {
         None => Ok(None),
         Some(word) => {
-            let most = read_number(word).ok_or(Reason::BadNumber)?;
+            let most = read_number(word).ok_or(LineReason::BadNumber)?;
             Ok(Some(most))
         }
     }

@@ -11,7 +11,7 @@ ghost use Rattle.card_trace.specs.ScriptReasons.{OnReason};
 ghost use Rattle.card_trace.specs.ScriptFields.{IsHexText, IsAidText, IsTagText, IsNumberText, IsRepeatedText, IsValueText, IsStepsText, IsPlanText, AreOfAgreedCommand, IsCommandText};
 
 use crate::script::places::place_of;
-use crate::script::reason::Reason;
+use crate::script::reason::LineReason;
 use crate::script::refusal::Refusal;
 use apdu_core::Command;
 use card_terminal::Bytes;
@@ -33,12 +33,12 @@ pub fn read_hex<A: Allocator>(alloc: A, text: &[u8]) -> Result<Vec<u8, A>, Refus
         (bytes : List ℕ) → ¬ IsHexText text.now bytes)) }
 {
     if text.is_empty() {
-        return Err(Refusal::Line(Reason::BadHex));
+        return Err(Refusal::Line(LineReason::BadHex));
     }
     match hex::decode(alloc, text) {
         Ok(bytes) => Ok(bytes),
         Err(FromHexError::OutOfMemory) => Err(Refusal::OutOfMemory),
-        Err(_) => Err(Refusal::Line(Reason::BadHex)),
+        Err(_) => Err(Refusal::Line(LineReason::BadHex)),
     }
 }
 
@@ -55,7 +55,7 @@ pub fn read_aid<A: Allocator>(alloc: A, text: &[u8]) -> Result<Aid, Refusal>
         (aid : List ℕ) → ¬ IsAidText text.now aid)) }
 {
     let bytes = read_hex(alloc, text)?;
-    let aid = Aid::new(bytes.as_slice()).ok_or(Reason::BadAid)?;
+    let aid = Aid::new(bytes.as_slice()).ok_or(LineReason::BadAid)?;
     Ok(aid)
 }
 
@@ -72,7 +72,7 @@ pub fn read_tag<A: Allocator>(alloc: A, text: &[u8]) -> Result<ObjectTag, Refusa
         (tag : List ℕ) → ¬ IsTagText text.now tag)) }
 {
     let bytes = read_hex(alloc, text)?;
-    let tag = object_tag(bytes.as_slice()).ok_or(Reason::BadTag)?;
+    let tag = object_tag(bytes.as_slice()).ok_or(LineReason::BadTag)?;
     Ok(tag)
 }
 
@@ -115,9 +115,9 @@ fn repeated<A: Allocator>(alloc: A, digits: &[u8], times: &[u8]) -> Result<Vec<u
         (value : List ℕ) → ¬ IsRepeatedText digits.now times.now value)) }
 {
     let Ok(byte) = <[u8; 1] as FromHex>::from_hex(digits) else {
-        return Err(Refusal::Line(Reason::BadHex));
+        return Err(Refusal::Line(LineReason::BadHex));
     };
-    let times = read_number(times).ok_or(Reason::BadHex)?;
+    let times = read_number(times).ok_or(LineReason::BadHex)?;
     let value = vec![in alloc; byte[0]; usize::from(times)]?;
     Ok(value)
 }
@@ -145,8 +145,8 @@ pub fn read_plan<A: Allocator>(alloc: A, steps: &[u8], cut: &[u8]) -> Result<Pla
         (plan : Course) → ¬ IsPlanText steps.now cut.now plan)) }
 {
     let steps = read_steps(alloc, steps)?;
-    let cut = read_number(cut).ok_or(Reason::BadPlan)?;
-    let plan = Plan::new(steps, cut).ok_or(Reason::BadPlan)?;
+    let cut = read_number(cut).ok_or(LineReason::BadPlan)?;
+    let plan = Plan::new(steps, cut).ok_or(LineReason::BadPlan)?;
     Ok(plan)
 }
 
@@ -165,7 +165,7 @@ fn read_steps<A: Allocator>(alloc: A, text: &[u8]) -> Result<Vec<Step, A>, Refus
             b'n' => Step::Null,
             b'o' => Step::One,
             b'a' => Step::All,
-            _ => return Err(Refusal::Line(Reason::BadPlan)),
+            _ => return Err(Refusal::Line(LineReason::BadPlan)),
         };
         steps.push(step).map_err(AllocError::from)?;
     }
@@ -189,7 +189,7 @@ pub fn read_command<A: Allocator>(alloc: A, text: &[u8]) -> Result<Bytes<A>, Ref
 /// # Errors
 /// - `CommandTooShort`, `BadCommandLength`, `InvalidIns`: the bytes are not a command.
 /// - `BadCommandLength`: the command is not agreed: its case does not go with its INS.
-pub fn agreed_command(bytes: &[u8]) -> Result<Command<'_>, Reason>
+pub fn agreed_command(bytes: &[u8]) -> Result<Command<'_>, LineReason>
     ensures agreed { IfOk result (λ c. IsCommand c × (bytes.now ≡ command_bytes c)
         × IsAgreed MayReceive MaySend c) }
     ensures refused { IfErr result (λ _. ¬ AreOfAgreedCommand bytes.now) }
@@ -198,6 +198,6 @@ pub fn agreed_command(bytes: &[u8]) -> Result<Command<'_>, Reason>
     if is_agreed(&command) {
         Ok(command)
     } else {
-        Err(Reason::BadCommandLength)
+        Err(LineReason::BadCommandLength)
     }
 }

@@ -7,7 +7,7 @@ ghost use Rattle.card_trace.specs.ScriptWords.{words_of};
 
 use crate::runner::Runner;
 use crate::script::keyword::Keyword;
-use crate::script::reason::Reason;
+use crate::script::reason::LineReason;
 use crate::script::refusal::Refusal;
 use crate::script::section::Section;
 use crate::script::words::first_of_line;
@@ -41,7 +41,7 @@ pub fn read_line<R: Runner>(
     let Some((word, rest)) = first_of_line(line) else {
         return Ok(None);
     };
-    let keyword = Keyword::of(word).ok_or(Reason::UnknownWord)?;
+    let keyword = Keyword::of(word).ok_or(LineReason::UnknownWord)?;
     let meant = R::read(alloc, section, keyword, rest)?;
     Ok(Some(meant))
 }

@@ -8,7 +8,7 @@ ghost use Rattle.card_trace.specs.ScriptPlay.{Act, act_of, SaysOperation, SaysAc
 
 use crate::script::fields::{read_aid, read_command, read_plan, read_tag};
 use crate::script::keyword::Keyword;
-use crate::script::reason::Reason;
+use crate::script::reason::LineReason;
 use crate::script::refusal::Refusal;
 use crate::script::table_line::read_entry;
 use crate::script::words::{no_word, one_word, two_words};
@@ -77,10 +77,10 @@ fn read_operation<A: Allocator + Copy>(
         Keyword::Put => {
             let (tag, value) = read_entry(alloc, rest)?;
             if value.bytes().len() > PUT_LIMIT {
-                return Err(Refusal::Line(Reason::ValueTooLong));
+                return Err(Refusal::Line(LineReason::ValueTooLong));
             }
             Ok(Op::Put(tag, value))
         }
-        _ => Err(Refusal::Line(Reason::UnknownWord)),
+        _ => Err(Refusal::Line(LineReason::UnknownWord)),
     }
 }

@@ -6,7 +6,7 @@ use std::fmt;
 
 /// Why a line of a script is refused.
 #[derive(Clone, Copy, Debug, PartialEq, Eq)]
-pub enum Reason {
+pub enum LineReason {
     /// No line of the subcommand starts with this word.
     UnknownWord,
     /// A table line follows a run line.
@@ -49,7 +49,7 @@ pub enum Reason {
     TableFull,
 }
 
-impl fmt::Display for Reason {
+impl fmt::Display for LineReason {
     ghost use Rattle.std.specs.Prelude.{Some};
     ghost use Rattle.card_trace.specs.ScriptReasons.{reason_text};
 
@@ -57,54 +57,54 @@ impl fmt::Display for Reason {
 
     fn fmt<W: fmt::Write>(&self, f: &mut fmt::Formatter<W>) -> fmt::Result {
         let text = match self {
-            Reason::BadAtr(fault) => return write!(f, "bad atr: {fault}"),
-            Reason::UnknownWord => "unknown word",
-            Reason::LateTableLine => "table line after the first run line",
-            Reason::WrongWordCount => "wrong number of words",
-            Reason::BadHex => "bad hex",
-            Reason::BadTag => "bad tag",
-            Reason::BadPlan => "bad plan",
-            Reason::BadNumber => "bad number",
-            Reason::BadAid => "bad aid",
-            Reason::ValueTooLong => "value too long",
-            Reason::CommandTooShort => "command too short",
-            Reason::BadCommandLength => "bad command length",
-            Reason::InvalidIns => "invalid INS",
-            Reason::AtrTwice => "atr twice",
-            Reason::AidTwice => "aid twice",
-            Reason::TooManyApps => "too many apps",
-            Reason::NoApp => "no app",
-            Reason::NotObjects => "not objects",
-            Reason::TableFull => "table full",
+            LineReason::BadAtr(fault) => return write!(f, "bad atr: {fault}"),
+            LineReason::UnknownWord => "unknown word",
+            LineReason::LateTableLine => "table line after the first run line",
+            LineReason::WrongWordCount => "wrong number of words",
+            LineReason::BadHex => "bad hex",
+            LineReason::BadTag => "bad tag",
+            LineReason::BadPlan => "bad plan",
+            LineReason::BadNumber => "bad number",
+            LineReason::BadAid => "bad aid",
+            LineReason::ValueTooLong => "value too long",
+            LineReason::CommandTooShort => "command too short",
+            LineReason::BadCommandLength => "bad command length",
+            LineReason::InvalidIns => "invalid INS",
+            LineReason::AtrTwice => "atr twice",
+            LineReason::AidTwice => "aid twice",
+            LineReason::TooManyApps => "too many apps",
+            LineReason::NoApp => "no app",
+            LineReason::NotObjects => "not objects",
+            LineReason::TableFull => "table full",
         };
         f.write_str(text)
     }
 }
 
-impl Error for Reason {}
+impl Error for LineReason {}
 
-impl From<ApduFault> for Reason {
+impl From<ApduFault> for LineReason {
     ghost use Rattle.std.specs.Prelude.{◌≡◌};
     ghost use Rattle.card_trace.specs.ScriptReasons.{reason_of_command};
 
     ghost from_gives = { λ fault reason. reason ≡ reason_of_command fault };
 
-    fn from(fault: ApduFault) -> Reason {
+    fn from(fault: ApduFault) -> LineReason {
         match fault {
-            ApduFault::TooShort => Reason::CommandTooShort,
-            ApduFault::BadLength => Reason::BadCommandLength,
-            ApduFault::InvalidIns => Reason::InvalidIns,
+            ApduFault::TooShort => LineReason::CommandTooShort,
+            ApduFault::BadLength => LineReason::BadCommandLength,
+            ApduFault::InvalidIns => LineReason::InvalidIns,
         }
     }
 }
 
-impl From<AtrFault> for Reason {
+impl From<AtrFault> for LineReason {
     ghost use Rattle.std.specs.Prelude.{◌≡◌};
-    ghost use Rattle.card_trace.specs.declared.script.reason.Reason.TheVariants.{BadAtr};
+    ghost use Rattle.card_trace.specs.declared.script.reason.LineReason.TheVariants.{BadAtr};
 
     ghost from_gives = { λ fault reason. reason ≡ BadAtr fault };
 
-    fn from(fault: AtrFault) -> Reason {
-        Reason::BadAtr(fault)
+    fn from(fault: AtrFault) -> LineReason {
+        LineReason::BadAtr(fault)
     }
 }

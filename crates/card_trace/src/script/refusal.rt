@@ -1,6 +1,6 @@
 //! Why a line is not carried out: a reason to refuse it, or that memory ran out.
 use crate::play_fault::PlayFault;
-use crate::script::reason::Reason;
+use crate::script::reason::LineReason;
 use object_card::BuilderFault;
 use std::alloc::AllocError;
 
@@ -8,7 +8,7 @@ use std::alloc::AllocError;
 #[derive(Clone, Copy)]
 pub enum Refusal {
     /// The line is refused for this reason.
-    Line(Reason),
+    Line(LineReason),
     /// Memory ran out.
     OutOfMemory,
 }
@@ -28,13 +28,13 @@ impl Refusal {
     }
 }
 
-impl From<Reason> for Refusal {
+impl From<LineReason> for Refusal {
     ghost use Rattle.std.specs.Prelude.{◌≡◌};
     ghost use Rattle.card_trace.specs.declared.script.refusal.Refusal.TheVariants.{Line};
 
     ghost from_gives = { λ reason refusal. refusal ≡ Line reason };
 
-    fn from(reason: Reason) -> Refusal {
+    fn from(reason: LineReason) -> Refusal {
         Refusal::Line(reason)
     }
 }
@@ -58,12 +58,12 @@ impl From<BuilderFault> for Refusal {
 
     fn from(fault: BuilderFault) -> Refusal {
         match fault {
-            BuilderFault::Twice => Refusal::Line(Reason::AidTwice),
-            BuilderFault::TooManyApps => Refusal::Line(Reason::TooManyApps),
-            BuilderFault::NoApp => Refusal::Line(Reason::NoApp),
-            BuilderFault::ValueTooLong => Refusal::Line(Reason::ValueTooLong),
-            BuilderFault::NotObjects => Refusal::Line(Reason::NotObjects),
-            BuilderFault::Full => Refusal::Line(Reason::TableFull),
+            BuilderFault::Twice => Refusal::Line(LineReason::AidTwice),
+            BuilderFault::TooManyApps => Refusal::Line(LineReason::TooManyApps),
+            BuilderFault::NoApp => Refusal::Line(LineReason::NoApp),
+            BuilderFault::ValueTooLong => Refusal::Line(LineReason::ValueTooLong),
+            BuilderFault::NotObjects => Refusal::Line(LineReason::NotObjects),
+            BuilderFault::Full => Refusal::Line(LineReason::TableFull),
             BuilderFault::OutOfMemory => Refusal::OutOfMemory,
         }
     }

@@ -1,7 +1,7 @@
 //! The two sections of a script: its table lines, and the lines after them.
 ghost use Rattle.std.specs.Prelude.{◌≡◌, ◌↔◌, IsOk, IfErr};
 
-use crate::script::reason::Reason;
+use crate::script::reason::LineReason;
 
 /// The section that a line is in.
 #[derive(Clone, Copy)]
@@ -14,13 +14,13 @@ pub enum Section {
 
 impl Section {
     /// Accepts a table line in this section. After the first run line it is `LateTableLine`.
-    pub fn takes_table_line(self) -> Result<(), Reason>
+    pub fn takes_table_line(self) -> Result<(), LineReason>
         ensures ok { IsOk result ↔ (self ≡ Section.Building) }
-        ensures err { IfErr result (λ reason. reason ≡ Reason.LateTableLine) }
+        ensures err { IfErr result (λ reason. reason ≡ LineReason.LateTableLine) }
     {
         match self {
             Section::Building => Ok(()),
-            Section::Running => Err(Reason::LateTableLine),
+            Section::Running => Err(LineReason::LateTableLine),
         }
     }
 }

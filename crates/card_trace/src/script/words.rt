@@ -4,7 +4,7 @@ ghost use Rattle.std.specs.Option.{option_copied, option_to_list};
 ghost use Rattle.card_trace.specs.ScriptWords.{words_in, words_of};
 
 use crate::script::places::place_of;
-use crate::script::reason::Reason;
+use crate::script::reason::LineReason;
 
 /// Returns the first word of a line, and what follows it; `None` if the line has no words. Spaces
 /// alone separate words. A comment, which starts with `#`, has none.
@@ -46,44 +46,44 @@ fn without_spaces(text: &[u8]) -> &[u8]
 }
 
 /// Accepts a rest without words. Any word is `WrongWordCount`.
-pub fn no_word(rest: &[u8]) -> Result<(), Reason>
+pub fn no_word(rest: &[u8]) -> Result<(), LineReason>
     ensures { MatchResult result (λ _. words_in rest.now ≡ [])
-        (λ reason. (reason ≡ Reason.WrongWordCount) × (words_in rest.now ≢ [])) }
+        (λ reason. (reason ≡ LineReason.WrongWordCount) × (words_in rest.now ≢ [])) }
 {
     match first_word(rest) {
         None => Ok(()),
-        Some(_) => Err(Reason::WrongWordCount),
+        Some(_) => Err(LineReason::WrongWordCount),
     }
 }
 
 /// Returns the one word of the rest. Another number of words is `WrongWordCount`.
-pub fn one_word(rest: &[u8]) -> Result<&[u8], Reason>
+pub fn one_word(rest: &[u8]) -> Result<&[u8], LineReason>
     ensures { MatchResult result (λ word. words_in rest.now ≡ word.now ∷ [])
-        (λ reason. (reason ≡ Reason.WrongWordCount)
+        (λ reason. (reason ≡ LineReason.WrongWordCount)
         × ((word : List ℕ) → words_in rest.now ≢ word ∷ [])) }
 {
-    let (word, rest) = first_word(rest).ok_or(Reason::WrongWordCount)?;
+    let (word, rest) = first_word(rest).ok_or(LineReason::WrongWordCount)?;
     no_word(rest)?;
     Ok(word)
 }
 
 /// Returns the two words of the rest. Another number of words is `WrongWordCount`.
-pub fn two_words(rest: &[u8]) -> Result<(&[u8], &[u8]), Reason>
+pub fn two_words(rest: &[u8]) -> Result<(&[u8], &[u8]), LineReason>
     ensures { MatchResult result
         (λ words. words_in rest.now ≡ words.0.now ∷ words.1.now ∷ [])
-        (λ reason. (reason ≡ Reason.WrongWordCount)
+        (λ reason. (reason ≡ LineReason.WrongWordCount)
         × ((first second : List ℕ) → words_in rest.now ≢ first ∷ second ∷ [])) }
 {
-    let (first, rest) = first_word(rest).ok_or(Reason::WrongWordCount)?;
+    let (first, rest) = first_word(rest).ok_or(LineReason::WrongWordCount)?;
     let second = one_word(rest)?;
     Ok((first, second))
 }
 
 /// Returns the one word of the rest, or `None` if it has no words. More words are `WrongWordCount`.
-pub fn at_most_one_word(rest: &[u8]) -> Result<Option<&[u8]>, Reason>
+pub fn at_most_one_word(rest: &[u8]) -> Result<Option<&[u8]>, LineReason>
     ensures { MatchResult result
         (λ word. words_in rest.now ≡ option_to_list (option_copied word))
-        (λ reason. (reason ≡ Reason.WrongWordCount) × (words_in rest.now ≢ [])
+        (λ reason. (reason ≡ LineReason.WrongWordCount) × (words_in rest.now ≢ [])
         × ((word : List ℕ) → words_in rest.now ≢ word ∷ [])) }
 {
     match first_word(rest) {

@@ -3,7 +3,7 @@ ghost use Rattle.std.specs.Prelude.{◌≡◌};
 ghost use Rattle.atr_core.specs.FirstFault.{first_fault};
 ghost use Rattle.trace_explain.specs.Openings.{after_answer, as_ts, begins_answer, has_begun, is_dialogue, is_direct, is_full, is_loose, is_short, role_at, turned_by};
 
-use atr_core::{Atr, AtrFault, Convention, Pps, Reason};
+use atr_core::{Atr, AtrFault, AtrReason, Convention, Pps};
 use t0_core::End;
 
 /// PPSS, the first character of a PPS request and of a response (ISO/IEC 7816-3, 9.2).
@@ -168,10 +168,10 @@ fn after_reading(fault: Option<AtrFault>) -> Stage
 }
 
 /// Whether the only fault is that characters are missing.
-pub fn is_short(reason: Reason) -> bool
+pub fn is_short(reason: AtrReason) -> bool
     ensures { result ≡ is_short reason }
 {
-    matches!(reason, Reason::Cut | Reason::CheckMissing)
+    matches!(reason, AtrReason::Cut | AtrReason::CheckMissing)
 }
 
 /// Whether a request or response has as many characters as it announces.

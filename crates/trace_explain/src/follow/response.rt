@@ -6,7 +6,7 @@ use apdu_core::{Header, Status, count};
 use std::alloc::{AllocError, Global};
 
 /// A response of this size or more is not shown whole (profile): no hostile trace fills memory.
-pub const RESPONSE_LIMIT: usize = 65_536;
+pub const SHOWN_LIMIT: usize = 65_536;
 
 /// Returns how many bytes wait after this status: `count(XX)` of `61XX`, and of `9FXX` in the class
 /// of a SIM card (3GPP TS 51.011, 9.4.1). `None` after any other status.
@@ -35,7 +35,7 @@ pub struct PendingResponse {
     /// The command that asked for it.
     pub asker: Option<Header>,
     parts: u64,
-    /// The bytes of its parts; only the first of them from `RESPONSE_LIMIT` on.
+    /// The bytes of its parts; only the first of them from `SHOWN_LIMIT` on.
     pub bytes: Vec<u8>,
 }
 
@@ -84,7 +84,7 @@ impl PendingResponse {
         if part.is_empty() {
             return Ok(());
         }
-        if self.bytes.len() < RESPONSE_LIMIT {
+        if self.bytes.len() < SHOWN_LIMIT {
             self.bytes.extend_from_slice(part)?;
         }
         self.parts = self.parts.saturating_add(1);

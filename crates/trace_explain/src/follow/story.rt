@@ -5,7 +5,7 @@ ghost use Rattle.trace_explain.specs.Reports.{IsOfCommand, one_more};
 
 use crate::follow::chain::{PendingChain, VALUE_LIMIT};
 use crate::follow::links::{Link, Links, Whole};
-use crate::follow::response::{PendingResponse, RESPONSE_LIMIT};
+use crate::follow::response::{PendingResponse, SHOWN_LIMIT};
 use crate::follow::tpdu::Tpdu;
 use apdu_core::{Header, Status};
 use std::alloc::{AllocError, Global};
@@ -120,9 +120,7 @@ impl Story {
                 if self.chain.is_whole && self.chain.value.len() < VALUE_LIMIT => {
                 Whole::Value(pieces)
             }
-            _ if parts > 1 && self.response.bytes.len() < RESPONSE_LIMIT => {
-                Whole::Response(parts)
-            }
+            _ if parts > 1 && self.response.bytes.len() < SHOWN_LIMIT => { Whole::Response(parts) }
             _ => Whole::None,
         }
     }

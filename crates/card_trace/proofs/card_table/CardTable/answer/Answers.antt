@@ -1,6 +1,6 @@
 use Rattle.std.proofs.Common.{sym, ap, ◌∙◌, refl}
 use Rattle.atr_core.specs.FirstFault.{first_fault}
-use Rattle.card_trace.specs.declared.script.reason.Reason.TheVariants.{BadAtr}
+use Rattle.card_trace.specs.declared.script.reason.LineReason.TheVariants.{BadAtr}
 use Rattle.card_trace.specs.AnswerToReset.{RefusesAnswer}
 use Rattle.card_trace.proofs.ScriptFaultLemmas.{fault_passed}
 use Rattle.card_trace.proofs.card_table.CardTable.answer.Goals as goal

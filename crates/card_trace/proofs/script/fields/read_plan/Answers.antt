@@ -2,15 +2,16 @@
 use Rattle.std.proofs.Common.{List}
 use Rattle.t0_core.specs.declared.plan.Step.{Step}
 use Rattle.t0_core.specs.Plan.{Course}
-use Rattle.card_trace.specs.declared.script.reason.Reason.{Reason}
+use Rattle.card_trace.specs.declared.script.reason.LineReason.{LineReason}
 use Rattle.card_trace.specs.ScriptFields.{IsStepsText, IsPlanText}
 use Rattle.card_trace.proofs.ScriptRefusalLemmas.{passed_on}
 use Rattle.card_trace.proofs.script.fields.read_plan.Goals as goal
 
 pub returns-in_err-steps-clause-refused : goal.returns-in_err-steps-clause-refused
 returns-in_err-steps-clause-refused g c =
-    let P : Reason → Type 0 = λ _. (steps : List Step) → IsStepsText c.args.steps.now steps → ⊥ in
-    let Q : Reason → Type 0 = λ _. (plan : Course) → IsPlanText c.args.steps.now c.args.cut.now plan
-    → ⊥ in
+    let P : LineReason → Type 0 = λ _. (steps : List Step)
+    → IsStepsText c.args.steps.now steps → ⊥ in
+    let Q : LineReason → Type 0 = λ _. (plan : Course)
+    → IsPlanText c.args.steps.now c.args.cut.now plan → ⊥ in
     passed_on c.from_residual.result c.in_err-steps.field-0.0 P Q c.from_residual.ensures.1
     (λ _ none plan h. none plan.steps h.steps) c.in_err-steps.ensures.refused

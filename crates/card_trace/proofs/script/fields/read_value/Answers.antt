@@ -1,6 +1,6 @@
 -- A value is cut at its star, if it has one.
 use Rattle.std.proofs.Common.{◌+◌, ℕ, List, take, sym, subst, ◌∙◌}
-use Rattle.card_trace.specs.declared.script.reason.Reason.{Reason}
+use Rattle.card_trace.specs.declared.script.reason.LineReason.{LineReason}
 use Rattle.card_trace.specs.ScriptFields.{IsHexText, IsRepeatedText, IsValueText}
 use Rattle.card_trace.proofs.ScriptWordLemmas.{rest_whole}
 use Rattle.card_trace.proofs.ScriptFieldLemmas.{differs, no_value, cut_value, value_cut}
@@ -12,8 +12,8 @@ returns-in-None-2-clause-refused g c =
     let text = c.args.text.now in
     let dash = differs text c.as_slice.result.now c.as_slice.ensures
     (sym c.eq.ensures ∙ c.if-eq.false) in
-    let P : Reason → Type 0 = λ _. (bytes : List ℕ) → IsHexText text bytes → ⊥ in
-    let Q : Reason → Type 0 = λ _. (value : List ℕ) → IsValueText text value → ⊥ in
+    let P : LineReason → Type 0 = λ _. (bytes : List ℕ) → IsHexText text bytes → ⊥ in
+    let Q : LineReason → Type 0 = λ _. (value : List ℕ) → IsValueText text value → ⊥ in
     refuses_more c.read_hex.result P Q
     (λ _ none. no_value text (sym c.place_of.ensures ∙ c.in-None-2.is) dash none)
     c.read_hex.ensures.refused

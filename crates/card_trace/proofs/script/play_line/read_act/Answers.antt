@@ -1,6 +1,6 @@
 -- A line `send` has the command as its one field.
 use Rattle.std.proofs.Common.{◌≡◌, ◌∙◌, ℕ, List, [], ◌∷◌, sym, subst}
-use Rattle.card_trace.specs.declared.script.reason.Reason.{Reason}
+use Rattle.card_trace.specs.declared.script.reason.LineReason.{LineReason}
 use Rattle.card_trace.specs.ScriptWords.{words_in}
 use Rattle.card_trace.specs.ScriptFields.{IsCommandText}
 use Rattle.card_trace.specs.ScriptTable.{OneField}
@@ -22,8 +22,8 @@ pub returns-in_err-read_command-in-Send-clause-refused :
 returns-in_err-read_command-in-Send-clause-refused g c =
     let fields = words_in c.args.rest.now in
     let text = c.in_ok-one_word-in-Send.field-0.now in
-    let P : Reason → Type 0 = λ _. (bytes : List ℕ) → IsCommandText text bytes → ⊥ in
-    let Q : Reason → Type 0 = λ _. (act : Act) → SaysAct act c.args.keyword fields → ⊥ in
+    let P : LineReason → Type 0 = λ _. (bytes : List ℕ) → IsCommandText text bytes → ⊥ in
+    let Q : LineReason → Type 0 = λ _. (act : Act) → SaysAct act c.args.keyword fields → ⊥ in
     passed_on c.from_residual-in_err-read_command-in-Send.result
     c.in_err-read_command-in-Send.field-0.0 P Q
     c.from_residual-in_err-read_command-in-Send.ensures.1

@@ -1,7 +1,7 @@
 -- A put has the fields of an entry, and its value keeps to the limit.
 use Rattle.std.proofs.Common.{ℕ, List, length, arith, ap, subst, ◌∙◌}
 use Rattle.object_card.specs.OneStep.{Operation}
-use Rattle.card_trace.specs.declared.script.reason.Reason.{Reason}
+use Rattle.card_trace.specs.declared.script.reason.LineReason.{LineReason}
 use Rattle.card_trace.specs.ScriptWords.{words_in}
 use Rattle.card_trace.specs.ScriptTable.{AreEntryFields}
 use Rattle.card_trace.specs.ScriptPlay.{SaysOperation}
@@ -13,8 +13,8 @@ use Rattle.card_trace.proofs.script.play_line.read_operation.Goals as goal
 pub returns-in_err-tag-in-Put-clause-refused : goal.returns-in_err-tag-in-Put-clause-refused
 returns-in_err-tag-in-Put-clause-refused g c =
     let fields = words_in c.args.rest.now in
-    let P : Reason → Type 0 = λ _. (tag value : List ℕ) → AreEntryFields fields tag value → ⊥ in
-    let Q : Reason → Type 0 = λ _. (operation : Operation)
+    let P : LineReason → Type 0 = λ _. (tag value : List ℕ) → AreEntryFields fields tag value → ⊥ in
+    let Q : LineReason → Type 0 = λ _. (operation : Operation)
     → SaysOperation operation c.args.keyword fields → ⊥ in
     passed_on c.from_residual-in_err-tag-in-Put.result c.in_err-tag-in-Put.field-0.0 P Q
     c.from_residual-in_err-tag-in-Put.ensures.1

@@ -1,6 +1,6 @@
 -- An entry is a tag and a value.
 use Rattle.std.proofs.Common.{ℕ, List, sym, subst}
-use Rattle.card_trace.specs.declared.script.reason.Reason.{Reason}
+use Rattle.card_trace.specs.declared.script.reason.LineReason.{LineReason}
 use Rattle.card_trace.specs.ScriptWords.{words_in}
 use Rattle.card_trace.specs.ScriptFields.{IsValueText}
 use Rattle.card_trace.specs.ScriptTable.{AreEntryFields}
@@ -11,8 +11,9 @@ use Rattle.card_trace.proofs.script.table_line.read_entry.Goals as goal
 pub returns-in_err-value-clause-refused : goal.returns-in_err-value-clause-refused
 returns-in_err-value-clause-refused g c =
     let fields = words_in c.args.rest.now in
-    let P : Reason → Type 0 = λ _. (value : List ℕ) → IsValueText c.in_ok-tag.value.now value → ⊥ in
-    let Q : Reason → Type 0 = λ _. (tag value : List ℕ) → AreEntryFields fields tag value → ⊥ in
+    let P : LineReason → Type 0 = λ _. (value : List ℕ)
+    → IsValueText c.in_ok-tag.value.now value → ⊥ in
+    let Q : LineReason → Type 0 = λ _. (tag value : List ℕ) → AreEntryFields fields tag value → ⊥ in
     passed_on c.from_residual-in_err-value.result c.in_err-value.field-0.0 P Q
     c.from_residual-in_err-value.ensures.1
     (λ _ none tag value h.

@@ -1,7 +1,7 @@
 use Rattle.std.proofs.Common.{arith, List, ℕ, take, drop}
 use Rattle.std.proofs.lemmas.List.{take-append-drop}
 use Rattle.t1_core.proofs.CardSteps.{carried_kept}
-use Rattle.t1_core.proofs.card.CardEnd.carry_out.Goals as goal
+use Rattle.t1_core.proofs.card.BlockCard.carry_out.Goals as goal
 
 pub returns-in-Ok-clause-turn : goal.returns-in-Ok-clause-turn
 returns-in-Ok-clause-turn g c =

@@ -1,7 +1,7 @@
 use Rattle.std.proofs.Common.{◌≡◌, ◌+◌, ◌<◌, ◌≤◌, ◌⊎◌, true, ap, sym, ◌∙◌, arith, length, inl, inr}
 use Rattle.t1_core.proofs.CardSteps.{ended, exceeded, forgets_field, on_ok, refused}
-use Rattle.t1_core.proofs.card.CardEnd.collect.Goals as goal
-use Rattle.t1_core.proofs.card.CardEnd.collect.Goals.{then-self-via-then-self, then-self-via-else-self+then-before-field}
+use Rattle.t1_core.proofs.card.BlockCard.collect.Goals as goal
+use Rattle.t1_core.proofs.card.BlockCard.collect.Goals.{then-self-via-then-self, then-self-via-else-self+then-before-field}
 
 pub returns-then-more-clause-turn : goal.returns-then-more-clause-turn
 returns-then-more-clause-turn g c =

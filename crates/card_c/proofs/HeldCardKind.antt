@@ -1,8 +1,8 @@
--- `CardHeld` as a kind of handle.
+-- `HeldCard` as a kind of handle.
 use Rattle.std.proofs.Common.{refl}
 use Rattle.card_c.proofs.HeldKind.{Kind}
 use Rattle.card_c.specs.contracts.card_side.CardSide as side
-use Rattle.card_c.specs.contracts.card_held.CardHeld as held
+use Rattle.card_c.specs.contracts.held_card.HeldCard as held
 
 abbrev pub kind : Kind
 kind = record {

@@ -10,13 +10,13 @@ use std::marker::Model;
 /// A pointer to a box, or null. C does not see the type in the box.
 #[repr(C)]
 #[derive(Drop)]
-pub struct CardHeld {
+pub struct HeldCard {
     at: *mut u8,
     alloc: Global,
     ghost value: { Option CardSide },
 }
 
-impl Model for CardHeld {
+impl Model for HeldCard {
     ghost use Rattle.card_c.specs.HeldOwned.{held_owns};
     ghost use Rattle.card_c.specs.contracts.card_side.CardSide.{the_row};
 
@@ -24,30 +24,30 @@ impl Model for CardHeld {
 }
 
 // Neither its content nor the function that frees it names a thread.
-unsafe impl Send for CardHeld {}
+unsafe impl Send for HeldCard {}
 
-impl CardHeld {
-    pub(crate) fn of(value: Loose<CardSide, Global>) -> CardHeld
+impl HeldCard {
+    pub(crate) fn of(value: Loose<CardSide, Global>) -> HeldCard
         ensures { result.value ≡ Some value.value }
     {
         let Loose { at, alloc } = value;
         let at = at as *mut u8;
-        CardHeld { at, alloc }
+        HeldCard { at, alloc }
     }
 
     pub(crate) fn into_loose(self) -> Loose<CardSide, Global>
         requires { IsSome self.value }
         ensures { Some result.value ≡ self.value }
     {
-        let CardHeld { at, alloc } = self;
+        let HeldCard { at, alloc } = self;
         let at = at as *mut CardSide;
         Loose { at, alloc }
     }
 
-    pub(crate) fn empty(alloc: Global) -> CardHeld
+    pub(crate) fn empty(alloc: Global) -> HeldCard
         ensures { result.value ≡ None }
     {
-        CardHeld {
+        HeldCard {
             at: std::ptr::null_mut(),
             alloc,
         }
@@ -57,8 +57,8 @@ impl CardHeld {
 /// The handle of a card, or of a session with one. Empty, all its bytes are zero.
 #[repr(C)]
 #[derive(Drop)]
-pub struct GtCard {
+pub struct CardHandle {
     pub(crate) live: bool,
-    pub(crate) held: CardHeld,
+    pub(crate) held: HeldCard,
     ghost tells: { live ≡ true → IsSome held.value },
 }

@@ -6,7 +6,7 @@ use Rattle.std.proofs.alloc.Global.TheSendSync as handle
 use Rattle.std_alloc.proofs.SendSync.{quiet}
 use Rattle.card_c.specs.contracts.card_side.CardSide as side
 use Rattle.card_c.proofs.card_side.CardSide.TheSendSync.{the_send as side_send}
-use Rattle.card_c.specs.contracts.card_held.CardHeld.{the_row, the_type}
+use Rattle.card_c.specs.contracts.held_card.HeldCard.{the_row, the_type}
 use Rattle.card_c.proofs.HeldSend.{held_goes}
 
 pub send : IsSend the_row

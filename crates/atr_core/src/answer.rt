@@ -59,8 +59,8 @@ impl Atr {
     /// # Errors
     ///
     /// - `AtrFault`: the bytes are not an answer to reset. It is the leftmost fault. At one place
-    ///   it is the first of `AtrReason`, and a wrong check byte counts only if nothing else is wrong
-    ///   (profile).
+    ///   it is the first of `AtrReason`, and a wrong check byte counts only if nothing else is
+    ///   wrong (profile).
     pub fn read(bytes: &[u8]) -> Result<Atr, AtrFault>
         ensures answer { IfOk result (λ a. IsAnswer a × (bytes.now ≡ characters a)) }
         ensures each { (a : spec.Answer) →

@@ -13,8 +13,8 @@ use t0_core::{DataRun, TpduCard, Verdict};
 /// - After `61XX` GET RESPONSE (INS `C0`, any class) fetches the rest. If nothing waits, `6985`.
 /// - After `6CXX` the same header with that P3 gets the response, without another step.
 /// - Any other command drops what waits. INS `6X` and `9X` get `6D00`.
-/// - If memory runs out, the status is `6581`; for a response above `OWN_RESPONSE_LIMIT` it is `6F00`.
-///   The application is unchanged after both.
+/// - If memory runs out, the status is `6581`. For a response above `OWN_RESPONSE_LIMIT` it is
+///   `6F00`. The application is unchanged after both.
 #[derive(Drop)]
 pub struct CommandCard<A: Application> {
     pub(crate) application: A,

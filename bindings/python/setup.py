@@ -37,10 +37,10 @@ def builder():
     if not archive.is_file():
         raise SystemExit(f"galliumtoad: there is no archive for Linux on {platform.machine()}")
     heap = os.path.relpath(BINDINGS / "c" / "src" / "heap.c", HERE)
-    uses = {"sources": [heap], "extra_objects": [str(archive)], "include_dirs": [str(HEADER.parent)]}
     made = cffi.FFI()
     made.cdef(declarations())
-    made.set_source("galliumtoad._library", '#include "galliumtoad.h"\n', **uses)
+    made.set_source("galliumtoad._library", '#include "galliumtoad.h"\n', sources=[heap],
+                    extra_objects=[str(archive)], include_dirs=[str(HEADER.parent)])
     return made
 
 

@@ -37,11 +37,10 @@ def builder():
     if not archive.is_file():
         raise SystemExit(f"galliumtoad: there is no archive for Linux on {platform.machine()}")
     heap = os.path.relpath(BINDINGS / "c" / "src" / "heap.c", HERE)
-    parts = {"sources": [heap], "extra_objects": [str(archive)]}
     made = cffi.FFI()
     made.cdef(declarations())
-    parts["include_dirs"] = [str(HEADER.parent)]
-    made.set_source("galliumtoad._library", '#include "galliumtoad.h"\n', **parts)
+    made.set_source("galliumtoad._library", '#include "galliumtoad.h"\n', sources=[heap],
+                    extra_objects=[str(archive)], include_dirs=[str(HEADER.parent)])
     return made
 
 

@@ -1,5 +1,6 @@
 /* Tests random puts and gets by each way in turn, under random plans: what is read is what was put.
- * A model of four values and their sizes is all that the test knows of the card. */
+ * A model of four values and their sizes is all that the test knows of the card. Some answers are
+ * damaged, which changes nothing. Some operations are cut off: a put is then stored or not. */
 #include "galliumtoad.h"
 #include "check.h"
 
@@ -18,12 +19,21 @@ static size_t any(size_t limit) {
     return (size_t)(state >> 8) % limit;
 }
 
+/* How many turns the operation may still take. */
+static size_t turns;
+
+static bool is_over(void) {
+    if (turns == 0 || failed > 0) return true;
+    turns--;
+    return false;
+}
+
 /* ---- The ways: each carries out the operation that has begun --------------------------------- */
 
 static void by_characters(void) {
     uint8_t byte;
     int32_t code;
-    while ((code = gt_terminal_next(&terminal, &byte)) != GT_DONE) {
+    while (!is_over() && (code = gt_terminal_next(&terminal, &byte)) != GT_DONE) {
         if (code == GT_SENDS) {
             CHECK(gt_card_take(&card, byte), GT_OK);
         } else {
@@ -31,7 +41,6 @@ static void by_characters(void) {
             CHECK(gt_card_turn(&card, &byte), GT_SENDS);
             CHECK(gt_terminal_take(&terminal, byte), GT_OK);
         }
-        if (failed > 0) return;
     }
 }
 
@@ -57,7 +66,7 @@ static void to_terminal(const uint8_t *bytes, size_t n) {
 static void by_buffers(void) {
     uint8_t bytes[ROOM];
     size_t n;
-    while (failed == 0) {
+    while (!is_over()) {
         const size_t room = 1 + any(ROOM);
         int32_t code = gt_terminal_send_bytes(&terminal, bytes, room, &n);
         to_card(bytes, n);
@@ -73,9 +82,10 @@ static void by_buffers(void) {
 static void by_tpdus(void) {
     uint8_t tpdu[GT_TPDU_LIMIT], answer[GT_ANSWER_LIMIT];
     size_t n, most, came;
-    while (failed == 0 && gt_terminal_tpdu(&terminal, tpdu, &n, &most) == GT_OK) {
+    while (!is_over() && gt_terminal_tpdu(&terminal, tpdu, &n, &most) == GT_OK) {
         CHECK(gt_card_tpdu(&card, tpdu, n, answer, sizeof answer, &came), GT_OK);
         CHECK(came <= most + 2, 1);
+        CHECK(gt_terminal_answered(&terminal, answer, any(2)), GT_NO_STATUS);
         CHECK(gt_terminal_answered(&terminal, answer, came), GT_OK);
     }
 }
@@ -83,9 +93,10 @@ static void by_tpdus(void) {
 static void by_commands(void) {
     uint8_t command[GT_APDU_LIMIT], response[GT_ANSWER_LIMIT];
     size_t n, most, came;
-    while (failed == 0 && gt_terminal_apdu(&terminal, command, &n, &most) == GT_OK) {
+    while (!is_over() && gt_terminal_apdu(&terminal, command, &n, &most) == GT_OK) {
         CHECK(gt_card_apdu(&card, command, n, response, sizeof response, &came), GT_OK);
         CHECK(came <= most + 2, 1);
+        CHECK(gt_terminal_responded(&terminal, response, any(2)), GT_NO_STATUS);
         CHECK(gt_terminal_responded(&terminal, response, came), GT_OK);
     }
 }
@@ -126,6 +137,7 @@ static void plan(void) {
 static uint16_t carry_out(size_t *len) {
     uint16_t status = 0;
     plan();
+    turns = SIZE_MAX;
     WAYS[any(sizeof WAYS / sizeof *WAYS)]();
     CHECK(gt_terminal_answer(&terminal, &status, data, sizeof data, len), GT_OK);
     return status;
@@ -140,15 +152,50 @@ static void put(size_t i) {
     CHECK(len, 0);
 }
 
-/* The answer is the object with its tag and length (BER-TLV). */
-static void get(size_t i) {
-    const size_t head = (TAGS[i] > 0xFF ? 2u : 1u)
-        + (sizes[i] < 128 ? 1u : sizes[i] < 256 ? 2u : 3u);
+/* Gets an object. Returns whether the answer is its tag and length (BER-TLV), and this value. */
+static bool has(size_t i, const uint8_t *value, size_t n) {
+    const size_t head = (TAGS[i] > 0xFF ? 2u : 1u) + (n < 128 ? 1u : n < 256 ? 2u : 3u);
     size_t len = 0;
     CHECK(gt_terminal_get(&terminal, TAGS[i]), GT_OK);
     CHECK(carry_out(&len), 0x9000);
-    CHECK(len, head + sizes[i]);
-    if (len == head + sizes[i]) CHECK_BYTES(data + head, values[i], sizes[i]);
+    return len == head + n && memcmp(data + head, value, n) == 0;
+}
+
+static void get(size_t i) {
+    CHECK(has(i, values[i], sizes[i]), true);
+}
+
+/* Cuts an operation off, resets both ends, and selects again. */
+static void cut_off(void) {
+    size_t len;
+    plan();
+    turns = any(60);
+    WAYS[any(sizeof WAYS / sizeof *WAYS)]();
+    CHECK(gt_terminal_reset(&terminal), GT_OK);
+    CHECK(gt_card_reset(&card), GT_OK);
+    CHECK(gt_terminal_select(&terminal, AID, sizeof AID), GT_OK);
+    CHECK(carry_out(&len), 0x9000);
+}
+
+/* A put that is cut off stores the whole value or nothing. */
+static void put_cut_off(size_t i) {
+    static uint8_t value[GT_VALUE_LIMIT];
+    const size_t n = any(600);
+    size_t j;
+    for (j = 0; j < n; j++) value[j] = (uint8_t)any(256);
+    CHECK(gt_terminal_put(&terminal, TAGS[i], value, n), GT_OK);
+    cut_off();
+    if (has(i, value, n)) {
+        memcpy(values[i], value, n);
+        sizes[i] = n;
+    }
+    get(i);
+}
+
+static void get_cut_off(size_t i) {
+    CHECK(gt_terminal_get(&terminal, TAGS[i]), GT_OK);
+    cut_off();
+    get(i);
 }
 
 static void get_what_is_missing(void) {
@@ -166,6 +213,8 @@ int main(void) {
     CHECK(carry_out(&len), 0x9000);
     for (i = 0; i < ROUNDS && failed == 0; i++) {
         if (any(20) == 0) get_what_is_missing();
+        else if (any(10) == 0) put_cut_off(any(OBJECTS));
+        else if (any(10) == 0) get_cut_off(any(OBJECTS));
         else if (any(2) == 0) put(any(OBJECTS));
         else get(any(OBJECTS));
     }

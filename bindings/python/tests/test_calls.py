@@ -581,6 +581,43 @@ def test_a_second_thread_in_a_handle_is_refused():
     assert held.tpdu(SELECT[:-1]) == bytes.fromhex("610B")
 
 
+@pytest.mark.parametrize("data", [SELECT[:-1], bytearray(SELECT[:-1]), memoryview(SELECT)[:-1]])
+def test_each_kind_of_bytes_is_read_in_place(data):
+    with card() as held:
+        assert held.tpdu(data) == bytes.fromhex("610B")
+    assert bytes(data) == SELECT[:-1]
+
+
+def test_a_handle_keeps_no_bytes_between_its_calls():
+    held, terminal, seen = card(), Terminal(), []
+
+    def is_empty(handle):
+        return bytes(handle._written) == bytes(lib.GT_RESPONSE_LIMIT)
+
+    def carry(data):
+        answer = held.tpdu(data)
+        seen.extend((is_empty(held), is_empty(terminal)))
+        return answer
+
+    for operation, size in [(Select(AID), 11), (Get(0x50), 604), (Get(0x5F20), 6)]:
+        assert len(terminal.run(carry, operation).data) == size
+        assert is_empty(terminal)
+    assert len(seen) >= 12 and all(seen)
+    with pytest.raises(TransportError):
+        held.tpdu(b"")
+    assert held.tpdu(bytes.fromhex("00CA5F2006")) == bytes.fromhex("5F20034A4F459000")
+
+
+def test_a_card_sends_16384_characters_at_once():
+    with card() as held:
+        held.tpdu(SELECT[:-1])
+        held.plan("n" * 20000)
+        assert held.receive_bytes(bytes.fromhex("00CA5F2006")) == 5
+        sent = [held.send_bytes(1 << 30) for _ in range(3)]
+    assert [len(it) for it in sent] == [16384, 20009 - 16384, 0]
+    assert b"".join(sent) == b"\x60" * 20000 + bytes.fromhex("CA5F20034A4F459000")
+
+
 def resident():
     """The number of pages of this process in memory."""
     with open("/proc/self/statm") as file:

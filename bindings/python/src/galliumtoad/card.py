@@ -117,7 +117,7 @@ class Card(Holder):
           or asks for none of those that it sends. The card is reset, and the plan is used up.
         - OutOfMemory: memory ran out; nothing has changed.
         """
-        return self._copied("tpdu", *readable(tpdu), room=lib.GT_ANSWER_LIMIT)
+        return self._copied("tpdu", readable(tpdu), room=lib.GT_ANSWER_LIMIT)
 
     def apdu(self, command: Bytes) -> bytes:
         """Carries out a whole command, as a card at T=1, and returns the data and SW1 SW2.
@@ -130,7 +130,7 @@ class Card(Holder):
         - CommandError: there are fewer than four bytes, or INS is 6X or 9X.
         - OutOfMemory: memory ran out.
         """
-        return self._copied("apdu", *readable(command), room=lib.GT_ANSWER_LIMIT)
+        return self._copied("apdu", readable(command), room=lib.GT_ANSWER_LIMIT)
 
     def receive_bytes(self, data: Bytes) -> int:
         """Takes characters of the terminal while the card listens. Returns the number taken: if it
@@ -140,8 +140,8 @@ class Card(Holder):
         return int(taken[0])
 
     def send_bytes(self, room: int = 1024) -> bytes:
-        """Returns the card's next characters, at most `room`, or no bytes if it listens. They count
-        as sent: a put is stored with its second status byte.
+        """Returns the card's next characters, or no bytes if it listens. They are at most `room`,
+        and at most 16,384. They count as sent: a put is stored with its second status byte.
 
         Raises `ValueError` for a room below 0 or above 1,073,741,824.
         """

@@ -1,9 +1,7 @@
 """Handles of the library, and what their calls take and return. Every other module uses it."""
 
 import contextlib
-import functools
-import threading
-from typing import Any, Collection, Iterator, TypeVar, Union, get_args
+from typing import Any, Collection, Iterable, TypeVar, Union, get_args
 
 from ._library import ffi, lib
 from .errors import checked
@@ -11,6 +9,7 @@ from .errors import checked
 Bytes = Union[bytes, bytearray, memoryview]
 Self = TypeVar("Self", bound="Handle")
 BYTES, COUNT = ffi.typeof("uint8_t[]"), ffi.typeof("size_t *")
+FUNCTIONS = {it: getattr(lib, it) for it in dir(lib) if it.startswith("gt_")}
 
 
 def plain(data: Bytes) -> bytes:
@@ -19,12 +18,12 @@ def plain(data: Bytes) -> bytes:
 
 
 def readable(data: Bytes) -> tuple[Any, int]:
-    """Returns a bytes-like object as the library reads it: a pointer, and the number of bytes.
+    """Returns a bytes-like object as the library reads it, in place, and the number of its bytes.
     Raises `TypeError` for other objects."""
     # A memoryview is copied: if an exception's frames keep it, the collector may clear it before
     # cffi returns its buffer.
     kept = data if isinstance(data, (bytes, bytearray)) else plain(data)
-    return ffi.from_buffer(BYTES, kept), len(kept)
+    return kept if isinstance(kept, bytes) else ffi.from_buffer(BYTES, kept), len(kept)
 
 
 def writable(room: int) -> tuple[Any, Any]:
@@ -57,15 +56,6 @@ def tag_number(tag: int) -> int:
     return within(tag, 0, 0xFFFFFF, "a tag")
 
 
-BUSY = "another thread is in a call of this handle"
-
-
-@functools.lru_cache(maxsize=None)
-def function(kind: str, name: str) -> Any:
-    """Returns the library's function of this name for a kind of handle."""
-    return getattr(lib, f"gt_{kind}_{name}")
-
-
 class Handle:
     """A context manager over a handle of the library. `close` or the collector frees it.
 
@@ -76,39 +66,52 @@ class Handle:
     """
 
     def __init__(self, kind: str, *calls: tuple[Any, ...]) -> None:
-        self._handle = ffi.gc(ffi.new(f"gt_{kind} *"), function(kind, "free"))
-        self._kind, self._lock = kind, threading.Lock()
+        self._handle = ffi.gc(ffi.new(f"gt_{kind} *"), FUNCTIONS[f"gt_{kind}_free"])
+        # The handle is in `_free` while no call has it. The buffer is empty then.
+        self._start, self._free = f"gt_{kind}_", [self._handle]
+        self._room, self._count = writable(lib.GT_RESPONSE_LIMIT)
+        self._most, self._status = ffi.new(COUNT), ffi.new("uint16_t *")
+        self._written = ffi.buffer(self._room)
         for words in calls:
             self._call(*words)
 
     def _call(self, name: str, *words: Any, but: Collection[int] = (), place: Any = None) -> int:
         """Calls the library's function of this name with the handle. Returns its code, or 0 if it
         has none. Raises each fault except those in `but`."""
-        # As `_alone`, which would take half of the time of a call.
-        lock = self._lock
-        if not lock.acquire(False):
-            raise RuntimeError(BUSY)
+        return int(self._done(name, words, but, place))
+
+    def _done(self, name: str, words: Iterable[Any], but: Collection[int] = (), place: Any = None,
+              cell: Any = None) -> Any:
+        """As `_call`, at less cost. With a `cell` it returns what the function has written to the
+        handle's buffer, which is wiped, and set in the cell; but the code of a fault in `but`."""
+        handle = self._taken()
         try:
-            code = function(self._kind, name)(self._handle, *words)
+            code = FUNCTIONS[self._start + name](handle, *words)
+            if cell is not None and code >= 0:
+                count, written = self._count[0], self._written
+                data, written[:count] = written[:count], bytes(count)
+                return data, cell[0]
         finally:
-            lock.release()
+            self._free.append(handle)
         return checked(code, place, but) if code else 0
 
-    @contextlib.contextmanager
-    def _alone(self) -> Iterator[None]:
-        """Holds the handle for this thread."""
-        if not self._lock.acquire(blocking=False):
-            raise RuntimeError(BUSY)
+    def _taken(self) -> Any:
+        """Takes the handle for one call of the library, which puts it back."""
         try:
-            yield
-        finally:
-            self._lock.release()
+            return self._free.pop()
+        except IndexError:
+            raise RuntimeError("another thread is in a call of this handle") from None
 
-    def _copied(self, name: str, *words: Any, room: int) -> bytes:
-        """Calls a function with a buffer, its room and a count. Returns what it wrote."""
-        made, count = writable(room)
-        self._call(name, *words, made, room, count)
-        return copied(made, count)
+    def _alone(self) -> contextlib.ExitStack:
+        """Holds the handle for this thread, until the end of `with`."""
+        held = contextlib.ExitStack()
+        held.callback(self._free.append, self._taken())
+        return held
+
+    def _copied(self, name: str, words: Iterable[Any] = (), *, room: int) -> bytes:
+        """Calls a function with the handle's buffer, a room and a count. Returns what it wrote."""
+        all_words = *words, self._room, min(room, lib.GT_RESPONSE_LIMIT), self._count
+        return bytes(self._done(name, all_words, (), None, self._count)[0])
 
     def close(self) -> None:
         """Wipes and frees what the handle holds. A second call does nothing."""

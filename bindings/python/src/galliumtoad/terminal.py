@@ -7,8 +7,7 @@ from typing import Any, Callable, NamedTuple, Optional, Protocol, Union
 from ._library import ffi, lib
 from .answers import Answer, Edc, Status
 from .errors import BlockError
-from .handle import (COUNT, Bytes, Handle, Lasting, copied, readable, shown, tag_number, within,
-                     writable)
+from .handle import Bytes, Handle, Lasting, copied, readable, shown, tag_number, within, writable
 
 Line = Callable[[bytes, int], Bytes]
 
@@ -131,7 +130,7 @@ class Machine(Handle):
 
         Raises `CallError`, GT_STATE, at the level of commands.
         """
-        return self._due("tpdu", lib.GT_TPDU_LIMIT)
+        return self._due("tpdu")
 
     def answered(self, answer: Bytes) -> None:
         """Takes the answer to the TPDU of `tpdu`: data and SW1 SW2. Another TPDU follows, or the
@@ -142,7 +141,7 @@ class Machine(Handle):
         - LineError: the response is too long, or stalls; the operation has failed for good.
         - CallError, GT_STATE: it is at the level of commands; nothing has changed.
         """
-        self._call("answered", *readable(answer))
+        self._done("answered", readable(answer))
 
     def apdu(self) -> Optional[Due]:
         """Returns the whole command that goes to a card at T=1 now, or None if the operation has
@@ -152,17 +151,17 @@ class Machine(Handle):
         - CallError, GT_STATE: no operation has begun, or it is at the level of characters.
         - OutOfMemory: memory ran out for this level.
         """
-        return self._due("apdu", lib.GT_APDU_LIMIT)
+        return self._due("apdu")
 
     def responded(self, response: Bytes) -> None:
         """Takes the response to the command of `apdu`: data and SW1 SW2. Another command follows,
         or the exchange or operation has ended. Errors as `answered` and `apdu`."""
-        self._call("responded", *readable(response))
+        self._done("responded", readable(response))
 
-    def _due(self, name: str, room: int) -> Optional[Due]:
-        (made, count), most = writable(room), ffi.new(COUNT)
-        is_missing = self._call(name, made, count, most, but=[lib.GT_NOT_DUE])
-        return None if is_missing else Due(copied(made, count), most[0])
+    def _due(self, name: str) -> Optional[Due]:
+        words = self._room, self._count, self._most
+        found = self._done(name, words, [lib.GT_NOT_DUE], None, self._most)
+        return None if found == lib.GT_NOT_DUE else Due(*found)
 
     def data_sent(self) -> Optional[bool]:
         """Returns whether all data of the commands so far have left the terminal, or None if that
@@ -181,10 +180,9 @@ class Machine(Handle):
 
         A terminal's answer stays until the next operation begins or `reset`.
         """
-        status, room = ffi.new("uint16_t *"), lib.GT_RESPONSE_LIMIT
-        data, count = writable(room)
-        code = self._call("answer", status, data, room, count, but=[lib.GT_STATE, lib.GT_NOT_FOUND])
-        return None if code else Answer(Status(status[0]), copied(data, count))
+        words = self._status, self._room, lib.GT_RESPONSE_LIMIT, self._count
+        found = self._done("answer", words, [lib.GT_STATE, lib.GT_NOT_FOUND], None, self._status)
+        return Answer(Status(found[1]), found[0]) if isinstance(found, tuple) else None
 
 
 class Exchange(Machine):
@@ -252,7 +250,8 @@ class Terminal(Machine, Lasting):
         - TypeError: it is not an operation.
         - OutOfMemory: memory ran out.
         """
-        self._call(*call_of(operation))
+        name, *words = call_of(operation)
+        self._done(name, words)
 
     def run(self, transport: Union[Transport, Function], operation: Operation) -> Answer:
         """Carries out an operation over a transport, and returns the card's answer.
@@ -268,11 +267,10 @@ class Terminal(Machine, Lasting):
             name = type(transport).__name__
             raise TypeError(f"{name} is neither a function nor a callable with a `level`, a Level")
         self.begin(operation)
-        is_whole = level is Level.APDU
-        due, take = (self.apdu, self.responded) if is_whole else (self.tpdu, self.answered)
+        due, take = ("apdu", "responded") if level is Level.APDU else ("tpdu", "answered")
         try:
-            while (asked := due()) is not None:
-                take(transport(asked.data))
+            while (asked := self._due(due)) is not None:
+                self._done(take, readable(transport(asked.data)))
             answer = self.answer()
         except BaseException:
             self.reset()

@@ -23,7 +23,7 @@ def declarations():
     """The types, numbers and functions of the header, in the form that cffi reads."""
     text = re.sub(r"/\*.*?\*/", "", TEXT, flags=re.DOTALL)
     numbers = re.findall(r"^#define (GT_[A-Z_]+) (?:\d|\(GT_)", text, re.M)
-    text = re.sub(r"^#(?:.*\\\n)*.*$", "", text, flags=re.M).replace('extern "C" {', "")
+    text = re.sub(r"^#.*$", "", text, flags=re.M).replace('extern "C" {', "")
     text = re.sub(r"\) \{\n.*?\n\}", ");", text, flags=re.DOTALL)  # a function's body
     text = re.sub(r"\b(GT_MUST_CHECK|GT_FUNCTION|static inline)\b", "", text)
     items = re.findall(r"[^;{}]*(?:\{[^{}]*\}[^;{}]*)?;", text)

@@ -19,6 +19,7 @@ thread_local! {
     static CALLS: RefCell<Vec<Call>> = const { RefCell::new(Vec::new()) };
     static TOLD: Cell<i32> = const { Cell::new(0) };
     static FIRST: RefCell<Vec<i32>> = const { RefCell::new(Vec::new()) };
+    static COUNTS: RefCell<Vec<usize>> = const { RefCell::new(Vec::new()) };
     static VERSION: Cell<i32> = const { Cell::new(OWN) };
 }
 
@@ -30,6 +31,12 @@ const TELLS: &str = "GALLIUMTOAD_TELLS_VERSION";
 
 /// Notes a call, and returns the code that the test has set.
 fn note(name: &'static str, handed: Vec<usize>) -> i32 {
+    if name == "galliumtoad_card_send_bytes" {
+        if let Some(count) = COUNTS.with(|it| it.borrow_mut().pop()) {
+            // SAFETY: the last argument of this function is where its count goes.
+            unsafe { *(handed[3] as *mut usize) = count };
+        }
+    }
     CALLS.with(|it| it.borrow_mut().push((name, handed)));
     if name != "galliumtoad_version" {
         let is_of_a_card = name.starts_with("galliumtoad_card");
@@ -481,6 +488,13 @@ fn of_a_card_of_your_own() {
     tell_first([3, 0, 0, 0, 1]);
     hands!(it.send_bytes(&mut room) => card_send_bytes(_, space, 300, _), card_command(_, _),
         card_respond(_, _, 3, 0x1234), card_send_bytes(_, space, 300, _), card_settled(_));
+    // the header allows characters before a command that waits
+    tell_first([3, 0, 0, 1, 1]);
+    COUNTS.with(|it| it.replace(vec![3, 2]));
+    let sent = hands!(it.send_bytes(&mut room) => card_send_bytes(_, space, 300, _),
+        card_command(_, _), card_respond(_, _, 3, 0x1234),
+        card_send_bytes(_, (space + 2), 298, _), card_settled(_));
+    assert_eq!(sent.map(|it| (it.count, it.stop)), Ok((5, Stop::Full)));
     // a fault after a call of the application resets the card, one before does not
     for (codes, fault) in [([3, 0, -5], Error::Argument), ([3, 0, -4], Error::Memory)] {
         tell_first(codes);

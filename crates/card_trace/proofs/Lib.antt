@@ -7,6 +7,7 @@ pub mod ScriptWordLemmas
 pub mod ScriptFieldLemmas
 pub mod ScriptRefusalLemmas
 pub mod ScriptTableLemmas
+pub mod NoFieldLemmas
 pub mod ScriptPlayLemmas
 pub mod ScriptCardLemmas
 mod ScriptFaultLemmas

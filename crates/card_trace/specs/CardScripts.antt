@@ -19,8 +19,11 @@ use Rattle.card_trace.specs.AnswerToReset.{AnswerToReset, at_first, characters_o
 use Rattle.card_trace.specs.PrintedText.{reset_text, not_listening_text}
 use Rattle.card_trace.specs.TableText.{table_text}
 use Rattle.card_trace.specs.TraceText.{handed_out_text}
-use Rattle.card_trace.specs.Script.{Script}
-use Rattle.card_trace.specs.ScriptCard.{Part, Adds, Atr, Plan, Act, Take, HandOut, Reset, Table, SaysPart, SaysAct}
+use Rattle.card_trace.specs.declared.script.keyword.Keyword.{Keyword}
+use Rattle.card_trace.specs.declared.script.keyword.Keyword.TheVariants as keywords
+use Rattle.card_trace.specs.declared.script.section.Section.{Section}
+use Rattle.card_trace.specs.Script.{Script, InTable}
+use Rattle.card_trace.specs.ScriptCard.{Part, Adds, Atr, Plan, Act, Take, HandOut, Reset, Table, SaysPart, SaysAct, NoPart, NoAct}
 use Rattle.card_trace.specs.Scripts.{IsAdded, IsNotAdded}
 
 -- What led to a card's end. `events` are all events since the card was built, in the state `first`.
@@ -178,6 +181,16 @@ IsNotBuilt old (Adds addition) reason = IsNotAdded old.tables addition (Line rea
 IsNotBuilt old (Atr bytes) reason = RefusesAnswer old.answer bytes reason
 IsNotBuilt old (Plan plan) reason = ⊥
 
+-- why a line says nothing
+abbrev pub CardDenies : Section → Keyword → List (List ℕ) → LineReason → Type 0
+CardDenies section (keywords.Adds word) fields reason =
+    InTable section (NoPart (keywords.Adds word) fields) reason
+CardDenies section keywords.Atr fields reason =
+    InTable section (NoPart keywords.Atr fields) reason
+CardDenies section keywords.Plan fields reason =
+    InTable section (NoPart keywords.Plan fields) reason
+CardDenies section keyword fields reason = NoAct keyword fields reason
+
 -- the scripts of `card`
 abbrev pub card_script : Script
 card_script = record {
@@ -187,6 +200,7 @@ card_script = record {
   Card = RunningCard;
   SaysPart = SaysPart;
   SaysAct = SaysAct;
+  Denies = CardDenies;
   empty = record { tables = []; plans = []; answer = None };
   Adds = IsBuilt;
   Refuses = IsNotBuilt;

@@ -18,6 +18,7 @@ pub mod ScriptWords
 pub mod ScriptKeywords
 pub mod ScriptFields
 pub mod ScriptTable
+pub mod NoFields
 pub mod ScriptPlay
 pub mod ScriptCard
 pub mod Playing

@@ -4,6 +4,7 @@ use Rattle.std.specs.Str.Lines.{lines}
 use Rattle.std.specs.Io.KnownBytes.{Appends}
 use Rattle.card_trace.specs.declared.script.keyword.Keyword.{Keyword}
 use Rattle.card_trace.specs.declared.script.reason.LineReason.{LineReason}
+use Rattle.card_trace.specs.declared.script.reason.LineReason.TheVariants.{UnknownWord, LateTableLine}
 use Rattle.card_trace.specs.declared.script.section.Section.{Section}
 use Rattle.card_trace.specs.declared.script.section.Section.TheVariants as sections
 use Rattle.card_trace.specs.ScriptKeywords.{keyword_text}
@@ -19,6 +20,8 @@ pub record Script : Type 1 where
   -- the keyword and the fields of a line that says this
   pub SaysPart : Part → Keyword → List (List ℕ) → Type 0
   pub SaysAct : Act → Keyword → List (List ℕ) → Type 0
+  -- why a keyword and fields say nothing in this section
+  pub Denies : Section → Keyword → List (List ℕ) → LineReason → Type 0
   -- the empty table, a table with one more part, and why a part is refused
   pub empty : Table
   pub Adds : Table → Part → Table → Type 0
@@ -57,6 +60,19 @@ abbrev pub SaysNothing : (s : Script) → Section → List ℕ → Type 0
 SaysNothing s section line =
     (words_of line ≢ []) × ((meaning : Meaning s) → ¬ Says s section (words_of line) meaning)
 
+-- The reason if the keyword is that of a table line: after the first run line it is too late.
+abbrev pub InTable : Section → (LineReason → Type 0) → LineReason → Type 0
+InTable sections.Building P reason = P reason
+InTable sections.Running P reason = reason ≡ LateTableLine
+
+-- why words say nothing in this section: the first is no keyword, or those behind it are wrong
+abbrev pub DeniesWords : (s : Script) → Section → List (List ℕ) → LineReason → Type 0
+DeniesWords s section words reason = (first : List ℕ) × (fields : List (List ℕ))
+    × (words ≡ first ∷ fields)
+    × ((((keyword : Keyword) → first ≢ keyword_text keyword) × (reason ≡ UnknownWord))
+    ⊎ ((keyword : Keyword) × (first ≡ keyword_text keyword)
+    × s.Denies section keyword fields reason))
+
 -- the card on which a run line is carried out; the first run line makes it from the table
 abbrev pub RunsOn : (s : Script) → State s → s.Card → Type 0
 RunsOn s (Building table) card = s.Begins table card
@@ -82,10 +98,11 @@ DoesLine s old line text new =
     ⊎ ((meaning : Meaning s) × Says s (section_of s old) (words_of line) meaning
     × DoesMeaning s old meaning text new)
 
--- A line is refused: its words say nothing in this section, or what they say is refused for this
--- reason.
+-- A line is refused for this reason: its words say nothing in this section, or what they say is
+-- refused.
 abbrev pub RefusesLine : (s : Script) → State s → List ℕ → LineReason → Type 0
-RefusesLine s state line reason = SaysNothing s (section_of s state) line
+RefusesLine s state line reason = (SaysNothing s (section_of s state) line
+    × DeniesWords s (section_of s state) (words_of line) reason)
     ⊎ ((meaning : Meaning s) × Says s (section_of s state) (words_of line) meaning
     × RefusesMeaning s state meaning reason)
 

@@ -1,4 +1,4 @@
--- What the lines of a script of `card` say.
+-- What the lines of a script of `card` say, and why they say nothing.
 use Rattle.std.specs.Prelude.{◌≡◌, ℕ, List, [], Option, Some, None}
 use Rattle.t0_core.specs.Plan.{Course}
 use Rattle.card_trace.specs.declared.script.keyword.Keyword.{Keyword}
@@ -7,6 +7,9 @@ use Rattle.card_trace.specs.declared.script.card_line.CardPart.{CardPart}
 use Rattle.card_trace.specs.declared.script.card_line.CardPart.TheVariants as part
 use Rattle.card_trace.specs.declared.script.card_line.CardAct.{CardAct}
 use Rattle.card_trace.specs.declared.script.card_line.CardAct.TheVariants as act
+use Rattle.card_trace.specs.declared.script.reason.LineReason.{LineReason}
+use Rattle.card_trace.specs.declared.script.reason.LineReason.TheVariants.{UnknownWord}
+use Rattle.card_trace.specs.NoFields.{NoHex, NoPlan, NotEmpty, NotOne, NotTwo, NoMost, NoAddition}
 use Rattle.card_trace.specs.ScriptFields.{IsHexText, IsNumberText}
 use Rattle.card_trace.specs.ScriptTable.{Addition, addition_of, OneField, ArePlanFields, SaysAddition}
 
@@ -52,3 +55,17 @@ SaysAct (Take bytes) keyword fields =
 SaysAct (HandOut most) keyword fields = (keyword ≡ keywords.HandOut) × IsMostText fields most
 SaysAct Reset keyword fields = (keyword ≡ keywords.Reset) × (fields ≡ [])
 SaysAct Table keyword fields = (keyword ≡ keywords.Table) × (fields ≡ [])
+
+-- why a line with this keyword is no table line, or no run line
+abbrev pub NoPart : Keyword → List (List ℕ) → LineReason → Type 0
+NoPart (keywords.Adds word) fields reason = NoAddition word fields reason
+NoPart keywords.Atr fields reason = NotOne NoHex fields reason
+NoPart keywords.Plan fields reason = NotTwo NoPlan fields reason
+NoPart keyword fields reason = reason ≡ UnknownWord
+
+abbrev pub NoAct : Keyword → List (List ℕ) → LineReason → Type 0
+NoAct keywords.Take fields reason = NotOne NoHex fields reason
+NoAct keywords.HandOut fields reason = NoMost fields reason
+NoAct keywords.Reset fields reason = NotEmpty fields reason
+NoAct keywords.Table fields reason = NotEmpty fields reason
+NoAct keyword fields reason = reason ≡ UnknownWord

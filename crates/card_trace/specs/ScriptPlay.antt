@@ -1,5 +1,5 @@
--- What the run lines of a script of `play` say.
-use Rattle.std.specs.Prelude.{◌≡◌, ℕ, ◌≤◌, List, [], length}
+-- What the run lines of a script of `play` say, and why they say nothing.
+use Rattle.std.specs.Prelude.{◌≡◌, ◌⊎◌, ℕ, ◌<◌, ◌≤◌, List, [], length}
 use Rattle.t0_core.specs.Plan.{Course}
 use Rattle.object_card.specs.OneStep.{Operation, Select, Get, Put}
 use Rattle.card_terminal.specs.declared.operation.TheConstants.{PUT_LIMIT}
@@ -8,6 +8,9 @@ use Rattle.card_trace.specs.declared.script.keyword.Keyword.{Keyword}
 use Rattle.card_trace.specs.declared.script.keyword.Keyword.TheVariants as keywords
 use Rattle.card_trace.specs.declared.script.play_line.PlayAct.{PlayAct}
 use Rattle.card_trace.specs.declared.script.play_line.PlayAct.TheVariants as act
+use Rattle.card_trace.specs.declared.script.reason.LineReason.{LineReason}
+use Rattle.card_trace.specs.declared.script.reason.LineReason.TheVariants.{UnknownWord, ValueTooLong}
+use Rattle.card_trace.specs.NoFields.{NoAid, NoTag, NoPlan, NoCommand, NotEmpty, NotOne, NotTwo, NoEntry}
 use Rattle.card_trace.specs.ScriptFields.{IsAidText, IsTagText, IsCommandText}
 use Rattle.card_trace.specs.ScriptTable.{OneField, AreEntryFields, ArePlanFields}
 
@@ -43,3 +46,19 @@ SaysAct (Send command) keyword fields =
     (keyword ≡ keywords.Send) × OneField fields (λ text. IsCommandText text command)
 SaysAct Reset keyword fields = (keyword ≡ keywords.Reset) × (fields ≡ [])
 SaysAct Table keyword fields = (keyword ≡ keywords.Table) × (fields ≡ [])
+
+-- Why a line with this keyword is no operation. The limit of a put comes after its fields.
+abbrev pub NoOperation : Keyword → List (List ℕ) → LineReason → Type 0
+NoOperation keywords.Select fields reason = NotOne NoAid fields reason
+NoOperation keywords.Get fields reason = NotOne NoTag fields reason
+NoOperation keywords.Put fields reason = NoEntry fields reason ⊎ ((reason ≡ ValueTooLong)
+    × (tag value : List ℕ) × AreEntryFields fields tag value × (PUT_LIMIT < length value))
+NoOperation keyword fields reason = reason ≡ UnknownWord
+
+-- why it is no run line
+abbrev pub NoAct : Keyword → List (List ℕ) → LineReason → Type 0
+NoAct keywords.Plan fields reason = NotTwo NoPlan fields reason
+NoAct keywords.Send fields reason = NotOne NoCommand fields reason
+NoAct keywords.Reset fields reason = NotEmpty fields reason
+NoAct keywords.Table fields reason = NotEmpty fields reason
+NoAct keyword fields reason = NoOperation keyword fields reason

@@ -20,9 +20,14 @@ use Rattle.card_trace.specs.PrintedText.{reset_text, busy_text}
 use Rattle.card_trace.specs.TableText.{table_text}
 use Rattle.card_trace.specs.TraceText.{operation_text}
 use Rattle.card_trace.specs.ScriptReasons.{refusal_of_builder}
-use Rattle.card_trace.specs.Script.{Script}
+use Rattle.card_trace.specs.declared.script.keyword.Keyword.{Keyword}
+use Rattle.card_trace.specs.declared.script.keyword.Keyword.TheVariants as keywords
+use Rattle.card_trace.specs.declared.script.reason.LineReason.{LineReason}
+use Rattle.card_trace.specs.declared.script.section.Section.{Section}
+use Rattle.card_trace.specs.NoFields.{NoAddition}
+use Rattle.card_trace.specs.Script.{Script, InTable}
 use Rattle.card_trace.specs.ScriptTable.{Addition, App, Object, Locked, SaysAddition}
-use Rattle.card_trace.specs.ScriptPlay.{Act, Plan, Run, Send, Reset, Table, SaysAct}
+use Rattle.card_trace.specs.ScriptPlay.{Act, Plan, Run, Send, Reset, Table, SaysAct, NoAct}
 
 -- the card in its session, and the plans since the last operation
 pub record InSession : Type 0 where
@@ -86,6 +91,12 @@ PlaysAct old Reset text new =
     (text ≡ reset_text) × (new ≡ record old { card = after_reset old.card })
 PlaysAct old Table text new = (text ≡ table_text old.card.applications) × (new ≡ old)
 
+-- why a line says nothing
+abbrev pub PlayDenies : Section → Keyword → List (List ℕ) → LineReason → Type 0
+PlayDenies section (keywords.Adds word) fields reason =
+    InTable section (NoAddition word fields) reason
+PlayDenies section keyword fields reason = NoAct keyword fields reason
+
 -- the scripts of `play`
 abbrev pub play_script : Script
 play_script = record {
@@ -95,6 +106,7 @@ play_script = record {
   Card = InSession;
   SaysPart = SaysAddition;
   SaysAct = SaysAct;
+  Denies = PlayDenies;
   empty = [];
   Adds = IsAdded;
   Refuses = λ tables addition reason. IsNotAdded tables addition (Line reason);

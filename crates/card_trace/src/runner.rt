@@ -52,9 +52,10 @@ pub trait Runner: Drop {
     ) -> Result<Line<Self::Part, Self::Act>, Refusal>
         ensures ok { IfOk result (λ line. SaysBy script section keyword (words_in rest.now)
             (meaning_of script part_of act_of line)) }
-        ensures refused { IfErr result (λ refusal. OnReason refusal (λ _.
-            (meaning : Meaning script) → ¬ SaysBy script section keyword (words_in rest.now)
-            meaning)) };
+        ensures refused { IfErr result (λ refusal. OnReason refusal (λ reason.
+            script.Denies section keyword (words_in rest.now) reason
+            × ((meaning : Meaning script) → ¬ SaysBy script section keyword (words_in rest.now)
+            meaning))) };
 
     /// The empty table.
     fn table(alloc: Self::Alloc) -> Self::Table

@@ -1,10 +1,11 @@
 //! The lines of a script of `card`.
-ghost use Rattle.std.specs.Prelude.{ℕ, List, Option, IfOk, IfErr};
+ghost use Rattle.std.specs.Prelude.{IfOk, IfErr};
+ghost use Rattle.card_trace.specs.NoFields.{NoHex, NotOne, NoMost};
 ghost use Rattle.card_trace.specs.ScriptReasons.{OnReason};
 ghost use Rattle.card_trace.specs.ScriptFields.{IsHexText};
 ghost use Rattle.card_trace.specs.ScriptTable.{OneField};
 ghost use Rattle.card_trace.specs.ScriptWords.{words_in};
-ghost use Rattle.card_trace.specs.ScriptCard.{Part, Act, part_of, act_of, IsMostText, SaysPart, SaysAct};
+ghost use Rattle.card_trace.specs.ScriptCard.{part_of, act_of, IsMostText, SaysPart, SaysAct, NoPart, NoAct};
 
 use crate::script::fields::{read_hex, read_number, read_plan};
 use crate::script::keyword::Keyword;
@@ -48,8 +49,8 @@ pub fn read_part<A: Allocator + Copy>(
     rest: &[u8],
 ) -> Result<CardPart<A>, Refusal>
     ensures ok { IfOk result (λ part. SaysPart (part_of part) keyword (words_in rest.now)) }
-    ensures refused { IfErr result (λ refusal. OnReason refusal (λ _.
-        (part : Part) → ¬ SaysPart part keyword (words_in rest.now))) }
+    ensures refused { IfErr result (λ refusal.
+        OnReason refusal (NoPart keyword (words_in rest.now))) }
 {
     match keyword {
         Keyword::Adds(word) => Ok(CardPart::Adds(read_table_line(alloc, word, rest)?)),
@@ -70,8 +71,8 @@ pub fn read_act<A: Allocator>(
     rest: &[u8],
 ) -> Result<CardAct<A>, Refusal>
     ensures ok { IfOk result (λ act. SaysAct (act_of act) keyword (words_in rest.now)) }
-    ensures refused { IfErr result (λ refusal. OnReason refusal (λ _.
-        (act : Act) → ¬ SaysAct act keyword (words_in rest.now))) }
+    ensures refused { IfErr result (λ refusal.
+        OnReason refusal (NoAct keyword (words_in rest.now))) }
 {
     match keyword {
         Keyword::Take => Ok(CardAct::Take(read_characters(alloc, rest)?)),
@@ -96,8 +97,8 @@ pub fn read_act<A: Allocator>(
 fn read_characters<A: Allocator>(alloc: A, rest: &[u8]) -> Result<Bytes<A>, Refusal>
     ensures ok { IfOk result (λ bytes. OneField (words_in rest.now)
         (λ text. IsHexText text bytes)) }
-    ensures refused { IfErr result (λ refusal. OnReason refusal (λ _. (bytes : List ℕ) →
-        ¬ OneField (words_in rest.now) (λ text. IsHexText text bytes))) }
+    ensures refused { IfErr result (λ refusal.
+        OnReason refusal (NotOne NoHex (words_in rest.now))) }
 {
     let bytes = read_hex(alloc, one_word(rest)?)?;
     Ok(Bytes::new(bytes))
@@ -109,8 +110,7 @@ fn read_characters<A: Allocator>(alloc: A, rest: &[u8]) -> Result<Bytes<A>, Refu
 /// - `WrongWordCount`, `BadNumber`: there is more than one word, or it is no number of 1 to 65,535.
 fn read_most(rest: &[u8]) -> Result<Option<u16>, LineReason>
     ensures ok { IfOk result (λ most. IsMostText (words_in rest.now) most) }
-    ensures refused { IfErr result (λ _. (most : Option ℕ) →
-        ¬ IsMostText (words_in rest.now) most) }
+    ensures refused { IfErr result (NoMost (words_in rest.now)) }
 {
     match at_most_one_word(rest)? {
         None => Ok(None),

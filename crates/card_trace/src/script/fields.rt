@@ -2,12 +2,13 @@
 //! with an `alloc` also returns `OutOfMemory` if memory runs out.
 ghost use Rattle.std.specs.Prelude.{◌≡◌, ℕ, List, IfOk, IfErr, MatchOption, MatchResult};
 ghost use Rattle.t0_core.specs.declared.plan.Step.{Step};
-ghost use Rattle.t0_core.specs.Plan.{Course};
 ghost use Rattle.tlv_core.specs.Address.{IsAddressable};
 ghost use Rattle.apdu_core.specs.CommandBytes.{IsCommand, command_bytes};
 ghost use Rattle.object_card.specs.Agreed.{IsAgreed};
 ghost use Rattle.object_card.specs.Instructions.{MayReceive, MaySend};
 ghost use Rattle.card_trace.specs.ScriptReasons.{OnReason};
+ghost use Rattle.card_trace.specs.declared.script.reason.LineReason.TheVariants.{BadHex, BadPlan};
+ghost use Rattle.card_trace.specs.NoFields.{NoHex, NoAid, NoTag, NoValue, NoPlan, NoCommand, IsNotAgreed};
 ghost use Rattle.card_trace.specs.ScriptFields.{IsHexText, IsAidText, IsTagText, IsNumberText, IsRepeatedText, IsValueText, IsStepsText, IsPlanText, AreOfAgreedCommand, IsCommandText};
 
 use crate::script::places::place_of;
@@ -29,8 +30,7 @@ use tlv_core::{ObjectTag, Tag};
 /// - `OutOfMemory`: memory ran out.
 pub fn read_hex<A: Allocator>(alloc: A, text: &[u8]) -> Result<Vec<u8, A>, Refusal>
     ensures ok { IfOk result (λ bytes. IsHexText text.now bytes.items) }
-    ensures refused { IfErr result (λ refusal. OnReason refusal (λ _.
-        (bytes : List ℕ) → ¬ IsHexText text.now bytes)) }
+    ensures refused { IfErr result (λ refusal. OnReason refusal (NoHex text.now)) }
 {
     if text.is_empty() {
         return Err(Refusal::Line(LineReason::BadHex));
@@ -51,8 +51,7 @@ pub fn read_hex<A: Allocator>(alloc: A, text: &[u8]) -> Result<Vec<u8, A>, Refus
 /// - `OutOfMemory`: memory ran out.
 pub fn read_aid<A: Allocator>(alloc: A, text: &[u8]) -> Result<Aid, Refusal>
     ensures ok { IfOk result (λ aid. IsAidText text.now aid) }
-    ensures refused { IfErr result (λ refusal. OnReason refusal (λ _.
-        (aid : List ℕ) → ¬ IsAidText text.now aid)) }
+    ensures refused { IfErr result (λ refusal. OnReason refusal (NoAid text.now)) }
 {
     let bytes = read_hex(alloc, text)?;
     let aid = Aid::new(bytes.as_slice()).ok_or(LineReason::BadAid)?;
@@ -68,8 +67,7 @@ pub fn read_aid<A: Allocator>(alloc: A, text: &[u8]) -> Result<Aid, Refusal>
 /// - `OutOfMemory`: memory ran out.
 pub fn read_tag<A: Allocator>(alloc: A, text: &[u8]) -> Result<ObjectTag, Refusal>
     ensures ok { IfOk result (λ tag. IsTagText text.now tag) }
-    ensures refused { IfErr result (λ refusal. OnReason refusal (λ _.
-        (tag : List ℕ) → ¬ IsTagText text.now tag)) }
+    ensures refused { IfErr result (λ refusal. OnReason refusal (NoTag text.now)) }
 {
     let bytes = read_hex(alloc, text)?;
     let tag = object_tag(bytes.as_slice()).ok_or(LineReason::BadTag)?;
@@ -97,8 +95,7 @@ fn object_tag(bytes: &[u8]) -> Option<ObjectTag>
 /// - `OutOfMemory`: memory ran out.
 pub fn read_value<A: Allocator>(alloc: A, text: &[u8]) -> Result<Vec<u8, A>, Refusal>
     ensures ok { IfOk result (λ value. IsValueText text.now value.items) }
-    ensures refused { IfErr result (λ refusal. OnReason refusal (λ _.
-        (value : List ℕ) → ¬ IsValueText text.now value)) }
+    ensures refused { IfErr result (λ refusal. OnReason refusal (NoValue text.now)) }
 {
     match place_of(b'*', text) {
         None if text == b"-".as_slice() => Ok(Vec::new(alloc)),
@@ -111,8 +108,8 @@ pub fn read_value<A: Allocator>(alloc: A, text: &[u8]) -> Result<Vec<u8, A>, Ref
 /// `BadHex`.
 fn repeated<A: Allocator>(alloc: A, digits: &[u8], times: &[u8]) -> Result<Vec<u8, A>, Refusal>
     ensures ok { IfOk result (λ value. IsRepeatedText digits.now times.now value.items) }
-    ensures refused { IfErr result (λ refusal. OnReason refusal (λ _.
-        (value : List ℕ) → ¬ IsRepeatedText digits.now times.now value)) }
+    ensures refused { IfErr result (λ refusal. OnReason refusal (λ reason. (reason ≡ BadHex)
+        × ((value : List ℕ) → ¬ IsRepeatedText digits.now times.now value))) }
 {
     let Ok(byte) = <[u8; 1] as FromHex>::from_hex(digits) else {
         return Err(Refusal::Line(LineReason::BadHex));
@@ -141,8 +138,7 @@ pub fn read_number(text: &[u8]) -> Option<u16>
 /// - `OutOfMemory`: memory ran out.
 pub fn read_plan<A: Allocator>(alloc: A, steps: &[u8], cut: &[u8]) -> Result<Plan<A>, Refusal>
     ensures ok { IfOk result (λ plan. IsPlanText steps.now cut.now plan) }
-    ensures refused { IfErr result (λ refusal. OnReason refusal (λ _.
-        (plan : Course) → ¬ IsPlanText steps.now cut.now plan)) }
+    ensures refused { IfErr result (λ refusal. OnReason refusal (NoPlan steps.now cut.now)) }
 {
     let steps = read_steps(alloc, steps)?;
     let cut = read_number(cut).ok_or(LineReason::BadPlan)?;
@@ -153,8 +149,8 @@ pub fn read_plan<A: Allocator>(alloc: A, steps: &[u8], cut: &[u8]) -> Result<Pla
 /// Reads STEPS. Any other text is `BadPlan`.
 fn read_steps<A: Allocator>(alloc: A, text: &[u8]) -> Result<Vec<Step, A>, Refusal>
     ensures ok { IfOk result (λ steps. IsStepsText text.now steps.items) }
-    ensures refused { IfErr result (λ refusal. OnReason refusal (λ _.
-        (steps : List Step) → ¬ IsStepsText text.now steps)) }
+    ensures refused { IfErr result (λ refusal. OnReason refusal (λ reason. (reason ≡ BadPlan)
+        × ((steps : List Step) → ¬ IsStepsText text.now steps))) }
 {
     let mut steps = Vec::new(alloc);
     if text == b"-".as_slice() {
@@ -176,8 +172,7 @@ fn read_steps<A: Allocator>(alloc: A, text: &[u8]) -> Result<Vec<Step, A>, Refus
 /// is `BadHex`; the other errors are those of `agreed_command`.
 pub fn read_command<A: Allocator>(alloc: A, text: &[u8]) -> Result<Bytes<A>, Refusal>
     ensures ok { IfOk result (λ bytes. IsCommandText text.now bytes) }
-    ensures refused { IfErr result (λ refusal. OnReason refusal (λ _.
-        (bytes : List ℕ) → ¬ IsCommandText text.now bytes)) }
+    ensures refused { IfErr result (λ refusal. OnReason refusal (NoCommand text.now)) }
 {
     let bytes = read_hex(alloc, text)?;
     agreed_command(bytes.as_slice())?;
@@ -193,6 +188,7 @@ pub fn agreed_command(bytes: &[u8]) -> Result<Command<'_>, LineReason>
     ensures agreed { IfOk result (λ c. IsCommand c × (bytes.now ≡ command_bytes c)
         × IsAgreed MayReceive MaySend c) }
     ensures refused { IfErr result (λ _. ¬ AreOfAgreedCommand bytes.now) }
+    ensures why { IfErr result (IsNotAgreed bytes.now) }
 {
     let command = Command::read(bytes)?;
     if is_agreed(&command) {

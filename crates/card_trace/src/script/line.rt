@@ -1,7 +1,7 @@
 //! Reads a line of a script.
 ghost use Rattle.std.specs.Prelude.{◌≡◌, [], IfOk, IfErr, MatchOption};
 ghost use Rattle.card_trace.specs.LineMeaning.{meaning_of};
-ghost use Rattle.card_trace.specs.Script.{Says, SaysNothing};
+ghost use Rattle.card_trace.specs.Script.{Says, SaysNothing, DeniesWords};
 ghost use Rattle.card_trace.specs.ScriptReasons.{OnReason};
 ghost use Rattle.card_trace.specs.ScriptWords.{words_of};
 
@@ -36,7 +36,8 @@ pub fn read_line<R: Runner>(
         (λ meant. Says R.script section (words_of line.now)
         (meaning_of R.script R.part_of R.act_of meant))) }
     ensures refused { IfErr result (λ refusal.
-        OnReason refusal (λ _. SaysNothing R.script section line.now)) }
+        OnReason refusal (λ reason. SaysNothing R.script section line.now
+        × DeniesWords R.script section (words_of line.now) reason)) }
 {
     let Some((word, rest)) = first_of_line(line) else {
         return Ok(None);

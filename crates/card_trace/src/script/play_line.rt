@@ -1,10 +1,9 @@
 //! The run lines of a script of `play`.
 ghost use Rattle.std.specs.Prelude.{IfOk, IfErr};
-ghost use Rattle.object_card.specs.OneStep.{Operation};
 ghost use Rattle.card_terminal.specs.Operations.{operation_of};
 ghost use Rattle.card_trace.specs.ScriptReasons.{OnReason};
 ghost use Rattle.card_trace.specs.ScriptWords.{words_in};
-ghost use Rattle.card_trace.specs.ScriptPlay.{Act, act_of, SaysOperation, SaysAct};
+ghost use Rattle.card_trace.specs.ScriptPlay.{act_of, SaysOperation, SaysAct, NoOperation, NoAct};
 
 use crate::script::fields::{read_aid, read_command, read_plan, read_tag};
 use crate::script::keyword::Keyword;
@@ -39,8 +38,8 @@ pub fn read_act<A: Allocator + Copy>(
     rest: &[u8],
 ) -> Result<PlayAct<A>, Refusal>
     ensures ok { IfOk result (λ act. SaysAct (act_of act) keyword (words_in rest.now)) }
-    ensures refused { IfErr result (λ refusal. OnReason refusal (λ _.
-        (act : Act) → ¬ SaysAct act keyword (words_in rest.now))) }
+    ensures refused { IfErr result (λ refusal.
+        OnReason refusal (NoAct keyword (words_in rest.now))) }
 {
     match keyword {
         Keyword::Plan => {
@@ -68,8 +67,8 @@ fn read_operation<A: Allocator + Copy>(
     rest: &[u8],
 ) -> Result<Op<A>, Refusal>
     ensures ok { IfOk result (λ op. SaysOperation (operation_of op) keyword (words_in rest.now)) }
-    ensures refused { IfErr result (λ refusal. OnReason refusal (λ _.
-        (operation : Operation) → ¬ SaysOperation operation keyword (words_in rest.now))) }
+    ensures refused { IfErr result (λ refusal.
+        OnReason refusal (NoOperation keyword (words_in rest.now))) }
 {
     match keyword {
         Keyword::Select => Ok(Op::Select(read_aid(alloc, one_word(rest)?)?)),

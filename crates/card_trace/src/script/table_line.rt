@@ -1,8 +1,9 @@
 //! The table lines that `play` and `card` both have.
-ghost use Rattle.std.specs.Prelude.{◌≡◌, ℕ, List, OnOk, IfOk, IfErr};
+ghost use Rattle.std.specs.Prelude.{◌≡◌, OnOk, IfOk, IfErr};
+ghost use Rattle.card_trace.specs.NoFields.{NoEntry, NoAddition};
 ghost use Rattle.card_trace.specs.ScriptReasons.{OnReason};
 ghost use Rattle.card_trace.specs.ScriptWords.{words_in};
-ghost use Rattle.card_trace.specs.ScriptTable.{Addition, addition_of, table_word, AreTableFields, AreEntryFields};
+ghost use Rattle.card_trace.specs.ScriptTable.{addition_of, table_word, AreTableFields, AreEntryFields};
 ghost use Rattle.card_trace.specs.Scripts.{IsAdded, IsNotAdded};
 
 use crate::script::fields::{read_aid, read_tag, read_value};
@@ -37,9 +38,8 @@ pub fn read_table_line<A: Allocator + Copy>(
 ) -> Result<TableLine<A>, Refusal>
     ensures ok { IfOk result (λ line. (table_word (addition_of line) ≡ word)
         × AreTableFields (addition_of line) (words_in rest.now)) }
-    ensures refused { IfErr result (λ refusal. OnReason refusal (λ _.
-        (addition : Addition) → table_word addition ≡ word →
-        ¬ AreTableFields addition (words_in rest.now))) }
+    ensures refused { IfErr result (λ refusal.
+        OnReason refusal (NoAddition word (words_in rest.now))) }
 {
     match word {
         TableWord::App => {
@@ -63,8 +63,7 @@ pub fn read_entry<A: Allocator + Copy>(
     rest: &[u8],
 ) -> Result<(ObjectTag, Bytes<A>), Refusal>
     ensures ok { IfOk result (λ entry. AreEntryFields (words_in rest.now) entry.0 entry.1) }
-    ensures refused { IfErr result (λ refusal. OnReason refusal (λ _.
-        (tag value : List ℕ) → ¬ AreEntryFields (words_in rest.now) tag value)) }
+    ensures refused { IfErr result (λ refusal. OnReason refusal (NoEntry (words_in rest.now))) }
 {
     let (tag, value) = two_words(rest)?;
     let tag = read_tag(alloc, tag)?;

@@ -1,9 +1,11 @@
 use Rattle.std.proofs.Common.{[], inl, inr, refl, subst}
 use Rattle.std.specs.Io.KnownBytes.{Appends}
 use Rattle.std.proofs.KnownBytes.{Appends-nil}
+use Rattle.card_trace.specs.declared.script.reason.LineReason.{LineReason}
+use Rattle.card_trace.specs.declared.script.section.Section.{Section}
 use Rattle.card_trace.specs.PrintedText.{printed_text}
 use Rattle.card_trace.specs.ScriptWords.{words_of}
-use Rattle.card_trace.specs.Script.{Builds, Runs, Running, Says, SaysNothing, RefusesLine, RefusesMeaning}
+use Rattle.card_trace.specs.Script.{Builds, Runs, Running, Says, SaysNothing, DeniesWords, RefusesLine, RefusesMeaning}
 use Rattle.card_trace.proofs.ScriptFaultLemmas.{of_refusal}
 use Rattle.card_trace.proofs.player.play.Goals as goal
 
@@ -11,10 +13,12 @@ pub returns-in-Err-clause-fault : goal.returns-in-Err-clause-fault
 returns-in-Err-clause-fault g c = λ state stands.
     let s = g.R.Runner.script in
     let line = c.args.line.now in
-    of_refusal (λ _. SaysNothing s c.section.result line) (RefusesLine s state line) c.args.number _
+    let Denied : Section → LineReason → Type 0 = λ section reason. SaysNothing s section line
+    × DeniesWords s section (words_of line) reason in
+    of_refusal (Denied c.section.result) (RefusesLine s state line) c.args.number _
     c.in-Err.refusal c.at.result c.at.ensures
-    (λ reason nothing. inl (subst (λ x. SaysNothing s x line) (c.section.ensures state stands)
-    nothing)) c.in-Err.ensures.refused
+    (λ reason denied. inl (subst (λ x. Denied x reason) (c.section.ensures state stands) denied))
+    c.in-Err.ensures.refused
 
 pub returns-in-Ok-None-clause-played : goal.returns-in-Ok-None-clause-played
 returns-in-Ok-None-clause-played g c = λ state stands. (

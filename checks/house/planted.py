@@ -22,7 +22,7 @@ SOUND = {
         "# Tour\n\n`Lamp::light` in `low/src/lamp.rt`, `lit` of `LampLaws`, `low/specs/Lamp`.\n"
         "\n```\nLamp::dims\n```\n\n`dims`, `rt fmt`.\n"
     ),
-    "docs/RULES.md": "# Rules\n\n## Lamps\n\n- A lamp is lit or dark. (`IsLit`)\n",
+    "docs/RULES.md": "# Rules\n\n## Lamps\n\nDefinitions: `low` `Lamp`.\n\nIt is lit.\n",
     "crates/low/src/lib.rt": (
         "//! Lamps.\n\nmod lamp;\nmod wire;\n\npub use lamp::Lamp;\n\npub struct Shade;\n"
     ),
@@ -79,6 +79,7 @@ ON_WIRE = "{Hanging, On_nothing, On_wire}"
 LONG = "x" * 101
 PAGE = "docs/LAMPS.md"
 TOUR = "docs/TOUR.md"
+RULES = "docs/RULES.md"
 MOST = " ".join(["Word"] + ["word"] * 34)
 
 # Planted faults: the kind of the finding, its file and line, and the edits. An edit is a file with
@@ -110,13 +111,10 @@ FAULTS = [
         (LAMP, "-> bool", "-> Result<(), Broken>"),
     ]),
     ("fault", HOUSE, 4, [(HOUSE, NAMED, 'IsDark OutOfMemory = codes "no memory"')]),
-    ("rule", "docs/RULES.md", 6, [
-        ("docs/RULES.md", "(`IsLit`)\n", "(`IsLit`)\n- A lamp is `warm`.\n"),
-    ]),
-    ("rule", "docs/RULES.md", 5, [("docs/RULES.md", "(`IsLit`)", "(`IsLit`, `IsDim`)")]),
-    ("unruled", "crates/low/specs/Lamp.antt", 9, [
-        ("docs/RULES.md", "(`IsLit`)", "(`Hanging`)"),
-    ]),
+    ("rule", RULES, 3, [(RULES, "Definitions: `low` `Lamp`.\n\n", "")]),
+    ("rule", RULES, 5, [(RULES, "`Lamp`", "`Lamp` `Bulb`")]),
+    ("rule", RULES, 5, [(RULES, " `low` `Lamp`", " `low`")]),
+    ("unruled", "crates/low/specs/Lamp.antt", 9, [(RULES, "`Lamp`", "`LampLaws`")]),
     ("phrase", LAMP, 7, [(LAMP, "Lights it.", "It is told.")]),
     ("phrase", LAMP, 8, [(LAMP, "Lights it.", "Lights what\n    /// it Is\n    /// told of.")]),
     ("phrase", LAMP, 11, [(LAMP, "true", "// what is told\n        true")]),

@@ -1,9 +1,9 @@
-"""Whether docs/RULES.md and the definitions say the same things: each rule names a definition, and
-each definition that a public clause cites is named by a rule.
+"""Whether docs/RULES.md and the definitions go together. Each section names the files of its
+definitions, or says that it has none. A section names each file with a definition that a public
+clause cites.
 
-A public clause is one of a `pub fn` or a trait that its library exports, or of `main_status`. A
-rule names a definition in a code span; a constructor counts as its type. Names alone in parentheses
-after a rule must all be names of definitions."""
+A public clause is one of a `pub fn` or a trait that its library exports, or of `main_status`. The
+files are in a line `Definitions:` of code spans: a crate, and behind it files of its `specs/`."""
 
 import re
 from collections import defaultdict
@@ -18,8 +18,8 @@ PUBLIC = re.compile(r'^( *)pub (?:unsafe )?(extern "C" )?fn (\w+)(.*?)(?:^\1\{|;
 CLAUSE = re.compile(r"\b(?:requires|ensures)\b")
 TRAIT = re.compile(r"^pub trait (\w+)(.*?)^\}", re.M | re.S)
 DOTTED = re.compile(r'[^\s(){}\[\],;:`"]+')
-NAMES_ALONE = re.compile(r"\(((?:`\w+`[,;] )*`\w+`)\)")
-FIRST_WORDS = 5
+DEFINITIONS = "Definitions: "
+NONE = "Definitions: none"
 
 
 def libraries(repository):
@@ -97,50 +97,42 @@ def cited(repository):
     return found.values()
 
 
-def words_of(declaration):
-    """The words that name a declaration: its name, and for a type by cases its constructors."""
-    is_data = re.search(r"\bdata\b", declaration.lines[0])
-    return declaration.names if is_data else {declaration.name}
-
-
-def rules(text):
-    """The line and the text of each rule: a bullet or a paragraph under a heading."""
-    found, in_section, after_blank = [], False, True
+def sections(text):
+    """The line and the title of each section, and the lines `Definitions:` in it."""
+    found = []
     for number, line in enumerate(text.splitlines(), 1):
-        if line.startswith("#"):
-            in_section = line.startswith("## ")
-        elif not line.strip():
-            pass
-        elif in_section and (line.startswith("- ") or (after_blank and line[0] not in "| ")):
-            found.append([number, line])
-        elif found:
-            found[-1][1] += "\n" + line
-        after_blank = not line.strip()
+        if line.startswith("## "):
+            found.append((number, line[3:], []))
+        elif found and line.startswith(DEFINITIONS):
+            found[-1][2].append((number, line))
     return found
 
 
-def spans(text):
-    return set(re.findall(r"`([^`\n]+)`", text))
+def files_in(line, crates):
+    """The paths of the files that a line `Definitions:` names."""
+    crate = None
+    for name in re.findall(r"`([^`]+)`", line):
+        if name in crates:
+            crate = name
+        else:
+            yield f"crates/{crate}/specs/{name}.antt"
 
 
 def findings(repository):
-    text = repository.texts.get(RULES, "")
-    words = defaultdict(list)
-    for it in repository.declarations():
-        if "/specs/" in it.path:
-            for word in words_of(it):
-                words[word].append(it)
-    named = {word for word in spans(text) if word in words}
-    for it in NAMES_ALONE.finditer(text):
-        for name in spans(it[1]) - named:
-            if re.search("[a-z]", name):
-                what = f"no file of specs/ defines {name}"
-                yield Finding("rule", RULES, line_of(text, it.start()), name, what)
-    for line, rule in rules(text):
-        if not spans(rule) & named:
-            first = " ".join(re.sub(r"[`*-]", "", rule).split()[:FIRST_WORDS])
-            yield Finding("rule", RULES, line, first, f"'{first} ..' names no definition")
+    named = set()
+    for number, title, lines in sections(repository.texts.get(RULES, "")):
+        if not lines:
+            what = f"'{title}' names no file of definitions"
+            yield Finding("rule", RULES, number, title, what)
+        for place, line in lines:
+            files = list(files_in(line, repository.below))
+            for path in files:
+                if path not in repository.texts:
+                    yield Finding("rule", RULES, place, path, f"there is no {path}")
+            if not files and not line.startswith(NONE):
+                yield Finding("rule", RULES, place, title, f"'{title}' names no file")
+            named.update(files)
     for declared, function in cited(repository):
-        if not words_of(declared) & named and "/specs/" in declared.path:
-            what = f"{function} cites {declared.name}, which no rule of {RULES} names"
+        if declared.path not in named and "/specs/" in declared.path:
+            what = f"{function} cites {declared.name}, and no section of {RULES} names its file"
             yield Finding("unruled", declared.path, declared.line, declared.name, what)

@@ -4,8 +4,7 @@ without a struck fault is as the library's. Expected bytes are written from the 
 import pytest
 from galliumtoad import T1, Card, Get, Level, Put, Select, Terminal
 from galliumtoad.faults import ECHO, KINDS, LINE, T0, Faults, Gone, Mistake, block, read
-from galliumtoad.faults import T1 as AT_T1
-from galliumtoad.simulate import Blocks, Characters, Simulator
+from galliumtoad.simulate import Simulator, at_t0, at_t1
 from galliumtoad.trials import AID, VALUE, trials
 
 FCI = bytes.fromhex("6F098407A0000000031010")
@@ -22,13 +21,26 @@ ANSWERS += [OBJECT[256:512] + b"\x61\x5c", OBJECT[512:] + b"\x90\x00"]
 FIRST = OBJECT[:256]
 
 
-def simulator(text, t=1, carried_out=None, **more):
+class End:
+    """A card's end of a line, at T=0 or T=1."""
+
+    def __init__(self, it, talks):
+        self.end = talks(it, b"")
+        self.is_inside = next(self.end) is None
+
+    def take(self, byte):
+        """Takes a character, or none if a block stopped, and returns what the card sends."""
+        out = self.end.send(byte)
+        self.is_inside = out is None
+        return out or b""
+
+
+def simulator(text, t=1, **more):
     """A card with these faults, and the list of those that struck."""
     struck = []
     faults = Faults(read(text.replace("; ", "\n")), **more)
     atr = bytes.fromhex("3B800181" if t else "3B00")
-    carried_out = carried_out or (lambda command: None)
-    it = Simulator(Card({AID: {0x5F20: b"JOE"}}), atr, faults, carried_out=carried_out)
+    it = Simulator(Card({AID: {0x5F20: b"JOE"}}), atr, faults)
     faults.tell = struck.append
     return it, struck
 
@@ -38,7 +50,7 @@ def whole(it, commands=JOB):
     answers = []
     for command in commands:
         try:
-            answers.append(it.whole(command, it.apdu))
+            answers.append(it.whole(command))
         except Gone:
             return [*answers, None]
     return answers
@@ -98,7 +110,7 @@ CHANGES = {
                            7: bytes(92) + b"\x61\x10"},
     "get without answer": {5: None},
 }
-ANYWHERE = [it for it in trials() if all(KINDS[each.kind][1] == "anywhere" for each in it.read())]
+ANYWHERE = [it for it in trials() if all(KINDS[each.kind] == "anywhere" for each in it.read().all)]
 
 
 def test_each_trial_has_its_row():
@@ -112,7 +124,7 @@ def test_whole_commands(trial):
     it, struck = simulator(trial.faults)
     it.is_over.set()  # no waiting
     found, changes = whole(it), CHANGES[trial.name]
-    assert len(struck) == len(trial.read()) + trial.faults.startswith("every")
+    assert len(struck) == len(trial.read().all) + trial.faults.startswith("every")
     for number, expected in changes.items():
         if isinstance(expected, int):  # the size of the stored value
             size = int.from_bytes(found[4][2:4], "big") if found[4][1] == 0x82 else found[4][1]
@@ -129,7 +141,7 @@ def test_blocks_carry_the_same(trial):
     it, other = simulator(trial.faults)[0], simulator(trial.faults)[0]
     for each in (it, other):
         each.is_over.set()
-    end = Blocks(it)
+    end = End(it, at_t1)
 
     def line(data, waits):
         try:
@@ -146,7 +158,7 @@ def test_blocks_carry_the_same(trial):
 
 def said(it, *tpdus):
     """What the card sends in each TPDU."""
-    end, found = Characters(it), []
+    end, found = End(it, at_t0), []
     for tpdu in tpdus:
         found.append(b"")
         try:
@@ -217,7 +229,7 @@ def test_what_is_stored_over_a_line(fault, size):
     for t in (0, 1):
         it, _ = simulator(fault, t)
         if t:
-            end = Blocks(it)
+            end = End(it, at_t1)
             sent = []
 
             def line(data, _):
@@ -252,7 +264,7 @@ AT_T1 = {
 def test_blocks(kind):
     """A line fault at T=1 changes one block, and the terminal gets the answer all the same."""
     it, struck = simulator(f"command 1, {kind}")
-    end, sent, left = Blocks(it), [], []
+    end, sent, left = End(it, at_t1), [], []
 
     def line(data, waits):
         if data:
@@ -271,7 +283,7 @@ def test_blocks(kind):
 
 def test_a_changed_response_goes_in_fields_of_the_terminal_s_size():
     it, _ = simulator("command 5, flip 100")
-    end, sent = Blocks(it), []
+    end, sent = End(it, at_t1), []
 
     def line(data, waits):
         sent.append(b"".join(end.take(bytes([it])) for it in data))
@@ -284,7 +296,7 @@ def test_a_changed_response_goes_in_fields_of_the_terminal_s_size():
 
 def test_an_abort():
     it, struck = simulator("command 1, abort")
-    end = Blocks(it)
+    end = End(it, at_t1)
     assert b"".join(end.take(bytes([it])) for it in block(0, 0, JOB[0])) == block(0, 0xC2, b"")
     assert struck
 

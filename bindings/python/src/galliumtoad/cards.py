@@ -13,8 +13,9 @@ import shutil
 import subprocess
 import sys
 import time
+from dataclasses import dataclass
 from pathlib import Path
-from typing import Any, NamedTuple, Optional, Sequence
+from typing import Any, Optional, Sequence
 
 from .card import Card
 from .errors import Error
@@ -26,7 +27,6 @@ LEAST_ATR, PATIENCE = b"\x3B\x00", 10.0  # seconds for a line of a program
 # any, and a status.
 STATUS = "(?:9[0-9A-F]|6[2-9ABD-F])[0-9A-F]{2}"
 WAY, RESPONSE = "(to|from)-card", f"(?:((?:[0-9A-F]{{2}}){{1,4096}}) )?({STATUS})"
-MOST = 4096  # bytes of data of an application's response
 
 
 def read_table(path: str) -> tuple[Card, bytes]:
@@ -138,7 +138,8 @@ class Program(Application):
             raise self.fault from None
 
 
-class Known(NamedTuple):
+@dataclass
+class Known:
     """A command of a capture, its header and data in hexadecimal, and the answer."""
 
     line: int
@@ -154,13 +155,14 @@ def explained(path: str) -> list[dict[str, Any]]:
                f"{Path(__file__).parents[3]}/bin/{platform.machine()}-linux-gnu"]
     name = shutil.which("trace_explain", path=os.pathsep.join(filter(None, folders)))
     try:
-        text = Path(path).read_text("utf-8", "replace")
-        if not text.startswith('{"type":'):
-            words = [name or "trace_explain", "--json", "--commands", path]
-            done = subprocess.run(words, capture_output=True, encoding="utf-8")
-            if not (text := done.stdout):
-                raise ValueError(done.stderr.strip())
-        return [json.loads(it) for it in text.split("\n") if it]
+        text = Path(path).read_bytes()
+        if not text.startswith(b'{"type":'):
+            done = subprocess.run([name or "trace_explain", "--json", "--commands"], input=text,
+                                  capture_output=True)
+            if done.returncode:
+                raise ValueError(done.stderr.decode("utf-8", "replace").strip())
+            text = done.stdout
+        return [json.loads(it) for it in text.split(b"\n") if it]
     except (OSError, ValueError) as why:
         raise Mistake(f"{path}: {why}") from None
 
@@ -181,23 +183,30 @@ class Replay(Application):
         self.path, self.unknown, self.is_strict, self.atr = path, unknown, is_strict, b""
         found, self.place, self.sent = [list[Known]()], 0, list[str]()
         for it in explained(path):
-            where, kind = f"{path}: line {it.get('line')}", it["type"]
-            if kind == "error" or kind != "note" and '"masked"' in json.dumps(it):
-                raise Mistake(f"{where}: {it.get('text', 'a masked value')}")
-            if kind in ("reset", "atr"):
+            if it["type"] == "error" or it["type"] != "note" and '"masked"' in json.dumps(it):
+                raise Mistake(f"{path}: line {it['line']}: {it.get('text', 'a masked value')}")
+            if it["type"] in ("reset", "atr"):
                 found.append([])
-                self.atr = self.atr or bytes.fromhex(it.get("bytes", ""))
-            if kind == "command" and "status" in it:  # without one, the capture ends in it
-                status, data = int(it["status"], 16), bytes.fromhex(it["received"])
-                if status >> 8 in (0x61, 0x6C):
-                    status, data = unknown, data + bytes(status & 0xFF or 256)
-                if len(data) > MOST:
-                    raise Mistake(f"{where}: a response of more than {MOST} bytes")
-                sent = "".join(it[name] for name in ("cla", "ins", "p1", "p2", "sent"))
-                found[-1].append(Known(it["line"], sent, status, data))
+                self.atr = self.atr or bytes.fromhex(it.get("bytes", it.get("characters", "")))
+            for tpdu in it["tpdus"] if it["type"] == "command" else []:
+                if tpdu.get("status"):  # without one, the capture ends in it
+                    self.take(tpdu, found[-1])
         self.sessions = [it for it in found if it]
         if not self.sessions:
             raise Mistake(f"{path}: no command with an answer")
+
+    def take(self, it: dict[str, Any], session: list[Known]) -> None:
+        """Takes a TPDU of the capture. The card itself answers 61XX and 6CXX, GET RESPONSE after
+        the one, and the same command after the other."""
+        sent = "".join(it[name] for name in ("cla", "ins", "p1", "p2", "sent"))
+        status, data = int(it["status"], 16), bytes.fromhex(it["received"])
+        waits = session[-1].status >> 8 if session else 0
+        if (waits, it["ins"]) == (0x61, "C0") or (waits == 0x6C and sent == session[-1].sent):
+            session[-1].status, session[-1].data = status, session[-1].data + data
+        else:
+            session.append(Known(it["line"], sent, status, data))
+        if len(session[-1].data) > 4096 - 256:
+            raise Mistake(f"{self.path}: line {it['line']}: a response of more than 3840 bytes")
 
     def takes_data(self, header: bytes) -> bool:
         named = header.hex().upper()
@@ -210,18 +219,27 @@ class Replay(Application):
             raise Mistake(f"{self.path}: {[*due, 'the session has ended'][0]}, not {sent}")
         known, count = [it for it in session if it.sent == sent], self.sent.count(sent)
         self.sent.append(sent)
-        return known[min(count, len(known) - 1)][2:] if known else (self.unknown, b"")
+        if not known:
+            return self.unknown, b""
+        it = known[min(count, len(known) - 1)]
+        is_cut = it.status >> 8 in (0x61, 0x6C)
+        rest = bytes(it.status & 0xFF or 256) if is_cut else b""
+        return self.unknown if is_cut else it.status, it.data + rest
 
     def reset(self) -> None:
         self.place = (self.place + bool(self.sent)) % len(self.sessions)
         self.sent = []
 
     def instead(self, command: bytes) -> Optional[bytes]:
-        """The answer to a GET RESPONSE that is a command of its own in the capture, as after 9FXX
-        of a SIM. None for what the card itself answers or carries out."""
-        header, le = command[:4], command[4] or 256 if len(command) > 4 else 0
-        known = [it for it in self.sessions[self.place] if it.sent == header.hex().upper()]
-        if header[1] != GET_RESPONSE or not known:
+        """The answer in place of the card's own: to a GET RESPONSE that is a command of its own in
+        the capture, as after 9FXX of a SIM; to data after a header that has none there; and to P3
+        00 after one that has data. None for every other command, or header at T=0."""
+        header, p3, after = command[:4], command[4:5], command[5:]
+        if header[1:2] == b"\xC0" and not after:
+            is_odd = any(it.sent == header.hex().upper() for it in self.sessions[self.place])
+        else:
+            is_odd = self.takes_data(header) != bool(after) and (p3 == b"\0" or bool(after))
+        if not is_odd:
             return None
-        status, data = self.carry_out(Command(header, b"", le))
-        return data[:le] + status.to_bytes(2, "big")
+        status, data = self.carry_out(Command(header, after[: sum(p3)], 0))
+        return data[: sum(p3) or 256 * len(p3)] + status.to_bytes(2, "big")

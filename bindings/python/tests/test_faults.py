@@ -294,6 +294,84 @@ def test_a_changed_response_goes_in_fields_of_the_terminal_s_size():
     assert [len(it) for it in sent[-2:]] == [258, 8] and sent[0] == block(0, 0xE1, b"\xfe")
 
 
+def blocks(it, *sent):
+    """What the card's end at T=1 answers to each of these blocks."""
+    end = End(it, at_t1)
+    return [b"".join(end.take(bytes([each])) for each in one) for one in sent]
+
+
+GET_NAME = bytes.fromhex("00CA5F2000")
+NAME = bytes.fromhex("5F20034A4F459000")
+
+
+@pytest.mark.parametrize("size", [1, 2, 3, 32, 254])
+def test_fields_of_each_size(size):
+    """Of a status alone, and of the longest response. A block that was damaged comes again."""
+    it, _ = simulator("")
+    value = VALUE[:253]
+    for command in (SELECT, bytes.fromhex("00DA0051FD") + value):
+        it.card.apdu(command)
+    end, number = End(it, at_t1), 0
+
+    def ask(pcb, field=b""):
+        return b"".join(end.take(bytes([each])) for each in block(0, pcb, field))
+
+    assert ask(0xC1, bytes([size])) == block(0, 0xE1, bytes([size]))
+    asks = [(b"\x00\xDA\x00\x51\x00", b"\x67\x00"), (GET, b"\x51\x81\xFD" + value + b"\x90\x00")]
+    for place, (command, expected) in enumerate(asks):
+        sent = ask(place << 6, command)
+        for at in range(0, len(expected), size):
+            is_last = at + size >= len(expected)
+            field = expected[at : at + size]
+            assert sent == block(0, number << 6 | (not is_last) << 5, field)
+            assert ask(0x81 | number << 4) == sent
+            number ^= 1
+            sent = b"" if is_last else ask(0x80 | number << 4)
+
+
+def test_a_command_in_the_middle_of_a_response():
+    """The end answers it with an R-block, and does not carry it out."""
+    it, _ = simulator("")
+    it.carried_out = (done := []).append
+    sent = blocks(it, block(0, 0, SELECT), block(0, 0xC1, b"\x04"), block(0, 0x40, GET_NAME),
+                  block(0, 0, SELECT), block(0, 0x80, b""))
+    assert sent[2:] == [block(0, 0x60, NAME[:4]), block(0, 0x82, b""), block(0, 0, NAME[4:])]
+    assert done == [SELECT, GET_NAME]
+
+
+def test_an_abort_of_the_terminal():
+    """It drops the part of a command, and keeps the numbers."""
+    sent = blocks(simulator("")[0], block(0, 0, SELECT), block(0, 0x60, GET_NAME[:2]),
+                  block(0, 0xC2, b""), block(0, 0, GET_NAME))
+    assert sent[1:] == [block(0, 0x80, b""), block(0, 0xE2, b""), block(0, 0x40, NAME)]
+
+
+def test_a_resynchronisation():
+    """It begins the numbers and the field size again, and drops the part of a command."""
+    sent = blocks(simulator("")[0], block(0, 0, SELECT), block(0, 0xC1, b"\x04"),
+                  block(0, 0x60, GET_NAME[:2]), block(0, 0xC0, b""), block(0, 0, GET_NAME))
+    assert sent[2:] == [block(0, 0x80, b""), block(0, 0xE0, b""), block(0, 0, NAME)]
+
+
+@pytest.mark.parametrize("damaged", ["21000500CA5F2000B4", "00000500CA5F200000", "0010010011",
+                                     "00200020"])
+def test_a_block_that_is_none(damaged):
+    """Another address, another LRC, a reserved bit, more data without any: none is carried out."""
+    it, _ = simulator("")
+    it.carried_out = (done := []).append
+    [sent] = blocks(it, bytes.fromhex(damaged))
+    assert sent[:3].hex() in ("008100", "008200") and not done
+
+
+def test_a_fault_of_blocks_waits_for_blocks():
+    """A card that offers both protocols may talk T=0."""
+    text = "; ".join(f"command 1, {it}" for it in ("lrc", "lose", "double", "nad"))
+    it, struck = simulator(text, 0)
+    assert said(it, SELECT) == [b"\xa4\x61\x0b"] and not struck
+    it, struck = simulator("command 1, nulls 3; command 1, procedure 33")
+    assert blocks(it, block(0, 0, SELECT)) == [block(0, 0, b"\x61\x0b")] and not struck
+
+
 def test_an_abort():
     it, struck = simulator("command 1, abort")
     end = End(it, at_t1)

@@ -51,7 +51,7 @@ def test_a_bad_terminal(tmp_path, capsys, only, way, verdict, limit):
 def test_what_no_terminal_sees_does_not_count(tmp_path, capsys):
     found, status, _ = run(tmp_path, "put forgotten in the middle")
     assert list(found.values()) == ["wrong"] and status == 0
-    assert "wrong*" in capsys.readouterr().out
+    assert "wrong  *" in capsys.readouterr().out
 
 
 def test_verdicts():

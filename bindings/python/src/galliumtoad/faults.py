@@ -43,11 +43,7 @@ class Mistake(Exception):
 
 
 class Gone(Exception):
-    """The card does not answer any more: it is mute, or has no power."""
-
-    def __init__(self, kind: str) -> None:
-        super().__init__("the card is mute" if kind == "mute" else "the card has no power")
-        self.kind = kind
+    """The card does not answer any more: it is `mute`, or its `power off`."""
 
 
 @dataclass

@@ -382,7 +382,7 @@ def talk_vpcd(of: Simulator, line: socket.socket,
             try:
                 answer = of.atr if data == GET_ATR else of(data)
             except Gone as gone:
-                of.is_over.wait(MUTE_FOR if gone.kind == "mute" else 0)
+                of.is_over.wait(MUTE_FOR if str(gone) == "mute" else 0)
                 break
             line.sendall(len(answer).to_bytes(2, "big") + answer)
         line.shutdown(socket.SHUT_RDWR)

@@ -59,10 +59,6 @@ class Trial:
         """Where its faults can happen."""
         return {KINDS[it.kind] for it in self.read().all}
 
-    @property
-    def shown(self) -> str:
-        return self.verdict + "*" * self.is_unseen
-
 
 def trials() -> list[Trial]:
     """Reads the list.
@@ -162,7 +158,8 @@ def tried(trial: Trial, given: argparse.Namespace) -> None:
 def as_text(results: list[Trial]) -> str:
     """The results as a table of text."""
     width, counts = max(len(it.name) for it in results), Counter[str]()
-    lines = [f"{it.name:{width}}  {it.shown:8} {it.said}".rstrip() for it in results]
+    lines = [f"{it.name:{width}}  {it.verdict:7}{'*' if it.is_unseen else ' '} {it.said}".rstrip()
+             for it in results]
     counts.update(it.verdict for it in results if not it.is_unseen)
     lines.append(", ".join(f"{counts[it]} {it}" for it in VERDICTS if counts[it]))
     return "\n".join(lines + [STAR] * any(it.is_unseen for it in results))
@@ -171,7 +168,7 @@ def as_text(results: list[Trial]) -> str:
 def as_html(results: list[Trial]) -> str:
     """The results as a page."""
     rows = "".join("<tr>" + "".join(f"<td>{html.escape(text)}" for text in (
-        it.name, it.faults, it.shown, it.said, it.says)) for it in results)
+        it.name, it.faults, it.verdict + "*" * it.is_unseen, it.said, it.says)) for it in results)
     return ("<!DOCTYPE html><meta charset=utf-8><title>Trials</title><table><tr><th>Trial<th>Fault"
             f"<th>Verdict<th>Last line<th>What a good terminal does{rows}</table><p>{STAR}\n")
 

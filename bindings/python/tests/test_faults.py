@@ -353,13 +353,15 @@ def test_a_resynchronisation():
     assert sent[2:] == [block(0, 0x80, b""), block(0, 0xE0, b""), block(0, 0, NAME)]
 
 
-@pytest.mark.parametrize("damaged", ["21000500CA5F2000B4", "00000500CA5F200000", "0010010011",
-                                     "00200020"])
+@pytest.mark.parametrize(
+    "damaged", [block(0x21, 0, GET_NAME), block(0, 0, GET_NAME)[:-1] + b"\0", block(0, 0x10, b"\0"),
+                block(0, 0x20, b""), block(0, 0, bytes(255))])
 def test_a_block_that_is_none(damaged):
-    """Another address, another LRC, a reserved bit, more data without any: none is carried out."""
+    """Another address, another LRC, a reserved bit, more data without any, a reserved length: none
+    is carried out."""
     it, _ = simulator("")
     it.carried_out = (done := []).append
-    [sent] = blocks(it, bytes.fromhex(damaged))
+    [sent] = blocks(it, damaged)
     assert sent[:3].hex() in ("008100", "008200") and not done
 
 

@@ -22,12 +22,15 @@ CAPTURES = TESTS.parents[2] / "checks" / "explain" / "cases" / "captures"
 PROGRAMS = str(TESTS.parents[1] / "bin" / f"{platform.machine()}-linux-gnu")
 
 
-@pytest.fixture(autouse=True)
-def programs(monkeypatch):
+def folder_of_programs():
     """A program that was just built comes before that of the repository."""
     built = os.environ.get("GALLIUMTOAD_BUILT", "")
-    folder = built if os.path.exists(f"{built}/trace_explain") else PROGRAMS
-    monkeypatch.setenv("GALLIUMTOAD_BUILT", folder)
+    return built if os.path.exists(f"{built}/trace_explain") else PROGRAMS
+
+
+@pytest.fixture(autouse=True)
+def programs(monkeypatch):
+    monkeypatch.setenv("GALLIUMTOAD_BUILT", folder_of_programs())
 
 
 def tpdu(line, header, sent, received, status, **more):

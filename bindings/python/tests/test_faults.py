@@ -2,7 +2,7 @@
 without a struck fault is as the library's. Expected bytes are written from the standard's forms."""
 
 import pytest
-from galliumtoad import T1, Card, Get, Level, Put, Select, Terminal
+from galliumtoad import T1, BlockError, Card, Get, Level, Put, Select, Terminal
 from galliumtoad.faults import ECHO, KINDS, LINE, T0, Faults, Gone, Mistake, block, read
 from galliumtoad.simulate import Simulator, at_t0, at_t1
 from galliumtoad.trials import AID, VALUE, trials
@@ -279,6 +279,46 @@ def test_blocks(kind):
         assert sent[1 : 1 + len(expected)] == expected and len(struck) == 1
         for command, answer in zip(JOB[1:], ANSWERS[1:]):
             assert terminal(command) == answer
+
+
+BLOCKS = [it for it in trials() if it.places == {"a line at T=1"}]
+
+
+def test_each_trial_of_a_line_is_tried():
+    """By what the line carries: as whole commands, characters, blocks, or an echo."""
+    names = [*CHANGES, *AT_T0, *(it.name for it in BLOCKS), "echo that differs"]
+    assert sorted(names) == sorted(it.name for it in trials())
+
+
+@pytest.mark.parametrize("trial", BLOCKS, ids=lambda it: it.name)
+def test_blocks_of_a_trial(trial):
+    """They come in place of the response of its command, which has one block, and the rest of the
+    job is as without a fault, unless the card aborts."""
+    it, struck = simulator(trial.faults)
+    end, sent, left = End(it, at_t1), [], []
+    when, kind = trial.faults.split(", ")
+    number = int(when.split()[1])
+
+    def line(data, waits):
+        if data:
+            sent.append(b"".join(end.take(bytes([each])) for each in data))
+            left[:] = [sent[-1]]
+        return left.pop() if left else b""
+
+    with T1(line) as terminal:
+        for place, (command, answer) in enumerate(zip(JOB, ANSWERS), 1):
+            sent.clear()
+            if (place, kind) == (number, "abort"):
+                with pytest.raises(BlockError):
+                    terminal(command)
+                assert block(0, 0xC2, b"") in sent
+                break
+            assert terminal(command) == answer
+            if place == number:
+                expected = AT_T1[kind](block(0, (place - 1) % 2 << 6, answer))
+                assert sent[-len(expected) :] == expected
+                assert {it[1] & 0xEF for it in sent[: -len(expected)]} == {0x80}  # acknowledged
+    assert len(struck) == 1
 
 
 def test_a_changed_response_goes_in_fields_of_the_terminal_s_size():

@@ -114,7 +114,7 @@ def test_an_example_at_a_line(name, atr):
 @ALL
 def test_an_example_as_whole_commands(name):
     commands, answers = dialogue(name)
-    vpcd = Vpcd(of=Simulator(application(name)[0]))
+    vpcd = Vpcd(of=Simulator(OwnCard(application(name))))
     assert [vpcd.ask(bytes.fromhex(it)).hex().upper() for it in commands] == answers
     vpcd.say(b"\x02")  # a reset
     assert vpcd.ask(bytes.fromhex(commands[0])).hex().upper() == {"counter:Counter": "039000"}.get(
@@ -261,6 +261,6 @@ def test_faults_strike_at_such_cards_at_t1(tmp_path):
 
 def test_faults_strike_at_such_cards():
     faults = Faults(read("command 1, status 6F00\ncommand 2, twice\ncommand 3, forget"))
-    with Simulator(application("counter:Counter")[0], faults=faults) as reader:
+    with Simulator(OwnCard(application("counter:Counter")), faults=faults) as reader:
         answers = [reader(bytes.fromhex("8010000000")).hex() for _ in range(4)]
     assert answers == ["016f00", "039000", "9000", "049000"]

@@ -1,5 +1,5 @@
 """What card `galliumtoad.simulate` has: data objects of a table, an application in Python, one in a
-program of any language, or the answers of a capture. Each comes with its answer to reset."""
+program of any language, or the answers of a capture."""
 
 import atexit
 import importlib
@@ -20,7 +20,7 @@ from typing import Any, Optional, Sequence
 from .card import Card
 from .errors import Error
 from .faults import GET_RESPONSE, Mistake
-from .own_card import Application, Command, OwnCard
+from .own_card import Application, Command
 
 LEAST_ATR, PATIENCE = b"\x3B\x00", 10.0  # seconds for a line of a program
 # A status of an application, and what a program answers to a header and to a command: the data, if
@@ -30,7 +30,8 @@ WAY, RESPONSE = "(to|from)-card", f"(?:((?:[0-9A-F]{{2}}){{1,4096}}) )?({STATUS}
 
 
 def read_table(path: str) -> tuple[Card, bytes]:
-    """Reads the lines `app`, `object`, `locked` and `atr` of a file. Raises `Mistake`."""
+    """Reads the lines `app`, `object`, `locked` and `atr` of a file. Returns the card and its
+    answer to reset. Raises `Mistake`."""
     tables: dict[bytes, dict[int, bytes]] = {}
     locked, atr, where = [], b"", path
     try:
@@ -62,8 +63,8 @@ def status_of(digits: str) -> int:
     return int(digits, 16)
 
 
-def application(name: str) -> tuple[OwnCard, bytes]:
-    """Makes a card of a class, MODULE:CLASS. Raises `Mistake`."""
+def application(name: str) -> Application:
+    """Makes an object of a class, MODULE:CLASS. Raises `Mistake`."""
     module, _, kind = name.partition(":")
     sys.path.insert(0, "")  # the folder of the program's user
     try:
@@ -72,20 +73,16 @@ def application(name: str) -> tuple[OwnCard, bytes]:
         raise Mistake(f"{name}: {why}") from None
     if not isinstance(made, Application):
         raise Mistake(f"{name} is no Application")
-    return OwnCard(made), LEAST_ATR
-
-
-def program(command: str) -> tuple[OwnCard, bytes]:
-    """Makes a card of a program. Raises `Mistake`."""
-    return OwnCard(Program(command)), LEAST_ATR
+    return made
 
 
 class Program(Application):
     """An application in a program, which gets a line and answers with one. A program that is
     silent, ends or answers anything else is a `Mistake` with the line.
 
+    >>> from galliumtoad import OwnCard
     >>> says = "while read a b; do case $a in h*) echo from-card;; c*) echo 4A4F45 9000; esac; done"
-    >>> with program(f"sh -c '{says}'")[0] as card:
+    >>> with OwnCard(Program(f"sh -c '{says}'")) as card:
     ...     card.apdu(bytes.fromhex("8010000000")).hex()
     '4a4f459000'
     """

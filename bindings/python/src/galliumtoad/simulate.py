@@ -18,7 +18,7 @@ from typing import Callable, Generator, Optional, Union
 from ._library import ffi, lib
 from .answers import Atr, Edc, Pps
 from .card import Card
-from .cards import LEAST_ATR, Replay, application, program, read_table, status_of
+from .cards import LEAST_ATR, Program, Replay, application, read_table, status_of
 from .errors import AtrError, Code, CommandError, OutOfMemory
 from .faults import ECHO, LINE, OK, T0, T1, Faults, Gone, Mistake, block, pcb_of
 from .handle import readable
@@ -402,10 +402,10 @@ def parser() -> argparse.ArgumentParser:
     what = it.add_mutually_exclusive_group(required=True).add_argument
     where = it.add_mutually_exclusive_group(required=True).add_argument
     option = it.add_argument
-    what("--table", metavar="FILE", dest="card", type=read_table, help="a card of data objects")
-    what("--application", metavar="MODULE:CLASS", dest="card", type=application,
+    what("--table", metavar="FILE", type=read_table, help="a card of data objects")
+    what("--application", metavar="MODULE:CLASS", dest="own", type=application,
          help="a card of one's own")
-    what("--program", metavar="COMMAND", dest="card", type=program, help="one in any language")
+    what("--program", metavar="COMMAND", dest="own", type=Program, help="one in any language")
     what("--replay", metavar="FILE", help="one that answers as in a capture that trace_explain "
          "reads, or in what it wrote with --json --commands")
     where("--vpcd", nargs="?", const=VPCD, metavar="HOST:PORT",
@@ -443,8 +443,10 @@ def main(words: Optional[list[str]] = None) -> int:
     """Runs the program. Returns the exit status."""
     try:
         given = parser().parse_args(words)
-        own = given.replay and Replay(given.replay, given.unknown, given.strict)
-        card, atr = given.card or (OwnCard(own), own.atr or LEAST_ATR)
+        own = given.own
+        if given.replay:
+            own = Replay(given.replay, given.unknown, given.strict)
+        card, atr = given.table or (OwnCard(own), getattr(own, "atr", b"") or LEAST_ATR)
         faults = Faults.of_file(given.faults, given.seed) if given.faults else None
         with Simulator(card, given.atr or atr, faults, given.v) as simulator:
             serve(simulator, given)

@@ -34,7 +34,8 @@ def programs(monkeypatch):
 
 
 def tpdu(line, header, sent, received, status, **more):
-    names = dict(zip(("cla", "ins", "p1", "p2", "p3"), bytes.fromhex(header).hex(" ").upper().split()))
+    names = dict(zip(("cla", "ins", "p1", "p2", "p3"), bytes.fromhex(header).hex(" ").split()))
+    names = {name: digits.upper() for name, digits in names.items()}
     return {"type": "tpdu", "line": line, **names, "sent": sent, "received": received,
             "status": status, **more}
 

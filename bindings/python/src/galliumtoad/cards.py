@@ -228,9 +228,11 @@ class Replay(Application):
         self.sent = []
 
     def instead(self, command: bytes) -> Optional[bytes]:
-        """The answer in place of the card's own: to a GET RESPONSE that is a command of its own in
-        the capture, as after 9FXX of a SIM; to data after a header that has none there; and to P3
-        00 after one that has data. None for every other command, or header at T=0."""
+        """The answer in place of the card's own, or None for a command or header that needs none:
+
+        - to a GET RESPONSE that is a command of its own in the capture, as after 9FXX of a SIM
+        - to data after a header that has none there, and to P3 00 after one that has some
+        """
         header, p3, after = command[:4], command[4:5], command[5:]
         if header[1:2] == b"\xC0" and not after:
             is_odd = any(it.sent == header.hex().upper() for it in self.sessions[self.place])

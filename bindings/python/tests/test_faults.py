@@ -2,7 +2,8 @@
 without a struck fault is as the library's. Expected bytes are written from the standard's forms."""
 
 import pytest
-from galliumtoad import T1, BlockError, Card, Get, Level, Put, Select, Terminal
+from galliumtoad import (T1, Application, BlockError, Card, Get, Level, OwnCard, Put, Select,
+                         Terminal)
 from galliumtoad.faults import ECHO, KINDS, LINE, T0, Faults, Gone, Mistake, block, read
 from galliumtoad.simulate import Simulator, at_t0, at_t1
 from galliumtoad.trials import AID, VALUE, trials
@@ -510,6 +511,22 @@ def test_what_a_repetition_is():
 def test_forget_sends_no_procedure_byte_if_no_data_follow():
     it, _ = simulator("command 2, forget", 0)
     assert said(it, SELECT, bytes.fromhex("00CA5F2006"))[1] == b"\x90\x00"
+
+
+class Writes(Application):
+    """Takes data of UPDATE BINARY alone."""
+
+    def takes_data(self, header):
+        return header[1] == 0xD6
+
+    def carry_out(self, command):
+        return 0x9000, b""
+
+
+def test_an_application_says_whether_data_follow_what_is_forgotten():
+    it = Simulator(OwnCard(Writes()), faults=Faults(read("after 0, forget")))
+    found = said(it, bytes.fromhex("00D6000002AABB"), bytes.fromhex("00DA000002"))
+    assert [each.hex() for each in found] == ["d69000", "9000"]
 
 
 def test_no_command_counts_before_since():

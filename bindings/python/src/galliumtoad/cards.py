@@ -211,9 +211,10 @@ class Replay(Application):
 
     def carry_out(self, command: Command) -> tuple[int, bytes]:
         sent, session = (command.header + command.data).hex().upper(), self.sessions[self.place]
-        due = [f"line {it.line} has {it.sent}" for it in session[len(self.sent) :]]
-        if self.is_strict and [it.sent for it in session[len(self.sent) :][:1]] != [sent]:
-            raise Mistake(f"{self.path}: {[*due, 'the session has ended'][0]}, not {sent}")
+        due = session[len(self.sent) :][:1]
+        if self.is_strict and [it.sent for it in due] != [sent]:
+            has = f"line {due[0].line} has {due[0].sent}" if due else "the session has ended"
+            raise Mistake(f"{self.path}: {has}, not {sent}")
         known, count = [it for it in session if it.sent == sent], self.sent.count(sent)
         self.sent.append(sent)
         if not known:

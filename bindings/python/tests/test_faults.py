@@ -380,6 +380,19 @@ def test_a_command_in_the_middle_of_a_response():
     assert done == [SELECT, GET_NAME]
 
 
+def test_a_command_that_comes_again():
+    """It is not carried out again: its number is that of the last one."""
+    it, _ = simulator("")
+    it.carried_out = (done := []).append
+    sent = blocks(it, block(0, 0, SELECT), block(0, 0, SELECT), block(0, 0x80, b""))
+    assert sent[1] == block(0, 0x92, b"") and sent[2] == sent[0] and done == [SELECT]
+
+
+def test_a_card_whose_first_protocol_is_t0_carries_out_commands_at_t1():
+    sent = blocks(simulator("", 0)[0], block(0, 0, SELECT + b"\0"))
+    assert sent == [block(0, 0, FCI + b"\x90\0")]
+
+
 def test_an_abort_of_the_terminal():
     """It drops the part of a command, and keeps the numbers."""
     sent = blocks(simulator("")[0], block(0, 0, SELECT), block(0, 0x60, GET_NAME[:2]),

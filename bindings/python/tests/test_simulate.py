@@ -183,6 +183,8 @@ def test_a_tty(tmp_path):
     os.close(theirs)
     os.close(ours)
     assert program.wait(60) == 1
+    error = program.stderr.read().decode()
+    assert error.count("\n") == 1 and "Traceback" not in error
 
 
 class Vpcd:

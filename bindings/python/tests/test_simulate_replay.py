@@ -92,6 +92,12 @@ def test_answers_in_the_order_of_the_capture(replay):
     assert asked(replay(*COUNTER, unknown=0x6A82), "80CA000000") == ["6A82"]
 
 
+def test_the_first_answer_to_reset_counts(replay):
+    other = {"type": "atr", "line": 5, "characters": "3B00"}
+    assert replay(ATR, *COUNTER, other, *COUNTER).atr.hex() == "3b021450"
+    assert replay(other, *COUNTER, ATR).atr.hex() == "3b00" and replay(*COUNTER).atr == b""
+
+
 def test_parts_are_joined_and_pieces_are_not(replay):
     card = replay(SELECT, ASKED_AGAIN, CHAIN)
     assert asked(card, "00A4040005A000000003", "00C0000004", "00CA005003", "10DA005001AA",

@@ -9,8 +9,8 @@ import sys
 from pathlib import Path
 
 import pytest
-from galliumtoad import T1, Exchange, cards, simulate
-from galliumtoad.cards import Own, Program, application
+from galliumtoad import T1, Exchange, OwnCard, cards, simulate
+from galliumtoad.cards import Program, application
 from galliumtoad.faults import Faults, Mistake, read
 from galliumtoad.simulate import Simulator, main
 from test_simulate import Vpcd
@@ -114,7 +114,7 @@ def test_an_example_at_a_line(name, atr):
 @ALL
 def test_an_example_as_whole_commands(name):
     commands, answers = dialogue(name)
-    vpcd = Vpcd(of=Simulator(Own(application(name))))
+    vpcd = Vpcd(of=Simulator(OwnCard(application(name))))
     assert [vpcd.ask(bytes.fromhex(it)).hex().upper() for it in commands] == answers
     vpcd.say(b"\x02")  # a reset
     assert vpcd.ask(bytes.fromhex(commands[0])).hex().upper() == {"counter:Counter": "039000"}.get(
@@ -128,7 +128,7 @@ def test_a_card_in_another_language():
     card = Card("--program", "sh counter.sh")
     assert [card.answer(it) for it in commands] == answers
     card.end()
-    vpcd = Vpcd(of=Simulator(Own(Program(f"sh {EXAMPLES}/counter.sh"))))
+    vpcd = Vpcd(of=Simulator(OwnCard(Program(f"sh {EXAMPLES}/counter.sh"))))
     assert [vpcd.ask(bytes.fromhex(it)).hex().upper() for it in commands] == answers
     vpcd.end()
 
@@ -149,7 +149,7 @@ for line in sys.stdin:
 def test_the_lines_of_a_program(tmp_path):
     (tmp_path / "logs.py").write_text(LOGS)
     log = tmp_path / "log"
-    with Own(Program(f"{sys.executable} {tmp_path}/logs.py {log}")) as card:
+    with OwnCard(Program(f"{sys.executable} {tmp_path}/logs.py {log}")) as card:
         card.receive_bytes(bytes.fromhex("00D6000002"))
         assert card.send_bytes().hex() == "d6"
         card.receive_bytes(bytes.fromhex("AABB"))
@@ -193,7 +193,7 @@ def test_a_program_that_is_silent_dead_or_rude(monkeypatch, script, line, why):
     it = Program(f"sh -c '{script}'")
     if not script.startswith(("read", "sleep")):
         select.select([it.program.stdout], [], [], 60)  # it speaks or ends by itself
-    with pytest.raises(Mistake) as found, Own(it) as card:
+    with pytest.raises(Mistake) as found, OwnCard(it) as card:
         card.receive_bytes(bytes.fromhex("8010000001"))
         card.send_bytes()
     it.program.kill()
@@ -261,6 +261,6 @@ def test_faults_strike_at_such_cards_at_t1(tmp_path):
 
 def test_faults_strike_at_such_cards():
     faults = Faults(read("command 1, status 6F00\ncommand 2, twice\ncommand 3, forget"))
-    with Simulator(Own(application("counter:Counter")), faults=faults) as reader:
+    with Simulator(OwnCard(application("counter:Counter")), faults=faults) as reader:
         answers = [reader(bytes.fromhex("8010000000")).hex() for _ in range(4)]
     assert answers == ["016f00", "039000", "9000", "049000"]

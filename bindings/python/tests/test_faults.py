@@ -2,10 +2,10 @@
 without a struck fault is as the library's. Expected bytes are written from the standard's forms."""
 
 import pytest
-from galliumtoad import T1, Card, Get, Level, Put, Select, Terminal
+from galliumtoad import (T1, Application, BlockError, Card, Get, Level, OwnCard, Put, Select,
+                         Terminal)
 from galliumtoad.faults import ECHO, KINDS, LINE, T0, Faults, Gone, Mistake, block, read
-from galliumtoad.faults import T1 as AT_T1
-from galliumtoad.simulate import Blocks, Characters, Simulator
+from galliumtoad.simulate import Simulator, at_t0, at_t1
 from galliumtoad.trials import AID, VALUE, trials
 
 FCI = bytes.fromhex("6F098407A0000000031010")
@@ -22,13 +22,26 @@ ANSWERS += [OBJECT[256:512] + b"\x61\x5c", OBJECT[512:] + b"\x90\x00"]
 FIRST = OBJECT[:256]
 
 
-def simulator(text, t=1, carried_out=None, **more):
+class End:
+    """A card's end of a line, at T=0 or T=1."""
+
+    def __init__(self, it, talks):
+        self.end = talks(it, b"")
+        self.is_inside = next(self.end) is None
+
+    def take(self, byte):
+        """Takes a character, or none if a block stopped, and returns what the card sends."""
+        out = self.end.send(byte)
+        self.is_inside = out is None
+        return out or b""
+
+
+def simulator(text, t=1, **more):
     """A card with these faults, and the list of those that struck."""
     struck = []
     faults = Faults(read(text.replace("; ", "\n")), **more)
     atr = bytes.fromhex("3B800181" if t else "3B00")
-    carried_out = carried_out or (lambda command: None)
-    it = Simulator(Card({AID: {0x5F20: b"JOE"}}), atr, faults, carried_out=carried_out)
+    it = Simulator(Card({AID: {0x5F20: b"JOE"}}), atr, faults)
     faults.tell = struck.append
     return it, struck
 
@@ -38,7 +51,7 @@ def whole(it, commands=JOB):
     answers = []
     for command in commands:
         try:
-            answers.append(it.whole(command, it.apdu))
+            answers.append(it.whole(command))
         except Gone:
             return [*answers, None]
     return answers
@@ -98,7 +111,7 @@ CHANGES = {
                            7: bytes(92) + b"\x61\x10"},
     "get without answer": {5: None},
 }
-ANYWHERE = [it for it in trials() if all(KINDS[each.kind][1] == "anywhere" for each in it.read())]
+ANYWHERE = [it for it in trials() if all(KINDS[each.kind] == "anywhere" for each in it.read().all)]
 
 
 def test_each_trial_has_its_row():
@@ -112,7 +125,7 @@ def test_whole_commands(trial):
     it, struck = simulator(trial.faults)
     it.is_over.set()  # no waiting
     found, changes = whole(it), CHANGES[trial.name]
-    assert len(struck) == len(trial.read()) + trial.faults.startswith("every")
+    assert len(struck) == len(trial.read().all) + trial.faults.startswith("every")
     for number, expected in changes.items():
         if isinstance(expected, int):  # the size of the stored value
             size = int.from_bytes(found[4][2:4], "big") if found[4][1] == 0x82 else found[4][1]
@@ -129,7 +142,7 @@ def test_blocks_carry_the_same(trial):
     it, other = simulator(trial.faults)[0], simulator(trial.faults)[0]
     for each in (it, other):
         each.is_over.set()
-    end = Blocks(it)
+    end = End(it, at_t1)
 
     def line(data, waits):
         try:
@@ -146,7 +159,7 @@ def test_blocks_carry_the_same(trial):
 
 def said(it, *tpdus):
     """What the card sends in each TPDU."""
-    end, found = Characters(it), []
+    end, found = End(it, at_t0), []
     for tpdu in tpdus:
         found.append(b"")
         try:
@@ -217,7 +230,7 @@ def test_what_is_stored_over_a_line(fault, size):
     for t in (0, 1):
         it, _ = simulator(fault, t)
         if t:
-            end = Blocks(it)
+            end = End(it, at_t1)
             sent = []
 
             def line(data, _):
@@ -252,7 +265,7 @@ AT_T1 = {
 def test_blocks(kind):
     """A line fault at T=1 changes one block, and the terminal gets the answer all the same."""
     it, struck = simulator(f"command 1, {kind}")
-    end, sent, left = Blocks(it), [], []
+    end, sent, left = End(it, at_t1), [], []
 
     def line(data, waits):
         if data:
@@ -269,9 +282,49 @@ def test_blocks(kind):
             assert terminal(command) == answer
 
 
+BLOCKS = [it for it in trials() if it.places == {"a line at T=1"}]
+
+
+def test_each_trial_of_a_line_is_tried():
+    """By what the line carries: as whole commands, characters, blocks, or an echo."""
+    names = [*CHANGES, *AT_T0, *(it.name for it in BLOCKS), "echo that differs"]
+    assert sorted(names) == sorted(it.name for it in trials())
+
+
+@pytest.mark.parametrize("trial", BLOCKS, ids=lambda it: it.name)
+def test_blocks_of_a_trial(trial):
+    """They come in place of the response of its command, which has one block, and the rest of the
+    job is as without a fault, unless the card aborts."""
+    it, struck = simulator(trial.faults)
+    end, sent, left = End(it, at_t1), [], []
+    when, kind = trial.faults.split(", ")
+    number = int(when.split()[1])
+
+    def line(data, waits):
+        if data:
+            sent.append(b"".join(end.take(bytes([each])) for each in data))
+            left[:] = [sent[-1]]
+        return left.pop() if left else b""
+
+    with T1(line) as terminal:
+        for place, (command, answer) in enumerate(zip(JOB, ANSWERS), 1):
+            sent.clear()
+            if (place, kind) == (number, "abort"):
+                with pytest.raises(BlockError):
+                    terminal(command)
+                assert block(0, 0xC2, b"") in sent
+                break
+            assert terminal(command) == answer
+            if place == number:
+                expected = AT_T1[kind](block(0, (place - 1) % 2 << 6, answer))
+                assert sent[-len(expected) :] == expected
+                assert {it[1] & 0xEF for it in sent[: -len(expected)]} == {0x80}  # acknowledged
+    assert len(struck) == 1
+
+
 def test_a_changed_response_goes_in_fields_of_the_terminal_s_size():
     it, _ = simulator("command 5, flip 100")
-    end, sent = Blocks(it), []
+    end, sent = End(it, at_t1), []
 
     def line(data, waits):
         sent.append(b"".join(end.take(bytes([it])) for it in data))
@@ -282,9 +335,102 @@ def test_a_changed_response_goes_in_fields_of_the_terminal_s_size():
     assert [len(it) for it in sent[-2:]] == [258, 8] and sent[0] == block(0, 0xE1, b"\xfe")
 
 
+def blocks(it, *sent):
+    """What the card's end at T=1 answers to each of these blocks."""
+    end = End(it, at_t1)
+    return [b"".join(end.take(bytes([each])) for each in one) for one in sent]
+
+
+GET_NAME = bytes.fromhex("00CA5F2000")
+NAME = bytes.fromhex("5F20034A4F459000")
+
+
+@pytest.mark.parametrize("size", [1, 2, 3, 32, 254])
+def test_fields_of_each_size(size):
+    """Of a status alone, and of the longest response. A block that was damaged comes again."""
+    it, _ = simulator("")
+    value = VALUE[:253]
+    for command in (SELECT, bytes.fromhex("00DA0051FD") + value):
+        it.card.apdu(command)
+    end, number = End(it, at_t1), 0
+
+    def ask(pcb, field=b""):
+        return b"".join(end.take(bytes([each])) for each in block(0, pcb, field))
+
+    assert ask(0xC1, bytes([size])) == block(0, 0xE1, bytes([size]))
+    asks = [(b"\x00\xDA\x00\x51\x00", b"\x67\x00"), (GET, b"\x51\x81\xFD" + value + b"\x90\x00")]
+    for place, (command, expected) in enumerate(asks):
+        sent = ask(place << 6, command)
+        for at in range(0, len(expected), size):
+            is_last = at + size >= len(expected)
+            field = expected[at : at + size]
+            assert sent == block(0, number << 6 | (not is_last) << 5, field)
+            assert ask(0x81 | number << 4) == sent
+            number ^= 1
+            sent = b"" if is_last else ask(0x80 | number << 4)
+
+
+def test_a_command_in_the_middle_of_a_response():
+    """The end answers it with an R-block, and does not carry it out."""
+    it, _ = simulator("")
+    it.carried_out = (done := []).append
+    sent = blocks(it, block(0, 0, SELECT), block(0, 0xC1, b"\x04"), block(0, 0x40, GET_NAME),
+                  block(0, 0, SELECT), block(0, 0x80, b""))
+    assert sent[2:] == [block(0, 0x60, NAME[:4]), block(0, 0x82, b""), block(0, 0, NAME[4:])]
+    assert done == [SELECT, GET_NAME]
+
+
+def test_a_command_that_comes_again():
+    """It is not carried out again: its number is that of the last one."""
+    it, _ = simulator("")
+    it.carried_out = (done := []).append
+    sent = blocks(it, block(0, 0, SELECT), block(0, 0, SELECT), block(0, 0x80, b""))
+    assert sent[1] == block(0, 0x92, b"") and sent[2] == sent[0] and done == [SELECT]
+
+
+def test_a_card_whose_first_protocol_is_t0_carries_out_commands_at_t1():
+    sent = blocks(simulator("", 0)[0], block(0, 0, SELECT + b"\0"))
+    assert sent == [block(0, 0, FCI + b"\x90\0")]
+
+
+def test_an_abort_of_the_terminal():
+    """It drops the part of a command, and keeps the numbers."""
+    sent = blocks(simulator("")[0], block(0, 0, SELECT), block(0, 0x60, GET_NAME[:2]),
+                  block(0, 0xC2, b""), block(0, 0, GET_NAME))
+    assert sent[1:] == [block(0, 0x80, b""), block(0, 0xE2, b""), block(0, 0x40, NAME)]
+
+
+def test_a_resynchronisation():
+    """It begins the numbers and the field size again, and drops the part of a command."""
+    sent = blocks(simulator("")[0], block(0, 0, SELECT), block(0, 0xC1, b"\x04"),
+                  block(0, 0x60, GET_NAME[:2]), block(0, 0xC0, b""), block(0, 0, GET_NAME))
+    assert sent[2:] == [block(0, 0x80, b""), block(0, 0xE0, b""), block(0, 0, NAME)]
+
+
+@pytest.mark.parametrize(
+    "damaged", [block(0x21, 0, GET_NAME), block(0, 0, GET_NAME)[:-1] + b"\0", block(0, 0x10, b"\0"),
+                block(0, 0x20, b""), block(0, 0, bytes(255))])
+def test_a_block_that_is_none(damaged):
+    """Another address, another LRC, a reserved bit, more data without any, a reserved length: none
+    is carried out."""
+    it, _ = simulator("")
+    it.carried_out = (done := []).append
+    [sent] = blocks(it, damaged)
+    assert sent[:3].hex() in ("008100", "008200") and not done
+
+
+def test_a_fault_of_blocks_waits_for_blocks():
+    """A card that offers both protocols may talk T=0."""
+    text = "; ".join(f"command 1, {it}" for it in ("lrc", "lose", "double", "nad"))
+    it, struck = simulator(text, 0)
+    assert said(it, SELECT) == [b"\xa4\x61\x0b"] and not struck
+    it, struck = simulator("command 1, nulls 3; command 1, procedure 33")
+    assert blocks(it, block(0, 0, SELECT)) == [block(0, 0, b"\x61\x0b")] and not struck
+
+
 def test_an_abort():
     it, struck = simulator("command 1, abort")
-    end = Blocks(it)
+    end = End(it, at_t1)
     assert b"".join(end.take(bytes([it])) for it in block(0, 0, JOB[0])) == block(0, 0xC2, b"")
     assert struck
 
@@ -378,6 +524,22 @@ def test_what_a_repetition_is():
 def test_forget_sends_no_procedure_byte_if_no_data_follow():
     it, _ = simulator("command 2, forget", 0)
     assert said(it, SELECT, bytes.fromhex("00CA5F2006"))[1] == b"\x90\x00"
+
+
+class Writes(Application):
+    """Takes data of UPDATE BINARY alone."""
+
+    def takes_data(self, header):
+        return header[1] == 0xD6
+
+    def carry_out(self, command):
+        return 0x9000, b""
+
+
+def test_an_application_says_whether_data_follow_what_is_forgotten():
+    it = Simulator(OwnCard(Writes()), faults=Faults(read("after 0, forget")))
+    found = said(it, bytes.fromhex("00D6000002AABB"), bytes.fromhex("00DA000002"))
+    assert [each.hex() for each in found] == ["d69000", "9000"]
 
 
 def test_no_command_counts_before_since():

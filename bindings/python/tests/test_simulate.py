@@ -16,6 +16,7 @@ import pytest
 from galliumtoad import Card, simulate
 from galliumtoad.faults import Faults, Mistake, block, read
 from galliumtoad.simulate import Simulator, main, read_table, serve_vpcd
+from galliumtoad.trials import trials
 from waiting import wait_for_looks
 
 SOURCE = str(Path(simulate.__file__).parent.parent)
@@ -125,6 +126,21 @@ def test_pps(at_pty, atr, request_, response):
     card.close()
 
 
+def test_an_echo_that_differs(at_pty):
+    """The last character of the second header comes back with a wrong bit, and no other."""
+    trial = next(it for it in trials() if it.name == "echo that differs")
+    card = at_pty(faults=trial.faults)
+    card.open()
+    assert card.read(2).hex() == "3b00"
+    assert card.talk(SELECT[:5], 1).hex() == "a4" and card.talk(SELECT[5:], 2).hex() == "610b"
+    put = bytes.fromhex("00DA00510141")
+    os.write(card.line, put[:5])
+    assert card.read(6).hex() == "00da005100da"
+    assert card.talk(put[5:], 2).hex() == "9000"
+    card.close()
+    assert sum("wrong echo" in it for it in card.end()) == 1
+
+
 def test_inverse_convention(at_pty):
     card = at_pty(TABLE + "atr 3F00\n")
     card.open()
@@ -167,6 +183,8 @@ def test_a_tty(tmp_path):
     os.close(theirs)
     os.close(ours)
     assert program.wait(60) == 1
+    error = program.stderr.read().decode()
+    assert error.count("\n") == 1 and "Traceback" not in error
 
 
 class Vpcd:

@@ -13,6 +13,7 @@ from galliumtoad import simulate
 from room import SCRIPT
 from test_applications import CARDS, dialogue
 from test_reader import PRIVATE, missing, namespace
+from test_simulate_replay import CAPTURES, SIM, folder_of_programs
 from waiting import SECONDS, wait_until
 
 TESTS = Path(__file__).resolve().parent
@@ -85,7 +86,8 @@ class Desk:
         )
         source = str(Path(simulate.__file__).parent.parent)
         self.environment = dict(
-            os.environ, PCSCLITE_CSOCK_NAME=str(path / "run" / "pcscd.comm"), PYTHONPATH=source
+            os.environ, PCSCLITE_CSOCK_NAME=str(path / "run" / "pcscd.comm"), PYTHONPATH=source,
+            GALLIUMTOAD_BUILT=folder_of_programs(),
         )
         words = [*namespace(), *PRIVATE, path / "run", "pcscd", "--foreground", "--config"]
         self.made = [subprocess.Popen([*words, path / "conf"], stdout=subprocess.DEVNULL,
@@ -185,6 +187,17 @@ def test_a_payment_card_is_read_and_explained(desk):
     for text in ("GET PROCESSING OPTIONS, class 80", "READ RECORD 1 of file 1", '"TEST"',
                  '"TOAD/GALLIUM"', "6A82 file or application not found"):
         assert (text in explained) == (text[0] != "6"), explained
+
+
+def test_a_capture_in_a_reader(desk):
+    """The SIM of a phone is a card at PC/SC, and a strict one ends at a departure."""
+    card = desk.card("--replay", CAPTURES / "sim_tracer.trace", "--strict")
+    words = [it.split() for it in SIM]
+    assert desk.ask(*(it for it, _ in words))[0] == [it.lower() for _, it in words]
+    assert desk.ask("A0B000000A", is_new=False)[0] == []
+    assert card.wait(SECONDS) == 2
+    said = (desk.path / "trace").read_text().splitlines()[-1]
+    assert said.endswith("sim_tracer.trace: line 4 has A0A400003F00, not A0B00000")
 
 
 def test_a_batch_whose_cards_are_pulled(desk):

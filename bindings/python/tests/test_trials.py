@@ -62,11 +62,11 @@ def test_verdicts():
         (VALUE[:-1], VALUE.hex(), True, "wrong"), (VALUE, "", True, "wrong"),
     ]:
         it = Run(trial, 0)
-        it.simulator.apdu(bytes.fromhex("00A4040007A0000000031010"))
+        it.carry_out(bytes.fromhex("00A4040007A0000000031010"))
         pieces = [value[at : at + 255] for at in range(0, len(value), 255)]
         for at, piece in enumerate(pieces, 1):
             cla = 0 if at == len(pieces) else 16
-            it.simulator.apdu(bytes([cla, 0xDA, 0, 0x51, len(piece)]) + piece)
+            it.carry_out(bytes([cla, 0xDA, 0, 0x51, len(piece)]) + piece)
         it.struck += ["struck"] * is_struck
         assert it.verdict(0, output) == verdict
         assert it.verdict(None, output) == "hung" and it.verdict(-11, output) == "crashed"
@@ -91,7 +91,7 @@ def test_what_can_be_tried():
     assert len(trials.possible(parsed)) == 45
     parsed = trials.parser().parse_args(["--", "x", "{tty}"])
     assert len(trials.possible(parsed)) == 60
-    assert {Run(it, 1).simulator.atr[1] for it in trials.possible(parsed)} == {0, 0x80}
+    assert {Run(it, 1).atr[1] for it in trials.possible(parsed)} == {0, 0x80}
 
 
 def test_other_words(capsys):

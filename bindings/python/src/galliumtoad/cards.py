@@ -1,51 +1,66 @@
-"""What card `galliumtoad.simulate` has: data objects of a table, an application in Python, or one
-in a program of any language."""
+"""What card `galliumtoad.simulate` has: data objects of a table, an application in Python, one in a
+program of any language, or the answers of a capture."""
 
 import atexit
 import importlib
+import json
+import os
+import platform
 import re
 import select
 import shlex
+import shutil
 import subprocess
 import sys
 import time
+from dataclasses import dataclass
 from pathlib import Path
-from typing import Optional, Sequence
+from typing import Any, Optional, Sequence
 
 from .card import Card
 from .errors import Error
-from .faults import Mistake
-from .own_card import Application, Command, OwnCard
-from .terminal import Exchange
+from .faults import GET_RESPONSE, Mistake
+from .own_card import Application, Command
 
 LEAST_ATR, PATIENCE = b"\x3B\x00", 10.0  # seconds for a line of a program
-TAKE_DATA = (0xA4, 0xDA)  # the instructions of `Card` that do
-# What a program answers to a header and to a command: the data, if any, and a status of its own.
-WAY, RESPONSE = "(to|from)-card", "(?:((?:[0-9A-F]{2}){1,4096}) )?((?:9[0-9A-F]|6[2-9ABD-F])..)"
+# A status of an application, and what a program answers to a header and to a command: the data, if
+# any, and a status.
+STATUS = "(?:9[0-9A-F]|6[2-9ABD-F])[0-9A-F]{2}"
+WAY, RESPONSE = "(to|from)-card", f"(?:((?:[0-9A-F]{{2}}){{1,4096}}) )?({STATUS})"
 
 
 def read_table(path: str) -> tuple[Card, bytes]:
     """Reads the lines `app`, `object`, `locked` and `atr` of a file. Returns the card and its
     answer to reset. Raises `Mistake`."""
     tables: dict[bytes, dict[int, bytes]] = {}
-    locked, atr, where, aid = [], b"", path, b""
+    locked, atr, where = [], b"", path
     try:
         for line, words in enumerate(Path(path).read_text("utf-8").splitlines(), 1):
             where = f"{path}: line {line}"
-            kind, *rest = words.split() if words.strip() and words[0] != "#" else ["#"]
-            given = [bytes.fromhex("" if it == "-" else it) for it in rest if kind != "#"]
-            if (kind, len(rest)) == ("app", 1) and given[0] not in tables:
-                aid, tables[given[0]] = given[0], {}
-            elif (kind, len(rest)) == ("atr", 1) and not atr:
+            if words.strip()[:1] in ("", "#"):
+                continue
+            kind, *rest = words.split()
+            given = [bytes.fromhex("" if it == "-" else it) for it in rest]
+            if (kind, len(given)) == ("app", 1) and given[0] not in tables:
+                tables[given[0]] = {}
+            elif (kind, len(given)) == ("atr", 1) and not atr:
                 atr = given[0]
-            elif kind in ("object", "locked") and len(rest) == 2 and tables:
-                tables[aid][int.from_bytes(given[0], "big")] = given[1]
-                locked += [(aid, int.from_bytes(given[0], "big"))] if kind == "locked" else []
-            elif kind != "#":
+            elif kind in ("object", "locked") and len(given) == 2 and tables:
+                aid, tag = [*tables][-1], int.from_bytes(given[0], "big")
+                tables[aid][tag] = given[1]
+                locked += [(aid, tag)] if kind == "locked" else []
+            else:
                 raise ValueError("not a line of a table")
         return Card(tables, locked), atr or LEAST_ATR
     except (OSError, ValueError, Error) as why:
         raise Mistake(f"{where}: {why}") from None
+
+
+def status_of(digits: str) -> int:
+    """Reads a status that an application may have. Raises `ValueError`."""
+    if not re.fullmatch(STATUS, digits, re.I):
+        raise ValueError
+    return int(digits, 16)
 
 
 def application(name: str) -> Application:
@@ -63,7 +78,14 @@ def application(name: str) -> Application:
 
 class Program(Application):
     """An application in a program, which gets a line and answers with one. A program that is
-    silent, ends or answers anything else is a `Mistake` with the line."""
+    silent, ends or answers anything else is a `Mistake` with the line.
+
+    >>> from galliumtoad import OwnCard
+    >>> says = "while read a b; do case $a in h*) echo from-card;; c*) echo 4A4F45 9000; esac; done"
+    >>> with OwnCard(Program(f"sh -c '{says}'")) as card:
+    ...     card.apdu(bytes.fromhex("8010000000")).hex()
+    '4a4f459000'
+    """
 
     fault: Optional[Mistake] = None  # the first one
 
@@ -113,22 +135,111 @@ class Program(Application):
             raise self.fault from None
 
 
-class Own(OwnCard):
-    """A card of an application that takes whole commands too: it carries them out by T=0.
+@dataclass
+class Known:
+    """A command of a capture, its header and data in hexadecimal, and the answer."""
 
-    >>> from galliumtoad.cards import Own, Program
-    >>> says = "while read a b; do case $a in h*) echo from-card;; c*) echo 4A4F45 9000; esac; done"
-    >>> with Own(Program(f"sh -c '{says}'")) as card:
-    ...     card.apdu(bytes.fromhex("8010000000")).hex()
-    '4a4f459000'
+    line: int
+    sent: str
+    status: int
+    data: bytes
+
+
+def explained(path: str) -> list[dict[str, Any]]:
+    """The objects of `trace_explain --json --commands` for a capture, or those in a file. Raises
+    `Mistake`."""
+    folders = [os.environ.get("GALLIUMTOAD_BUILT"), os.environ.get("PATH"),
+               f"{Path(__file__).parents[3]}/bin/{platform.machine()}-linux-gnu"]
+    name = shutil.which("trace_explain", path=os.pathsep.join(filter(None, folders)))
+    try:
+        text = Path(path).read_bytes()
+        if not text.startswith(b'{"type":'):
+            done = subprocess.run([name or "trace_explain", "--json", "--commands"], input=text,
+                                  capture_output=True)
+            if done.returncode:
+                raise ValueError(done.stderr.decode("utf-8", "replace").strip())
+            text = done.stdout
+        return [json.loads(it) for it in text.split(b"\n") if it]
+    except (OSError, ValueError) as why:
+        raise Mistake(f"{path}: {why}") from None
+
+
+class Replay(Application):
+    """A card that answers as the one in a capture. The same command gets the same answers, in the
+    order of the capture, and then the last one again. Any other command gets the status `unknown`.
+    A strict card takes nothing but the capture's next command: another one is a `Mistake`.
+
+    - A command is its header and its data. Of its response Le fetches as much as it asks for.
+    - What lies between two resets is a session. A reset of this card begins the next one, and after
+      the last the first, so that each run of a terminal gets the same. Resets before any command
+      are one, since readers reset as often as they like.
+    - The part of a response that the capture did not fetch is zeros, with the status `unknown`.
     """
 
-    def apdu(self, command: bytes) -> bytes:
-        """Returns the data and SW1 SW2. Data that move the other way at the card are 6700."""
-        if len(command) > 4 and (len(command) > 5) != self.application.takes_data(command[:4]):
-            return b"\x67\x00"
-        with Exchange(command) as it:
-            while (answer := it.answer()) is None:
-                self.receive_bytes(it.send_bytes())
-                it.receive_bytes(self.send_bytes())
-            return answer.data + answer.status.to_bytes(2, "big")
+    def __init__(self, path: str, unknown: int = 0x6D00, is_strict: bool = False) -> None:
+        self.path, self.unknown, self.is_strict, self.atr = path, unknown, is_strict, b""
+        found, self.place, self.sent = [list[Known]()], 0, list[str]()
+        for it in explained(path):
+            if it["type"] == "error" or it["type"] != "note" and '"masked"' in json.dumps(it):
+                raise Mistake(f"{path}: line {it['line']}: {it.get('text', 'a masked value')}")
+            if it["type"] in ("reset", "atr"):
+                found.append([])
+                self.atr = self.atr or bytes.fromhex(it.get("bytes", it.get("characters", "")))
+            for tpdu in it["tpdus"] if it["type"] == "command" else []:
+                if tpdu.get("status"):  # without one, the capture ends in it
+                    self.take(tpdu, found[-1])
+        self.sessions = [it for it in found if it]
+        if not self.sessions:
+            raise Mistake(f"{path}: no command with an answer")
+
+    def take(self, it: dict[str, Any], session: list[Known]) -> None:
+        """Takes a TPDU of the capture. The card itself answers 61XX and 6CXX, GET RESPONSE after
+        the one, and the same command after the other."""
+        sent = "".join(it[name] for name in ("cla", "ins", "p1", "p2", "sent"))
+        status, data = int(it["status"], 16), bytes.fromhex(it["received"])
+        waits = session[-1].status >> 8 if session else 0
+        if (waits, it["ins"]) == (0x61, "C0") or (waits == 0x6C and sent == session[-1].sent):
+            session[-1].status, session[-1].data = status, session[-1].data + data
+        else:
+            session.append(Known(it["line"], sent, status, data))
+        if len(session[-1].data) > 4096 - 256:
+            raise Mistake(f"{self.path}: line {it['line']}: a response of more than 3840 bytes")
+
+    def takes_data(self, header: bytes) -> bool:
+        named = header.hex().upper()
+        return any(it.sent[:8] == named and it.sent[8:] for it in self.sessions[self.place])
+
+    def carry_out(self, command: Command) -> tuple[int, bytes]:
+        sent, session = (command.header + command.data).hex().upper(), self.sessions[self.place]
+        due = session[len(self.sent) :][:1]
+        if self.is_strict and [it.sent for it in due] != [sent]:
+            has = f"line {due[0].line} has {due[0].sent}" if due else "the session has ended"
+            raise Mistake(f"{self.path}: {has}, not {sent}")
+        known, count = [it for it in session if it.sent == sent], self.sent.count(sent)
+        self.sent.append(sent)
+        if not known:
+            return self.unknown, b""
+        it = known[min(count, len(known) - 1)]
+        is_cut = it.status >> 8 in (0x61, 0x6C)
+        rest = bytes(it.status & 0xFF or 256) if is_cut else b""
+        return self.unknown if is_cut else it.status, it.data + rest
+
+    def reset(self) -> None:
+        self.place = (self.place + bool(self.sent)) % len(self.sessions)
+        self.sent = []
+
+    def instead(self, command: bytes) -> Optional[bytes]:
+        """The answer in place of the card's own, or None for a command or header that needs none:
+
+        - to a GET RESPONSE that is a command of its own in the capture, as after 9FXX of a SIM
+        - to data after a header that has none there, and to P3 00 after one that has some
+        """
+        header, p3, after = command[:4], command[4:5], command[5:]
+        if header[1:2] == b"\xC0" and not after:
+            is_odd = any(it.sent == header.hex().upper() for it in self.sessions[self.place])
+        else:
+            is_odd = self.takes_data(header) != bool(after) and (p3 == b"\0" or bool(after))
+        if not is_odd:
+            return None
+        status, data = self.carry_out(Command(header, after[: sum(p3)], 0))
+        return data[: sum(p3) or 256 * len(p3)] + status.to_bytes(2, "big")

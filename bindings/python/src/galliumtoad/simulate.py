@@ -13,31 +13,36 @@ import termios
 import threading
 import time
 import tty
-from typing import Callable, Iterator, Optional, Union
+from typing import Callable, Generator, Optional, Union
 
 from ._library import ffi, lib
 from .answers import Atr, Edc, Pps
 from .card import Card
-from .cards import LEAST_ATR, TAKE_DATA, Own, Program, application, read_table
+from .cards import LEAST_ATR, Program, Replay, application, read_table, status_of
 from .errors import AtrError, Code, CommandError, OutOfMemory
-from .faults import ECHO, LINE, OK, T0, T1, Faults, Gone, Mistake, block, is_block
+from .faults import ECHO, LINE, OK, T0, T1, Faults, Gone, Mistake, block, pcb_of
 from .handle import readable
+from .own_card import OwnCard
 from .terminal import Level
 
 VPCD = "localhost:35963"
 POWER_OFF, POWER_ON, RESET, GET_ATR = (bytes([it]) for it in (0, 1, 2, 4))  # vpcd's own messages
 MUTE_FOR, AWAY_FOR = 10.0, 2.0  # seconds until the connection to vpcd closes, and opens again
-PPSS, LOOKS_EVERY, FOREVER = b"\xFF", 0.01, float("inf")
-IFS_REQUEST, RESYNCH_REQUEST, DEFAULT_RATE = 0xC1, 0xC0, 0x11
+PPSS, LOOKS_EVERY, FOREVER, TAKE_DATA = b"\xFF", 0.01, float("inf"), (0xA4, 0xDA)
+RESYNCH, IFS, ABORT, RESPONSE, DEFAULT_RATE = 0xC0, 0xC1, 0xC2, 0x20, 0x11  # requests at T=1
+BAUDS = [9600, 19200, 38400, 57600, 115200]
 SIGNALS = {"cts": termios.TIOCM_CTS, "dsr": termios.TIOCM_DSR, "dcd": termios.TIOCM_CAR}
 TURNED = bytes(int(f"{byte:08b}"[::-1], 2) ^ 0xFF for byte in range(256))  # inverse convention
+# A card's end of a line gets a character, or none if a block stopped, and yields what the card
+# sends then, or None inside of a block.
+End = Generator[Optional[bytes], bytes, bytes]
 
 
-class Simulator:
+class Simulator(contextlib.AbstractContextManager["Simulator"]):
     """A card with an answer to reset and faults. In this process it is a transport for a
     `Terminal`: of whole TPDUs if it is a `Card` and the answer to reset offers T=0 first, and of
     whole commands otherwise. It raises `Gone` if the card is mute or has no power. The end of
-    `with` frees the card. `carried_out` gets each command that the card carries out.
+    `with` frees the card.
 
     >>> from galliumtoad import Card
     >>> from galliumtoad.faults import Faults, read
@@ -48,78 +53,78 @@ class Simulator:
     '6a82'
     """
 
-    def __init__(self, card: Union[Card, Own], atr: bytes = LEAST_ATR,
-                 faults: Optional[Faults] = None, shows: bool = False,
-                 carried_out: Callable[[bytes], object] = lambda command: None) -> None:
+    def __init__(self, card: Union[Card, OwnCard], atr: bytes = LEAST_ATR,
+                 faults: Optional[Faults] = None, shows: bool = False) -> None:
         self.card, self.atr, self.faults = card, atr, faults or Faults()
-        self.shows, self.sign, self.carried_out = shows, "", carried_out
-        self.faults.tell = self.note
-        self.is_over, self.is_seen = threading.Event(), threading.Event()
+        self.shows, self.sign, self.is_over = shows, "", threading.Event()
+        self.own = card.application if isinstance(card, OwnCard) else None
+        self.faults.tell = self.tell
         self.says: Optional[Atr] = None
         with contextlib.suppress(AtrError):  # whole commands reach a card with any answer
             self.says = Atr(atr)
         is_t1 = self.says is not None and self.says.protocols[0] > 0
-        self.level = Level.TPDU if isinstance(card, Card) and not is_t1 else Level.APDU
-
-    def __enter__(self) -> "Simulator":
-        return self
+        self.level = Level.APDU if is_t1 or self.own else Level.TPDU
 
     def __exit__(self, *_: object) -> None:
         self.card.close()
 
     def __call__(self, data: bytes, /) -> bytes:
         self.faults.check([], "a card in this process")
-        card, is_apdu = self.card, self.level is Level.APDU
-        return self.whole(data, self.apdu if is_apdu or isinstance(card, Own) else card.tpdu)
+        self.tell(data.hex().upper(), ">")
+        answer = self.whole(data)
+        self.wait()
+        self.tell(answer.hex().upper(), "<")
+        return answer
 
     def reset(self) -> None:
         """Resets the card, which then has power and is not mute."""
         self.card.reset()
         self.faults.gone = None
-        self.note("reset" if self.shows else None)
+        if self.shows:
+            self.tell("reset")
 
-    def carried(self, sign: str, data: bytes) -> None:
-        """Prints what the terminal (`>`) or the card (`<`) sent, in lines as `trace_explain` reads
-        them, if `shows`. A line has the bytes of one end."""
-        if self.shows and data:
-            if sign != self.sign:
-                self.note(None)
-                print(sign, end=" ")
-            print(data.hex().upper(), end="", flush=True)
-            self.sign = sign
+    def tell(self, text: str, sign: str = "") -> None:
+        """Prints a line; or if the card `shows` them, bytes that the terminal (`>`) or the card
+        (`<`) sent. Bytes of one end are one line, as `trace_explain` reads it."""
+        if sign and not (self.shows and text):
+            return
+        if sign != self.sign:
+            print("\n" * bool(self.sign) + sign, end=" " * bool(sign))
+        print(text, end="" if sign else "\n", flush=True)
+        self.sign = sign
 
-    def note(self, text: Optional[str]) -> None:
-        """Ends a line of bytes, and prints a line of its own."""
-        if self.sign:
-            print()
-        if text is not None:
-            print(text, flush=True)
-        self.sign = ""
-
-    def apdu(self, command: bytes) -> bytes:
-        """Carries out a whole command. A card answers bytes that are no command with a status."""
+    def carry_out(self, data: bytes) -> bytes:
+        """Carries out a whole TPDU or command, whichever the `level` says. A card answers bytes
+        that are no command with a status."""
+        if self.level is Level.TPDU:
+            return self.card.tpdu(data)
         try:
-            return self.card.apdu(command)
+            return self.card.apdu(data)
         except OutOfMemory:
             return b"\x65\x81"
         except CommandError as why:
             return b"\x6D\x00" if why.code is Code.INVALID_INS else b"\x67\x00"
 
-    def whole(self, command: bytes, carry_out: Callable[[bytes], bytes]) -> bytes:
-        """Carries out a whole command or TPDU, with the faults that strike."""
-        self.carried(">", command)
+    def carried_out(self, data: bytes) -> None:
+        """The card has carried out this TPDU or command."""
+
+    def begin(self, header: bytes) -> Optional[bytes]:
+        """A command begins: its header, or all of it. Returns the answer of a card that does not
+        carry it out, or None if it does."""
+        instead = self.own.instead if isinstance(self.own, Replay) else lambda header: None
+        return self.faults.begin(header, self.card.reset) or instead(header)
+
+    def whole(self, data: bytes) -> bytes:
+        """Carries out a whole TPDU or command, with the faults that strike."""
         if self.faults.gone:
             raise self.faults.gone
-        answer = self.faults.begin(command, self.card.reset)
+        answer = self.begin(data)
         if answer is None:
-            answer = carry_out(command)
-            self.carried_out(command)
+            answer = self.carry_out(data)
+            self.carried_out(data)
             if self.faults.strikes("twice"):
-                answer = carry_out(command)
-        answer = self.faults.changed(answer)
-        self.wait()
-        self.carried("<", answer)
-        return answer
+                answer = self.carry_out(data)
+        return self.faults.changed(answer)
 
     def wait(self) -> None:
         """Waits before an answer, if a fault says so."""
@@ -127,219 +132,158 @@ class Simulator:
         self.is_over.wait(pause)
 
 
-class Characters:
-    """A card at T=0 behind a line. `take` takes a character and returns those of the card."""
+def taken(sent: bytes, data: bytes, size: Callable[[bytes], int],
+          inside: Optional[bytes] = b"") -> End:
+    """Sends bytes, and takes characters after these until there are as many as their `size`, or
+    until none comes. Then it has begun: it sends what is for `inside`."""
+    while len(data) < size(data):
+        if not (byte := (yield inside if data else sent)):
+            break
+        data += byte
+    return data
 
-    data = b""  # of a block that has begun
 
-    def __init__(self, simulator: Simulator) -> None:
-        self.of, self.card, self.faults = simulator, simulator.card, simulator.faults
-        self.tpdu, self.size, self.sent = b"", 5, 0
-        self.instead: Optional[bytes] = None
+def at_line(of: Simulator, says: Atr) -> End:
+    """A card's end of a line after its answer to reset. It answers a PPS request, keeps the rate of
+    a reset, and is mute after an invalid request (ISO/IEC 7816-3, 9.1 and 9.3)."""
+    t, data = says.protocols[0], (yield b"")
+    if data == PPSS and not says.specific:
+        request = yield from taken(b"", data, lambda it: 2 if len(it) < 2 else
+                                   3 + bin(it[1] & 0x70).count("1"))
+        rest, t = [*request[2:-1]], request[1] & 15
+        given = [rest.pop(0) if request[1] & bit else None for bit in (0x10, 0x20, 0x40)]
+        if Pps(t, *given).request != request or t not in says.protocols:
+            of.faults.gone = Gone("mute")
+            raise of.faults.gone
+        data = yield Pps(t, DEFAULT_RATE if given[0] == DEFAULT_RATE else None).request
+    return (yield from (at_t1 if t else at_t0)(of, data))
 
-    def take(self, byte: bytes) -> bytes:
-        """Takes a character. Raises `Gone` if the card does not answer."""
-        self.tpdu += byte
-        if len(self.tpdu) < self.size:
-            return b""
-        if self.size == 5:
-            return self.begin(self.tpdu)
-        return self.end(self.instead or self.answer(self.tpdu[5:]))
 
-    def answer(self, characters: bytes) -> bytes:
-        self.card.receive_bytes(characters)
-        return self.card.send_bytes()
+def at_t0(of: Simulator, data: bytes) -> End:
+    """A card's end of a line at T=0, after the first character."""
 
-    def takes_data(self, header: bytes) -> bool:
-        own = self.card.application if isinstance(self.card, Own) else None
-        return own.takes_data(header[:4]) if own else header[1] in TAKE_DATA
+    def answered(characters: bytes) -> bytes:
+        of.card.receive_bytes(characters)
+        return of.card.send_bytes()
 
-    def begin(self, header: bytes) -> bytes:
-        """Answers a header: with a procedure byte if the card takes data, or with all."""
-        self.sent, self.instead = 0, self.faults.begin(header, self.card.reset)
-        if self.instead is None and self.faults.strikes("early status"):
-            answer = self.instead = OK
-        elif self.instead is not None:
-            answer = header[1:2] if header[4] and self.takes_data(header) else self.instead
+    faults, sent = of.faults, b""
+    while True:
+        header = yield from taken(sent, data, lambda it: 5)
+        ins, data, place, instead = header[1:2], b"", 0, of.begin(header)
+        if instead is None and faults.strikes("early status"):
+            answer = instead = OK
+        elif instead is None:
+            answer = answered(header)
         else:
-            answer = self.answer(header)
-        if len(answer) > 1:
-            return self.end(answer)
-        self.size += header[4]
-        return self.carried(answer)
-
-    def end(self, answer: bytes) -> bytes:
-        """Ends a TPDU, with a procedure byte before the data of the card."""
-        tpdu, is_taking = self.tpdu, self.size > 5
-        self.tpdu, self.size = b"", 5
-        if self.instead is None:
-            answer = answer if is_taking or len(answer) == 2 else answer[1:]
-            self.of.carried_out(tpdu)
-            if self.faults.strikes("twice"):
-                self.answer(tpdu[:5])
-                self.answer(tpdu[5:])
-        answer = self.faults.changed(answer)
-        return self.carried(answer if is_taking or len(answer) == 2 else tpdu[1:2] + answer)
-
-    def carried(self, sent: bytes) -> bytes:
-        """The characters as the line carries them."""
-        sent = self.faults.characters(sent, self.tpdu[1:2])
-        place, self.sent = self.sent, self.sent + len(sent)
-        return self.faults.bytes_of(sent, place)
-
-
-def renumbered(data: bytes, i_bit: int, r_bit: int) -> bytes:
-    """A block with other numbers: N(S) of an I-block and N(R) of an R-block change by these bits.
-    A damaged block stays as damaged as it was."""
-    if len(data) < 4:
-        return data
-    change = i_bit << 6 if data[1] < 0x80 else r_bit << 4 if data[1] < 0xC0 else 0
-    return bytes([data[0], data[1] ^ change, *data[2:-1], data[-1] ^ change])
+            is_to_card = of.own.takes_data(header[:4]) if of.own else header[1] in TAKE_DATA
+            answer = ins if header[4] and is_to_card else instead
+        if len(answer) == 1:
+            sent = faults.carried(ins, ins)
+            data, place = (yield from taken(sent, b"", lambda it: header[4])), len(sent)
+            answer = instead or answered(data)
+        elif instead is None and len(answer) > 2:
+            answer = answer[1:]  # without the procedure byte
+        if instead is None:
+            of.carried_out(header + data)
+            if faults.strikes("twice"):
+                answered(header)
+                answered(data)
+        answer = faults.changed(answer)
+        answer = ins + answer if len(answer) > 2 and not data else answer
+        data, sent = b"", faults.carried(answer, ins, place)
 
 
 class Blocks:
-    """A card at T=1 behind a line. `take` takes a character, or none if a block stopped, and
-    returns what the card sends.
+    """The library's end of a line at T=1, in front of a card of its own: it numbers, acknowledges
+    and repeats blocks. The fields of its responses are replaced by `fields`."""
 
-    If faults strike at a command, the whole response is fetched from the card's end, changed, and
-    sent in blocks from here: `own`. `shift` is by how much the numbers of blocks to and from the
-    card's end then differ from those on the line. A card of an application answers like that too:
-    the end is then that of an empty card.
-    """
-
-    def __init__(self, simulator: Simulator) -> None:
-        self.of, self.faults, card = simulator, simulator.faults, simulator.card
-        self.is_own = isinstance(card, Own)
-        self.card = Card({bytes(5): {}}) if self.is_own else card
-        self.taken, self.data, self.asks = ffi.new("size_t *"), b"", b""
-        # `due` and `next` are N(S) of the next block on the line, of each end.
-        self.due, self.next, self.asked, self.ifsd = 0, 0, 0, 32
-        self.fields, self.own, self.shift = list[bytes](), list[bytes](), [0, 0]
-        self.instead: Optional[bytes] = None
+    def __init__(self) -> None:
+        self.card, self.taken = Card({bytes(5): {0x50: bytes(256)}}), ffi.new("size_t *")
+        self.card.apdu(bytes.fromhex("00A40400050000000000"))
         self.card._call("t1_begin")
+        self.last, self.fields = -1, list[bytes]()
 
-    def take(self, byte: bytes) -> bytes:
-        """Takes a character. Raises `Gone` if the card does not answer."""
-        self.data += byte
-        if byte and not (len(self.data) > 3 and len(self.data) == self.data[2] + 4):
-            return b""
-        came, self.data = self.data, b""
-        pcb = came[1] if is_block(came) else -1
-        if self.asks:
-            self.asked += 1
-            self.asks = self.asks if pcb != self.asks[1] | 0x20 and self.asked < 4 else b""
-            return self.asks or self.faults.block(self.own[0])
-        if pcb == IFS_REQUEST:
-            self.ifsd = came[3]
-        elif pcb == RESYNCH_REQUEST:
-            self.due, self.next, self.shift, self.own, self.fields = 0, 0, [0, 0], [], []
-        elif 0 <= pcb < 0x80 and pcb >> 6 == self.due:
-            return self.command(came)
-        elif self.own and 0 <= pcb < 0xC0:
-            if pcb >= 0x80 and pcb >> 4 & 1 == self.next and self.own[1:]:
-                self.next ^= 1
-                self.own.pop(0)
-            return self.own[0]
-        return self.outgoing(self.end_answers(renumbered(came, *self.shift)))
-
-    def end_answers(self, came: bytes) -> bytes:
-        """What the card's end sends for a block, in its own numbers."""
+    def answer(self, came: bytes) -> bytes:
+        """What the end sends for these bytes."""
         if self.card._call("t1_receive_bytes", *readable(came), self.taken) != lib.GT_SENDS:
             self.card._call("t1_missed")
-        return self.card._copied("t1_send_bytes", room=lib.GT_BLOCK_LIMIT)
+        sent = self.card._copied("t1_send_bytes", room=lib.GT_BLOCK_LIMIT)
+        if sent[1] >= 0x80:
+            return sent
+        if sent[1] != self.last:
+            self.last = sent[1]
+            self.fields.pop(0)
+        return block(0, sent[1], self.fields[0])
 
-    def outgoing(self, sent: bytes) -> bytes:
-        sent = renumbered(sent, *reversed(self.shift))
-        self.next = sent[1] >> 6 & 1 ^ 1 if sent[1:] and sent[1] < 0x80 else self.next
-        return sent
+    def respond(self, pcb: int, response: bytes, size: int) -> bytes:
+        """Ends a command with a response in fields of this size, at most 129. In place of the
+        command the end gets one whose response has as many fields, of one or two bytes."""
+        self.fields = [response[at : at + size] for at in range(0, len(response), size)]
+        each = min(size, 2)
+        le = each * min(len(self.fields), 258 // each) - 2
+        self.fields.insert(0, b"")  # of the last response
+        self.answer(block(0, ABORT, b""))
+        self.answer(block(0, IFS, bytes([each])))
+        return self.answer(block(0, pcb, bytes.fromhex("00CA0050") + bytes([le & 0xFF][:le])))
 
-    def reset(self) -> None:
-        self.of.card.reset()
-        self.card.reset()
-        self.card._call("t1_begin")
-        self.shift = [self.due, self.next]
 
-    def command(self, came: bytes) -> bytes:
-        """Takes a block of a command."""
-        field, self.own = came[3:-1], []
-        if not self.fields:
-            self.instead = self.faults.begin(field, self.reset)
-            if self.is_own or self.instead is not None:  # GET RESPONSE changes nothing
-                came = block(0, came[1], field[:1] + b"\xC0" + field[2:])
-        self.due ^= 1
-        self.fields.append(field)
-        sent = self.end_answers(renumbered(came, *self.shift))
-        return self.outgoing(sent) if came[1] & 0x20 else self.response(sent)
+def at_t1(of: Simulator, data: bytes) -> End:
+    """A card's end of a line at T=1, after the first character."""
 
-    def response(self, first: bytes) -> bytes:
-        """Answers the last block of a command."""
-        fields, self.fields, begins = self.fields, [], self.next
-        if self.instead is None:
-            self.of.carried_out(b"".join(fields))
-            if not (self.is_own or self.faults.due):
-                return self.outgoing(first)
-        answer = self.rest(first)
-        if self.instead is None:
-            answer = self.of.apdu(b"".join(fields)) if self.is_own else answer
-            answer = self.again(fields) if self.faults.strikes("twice") else answer
-        answer = self.faults.changed(answer if self.instead is None else self.instead)
-        size = min(self.ifsd, 254)
-        pieces = [answer[at : at + size] for at in range(0, len(answer), size)]
-        self.own = [block(0, (begins + at & 1) << 6 | (at + 1 < len(pieces)) << 5, it)
-                    for at, it in enumerate(pieces)]
-        self.shift[1] ^= len(pieces) & 1
-        self.next, self.asks, self.asked = begins ^ 1, self.faults.request() or b"", 0
-        return self.asks or self.faults.block(self.own[0])
+    def received(sent: bytes, data: bytes = b"") -> End:
+        return (yield from taken(sent, data, lambda it: it[2] + 4 if len(it) > 2 else 4, None))
 
-    def rest(self, sent: bytes) -> bytes:
-        """A whole response of the card's end. This is its first block."""
-        answer = sent[3:-1]
-        self.shift[1] ^= 1
-        while sent[1] & 0x20:
-            sent = self.end_answers(block(0, 0x80 | (~sent[1] & 0x40) >> 2, b""))
-            answer += sent[3:-1]
-            self.shift[1] ^= 1
-        return answer
-
-    def again(self, fields: list[bytes]) -> bytes:
-        """Lets the card carry out a command once more, and returns its response."""
-        if self.is_own:
-            return self.of.apdu(b"".join(fields))
-        sent = b""
-        for at, field in enumerate(fields, 1):
-            number = (self.due ^ self.shift[0]) << 6
-            self.shift[0] ^= 1
-            sent = self.end_answers(block(0, number | (at < len(fields)) << 5, field))
-        return self.rest(sent)
+    of.level, end, faults, sent = Level.APDU, Blocks(), of.faults, b""
+    due, size, command = 0, 32, b""
+    while True:
+        came, data = (yield from received(sent, data)), b""
+        if pcb_of(came) == due << 6 and not end.fields[1:]:  # a command ends
+            response = of.whole(command + came[3:-1])
+            sent, request = end.respond(came[1], response, size), faults.request()
+            for _ in range(4 if request else 0):
+                if pcb_of((yield from received(request))) == request[1] | RESPONSE:
+                    break
+            due, command, sent = 1 - due, b"", faults.carried(sent)
+            continue
+        sent = end.answer(came)
+        if sent[1] == 0x80 | 1 - due << 4:  # an R-block acknowledges a part of it
+            due, command = 1 - due, command + came[3:-1]
+        elif sent[1] == IFS | RESPONSE:
+            size = sent[3]
+        elif sent[1] == ABORT | RESPONSE:
+            command, end.fields = b"", []
+        elif sent[1] == RESYNCH | RESPONSE:
+            end, due, size, command = Blocks(), 0, 32, b""
 
 
 class Line:
     """A card at a line of characters."""
 
-    def __init__(self, simulator: Simulator, fd: int, has_echo: bool = False) -> None:
-        says = simulator.says
+    def __init__(self, of: Simulator, fd: int, has_echo: bool = False, baud: int = 9600,
+                 signal: str = "") -> None:
+        says = of.says
         if says is None or says.protocols[0] > 1 or says.t1.edc != Edc.LRC or (
                 says.specific and says.rate_code != DEFAULT_RATE):
             raise Mistake("a line needs an answer to reset that offers T=0, or T=1 with LRC, first,"
                           " at the rate of a reset")
-        self.of, self.fd, self.has_echo, self.says = simulator, fd, has_echo, says
-        self.is_inverse, self.baud = says.convention == lib.GT_INVERSE, 9600
+        self.of, self.fd, self.has_echo, self.baud, self.says = of, fd, has_echo, baud, says
+        self.is_inverse, self.bit = says.convention == lib.GT_INVERSE, SIGNALS.get(signal, 0)
 
     def is_reset(self) -> bool:
-        """Whether the terminal holds the card in reset."""
-        return False
+        """Whether the terminal holds the card in reset, by a signal of the line if it has one."""
+        bits = fcntl.ioctl(self.fd, termios.TIOCMGET, bytes(4)) if self.bit else b""
+        return bool(int.from_bytes(bits, sys.byteorder) & self.bit)
 
-    def read(self, seconds: float = FOREVER) -> bytes:
+    def read(self, seconds: float) -> bytes:
         """Returns the next character, or none if none came in this time. Raises `OSError` if the
         card is reset, or the line or the program ends."""
         until = time.monotonic() + seconds
         while not (self.of.is_over.is_set() or self.is_reset()):
             if select.select([self.fd], [], [], LOOKS_EVERY)[0]:
-                byte = os.read(self.fd, 1)
-                if not byte:
+                if not (byte := os.read(self.fd, 1)):
                     raise OSError("the line is gone")
                 byte = byte.translate(TURNED) if self.is_inverse else byte
-                self.of.carried(">", byte)
+                self.of.tell(byte.hex().upper(), ">")
                 return byte
             if time.monotonic() > until:
                 return b""
@@ -351,92 +295,56 @@ class Line:
         while data and not self.is_reset():
             data = data[os.write(self.fd, data) :]
 
-    def send(self, data: bytes) -> None:
-        """Sends characters of the card."""
-        self.of.carried("<", data)
-        self.write(data)
-
-    def echo(self, byte: bytes) -> None:
-        if self.has_echo and byte:
-            self.write(self.of.faults.echo(byte))
-
     def talk(self) -> None:
         """Talks from a reset to the next one, which is an `OSError`."""
         self.of.reset()
-        self.send(self.of.atr)
-        protocol, byte = self.agreed(self.read())
-        end: Union[Blocks, Characters] = Blocks(self.of) if protocol else Characters(self.of)
-        silence = 0.2 + self.says.t1.cwt_etu / self.baud
+        faults, end = self.of.faults, at_line(self.of, self.says)
+        out: Optional[bytes] = self.of.atr
+        next(end)
         while True:
+            self.of.tell((out or b"").hex().upper(), "<")
+            self.write(out or b"")
+            byte = self.read(FOREVER if out is not None else 0.2 + self.says.t1.cwt_etu / self.baud)
             out = b""
             with contextlib.suppress(Gone):
-                out = b"" if self.of.faults.gone else end.take(byte)
-            self.echo(byte)
+                out = out if faults.gone else end.send(byte)
+            if self.has_echo and byte:
+                self.write(faults.echo(byte))
             self.of.wait()
-            self.send(out)
-            byte = self.read(silence if end.data else FOREVER)
-
-    def agreed(self, byte: bytes) -> tuple[int, bytes]:
-        """Answers a PPS request if this byte begins one. Returns the protocol, and the first byte
-        of what follows. This card keeps the rate of a reset, and does not answer an invalid request
-        (ISO/IEC 7816-3, 9.1 and 9.3)."""
-        if byte != PPSS or self.says.specific:
-            return self.says.protocols[0], byte
-        request = b""
-        while len(request) < 2 or len(request) < 3 + bin(request[1] & 0x70).count("1"):
-            request += byte or self.read()
-            self.echo(request[-1:])
-            byte = b""
-        rest, protocol = [*request[2:-1]], request[1] & 15
-        given = [rest.pop(0) if request[1] & bit else None for bit in (0x10, 0x20, 0x40)]
-        if Pps(protocol, *given).request != request or protocol not in self.says.protocols:
-            self.of.faults.gone = Gone("mute")
-        else:
-            self.send(Pps(protocol, DEFAULT_RATE if given[0] == DEFAULT_RATE else None).request)
-        return protocol, self.read()
 
 
-class Tty(Line):
-    """A card at a tty. `signal` names the line that holds it in reset while it is on; if that is
-    empty, the card was reset just now, once."""
-
-    def __init__(self, simulator: Simulator, path: str, baud: int, signal: str) -> None:
-        super().__init__(simulator, os.open(path, os.O_RDWR | os.O_NOCTTY | os.O_NONBLOCK))
-        self.baud, self.bit = baud, SIGNALS.get(signal, 0)
-        os.set_blocking(self.fd, True)
-        fcntl.flock(self.fd, fcntl.LOCK_EX | fcntl.LOCK_NB)
-        tty.setraw(self.fd)
-        state = termios.tcgetattr(self.fd)
-        state[2] |= termios.PARENB | termios.CSTOPB | (termios.PARODD if self.is_inverse else 0)
-        state[4] = state[5] = getattr(termios, f"B{baud}")
-        termios.tcsetattr(self.fd, termios.TCSANOW, state)
-
-    def is_reset(self) -> bool:
-        bits = fcntl.ioctl(self.fd, termios.TIOCMGET, bytes(4)) if self.bit else bytes(4)
-        return bool(int.from_bytes(bits, sys.byteorder) & self.bit)
-
-    def serve(self) -> None:
-        """Serves a terminal until the program or the line ends."""
-        while not self.of.is_over.is_set():
-            for is_held in (True, False):
-                while self.bit and self.is_reset() != is_held:
-                    time.sleep(LOOKS_EVERY / 10)
-            with contextlib.suppress(*[OSError] if self.bit else []):
-                self.talk()
+def serve_tty(of: Simulator, path: str, baud: int, signal: str) -> None:
+    """Serves a tty until the program or the line ends. `signal` names the line that holds the card
+    in reset while it is on; if that is empty, the card was reset just now, once."""
+    fd = os.open(path, os.O_RDWR | os.O_NOCTTY | os.O_NONBLOCK)
+    line = Line(of, fd, baud=baud, signal=signal)
+    os.set_blocking(fd, True)
+    fcntl.flock(fd, fcntl.LOCK_EX | fcntl.LOCK_NB)
+    tty.setraw(fd)
+    state = termios.tcgetattr(fd)
+    state[2] |= termios.PARENB | termios.CSTOPB | (termios.PARODD if line.is_inverse else 0)
+    state[4] = state[5] = getattr(termios, f"B{baud}")
+    termios.tcsetattr(fd, termios.TCSANOW, state)
+    while not of.is_over.is_set():
+        for is_held in (True, False):
+            while signal and line.is_reset() != is_held:
+                time.sleep(LOOKS_EVERY / 10)
+        with contextlib.suppress(*[OSError] if signal else []):
+            line.talk()
 
 
-def serve_pty(simulator: Simulator, has_echo: bool, tell: Callable[[str], object]) -> None:
+def serve_pty(of: Simulator, has_echo: bool, tell: Callable[[str], object]) -> None:
     """Makes a pseudo terminal, and serves it until `is_over` is set. `tell` gets its name. Each
     opening resets the card."""
     ours, theirs = pty.openpty()
-    name, closed, line = os.ttyname(theirs), select.poll(), Line(simulator, ours, has_echo)
+    name, closed, line = os.ttyname(theirs), select.poll(), Line(of, ours, has_echo)
     closed.register(ours, 0)
     tell(name)
-    while not simulator.is_over.is_set():
+    while not of.is_over.is_set():
         tty.setraw(theirs)
         termios.tcflush(theirs, termios.TCIOFLUSH)
         os.close(theirs)
-        while closed.poll(0) and not simulator.is_over.is_set():
+        while closed.poll(0) and not of.is_over.is_set():
             time.sleep(LOOKS_EVERY)
         with contextlib.suppress(OSError):
             line.talk()
@@ -453,59 +361,67 @@ def connected(address: str) -> socket.socket:
     return line
 
 
-def talk_vpcd(simulator: Simulator, line: socket.socket) -> None:
-    """Answers vpcd until the connection ends. A mute card keeps it open for ten seconds. The card
-    is seen when pcscd, which has given it power and read its answer, looks for it again."""
-    messages, looks = line.makefile("rb"), -1
+def talk_vpcd(of: Simulator, line: socket.socket,
+              tell: Callable[[str], object] = lambda name: None) -> None:
+    """Answers vpcd until the connection ends. A mute card keeps it open for ten seconds. `tell`
+    gets a call when pcscd, which has given the card power and read its answer, looks for it
+    again."""
+    of.level, messages, looks = Level.APDU, line.makefile("rb"), -1
     with contextlib.suppress(OSError):
         while len(size := messages.read(2)) == 2:
             # vpcd sends the rest once the length is acknowledged, else 40 ms later.
             line.setsockopt(socket.IPPROTO_TCP, socket.TCP_QUICKACK, 1)
             data = messages.read(int.from_bytes(size, "big"))
             if data in (POWER_OFF, POWER_ON, RESET):
-                simulator.reset()
+                of.reset()
                 looks = 2
                 continue
             looks -= data == GET_ATR
             if looks == 0:
-                simulator.is_seen.set()
+                tell("")
             try:
-                answer = simulator.atr if data == GET_ATR else simulator.whole(data, simulator.apdu)
+                answer = of.atr if data == GET_ATR else of(data)
             except Gone as gone:
-                simulator.is_over.wait(MUTE_FOR if gone.has_power else 0)
+                of.is_over.wait(MUTE_FOR if str(gone) == "mute" else 0)
                 break
             line.sendall(len(answer).to_bytes(2, "big") + answer)
         line.shutdown(socket.SHUT_RDWR)
 
 
-def serve_vpcd(simulator: Simulator, address: str) -> None:
+def serve_vpcd(of: Simulator, address: str) -> None:
     """Puts the card into vpcd's reader, again whenever the connection ends."""
-    while not simulator.is_over.is_set():
+    while not of.is_over.is_set():
         with contextlib.suppress(OSError), connected(address) as line:
-            talk_vpcd(simulator, line)
-        simulator.reset()
-        simulator.is_over.wait(AWAY_FOR)
+            talk_vpcd(of, line)
+        of.reset()
+        of.is_over.wait(AWAY_FOR)
 
 
 def parser() -> argparse.ArgumentParser:
     it = argparse.ArgumentParser("galliumtoad.simulate", description="A card with faults.")
     what = it.add_mutually_exclusive_group(required=True).add_argument
-    what("--table", metavar="FILE", help="a card of data objects")
-    what("--application", metavar="MODULE:CLASS", help="a card of one's own")
-    what("--program", metavar="COMMAND", help="the same in any language")
-    where = it.add_mutually_exclusive_group(required=True)
-    where.add_argument("--vpcd", nargs="?", const=VPCD, metavar="HOST:PORT",
-                       help=f"vsmartcard's reader; {VPCD} if nothing else is given")
-    where.add_argument("--pty", action="store_true", help="makes a pseudo terminal")
-    where.add_argument("--tty", metavar="PATH", help="a serial line")
-    it.add_argument("--atr", type=bytes.fromhex, metavar="HEX", help="the answer to reset")
-    it.add_argument("--faults", metavar="FILE", help="lines WHEN, WHAT")
-    it.add_argument("--seed", type=int, default=0, help="for faults with p")
-    it.add_argument("-v", action="store_true", help="prints the dialogue for trace_explain")
-    it.add_argument("--no-echo", action="store_true", help="the pseudo terminal has no echo")
-    it.add_argument("--baud", type=int, default=9600, help="the tty's rate; 9600",
-                    choices=[9600, 19200, 38400, 57600, 115200])
-    it.add_argument("--reset", choices=SIGNALS, default="", help="the tty's line of the reset")
+    where = it.add_mutually_exclusive_group(required=True).add_argument
+    option = it.add_argument
+    what("--table", metavar="FILE", type=read_table, help="a card of data objects")
+    what("--application", metavar="MODULE:CLASS", dest="own", type=application,
+         help="a card of one's own")
+    what("--program", metavar="COMMAND", dest="own", type=Program, help="one in any language")
+    what("--replay", metavar="FILE", help="one that answers as in a capture that trace_explain "
+         "reads, or in what it wrote with --json --commands")
+    where("--vpcd", nargs="?", const=VPCD, metavar="HOST:PORT",
+          help=f"vsmartcard's reader; {VPCD} if nothing else is given")
+    where("--pty", action="store_true", help="makes a pseudo terminal")
+    where("--tty", metavar="PATH", help="a serial line")
+    option("--atr", type=bytes.fromhex, metavar="HEX", help="the answer to reset")
+    option("--faults", metavar="FILE", help="lines WHEN, WHAT")
+    option("--seed", type=int, default=0, help="for faults with p")
+    option("-v", action="store_true", help="prints the dialogue for trace_explain")
+    option("--no-echo", action="store_true", help="the pseudo terminal has no echo")
+    option("--baud", type=int, default=9600, choices=BAUDS, help="the tty's rate; 9600")
+    option("--reset", choices=SIGNALS, default="", help="the tty's line of the reset")
+    option("--unknown", metavar="SW", type=status_of, default="6D00",
+           help="the status of a command that the capture lacks; 6D00")
+    option("--strict", action="store_true", help="ends at a command that is not the capture's next")
     return it
 
 
@@ -513,28 +429,24 @@ def serve(simulator: Simulator, given: argparse.Namespace) -> None:
     """Puts the card where the words say, until the program ends. Raises `Mistake` or `OSError`."""
     offered = simulator.says.protocols if simulator.says else ()
     places = [LINE, *(it for it, t in ((T0, 0), (T1, 1)) if t in offered)]
+    places += [ECHO] if given.pty and not given.no_echo else []
+    simulator.faults.check([] if given.vpcd else places, "vpcd" if given.vpcd else "this line")
     if given.vpcd:
-        simulator.faults.check([], "vpcd")
         serve_vpcd(simulator, given.vpcd)
-        return
-    simulator.faults.check([*places, *([ECHO] if given.pty and not given.no_echo else [])],
-                           "this line")
-    if given.pty:
+    elif given.pty:
         serve_pty(simulator, not given.no_echo, lambda name: print(name, flush=True))
     else:
-        Tty(simulator, given.tty, given.baud, given.reset).serve()
+        serve_tty(simulator, given.tty, given.baud, given.reset)
 
 
 def main(words: Optional[list[str]] = None) -> int:
     """Runs the program. Returns the exit status."""
-    given = parser().parse_args(words)
     try:
-        card: Union[Card, Own]
-        if given.table:
-            card, atr = read_table(given.table)
-        else:
-            own = given.application and application(given.application)
-            card, atr = Own(own or Program(given.program)), LEAST_ATR
+        given = parser().parse_args(words)
+        own = given.own
+        if given.replay:
+            own = Replay(given.replay, given.unknown, given.strict)
+        card, atr = given.table or (OwnCard(own), getattr(own, "atr", b"") or LEAST_ATR)
         faults = Faults.of_file(given.faults, given.seed) if given.faults else None
         with Simulator(card, given.atr or atr, faults, given.v) as simulator:
             serve(simulator, given)

@@ -16,50 +16,48 @@ import time
 from collections import Counter
 from dataclasses import asdict, dataclass
 from pathlib import Path
-from queue import SimpleQueue
-from typing import Callable, Iterator, Optional
+from queue import Empty, SimpleQueue
+from typing import Iterator, Optional
 
 from .card import Card
-from .faults import ANYWHERE, KINDS, T1, Fault, Faults, Mistake, read
+from .faults import ANYWHERE, KINDS, T1, Faults, Mistake, read
 from .simulate import VPCD, Simulator, connected, serve_pty, talk_vpcd
 
 AID, TAG = bytes.fromhex("A0000000031010"), 0x51
 VALUE = bytes(it % 251 for it in range(600))  # so that no two pieces of it are equal
 SELECT, PUT = b"\x00\xA4\x04\x00", 0xDA
 ATRS = [bytes.fromhex("3B00"), bytes.fromhex("3B800181")]  # T=0, T=1
-AWAIT_READER = 60.0  # seconds until a reader should have seen a card
+AWAIT_READER, GONE_AFTER = 60.0, 1.0  # seconds until a reader should have seen a card come, and go
 BAD = ("wrong", "twice", "hung", "crashed")
 VERDICTS = ("right", "told", "unmet", *BAD)
+STAR = "* no terminal can see this fault, so it does not count"
 USAGE = """TERMINAL selects {aid}, puts {value} under {tag} in commands of up to 255 bytes, gets
 {tag}, and prints that value in hexadecimal. It has {reader}, for a reader of PC/SC, or {tty}, for a
 serial line. Its exit status is 0 if all of that succeeded."""
 
 
-@dataclass(frozen=True)
+@dataclass
 class Trial:
     """A fault of the list: `faults` are its lines, `says` the clause and what a good terminal
-    does. If `is_unseen`, no terminal can see it, and no verdict counts."""
+    does. If `is_unseen`, no terminal can see it, and no verdict counts. The rest is what a terminal
+    made of it. It is `unmet` if the fault did not strike."""
 
     name: str
     faults: str
     says: str
     is_unseen: bool
+    verdict: str = "unmet"
+    status: Optional[int] = None
+    seconds: float = 0.0
+    said: str = ""
 
-    def read(self) -> list[Fault]:
-        return read(self.faults.replace("; ", "\n"), self.name)
+    def read(self, since: bytes = b"") -> Faults:
+        return Faults(read(self.faults.replace("; ", "\n"), self.name), self.name, since=since)
 
-
-@dataclass(frozen=True)
-class Result:
-    """What a terminal made of a trial. It is `unmet` if the fault did not strike."""
-
-    name: str
-    faults: str
-    verdict: str
-    is_unseen: bool
-    status: Optional[int]
-    seconds: float
-    said: str
+    @property
+    def places(self) -> set[str]:
+        """Where its faults can happen."""
+        return {KINDS[it.kind] for it in self.read().all}
 
 
 def trials() -> list[Trial]:
@@ -68,78 +66,64 @@ def trials() -> list[Trial]:
     >>> len(trials()), trials()[2].name, trials()[2].faults
     (60, 'select without answer', 'command 1, mute')
     """
-    text = Path(__file__).with_name("trials.txt").read_text("utf-8")
-    blocks = [it for it in text.split("\n\n") if not it.startswith("#")]
     found = []
-    for lines in (it.strip().splitlines() for it in blocks):
-        name, is_unseen = lines[0].removesuffix(", unseen"), lines[0].endswith(", unseen")
-        found.append(Trial(name, lines[1], " ".join(lines[2:]), is_unseen))
+    for block in Path(__file__).with_name("trials.txt").read_text("utf-8").split("\n\n")[1:]:
+        name, faults, *says = block.strip().splitlines()
+        is_unseen = name.endswith(", unseen")
+        found.append(Trial(name.removesuffix(", unseen"), faults, " ".join(says), is_unseen))
     return found
 
 
-class Run:
-    """One trial: a card, and what it has carried out."""
+class Run(Simulator):
+    """The card of one trial, and the puts that it has carried out."""
 
     def __init__(self, trial: Trial, protocol: int) -> None:
-        self.log: Counter[bytes] = Counter()
-        self.struck: list[str] = []
-        faults = Faults(trial.read(), trial.name, since=SELECT + bytes([len(AID)]) + AID)
-        kinds = [KINDS[it.kind][1] for it in faults.all]
-        is_line = any(it != ANYWHERE for it in kinds)
-        atr = ATRS[T1 in kinds if is_line else protocol]
-        self.card = Card({AID: {}})
-        self.simulator = Simulator(self.card, atr, faults, carried_out=self.carried_out)
+        places = trial.places
+        t = T1 in places if places != {ANYWHERE} else protocol
+        faults = trial.read(SELECT + bytes([len(AID)]) + AID)
+        super().__init__(Card({AID: {}}), ATRS[t], faults)
+        self.puts, self.struck = Counter[bytes](), list[str]()
         faults.tell = self.struck.append
 
     def carried_out(self, command: bytes) -> None:
-        self.log[command] += command[1] == PUT
+        self.puts[command] += command[1] == PUT
 
     def verdict(self, status: Optional[int], output: str) -> str:
         """Compares what the terminal said with what the card holds."""
+        assert isinstance(self.card, Card)
         held = {it.tag: it.value for it in self.card.entries(AID)}
+        printed = VALUE.hex().upper() in re.sub(r"[^0-9A-F]", "", output.upper())
         if status is None:
             return "hung"
         if status < 0 or status > 128:
             return "crashed"
-        printed = VALUE.hex().upper() in re.sub(r"[^0-9A-F]", "", output.upper())
         if status == 0 and not (held.get(TAG) == VALUE and printed):
             return "wrong"
-        if max(self.log.values(), default=0) > 1:
+        if max(self.puts.values(), default=0) > 1:
             return "twice"
-        if not self.struck:
-            return "unmet"
-        return "told" if status else "right"
+        return "told" if status and self.struck else "right" if self.struck else "unmet"
 
 
 @contextlib.contextmanager
-def at_vpcd(simulator: Simulator, address: str) -> Iterator[str]:
-    """Puts a card into vpcd's reader, and waits until pcscd has seen it. Raises `OSError`."""
-    with contextlib.closing(connected(address)) as line:
-        thread = threading.Thread(target=talk_vpcd, args=(simulator, line), daemon=True)
-        thread.start()
-        try:
-            if not simulator.is_seen.wait(AWAIT_READER):
-                raise OSError(f"the reader at {address} does not see the card")
-            yield ""
-        finally:
-            simulator.is_over.set()
-            with contextlib.suppress(OSError):
-                line.shutdown(2)
-            thread.join()
-            time.sleep(1)  # pcscd sees that the card is gone
-
-
-@contextlib.contextmanager
-def at_pty(simulator: Simulator) -> Iterator[str]:
-    """Puts a card behind a pseudo terminal. Gives its name."""
-    names: SimpleQueue[str] = SimpleQueue()
-    thread = threading.Thread(target=serve_pty, args=(simulator, True, names.put), daemon=True)
+def placed(run: Run, vpcd: str) -> Iterator[str]:
+    """Puts a card into vpcd's reader, and waits until pcscd has seen it; or without an address
+    behind a pseudo terminal, whose name it gives. Raises `OSError`."""
+    ready, line = SimpleQueue[str](), connected(vpcd) if vpcd else None
+    thread = threading.Thread(daemon=True, target=lambda: (
+        talk_vpcd(run, line, ready.put) if line else serve_pty(run, True, ready.put)))
     thread.start()
     try:
-        yield names.get()
+        yield ready.get(timeout=AWAIT_READER)
+    except Empty:
+        raise OSError(f"the reader at {vpcd} does not see the card") from None
     finally:
-        simulator.is_over.set()
+        run.is_over.set()
+        if line:
+            with contextlib.suppress(OSError):
+                line.shutdown(2)
+            line.close()
         thread.join()
+        time.sleep(GONE_AFTER if vpcd else 0)
 
 
 def carried(words: list[str], limit: float) -> tuple[Optional[int], str]:
@@ -157,46 +141,36 @@ def carried(words: list[str], limit: float) -> tuple[Optional[int], str]:
     return status, output.decode("utf-8", "replace")
 
 
-def tried(trial: Trial, given: argparse.Namespace) -> Result:
+def tried(trial: Trial, given: argparse.Namespace) -> None:
     """Lets a terminal do the job with this fault."""
-    run = Run(trial, given.protocol)
-    is_line = any("{tty}" in it for it in given.terminal)
-    place = at_pty(run.simulator) if is_line else at_vpcd(run.simulator, given.vpcd)
-    begun = time.monotonic()
-    with place as tty:
-        told = {"tty": tty, "reader": given.reader, "aid": AID.hex().upper(), "tag": f"{TAG:02X}",
-                "value": VALUE.hex().upper()}
+    run, begun = Run(trial, given.protocol), time.monotonic()
+    told = {"reader": given.reader, "aid": AID.hex().upper(), "tag": f"{TAG:02X}",
+            "value": VALUE.hex().upper()}
+    with placed(run, "" if given.is_line else given.vpcd) as told["tty"]:
         words = [re.sub(r"\{(\w+)\}", lambda it: told.get(str(it[1]), str(it[0])), word)
                  for word in given.terminal]
-        status, output = carried(words, given.limit)
-        seconds = round(time.monotonic() - begun, 1)
+        trial.status, output = carried(words, given.limit)
+        trial.seconds = round(time.monotonic() - begun, 1)
     lines = [it for it in output.splitlines() if VALUE.hex().upper() not in it] or [""]
-    return Result(trial.name, trial.faults, run.verdict(status, output), trial.is_unseen, status,
-                  seconds, lines[-1][:200])
+    trial.verdict, trial.said = run.verdict(trial.status, output), lines[-1][:200]
 
 
-def as_text(results: list[Result]) -> str:
+def as_text(results: list[Trial]) -> str:
     """The results as a table of text."""
-    width = max(len(it.name) for it in results)
+    width, counts = max(len(it.name) for it in results), Counter[str]()
     lines = [f"{it.name:{width}}  {it.verdict:7}{'*' if it.is_unseen else ' '} {it.said}".rstrip()
              for it in results]
-    counts = Counter(it.verdict for it in results if not it.is_unseen)
+    counts.update(it.verdict for it in results if not it.is_unseen)
     lines.append(", ".join(f"{counts[it]} {it}" for it in VERDICTS if counts[it]))
-    if any(it.is_unseen for it in results):
-        lines.append("* no terminal can see this fault, so it does not count")
-    return "\n".join(lines)
+    return "\n".join(lines + [STAR] * any(it.is_unseen for it in results))
 
 
-def as_html(results: list[Result]) -> str:
+def as_html(results: list[Trial]) -> str:
     """The results as a page."""
-    says = {it.name: it.says for it in trials()}
-    rows = "".join(
-        f"<tr><td>{html.escape(it.name)}<td>{html.escape(it.faults)}<td>{it.verdict}"
-        f"{'*' if it.is_unseen else ''}<td>{html.escape(it.said)}<td>{html.escape(says[it.name])}"
-        for it in results)
+    rows = "".join("<tr>" + "".join(f"<td>{html.escape(text)}" for text in (
+        it.name, it.faults, it.verdict + "*" * it.is_unseen, it.said, it.says)) for it in results)
     return ("<!DOCTYPE html><meta charset=utf-8><title>Trials</title><table><tr><th>Trial<th>Fault"
-            f"<th>Verdict<th>Last line<th>What a good terminal does{rows}</table>"
-            "<p>* no terminal can see this fault, so it does not count\n")
+            f"<th>Verdict<th>Last line<th>What a good terminal does{rows}</table><p>{STAR}\n")
 
 
 def parser() -> argparse.ArgumentParser:
@@ -215,12 +189,12 @@ def parser() -> argparse.ArgumentParser:
 
 
 def possible(given: argparse.Namespace) -> list[Trial]:
-    """The trials that can happen where the terminal is."""
-    is_line = any("{tty}" in it for it in given.terminal)
-    if not is_line and not any("{reader}" in it for it in given.terminal):
+    """The trials that can happen where the terminal is. Raises `Mistake`."""
+    given.is_line = any("{tty}" in it for it in given.terminal)
+    if not given.is_line and not any("{reader}" in it for it in given.terminal):
         raise Mistake("the command line of the terminal has neither {reader} nor {tty}")
     return [it for it in trials() if given.only in it.name and (
-        is_line or all(KINDS[each.kind][1] == ANYWHERE for each in it.read()))]
+        given.is_line or it.places == {ANYWHERE})]
 
 
 def main(words: Optional[list[str]] = None) -> int:
@@ -230,7 +204,9 @@ def main(words: Optional[list[str]] = None) -> int:
         print("\n\n".join(f"{it.name}: {it.faults}\n{it.says}" for it in trials()))
         return 0
     try:
-        results = [tried(it, given) for it in possible(given)]
+        results = possible(given)
+        for it in results:
+            tried(it, given)
         print(as_text(results))
         if given.json:
             Path(given.json).write_text(json.dumps([asdict(it) for it in results], indent=1) + "\n")

@@ -1,0 +1,327 @@
+"""Tests cards that answer as those in a capture, by lines in the form of `trace_explain --json
+--commands` and by that program."""
+
+import json
+import os
+import platform
+import select
+import subprocess
+import sys
+from pathlib import Path
+
+import pytest
+from galliumtoad import T1, OwnCard, cards, simulate
+from galliumtoad.cards import Replay
+from galliumtoad.faults import Mistake
+from galliumtoad.simulate import Simulator, at_t0, at_t1, main
+from test_faults import End
+from test_simulate import Vpcd
+
+TESTS = Path(__file__).resolve().parent
+CAPTURES = TESTS.parents[2] / "checks" / "explain" / "cases" / "captures"
+PROGRAMS = str(TESTS.parents[1] / "bin" / f"{platform.machine()}-linux-gnu")
+
+
+def folder_of_programs():
+    """A program that was just built comes before that of the repository."""
+    built = os.environ.get("GALLIUMTOAD_BUILT", "")
+    return built if os.path.exists(f"{built}/trace_explain") else PROGRAMS
+
+
+@pytest.fixture(autouse=True)
+def programs(monkeypatch):
+    monkeypatch.setenv("GALLIUMTOAD_BUILT", folder_of_programs())
+
+
+def tpdu(line, header, sent, received, status, **more):
+    names = dict(zip(("cla", "ins", "p1", "p2", "p3"), bytes.fromhex(header).hex(" ").split()))
+    names = {name: digits.upper() for name, digits in names.items()}
+    return {"type": "tpdu", "line": line, **names, "sent": sent, "received": received,
+            "status": status, **more}
+
+
+def command(*tpdus):
+    """A command of these TPDUs, whose parts are joined."""
+    first, last = tpdus[0], tpdus[-1]
+    joined = {name: "".join(it[name] or "" for it in tpdus) for name in ("sent", "received")}
+    return {"type": "command", "line": first["line"], **joined, "status": last["status"],
+            "tpdus": list(tpdus)}
+
+
+def one(line, header, sent="", received="", status="9000", **more):
+    return command(tpdu(line, header, sent, received, status, **more))
+
+
+RESET = {"type": "reset", "line": 1}
+ATR = {"type": "atr", "line": 1, "bytes": "3B021450"}
+SUMMARY = {"type": "summary", "tpdus": 3}
+
+
+@pytest.fixture
+def replay(tmp_path):
+    """Makes a card of these objects."""
+    def made(*objects, **more):
+        lines = [json.dumps(it, separators=(",", ":")) for it in objects]
+        (tmp_path / "capture").write_text("\n".join([*lines, ""]))
+        return Replay(str(tmp_path / "capture"), **more)
+
+    return made
+
+
+def asked(card, *commands):
+    """The answers to whole commands."""
+    with Simulator(OwnCard(card)) as it:
+        return [it(bytes.fromhex(each)).hex().upper() for each in commands]
+
+
+COUNTER = [one(2, "80100000", "", "01"), one(4, "80100000", "", "02", "6283")]
+SELECT = command(tpdu(6, "00A4040005", "A000000003", "", "6104"),
+                 tpdu(8, "00C0000002", "", "6F02", "6102"),
+                 tpdu(9, "00C0000002", "", "8400", "9000"))
+ASKED_AGAIN = command(tpdu(10, "00CA005000", "", "", "6C03"),
+                      tpdu(12, "00CA005003", "", "50014A", "9000", asked_again=True))
+CHAIN = command(tpdu(14, "10DA005001", "AA", "", "9000"), tpdu(16, "00DA005001", "BB", "", "6A84"))
+
+
+def test_answers_in_the_order_of_the_capture(replay):
+    """The last one comes again; an unknown command gets 6D00, or another status."""
+    card = replay(RESET, ATR, *COUNTER, SUMMARY)
+    assert card.atr.hex() == "3b021450"
+    asks = ["8010000001"] * 3 + ["8010000101", "80100000"]
+    assert asked(card, *asks) == ["019000", "026283", "026283", "6D00", "6101"]
+    assert asked(replay(*COUNTER, unknown=0x6A82), "80CA000000") == ["6A82"]
+
+
+def test_the_first_answer_to_reset_counts(replay):
+    other = {"type": "atr", "line": 5, "characters": "3B00"}
+    assert replay(ATR, *COUNTER, other, *COUNTER).atr.hex() == "3b021450"
+    assert replay(other, *COUNTER, ATR).atr.hex() == "3b00" and replay(*COUNTER).atr == b""
+
+
+def test_parts_are_joined_and_pieces_are_not(replay):
+    card = replay(SELECT, ASKED_AGAIN, CHAIN)
+    assert asked(card, "00A4040005A000000003", "00C0000004", "00CA005003", "10DA005001AA",
+                 "00DA005001BB", "00DA005001CC", "00A4040005A00000000300", "00CA005000") == [
+        "6104", "6F0284009000", "50014A9000", "9000", "6A84", "6D00", "6F0284009000", "50014A9000"]
+
+
+def test_another_le_is_the_same_command(replay):
+    """Le fetches as much as it asks for, and GET RESPONSE the rest."""
+    card = replay(one(1, "00B0000004", "", "01020304"))
+    assert asked(card, "00B0000004", "00B0000000", "00B0000002", "00C0000002", "00B00000",
+                 "00C0000000") == [
+        "010203049000", "010203049000", "01026102", "03049000", "6104", "010203049000"]
+
+
+def test_data_and_no_data(replay):
+    """Also where the capture has the other, which a card of one's own refuses as 6700."""
+    verify = one(2, "0020008002", "3132", "", "9000"), one(3, "00200080", "", "", "63C3")
+    card = replay(*COUNTER, *verify)
+    assert asked(card, "801000000101", "80D600000101", "00200080", "0020008000", "00200080023132",
+                 "00200080023133", "00200080023132", "002000800231") == [
+        "6D00", "6D00", "63C3", "63C3", "9000", "6D00", "9000", "6700"]
+    line = End(Simulator(OwnCard(replay(*verify))), at_t0)
+    said = [b"".join(line.take(bytes([each])) for each in bytes.fromhex(it))
+            for it in ("0020008000", "00200080023132", "80D6000002")]
+    assert [it.hex() for it in said] == ["63c3", "209000", "6d00"]
+
+
+@pytest.mark.parametrize("status", ["6104", "6C04"])
+def test_a_response_that_was_not_fetched(replay, status):
+    """It is zeros, and its status is that of an unknown command."""
+    card = replay(one(1, "00A4040005", "A000000003", "", status), unknown=0x6F00)
+    answers = asked(card, "00A4040005A000000003", "00C0000004", "00A4040005A00000000300")
+    assert answers == ["6104", "000000006F00", "000000006F00"]
+    card = replay(one(1, "00B0000000", "", "AA" * 256, "6100"))
+    assert asked(card, "00B0000000", "00C0000000") == ["AA" * 256 + "6100", "00" * 256 + "6D00"]
+
+
+def test_a_get_response_of_its_own(replay):
+    """As after 9FXX, where 61XX would announce what waits."""
+    card = replay(command(tpdu(1, "A0A4000002", "3F00", "", "9F03"),
+                          tpdu(2, "A0C0000003", "", "AABBCC", "9000")),
+                  one(3, "A0A4000002", "7F20", "", "9F01"), one(4, "A0C0000001", "", "DD"))
+    asks = ["A0A40000023F00", "A0C0000003", "A0A40000027F20", "A0C0000001", "00C0000001",
+            "A0C0000000", "A0C00000"]
+    first, *rest = asked(card, *asks)
+    assert first == "9F03" and rest[0] == "AABBCC9000" and rest[1:3] == ["9F01", "DD9000"]
+    assert rest[3] == "6985" and rest[4:] == ["DD9000", "9000"]
+
+
+SESSIONS = [RESET, ATR, one(1, "00200080", "", "", "63C2"), RESET, RESET,
+            one(2, "00200080", "", "", "63C1"), ATR, one(3, "00200080", "", "", "63C0")]
+
+
+def test_a_reset_begins_the_next_session(replay):
+    """Only after a command, and the first one follows the last."""
+    card, verify = replay(*SESSIONS), bytes.fromhex("00200080")
+    with Simulator(OwnCard(card)) as it:
+        assert it(verify).hex() == it(verify).hex() == "63c2"
+        for status in ("63c1", "63c0", "63c2"):
+            it.reset()
+            it.reset()
+            assert it(verify).hex() == status
+        it.reset()
+        assert it(bytes.fromhex("00200081")).hex() == "6d00"
+
+
+def test_a_strict_card(replay, tmp_path):
+    card = replay(*COUNTER, SELECT, is_strict=True)
+    with Simulator(OwnCard(card)) as it:
+        assert [it(bytes.fromhex("8010000001")).hex() for _ in range(2)] == ["019000", "026283"]
+        with pytest.raises(Mistake) as why:
+            it(bytes.fromhex("8010000001"))
+        text = "capture: line 6 has 00A40400A000000003, not 80100000"
+        assert str(why.value) == f"{tmp_path}/{text}"
+    with Simulator(OwnCard(replay(one(1, "00200080"), is_strict=True))) as it:
+        it(bytes.fromhex("00200080"))
+        with pytest.raises(Mistake, match="the session has ended, not 00200080$"):
+            it(bytes.fromhex("00200080"))
+        it.reset()
+        assert it(bytes.fromhex("00200080")).hex() == "9000"
+
+
+@pytest.mark.parametrize(
+    ("objects", "why"),
+    [([one(7, "00200080", None, "", "9000", masked=True)], "line 7: a masked value"),
+     ([one(7, "00CA0050", "", None, "9000", masked=True)], "line 7: a masked value"),
+     ([one(2, "00CA0050"), {"type": "error", "line": 9, "text": "unexpected byte"}],
+      "line 9: unexpected byte"),
+     ([], "no characters heard"), ([ATR, SUMMARY], "no command with an answer"),
+     ([one(1, "00CA0050", "", "", "")], "no command with an answer"),
+     ([one(5, "00B00000", "", "AA" * 3841, "9000")], "line 5: a response of more than 3840 bytes")],
+)
+def test_a_capture_that_can_not_be_replayed(replay, objects, why):
+    with pytest.raises(Mistake, match=why):
+        replay(*objects)
+
+
+def test_a_masked_note_does_not_matter(replay):
+    assert replay({"type": "note", "line": 1, "text": None, "masked": True}, *COUNTER).sessions
+    assert len(replay(one(1, "00CA0050", "", "", ""), *COUNTER).sessions[0]) == 2
+
+
+# The dialogue of sim_tracer.trace: commands, and answers by GSM 11.11.
+SIM = ["A0A40000023F00 9F16", "A0C0000016 00001A2C3F00010000000000091303080500838A838A9000",
+       "A0A40000022FE2 9F0F", "A0B000000A 980001214365870921439000", "A0A40000027F20 9F17",
+       "A0A40000026F07 9F0F", "A0B0000009 9804", "A02000010831323335FFFFFFFF 9804",
+       "A02000010831323334FFFFFFFF 9000", "A0B0000009 0809101010325476989000",
+       "A08800001000112233445566778899AABBCCDDEEFF 9F0C", "A0C000000C A1B2C3D401020304050607009000",
+       "A0F2000016 00001A2C7F20020000000000091303080500838A838A910D"]
+
+
+def test_a_capture_is_a_card(capsys):
+    """At whole commands and at a line of characters it gives the answers of the phone's SIM."""
+    path = str(CAPTURES / "sim_tracer.trace")
+    assert Replay(path).atr.hex() == "3f2f008059af0102013100000000831e9f0c"
+    words = [each.split() for each in SIM]
+    assert asked(Replay(path, is_strict=True), *(it for it, _ in words)) == [it for _, it in words]
+    line, found = End(Simulator(OwnCard(Replay(path, is_strict=True))), at_t0), []
+    for each, _ in words:
+        found.append(b"".join(line.take(bytes([it])) for it in bytes.fromhex(each)))
+    # INS before data of either end; a status alone refuses
+    assert found[0].hex() == "a49f16" and found[6].hex() == "9804"
+    assert [it[1:].hex().upper() for at, it in enumerate(found) if at != 6] == [
+        it for at, (_, it) in enumerate(words) if at != 6]
+
+
+def test_a_capture_with_a_fault(tmp_path):
+    """The program's own words name the line."""
+    with pytest.raises(Mistake, match="line 7, character 17: unexpected byte"):
+        Replay(str(CAPTURES / "lost_character.trace"))
+    (tmp_path / "capture").write_text("nothing\n")
+    with pytest.raises(Mistake, match="capture: "):
+        Replay(str(tmp_path / "capture"))
+
+
+def test_without_the_program(monkeypatch, capsys):
+    monkeypatch.setattr(cards.shutil, "which", lambda name, path: None)
+    monkeypatch.setenv("PATH", "/none")
+    path = str(CAPTURES / "sim_tracer.trace")
+    assert main(["--replay", path, "--pty"]) == 2
+    assert "No such file or directory: 'trace_explain'" in capsys.readouterr().err
+
+
+LONG = bytes(it % 251 for it in range(200))
+
+
+READS = one(20, "00B0000000", "", LONG.hex())
+
+
+def test_at_t1(replay):
+    """Pieces of a chain, and a response of several blocks."""
+    card = replay(CHAIN, READS)
+    end = End(Simulator(OwnCard(card), bytes.fromhex("3B800181")), at_t1)
+    with T1(lambda data, waits: b"".join(end.take(bytes([it])) for it in data)) as terminal:
+        asks = ["10DA005001AA", "00DA005001BB", "00B0000000", "00B0000009", "00CA000000"]
+        answers = [terminal(bytes.fromhex(it)) for it in asks]
+    assert [it.hex() for it in answers[:2]] == ["9000", "6a84"]
+    assert answers[2] == LONG + b"\x90\x00" and answers[3] == LONG[:9] + b"\x61" + bytes([191])
+    assert answers[4].hex() == "6d00"
+
+
+def test_over_vpcd(replay):
+    it = Vpcd(of=Simulator(OwnCard(replay(*SESSIONS))))
+    for asked_for, answer in [("00200080", "63c2"), ("00200080", "63c2"), ("05", "6700")]:
+        assert it.ask(bytes.fromhex(asked_for)).hex() == answer
+    for _ in range(3):
+        it.say(b"\x02")
+    assert it.ask(bytes.fromhex("00200080")).hex() == "63c1"
+    it.end()
+
+
+@pytest.fixture
+def program(tmp_path):
+    """Runs the program with this capture at a pseudo terminal. Gives the program and its line."""
+    made = []
+
+    def start(*words):
+        lines = [json.dumps(it, separators=(",", ":")) for it in (ATR, *COUNTER, SELECT)]
+        (tmp_path / "capture").write_text("\n".join(lines))
+        words = ["--replay", tmp_path / "capture", "--pty", "--no-echo", *words]
+        made.append(subprocess.Popen(
+            [sys.executable, "-m", "galliumtoad.simulate", *words], text=True,
+            stdout=subprocess.PIPE, stderr=subprocess.PIPE,
+            env={**os.environ, "PYTHONPATH": str(Path(simulate.__file__).parent.parent)}))
+        return made[-1], os.open(made[-1].stdout.readline().strip(), os.O_RDWR | os.O_NOCTTY)
+
+    yield start
+    for it in made:
+        it.kill()
+        it.communicate()
+
+
+def talk(line, asked_for, count):
+    """What the card sends after these characters."""
+    os.write(line, bytes.fromhex(asked_for))
+    found = b""
+    while len(found) < count and select.select([line], [], [], 30)[0]:
+        found += os.read(line, 1)
+    return found.hex()
+
+
+def test_the_program(program):
+    """It has the capture's answer to reset."""
+    _, line = program("--unknown", "6a88")
+    assert talk(line, "", 4) == "3b021450"
+    assert talk(line, "8010000001", 4) == "10019000"
+    assert [talk(line, "8010000001", 4) for _ in range(2)] == ["10026283"] * 2
+    assert talk(line, "80CA000000", 2) == "6a88"
+
+
+def test_the_program_ends_at_a_departure(program, tmp_path):
+    made, line = program("--strict")
+    assert talk(line, "", 4) == "3b021450"
+    assert [talk(line, "8010000001", 4) for _ in range(2)] == ["10019000", "10026283"]
+    os.write(line, bytes.fromhex("80CA000000"))
+    assert made.wait(60) == 2
+    said = f"{tmp_path}/capture: line 6 has 00A40400A000000003, not 80CA0000\n"
+    assert made.communicate()[1] == said
+
+
+@pytest.mark.parametrize("words", [["--unknown", "6100"], ["--unknown", "900"], ["--strict", "x"],
+                                   ["--program", "true"]])
+def test_words_that_are_refused(tmp_path, capsys, words):
+    with pytest.raises(SystemExit) as why:
+        main(["--replay", str(tmp_path), "--pty", *words])
+    assert why.value.code == 2 and "usage: galliumtoad.simulate" in capsys.readouterr().err

@@ -104,6 +104,12 @@ class Card:
 
 @pytest.mark.parametrize("atr", ["3B00", T1_ATR])
 @ALL
+@pytest.mark.parametrize("name", ["counter", "counter:", ":Counter", ""])
+def test_an_application_without_its_class_or_module(name):
+    with pytest.raises(Mistake, match="is not MODULE:CLASS$"):
+        application(name)
+
+
 def test_an_example_at_a_line(name, atr):
     card = Card("--application", name, "--atr", atr)
     commands, answers = dialogue(name)

@@ -298,7 +298,8 @@ def test_a_table(tmp_path):
      (["--pty", "--no-echo"], "command 1, wrong echo", "needs an echo, and this line has none"),
      (["--pty", "--atr", "3B800181"], "command 1, nulls 3", "needs a line at T=0"),
      (["--pty", "--atr", "3B800E8E"], "", "a line needs an answer to reset that"),
-     (["--pty"], "nonsense", "faults:1: not WHEN, WHAT of a fault: nonsense")],
+     (["--pty"], "nonsense", "faults:1: not WHEN, WHAT of a fault: nonsense\nWHEN is one of: comm"),
+     (["--pty"], "after 1, nonsense", "after 1, nonsense\nWHAT is one of: ")],
 )
 def test_errors_before_anything_runs(tmp_path, capsys, words, faults, text):
     (tmp_path / "table").write_text(TABLE)
@@ -307,6 +308,20 @@ def test_errors_before_anything_runs(tmp_path, capsys, words, faults, text):
     assert main([*files, *words]) == 2
     out, error = capsys.readouterr()
     assert text in error and out == ""
+
+
+def test_a_reader_that_is_not_there_is_named_once(capsys, monkeypatch):
+    monkeypatch.setattr(simulate, "AWAY_FOR", 0.01)
+    with socket.create_server(("localhost", 0)) as closed:
+        address = f"localhost:{closed.getsockname()[1]}"
+    of = Simulator(Card({bytes.fromhex(AID): {}}))
+    thread = threading.Thread(target=serve_vpcd, args=(of, address))
+    thread.start()
+    time.sleep(0.3)
+    of.is_over.set()
+    thread.join()
+    error = capsys.readouterr().err
+    assert error.count("\n") == 1 and error.startswith(f"waiting for vpcd at {address}: ")
 
 
 def test_files_that_are_missing(tmp_path, capsys):

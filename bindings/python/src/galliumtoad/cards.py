@@ -66,6 +66,8 @@ def status_of(digits: str) -> int:
 def application(name: str) -> Application:
     """Makes an object of a class, MODULE:CLASS. Raises `Mistake`."""
     module, _, kind = name.partition(":")
+    if not (module and kind):
+        raise Mistake(f"{name} is not MODULE:CLASS")
     sys.path.insert(0, "")  # the folder of the program's user
     try:
         made = getattr(importlib.import_module(module), kind)()

@@ -89,7 +89,9 @@ def read(text: str, name: str = "faults") -> list[Fault]:
         at, _, does = words.partition(",")
         (when, number), (kind, value) = matched(WHENS, at), matched(KINDS, does)
         if not (when and kind):
-            raise Mistake(f"{name}:{line}: not WHEN, WHAT of a fault: {words.strip()}")
+            half, table = ("WHAT", [*KINDS]) if when else ("WHEN", [*WHENS])
+            raise Mistake(f"{name}:{line}: not WHEN, WHAT of a fault: {words.strip()}\n"
+                          f"{half} is one of: {', '.join(table)}")
         place = int(number, 16) if "XX" in when else float(number)
         found.append(Fault(line, f"{at.strip()}, {does.strip()}", when, place, kind, value))
     return found

@@ -389,10 +389,18 @@ def talk_vpcd(of: Simulator, line: socket.socket,
 
 
 def serve_vpcd(of: Simulator, address: str) -> None:
-    """Puts the card into vpcd's reader, again whenever the connection ends."""
+    """Puts the card into vpcd's reader, again whenever the connection ends. While there is no
+    vpcd, it waits, and says so once on standard error."""
+    waits = False
     while not of.is_over.is_set():
-        with contextlib.suppress(OSError), connected(address) as line:
-            talk_vpcd(of, line)
+        try:
+            with connected(address) as line:
+                waits = False
+                talk_vpcd(of, line)
+        except OSError as why:
+            if not waits:
+                print(f"waiting for vpcd at {address}: {why}", file=sys.stderr, flush=True)
+            waits = True
         of.reset()
         of.is_over.wait(AWAY_FOR)
 

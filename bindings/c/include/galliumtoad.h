@@ -1564,12 +1564,12 @@ GT_MUST_CHECK int32_t gt_card_tpdu(gt_card *c, const uint8_t *tpdu, size_t n,
  * data, and then SW1 SW2; `len` gets its length, 2 to GT_ANSWER_LIMIT bytes. One buffer may serve
  * for both sides: the command is copied, and the copy wiped.
  *
- * The command goes as TPDUs of the card, to a terminal that wants Le bytes (00: 256). After 6CXX it
- * goes once more, with XX. In case 4 GET RESPONSE fetches. What is left waits, and 61XX announces
- * it. Plans are only for `gt_card_tpdu` and characters.
+ * A card of data objects carries the command out as TPDUs, to a terminal that wants Le bytes (00:
+ * 256). After 6CXX it goes once more, with XX. In case 4 GET RESPONSE fetches. What is left waits,
+ * and 61XX announces it. Plans are only for `gt_card_tpdu` and characters.
  *
- * The card answers 6700 in these cases, and nothing changes, also no chain and no response that
- * waits:
+ * A card of data objects answers 6700 in these cases. Nothing changes then, also no chain and no
+ * response that waits. A card of your own does so in the first case; its section has the others:
  *
  * - bytes whose lengths fit none of the four cases, as those of an extended command;
  * - SELECT and PUT DATA in case 2;

@@ -104,12 +104,6 @@ class Card:
 
 @pytest.mark.parametrize("atr", ["3B00", T1_ATR])
 @ALL
-@pytest.mark.parametrize("name", ["counter", "counter:", ":Counter", ""])
-def test_an_application_without_its_class_or_module(name):
-    with pytest.raises(Mistake, match="is not MODULE:CLASS$"):
-        application(name)
-
-
 def test_an_example_at_a_line(name, atr):
     card = Card("--application", name, "--atr", atr)
     commands, answers = dialogue(name)
@@ -270,3 +264,9 @@ def test_faults_strike_at_such_cards():
     with Simulator(OwnCard(application("counter:Counter")), faults=faults) as reader:
         answers = [reader(bytes.fromhex("8010000000")).hex() for _ in range(4)]
     assert answers == ["016f00", "039000", "9000", "049000"]
+
+
+@pytest.mark.parametrize("name", ["counter", "counter:", ":Counter", ""])
+def test_an_application_without_its_class_or_module(name):
+    with pytest.raises(Mistake, match="is not MODULE:CLASS$"):
+        application(name)

@@ -125,14 +125,15 @@ where
     }
 }
 
-/// Why an operation was not carried out to its answer. Its text and its source are those of the
-/// error in it.
+/// Why [`Terminal::run`] returned no answer. After [`Error::Buffer`] the operation was carried out,
+/// and the terminal keeps its answer. Text and source are those of the error in it.
 #[derive(Clone, Copy, Debug, PartialEq, Eq, Hash)]
 #[non_exhaustive]
 pub enum RunError<E> {
-    /// The operation was not begun. Or a reader's answer does not fit ([`Error::NoStatus`],
+    /// Nothing was sent. Or a reader's answer does not fit ([`Error::NoStatus`],
     /// [`Error::NotAsked`], [`Error::TooMany`]). Or the card has brought too much, or nothing that
-    /// it announced ([`Error::TooLong`], [`Error::Stalled`]).
+    /// it announced ([`Error::TooLong`], [`Error::Stalled`]). Or there is no memory for the data of
+    /// the answer ([`Error::Buffer`]).
     Terminal(Error),
     /// The transport failed.
     Transport(E),

@@ -120,12 +120,13 @@ impl<A: Application> Card<A> {
     /// Carries out a whole command, as a card at T=1 or without contacts does. The response is
     /// data, and then SW1 SW2. It is the caller's: this crate wipes no copy of it.
     ///
-    /// The command goes as TPDUs of the card, to a terminal that wants Le bytes (`00`: 256). After
-    /// `6CXX` it goes once more, with XX. In case 4 GET RESPONSE fetches. What is left waits, and
-    /// `61XX` announces it. The card answers `6700`, and nothing changes, to an
-    /// extended command and to other bytes with wrong lengths. So it does to SELECT and PUT DATA in
-    /// case 2, and to GET DATA and GET RESPONSE in any other case. Plans are for TPDUs and
-    /// characters alone.
+    /// A card of data objects carries the command out as TPDUs, to a terminal that wants Le bytes
+    /// (`00`: 256). After `6CXX` it goes once more, with XX. In case 4 GET RESPONSE fetches. What
+    /// is left waits, and `61XX` announces it. Plans are for TPDUs and characters alone.
+    ///
+    /// The card answers `6700`, and nothing changes, to an extended command and to other bytes with
+    /// wrong lengths. A card of data objects also answers so to SELECT and PUT DATA in case 2, and
+    /// to GET DATA and GET RESPONSE in any other case.
     ///
     /// A card of your own carries the command out at once, and it settles. At most Le bytes come
     /// back, none without Le, and `61XX` announces the rest. The card answers `6700` to data where

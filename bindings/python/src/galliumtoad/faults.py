@@ -147,8 +147,9 @@ class Faults:
                                     f" {KINDS[it.kind]}, and {where} has none" for it in wrong))
 
     def begin(self, header: bytes, reset: Callable[[], None] = lambda: None) -> Optional[bytes]:
-        """A command begins: its header, or all of it. Chooses what strikes at it. Returns the
-        answer of a card that does not carry the command out, or None if it does."""
+        """A TPDU or command begins: its header, or all of it. Chooses the faults that strike at it,
+        and calls `reset` if one resets the card. Returns the answer of a card that does not carry
+        it out, or None if it does."""
         if header[: len(self.since)] != self.since[: len(header)]:
             self.due = []
             return None

@@ -91,7 +91,8 @@ class Desk:
             print(f"{self._bar and _WIPE}{line}\n{self._bar}", end="", flush=True)
 
     def keep(self, row: int, lines: list[str]) -> None:
-        """Adds a failed or unsure row's dialogue to its file, and ends the run if they are many."""
+        """Adds the dialogue of a failed or unsure row to its file, or prints that it is lost. Ends
+        the run at the `--stop-after`th such row, and without that option never."""
         file, it = Path(f"{self.journal.path}.cards/{row}.trace"), self.journal.rows[row]
         about = f"# row {row}, card {it.card or 'unknown'}, {it.reader}, {it.state}"
         about = f"{about}, {it.ended.isoformat(timespec='seconds')}: {it.reason}"
@@ -104,9 +105,10 @@ class Desk:
             self.say(f"the dialogue of row {row} is lost: {error.strerror}")
         with self._alone:
             self._failures += 1
-        if self._failures == self.given.stop_after:
+            failures = self._failures
+        if failures == self.given.stop_after:
             self.stopped.set()
-            self.say(f"stopped: {self._failures} rows failed")
+            self.say(f"stopped: {failures} rows failed")
 
     def run(self) -> None:
         """Serves the readers. Then waits for cards in progress, unless Ctrl-C was pressed twice."""

@@ -296,8 +296,8 @@ class Line:
             data = data[os.write(self.fd, data) :]
 
     def talk(self) -> None:
-        """Resets the card, sends its answer to reset, and talks. Raises `OSError` at the next reset,
-        or when the line or the program ends."""
+        """Resets the card, sends its answer to reset, and talks. Raises `OSError` at the next
+        reset, or when the line or the program ends."""
         self.of.reset()
         faults, end = self.of.faults, at_line(self.of, self.says)
         out: Optional[bytes] = self.of.atr

@@ -131,14 +131,15 @@ fn run{number}(rt: &HostRuntime, part: &[u8]) {{
         let _ = ways.give(way, said);
     }}
     let form = str::from_utf8(parts.next().unwrap_or(&[])).unwrap_or("");
-    let medium = if part[0] == b'h' {{
-        m{number}::layout::Medium::Html
-    }} else {{
-        m{number}::layout::Medium::Text
+    let medium = match part[0] | 0x20 {{
+        b'h' => m{number}::layout::Medium::Html,
+        b'j' => m{number}::layout::Medium::Json,
+        _ => m{number}::layout::Medium::Text,
     }};
+    let joins = part[0] & 0x20 == 0;
     let resumes = part[1] == b'r';
     let is_summary = part[2] == b's';
-    let layout = m{number}::layout::Layout {{ medium, is_summary }};
+    let layout = m{number}::layout::Layout {{ medium, is_summary, joins }};
     let options = m{number}::reading::Options {{
         form: Some(form).filter(|name| !name.is_empty()),
         file: None,
@@ -221,9 +222,9 @@ def write_inputs(folder, cases, count):
 
 def input_of(case):
     """Returns a case as a module reads it."""
-    words = "".join(
-        word[2] if word in case.words else "-" for word in ("--html", "--resume", "--summary")
-    )
+    medium = next((word[2] for word in ("--html", "--json") if word in case.words), "t")
+    words = medium.upper() if "--commands" in case.words else medium
+    words += "".join(word[2] if word in case.words else "-" for word in ("--resume", "--summary"))
     words += "d" if "--diff" in case.words else "-"
     words += "w" if "--swap" in case.words else "-"
     words += lines_of(case.words)

@@ -18,9 +18,10 @@
   - bare.cases: commands without data whose card repeats INS.
   - unsigned.cases: lines without signs; logs.cases: logs of whole TPDUs.
   - loose.cases: headers and commands that a mask hides.
-  - forms.cases: forms of logs of many programs.
+  - forms.cases: forms of logs of many programs; commands.cases: TPDUs that are joined.
+  - json.cases: objects of JSON, with the last one.
 
-Only cases/ lists the last block. Elsewhere `block_of` counts what is above it. In the ten tables
+Only cases/ lists the last block. Elsewhere `block_of` counts what is above it. In the tables
 a line that begins with `#` is a comment."""
 
 import re
@@ -75,9 +76,11 @@ TOLD_BY_SIGNS = {
     "two traces whose data go another way, and of which one is cut off",
     # characters of the card at the place of a header, and a sign without characters
     "characters of the card after a reset that begin no answer, in two lines",
+    "a note with signs of JSON and other bytes, a reset, an answer, PPS, and stray bytes",
     "no TPDU begins with a sign alone, whose line has a time",
     # characters of the card before a header that a mask hides
     "one that begins with all that VERIFY sends, then a command",
+    "a hidden header stands alone, and nothing is said of its size",
     "after a reset with a byte of the card, and after one with none",
     "after an answer to reset that is cut off, one at fault, and a PPS response that is cut off",
     "the status of a hidden command is worded as that of any command",
@@ -114,7 +117,7 @@ class Case:
         if err != self.error:
             return f"{self.name}: on standard error {err!r}, and not {self.error!r}"
         lines = out.splitlines()
-        if self.part != "page" and not {"--summary", "--diff"} & set(self.words):
+        if self.part not in ("page", "json") and not {"--summary", "--diff"} & set(self.words):
             lines, block = without_block(lines)
             for wanted, line in zip_longest(block_of(lines, self.time), block):
                 if wanted != line:
@@ -127,7 +130,8 @@ class Case:
                 return f"{self.name}: {line!r}, and not {wanted!r}"
         if len(said) != len(self.wanted):
             return f"{self.name}: {len(said)} lines, and not {len(self.wanted)}"
-        wide = [it for it in out.splitlines() if len(it) > 100 and self.part != "page"]
+        is_text = self.part not in ("page", "json")
+        wide = [it for it in out.splitlines() if len(it) > 100 and is_text]
         return f"{self.name}: more than 100 columns: {wide[0]!r}" if wide else ""
 
     def leak(self, out, err):
@@ -139,7 +143,7 @@ class Case:
                     return f"{self.name} {self.words}: {line!r} tells of the secret"
             if any(pair in line for pair in ("Qz", "zx", "xv", "vT")):
                 return f"{self.name} {self.words}: {line!r} tells of the secret"
-        if "**" in body or "--summary" in self.words:
+        if "**" in body or '"masked":true' in body or "--summary" in self.words:
             return ""
         return f"{self.name}: nothing is hidden"
 
@@ -225,6 +229,7 @@ PARTS = {
     "story": story_in,
     "page": page_in,
     "shown": lambda lines: lines,
+    "json": lambda lines: lines,
 }
 
 
@@ -281,6 +286,8 @@ def story_cases(name, part):
             found[-1].words = rest.split()
             if "--html" in rest:
                 found[-1].part = "page"
+            elif part == "json":
+                found[-1].part = part
             elif "--mask" in rest or "--diff" in rest:
                 found[-1].part = "shown"
             else:
@@ -388,20 +395,21 @@ def lines_of(lines):
 
 
 def tables():
-    """The cases of the ten tables, those of secrets, and the long ones."""
+    """The cases of the tables, those of secrets, and the long ones."""
     ways = [], ["--html"], ["--resume"], ["--summary", "--resume"]
+    ways = (*ways, ["--commands"], ["--json", "--commands"])
     long = long_cases([*long_traces.traces(), *long_traces.at_limits()])
     return [*rows_and_stories(), *secret_cases(ways), *long]
 
 
 def rows_and_stories():
-    """The cases of the ten tables. Those with signs are also tried without."""
+    """The cases of the tables. Those with signs are also tried without."""
     signed = table_cases()
     return [*signed, *unsigned_cases([*signed, *whole_cases()])]
 
 
 def table_cases():
-    """The cases of the ten tables."""
+    """The cases of the tables."""
     return [
         status_case(),
         title_case(),
@@ -413,12 +421,14 @@ def table_cases():
         *story_cases("logs.cases", "shown"),
         *story_cases("loose.cases", "shown"),
         *story_cases("forms.cases", "shown"),
+        *story_cases("commands.cases", "shown"),
+        *story_cases("json.cases", "json"),
         *link_cases(),
     ]
 
 
 def all_cases():
     """All cases, the small ones first. Those with secrets are tried in one way only."""
-    secret = secret_cases([["--resume"]])
+    secret = secret_cases([["--resume"], ["--json", "--commands"]])
     long = long_cases(long_traces.traces())
     return [*rows_and_stories(), *secret, *whole_cases(), *long]

@@ -4,4 +4,5 @@ pub mod TraceLemmas
 pub mod LogLemmas
 pub mod SheetLemmas
 mod TreeLemmas
+mod JsonTreeLemmas
 pub mod AccountLemmas

@@ -5,6 +5,7 @@ use Rattle.t0_core.specs.declared.direction.Direction.{Direction}
 use Rattle.t0_core.specs.declared.direction.Direction.TheVariants.{ToCard, FromCard}
 use Rattle.trace_explain.specs.declared.write.layout.Kind.{Kind}
 use Rattle.trace_explain.specs.declared.write.layout.Medium.{Medium}
+use Rattle.trace_explain.specs.declared.write.layout.Medium.TheVariants.{Json}
 use Rattle.trace_explain.specs.declared.write.layout.Side.{Side}
 use Rattle.trace_explain.specs.declared.write.layout.Side.TheVariants as side
 use Rattle.trace_explain.specs.declared.follow.links.Links.{Links}
@@ -15,6 +16,9 @@ use Rattle.trace_explain.specs.declared.describe.mask.Origin.{Origin}
 use Rattle.trace_explain.specs.declared.describe.mask.Shown.{Shown}
 use Rattle.trace_explain.specs.declared.describe.mask.Shown.TheVariants.{All, Objects, Nothing}
 use Rattle.trace_explain.specs.declared.write.sheet.Sheet.{Sheet}
+use Rattle.trace_explain.specs.declared.write.fields.Fields.{Fields}
+use Rattle.trace_explain.specs.Fields.{fields_text}
+use Rattle.trace_explain.specs.JsonTrees.{IsField}
 use Rattle.trace_explain.specs.Noted.{are_status}
 use Rattle.trace_explain.specs.Secrets.{Shows}
 use Rattle.trace_explain.specs.Sheets.{Adds, IsRow, Puts}
@@ -61,14 +65,22 @@ pub record IsShown (mask : Mask) (is_loose : Bool) (way : Direction) (header mov
 abbrev pub HasAsker : List ℕ → Links → Type 0
 HasAsker header links = get_or header 1 0 ≢ 0xC0 → IfSome links.asker (IsOfCommand header)
 
+-- a row of data, as far as they are shown; in JSON a field
+abbrev pub IsDataRow
+    : Shown → List (List ℕ) → Side → Bool → List ℕ → Medium → List ℕ → Type 0
+IsDataRow shown tags s may bytes Json text = IsField shown tags s may bytes text
+IsDataRow shown tags s may bytes m text = (lines : List (List ℕ))
+    × ShowsData shown tags may bytes lines
+    × (text ≡ some_row m s (codes "data") (lines_text lines))
+
 -- the row of data of a TPDU, if it moved any, after a whole header
 abbrev pub IsData
     : Mask → Bool → Option Direction → List ℕ → List ℕ → Medium → List ℕ → Type 0
 IsData mask is_loose None header moved m text = text ≡ []
 IsData mask is_loose (Some way) header moved m text = length header ≡ 5 → (shown : Shown)
-    × IsShown mask is_loose way header moved shown × (may : Bool) × (way ≡ FromCard → may ≡ true)
-    × (lines : List (List ℕ)) × ShowsData shown mask.tags.items may moved lines
-    × (text ≡ some_row m (side_of way) (codes "data") (lines_text lines))
+    × IsShown mask is_loose way header moved shown × (may : Bool)
+    × (m ≢ Json → way ≡ FromCard → may ≡ true)
+    × IsDataRow shown mask.tags.items (side_of way) may moved m text
 
 -- the row of data was added
 abbrev pub PutsDataRow
@@ -77,9 +89,17 @@ PutsDataRow shown tags s may bytes old new = (lines : List (List ℕ))
     × ShowsData shown tags may bytes lines
     × Adds old (some_row old.layout.medium s (codes "data") (lines_text lines)) new
 
+-- in JSON an end without data has an empty field
+abbrev pub no_data : Medium → Option Direction → List ℕ
+no_data Json None = codes ",\"sent\":\"\",\"received\":\"\""
+no_data Json (Some ToCard) = codes ",\"received\":\"\""
+no_data Json (Some FromCard) = codes ",\"sent\":\"\""
+no_data m way = []
+
 -- the row of the data that the card returned beside those of the terminal, if any
-abbrev pub IsAnswer : Mask → Bool → List ℕ → List ℕ → Medium → List ℕ → Type 0
-IsAnswer mask is_loose header bytes m text = (length bytes ≡ 0 → text ≡ [])
+abbrev pub IsAnswer
+    : Mask → Bool → Option Direction → List ℕ → List ℕ → Medium → List ℕ → Type 0
+IsAnswer mask is_loose way header bytes m text = (length bytes ≡ 0 → text ≡ no_data m way)
     × (0 < length bytes → IsData mask is_loose (Some FromCard) header bytes m text)
 
 -- the title: the number, words, and the line where the TPDU begins
@@ -123,6 +143,10 @@ IsTogether mask is_loose header m text = text ≢ [] → (whole : Whole) × (way
     × ShowsData shown mask.tags.items true bytes lines
     × (text ≡ together_row m whole bytes lines)
 
+-- fields that only JSON has
+abbrev pub IsFields : Medium → List ℕ → Type 0
+IsFields m text = (fields : Fields) × (text ≡ fields_text m fields)
+
 -- a text is one for which each of these holds in turn
 abbrev pub InOrder : List (Medium → List ℕ → Type 0) → Medium → List ℕ → Type 0
 InOrder [] m text = text ≡ []
@@ -134,13 +158,14 @@ InOrder (Is ∷ others) m text =
 abbrev pub IsBox : Mask → ℕ → ℕ → Report → Medium → List ℕ → Type 0
 IsBox mask number line t = InOrder
     (IsTitle number line t.status
+    ∷ IsFields
     ∷ IsRow side.Nobody (codes "time")
     ∷ IsRow side.Nobody (codes "before")
     ∷ (λ m text. text ≡ header_row (mask.hides && is_doubtful t) m t.header)
     ∷ IsRow side.Card (codes "procedure")
     ∷ IsData mask t.is_loose t.way t.header t.moved
     ∷ IsRow side.Terminal (codes "Le")
-    ∷ IsAnswer mask t.is_loose t.header t.answer
+    ∷ IsAnswer mask t.is_loose t.way t.header t.answer
     ∷ IsStatus (status_side t.header t.status) t.status
     ∷ IsRow side.Nobody (codes "after")
     ∷ IsTogether mask t.is_loose t.header

@@ -15,5 +15,8 @@ pub mod Written
 pub mod Words
 pub mod Trees
 pub mod Sheets
+pub mod Fields
+pub mod JsonTrees
+pub mod Commands
 pub mod Boxes
 pub mod Account

@@ -1,21 +1,26 @@
 -- Words: what is written between the boxes of TPDUs.
 use Rattle.std.specs.Prelude.{◌≡◌, ℕ, List, [], ◌∷◌, ◌++◌, codes, drop, flat_map, Bool, true, false, ◌==◌, ◌&&◌}
+use Rattle.std.specs.Fmt.{decimal}
 use Rattle.std.specs.List.{list_any}
 use Rattle.trace_explain.specs.declared.write.layout.Anchor.{Anchor}
 use Rattle.trace_explain.specs.declared.write.layout.Medium.{Medium}
-use Rattle.trace_explain.specs.declared.write.layout.Medium.TheVariants.{Text, Html}
+use Rattle.trace_explain.specs.declared.write.layout.Medium.TheVariants.{Text, Html, Json}
+use Rattle.trace_explain.specs.declared.write.layout.Topic.{Topic}
+use Rattle.trace_explain.specs.declared.write.layout.Topic.TheVariants as topic
 use Rattle.trace_explain.specs.declared.write.words.Form.{Form}
-use Rattle.trace_explain.specs.declared.write.words.Form.TheVariants.{Box, BoxEnd, Row, Note, Block, BlockEnd, Style, Links, Link, More}
+use Rattle.trace_explain.specs.declared.write.words.Form.TheVariants.{Box, BoxEnd, Row, Number, Null, True, Map, Count, Note, List as Begin, Comma, ListEnd, LineEnd, Command, Block, BlockEnd, Style, Links, Link, More}
 use Rattle.trace_explain.specs.Written.{box_begin, box_end, letters, line_text, name_of, newline, some_row}
 
--- titles of boxes that are no TPDUs, and labels of their rows
+-- labels of rows and fields in boxes that are no TPDUs
 abbrev pub own_labels : List (List ℕ)
-own_labels = codes "answer to reset" ∷ codes "PPS" ∷ codes "unexpected byte"
-    ∷ codes "unexpected command or answer" ∷ codes "TPDUs" ∷ codes "answer" ∷ codes "characters"
-    ∷ codes "command" ∷ codes "commands" ∷ codes "convention" ∷ codes "expected" ∷ codes "fault"
-    ∷ codes "guard time" ∷ codes "hint" ∷ codes "historical" ∷ codes "place" ∷ codes "protocol"
-    ∷ codes "protocols" ∷ codes "rate" ∷ codes "read" ∷ codes "received" ∷ codes "request"
-    ∷ codes "response" ∷ codes "statuses" ∷ codes "time" ∷ codes "waiting" ∷ []
+own_labels = codes "TPDUs" ∷ codes "answer" ∷ codes "characters" ∷ codes "cla" ∷ codes "command"
+    ∷ codes "commands" ∷ codes "convention" ∷ codes "cut_off" ∷ codes "errors" ∷ codes "expected"
+    ∷ codes "fault" ∷ codes "guard time" ∷ codes "hint" ∷ codes "historical" ∷ codes "ins"
+    ∷ codes "instruction" ∷ codes "masked" ∷ codes "number" ∷ codes "p1" ∷ codes "p2"
+    ∷ codes "place" ∷ codes "protocol" ∷ codes "protocols" ∷ codes "rate" ∷ codes "read"
+    ∷ codes "received" ∷ codes "request" ∷ codes "response" ∷ codes "sent" ∷ codes "status"
+    ∷ codes "status_text" ∷ codes "statuses" ∷ codes "text" ∷ codes "time" ∷ codes "time_us"
+    ∷ codes "title" ∷ codes "tpdus" ∷ codes "waiting" ∷ []
 
 abbrev pub is_same : List ℕ → List ℕ → Bool
 is_same [] [] = true
@@ -26,8 +31,11 @@ abbrev pub is_own : List ℕ → Bool
 is_own label = list_any (is_same label) own_labels
 
 abbrev pub has_own : Form → Bool
-has_own (Box kind anchor title line) = is_own title.now
 has_own (Row side label) = is_own label.now
+has_own (Number label n) = is_own label.now
+has_own (Null label) = is_own label.now
+has_own (True label) = is_own label.now
+has_own (Map label) = is_own label.now
 has_own form = true
 
 -- the start of a page, before its style and after it
@@ -50,16 +58,51 @@ link_text anchor text = codes " <a href=\"#" ++ name_of anchor ++ codes "\">"
 
 abbrev pub gap : Medium → List ℕ
 gap Text = codes "  "
-gap Html = []
+gap m = []
+
+-- the title of a box; in JSON its type, before a title if the type has several
+abbrev pub topic_text : Medium → Topic → List ℕ
+topic_text Json topic.Answer = codes "atr"
+topic_text Json topic.Pps = codes "pps"
+topic_text Json topic.Byte = codes "error\",\"text\":\"unexpected byte"
+topic_text Json topic.Pair = codes "error\",\"text\":\"unexpected command or answer"
+topic_text m topic.Answer = codes "answer to reset"
+topic_text m topic.Pps = codes "PPS"
+topic_text m topic.Byte = codes "unexpected byte"
+topic_text m topic.Pair = codes "unexpected command or answer"
+topic_text m topic.Note = codes "note"
+topic_text m topic.Reset = codes "reset"
+topic_text m topic.Command = codes "command"
+
+abbrev pub field_before : List ℕ → List ℕ
+field_before label = codes ",\"" ++ label ++ codes "\":"
+
+-- what only JSON has: fields, counts, and signs between objects; and its last line
+abbrev pub json_piece : Form → List ℕ → List ℕ
+json_piece (Number label n) text = field_before label.now ++ decimal n
+json_piece (Null label) text = field_before label.now ++ codes "null"
+json_piece (True label) text = field_before label.now ++ codes "true"
+json_piece (Map label) text = field_before label.now ++ codes "{"
+json_piece (Count n) text =
+    codes "\"" ++ letters Json [] text ++ codes "\":" ++ decimal n
+json_piece Begin text = codes ",\"tpdus\":["
+json_piece Comma text = codes ","
+json_piece ListEnd text = codes "]"
+json_piece LineEnd text = newline
+json_piece Block text = codes "{\"type\":\"summary\""
+json_piece BlockEnd text = codes "}\n"
+json_piece form text = []
 
 -- Text has neither a style nor links.
 abbrev pub piece_text : Medium → Form → List ℕ → List ℕ
-piece_text m (Box kind anchor title line) text =
-    box_begin m kind anchor ++ title.now ++ gap m ++ line_text m line
+piece_text m (Box kind anchor about line) text =
+    box_begin m kind anchor ++ topic_text m about ++ gap m ++ line_text m line
 piece_text m BoxEnd text = box_end m
 piece_text m (Row side label) text = some_row m side label.now text
 piece_text Text Note text = codes "| " ++ letters Text (codes "| ") (drop 1 text) ++ newline
 piece_text Text Block text = codes "summary\n"
+piece_text Text Command text =
+    codes "= " ++ letters Text (codes "    ") (drop 1 text) ++ newline
 piece_text Text form text = []
 piece_text Html Note text = marked (codes "<pre class=\"note\">") text (codes "</pre>\n")
 piece_text Html Block text = codes "</div><section><h2>summary</h2>\n"
@@ -68,6 +111,11 @@ piece_text Html Style text = marked style_begin text style_end
 piece_text Html Links text = marked (codes "<p>") text []
 piece_text Html (Link anchor) text = link_text anchor text
 piece_text Html More text = marked [] text (codes "</p>\n")
+piece_text Html Begin text = codes "<details class=\"command\" open>\n"
+piece_text Html Command text =
+    marked (codes "<summary>") (drop 1 text) (codes "</summary></details>\n")
+piece_text Html form text = []
+piece_text Json form text = json_piece form text
 
 -- a piece, with a title or label of its own if it has one
 pub record Words : Type 0 where

@@ -9,7 +9,7 @@ use Rattle.trace_explain.specs.declared.write.layout.Anchor.TheVariants as ancho
 use Rattle.trace_explain.specs.declared.write.layout.Kind.{Kind}
 use Rattle.trace_explain.specs.declared.write.layout.Kind.TheVariants.{Well, Warning, Failed, CutOff, Error}
 use Rattle.trace_explain.specs.declared.write.layout.Medium.{Medium}
-use Rattle.trace_explain.specs.declared.write.layout.Medium.TheVariants.{Text, Html}
+use Rattle.trace_explain.specs.declared.write.layout.Medium.TheVariants.{Text, Html, Json}
 use Rattle.trace_explain.specs.declared.write.layout.Side.{Side}
 use Rattle.trace_explain.specs.declared.write.layout.Side.TheVariants.{Terminal, Card, Nobody}
 
@@ -20,11 +20,15 @@ newline = 10 ∷ []
 abbrev pub spaces : ℕ → List ℕ
 spaces n = repeat n (codes " ")
 
--- Text in a row, title or note: further lines are below the first, indented. A page escapes it.
+-- Text in a row, title or note: further lines are below the first, indented. A page escapes it,
+-- and so does JSON.
 abbrev pub letter : Medium → List ℕ → ℕ → List ℕ
 letter Text indent b = if b == 10 then newline ++ indent else encode_utf8 b
 letter Html indent b = if b == 60 then codes "&lt;" else if b == 62 then codes "&gt;"
     else if b == 38 then codes "&amp;" else encode_utf8 b
+letter Json indent b = if b == 10 then codes "\\n" else if b == 34 then codes "\\\""
+    else if b == 92 then codes "\\\\"
+    else if nat_lt b 32 then codes "\\u00" ++ encode_upper (b ∷ []) else encode_utf8 b
 
 abbrev pub letters : Medium → List ℕ → List ℕ → List ℕ
 letters m indent text = flat_map (letter m indent) text
@@ -57,23 +61,35 @@ abbrev pub box_begin : Medium → Kind → Anchor → List ℕ
 box_begin Text kind anchor = []
 box_begin Html kind anchor = codes "<details class=\"" ++ class_of kind ++ codes "\""
     ++ id_text anchor ++ fold_text kind
+box_begin Json kind anchor = codes "{\"type\":\""
 
 abbrev pub box_end : Medium → List ℕ
 box_end Text = []
 box_end Html = codes "</details>" ++ newline
+box_end Json = codes "}"
 
--- the title of a TPDU begins with its number, and a space
-abbrev pub number_text : ℕ → List ℕ
-number_text n = codes "#" ++ decimal n ++ codes " "
+-- the title of a TPDU begins with its number
+abbrev pub number_before : Medium → List ℕ
+number_before Json = codes "tpdu\",\"number\":"
+number_before m = codes "#"
+
+abbrev pub number_behind : Medium → List ℕ
+number_behind Json = codes ",\"title\":\""
+number_behind m = codes " "
+
+abbrev pub number_text : Medium → ℕ → List ℕ
+number_text m n = number_before m ++ decimal n ++ number_behind m
 
 -- and ends with the line where it began
 abbrev pub line_before : Medium → List ℕ
 line_before Text = codes "(line "
 line_before Html = codes " <small>line "
+line_before Json = codes "\",\"line\":"
 
 abbrev pub line_behind : Medium → List ℕ
 line_behind Text = codes ")" ++ newline
 line_behind Html = codes "</small></summary>" ++ newline
+line_behind Json = []
 
 abbrev pub line_text : Medium → ℕ → List ℕ
 line_text m line = line_before m ++ decimal line ++ line_behind m
@@ -85,15 +101,16 @@ whole_mark kind status = if length status == 2 then
     else []
 
 abbrev pub mark_text : Medium → Kind → List ℕ → List ℕ
-mark_text Text kind status = []
 mark_text Html kind status = whole_mark kind status
+mark_text m kind status = []
 
 abbrev pub title_text : Medium → Kind → ℕ → List ℕ → List ℕ → ℕ → List ℕ
 title_text m kind number words status line = box_begin m kind (anchor.Tpdu number)
-    ++ number_text number ++ letters m (codes "    ") words ++ mark_text m kind status
+    ++ number_text m number ++ letters m (codes "    ") words ++ mark_text m kind status
     ++ line_text m line
 
--- A row begins with the sign of its end, and a label, which takes eleven columns of a text.
+-- A row begins with the sign of its end, and a label, which takes eleven columns of a text. In
+-- JSON it is a field.
 abbrev pub label_before : Medium → Side → List ℕ
 label_before Text Terminal = codes "  > "
 label_before Text Card = codes "  < "
@@ -101,10 +118,12 @@ label_before Text Nobody = codes "    "
 label_before Html Terminal = codes "<div class=\"m t\"><b>"
 label_before Html Card = codes "<div class=\"m c\"><b>"
 label_before Html Nobody = codes "<div class=\"m n\"><b>"
+label_before Json side = codes ",\""
 
 abbrev pub label_behind : Medium → ℕ → List ℕ
 label_behind Text size = spaces (11 - size)
 label_behind Html size = codes "</b><pre>"
+label_behind Json size = codes "\":\""
 
 abbrev pub before : Medium → Side → List ℕ → List ℕ
 before m side label = label_before m side ++ label ++ label_behind m (length label)
@@ -114,6 +133,7 @@ behind Text side = newline
 behind Html Terminal = codes "</pre><i></i></div>" ++ newline
 behind Html Card = codes "</pre><i></i></div>" ++ newline
 behind Html Nobody = codes "</pre></div>" ++ newline
+behind Json side = codes "\""
 
 abbrev pub row_indent : List ℕ
 row_indent = codes "               "
@@ -136,26 +156,45 @@ named bytes = character_text (codes "CLA ") bytes 0 ++ character_text (codes "  
     ++ character_text (codes "  P1 ") bytes 2 ++ character_text (codes "  P2 ") bytes 3
     ++ character_text (codes "  P3 ") bytes 4 ++ encode_upper (drop 5 bytes)
 
+-- and as fields of JSON
+abbrev pub header_field : List ℕ → List ℕ → ℕ → List ℕ
+header_field name bytes place = if nat_lt place (length bytes) then codes ",\"" ++ name
+    ++ codes "\":\"" ++ encode_upper (get_or bytes place 0 ∷ []) ++ codes "\"" else []
+
+abbrev pub header_fields : List ℕ → List ℕ
+header_fields bytes = header_field (codes "cla") bytes 0 ++ header_field (codes "ins") bytes 1
+    ++ header_field (codes "p1") bytes 2 ++ header_field (codes "p2") bytes 3
+    ++ header_field (codes "p3") bytes 4
+
 abbrev pub header_text : Medium → List ℕ → List ℕ
 header_text Text bytes = encode_upper bytes
 header_text Html bytes = named bytes
+header_text Json bytes = header_fields bytes
 
 -- what is shown in place of hidden data, or of a hidden header
 abbrev pub hidden : List ℕ
 hidden = codes "**"
 
-abbrev pub header_row : Bool → Medium → List ℕ → List ℕ
-header_row is_hidden m bytes = before m Terminal (codes "header")
+abbrev pub shown_header : Bool → Medium → List ℕ → List ℕ
+shown_header is_hidden m bytes = before m Terminal (codes "header")
     ++ (if is_hidden then hidden else header_text m bytes) ++ behind m Terminal
 
+abbrev pub no_header : List ℕ
+no_header = codes ",\"cla\":null,\"ins\":null,\"p1\":null,\"p2\":null,\"p3\":null"
+
+abbrev pub header_row : Bool → Medium → List ℕ → List ℕ
+header_row is_hidden Json bytes = if is_hidden then no_header else header_fields bytes
+header_row is_hidden m bytes = shown_header is_hidden m bytes
+
 -- a status as digits, and a space; words after it give its meaning
-abbrev pub status_digits : List ℕ → List ℕ
-status_digits [] = []
-status_digits (b ∷ status) = encode_upper (b ∷ status) ++ codes " "
+abbrev pub status_digits : Medium → List ℕ → List ℕ
+status_digits Json status = encode_upper status ++ codes "\",\"status_text\":\""
+status_digits m [] = []
+status_digits m (b ∷ status) = encode_upper (b ∷ status) ++ codes " "
 
 abbrev pub status_row : Medium → Side → List ℕ → List ℕ → List ℕ
 status_row m side status words =
-    (before m side (codes "status") ++ status_digits status) ++ letters m row_indent words
+    (before m side (codes "status") ++ status_digits m status) ++ letters m row_indent words
     ++ behind m side
 
 abbrev pub lines_text : List (List ℕ) → List ℕ

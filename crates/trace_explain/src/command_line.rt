@@ -39,9 +39,16 @@ pub fn parsed<'a>(
     let matches = command(alloc, forms)?.try_get_matches_from(words)?;
     let ways = ways(alloc, &matches)?;
     let mask = mask(alloc, &matches)?;
-    let is_page = matches.get_flag("html");
-    let medium = if is_page { Medium::Html } else { Medium::Text };
-    let is_summary = matches.get_flag("summary");
+    let medium = match (matches.get_flag("html"), matches.get_flag("json")) {
+        (true, _) => Medium::Html,
+        (_, true) => Medium::Json,
+        _ => Medium::Text,
+    };
+    let layout = Layout {
+        medium,
+        is_summary: matches.get_flag("summary"),
+        joins: matches.get_flag("commands"),
+    };
     let form = forms
         .iter()
         .find(|name| matches.get_str("form") == Some(**name));
@@ -55,7 +62,7 @@ pub fn parsed<'a>(
             ways,
             of_tpdus: matches.get_flag("tpdu"),
         },
-        layout: Layout { medium, is_summary },
+        layout,
         resumes: matches.get_flag("resume"),
         compared: match matches.get_strs("diff") {
             Some([a, b]) => Some((*a, *b)),
@@ -133,9 +140,16 @@ enum Takes {
 }
 
 /// The options, in the order of the help.
-static OPTIONS: [Row; 12] = [
-    Row("diff", help::DIFF, Takes::Paths, &["html", "summary"]),
-    Row("html", help::HTML, Takes::Nothing, &[]),
+static OPTIONS: [Row; 14] = [
+    Row(
+        "diff",
+        help::DIFF,
+        Takes::Paths,
+        &["html", "json", "commands", "summary"],
+    ),
+    Row("html", help::HTML, Takes::Nothing, &["json"]),
+    Row("json", help::JSON, Takes::Nothing, &[]),
+    Row("commands", help::COMMANDS, Takes::Nothing, &[]),
     Row("mask", help::MASK, Takes::Tags, &[]),
     Row("resume", help::RESUME, Takes::Nothing, &[]),
     Row("form", help::FORM, Takes::Form, &[]),

@@ -20,6 +20,7 @@ const BYTES: usize = 65_536;
 const LAYOUT: Layout = Layout {
     medium: Medium::Text,
     is_summary: true,
+    joins: false,
 };
 
 /// Reads the first lines of a trace: at most `LINES`, or `BYTES`, and the rest of a chunk. A reader

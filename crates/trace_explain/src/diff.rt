@@ -19,6 +19,7 @@ use thiserror::Error;
 const LAYOUT: Layout = Layout {
     medium: Medium::Text,
     is_summary: false,
+    joins: false,
 };
 
 /// Why two traces can't be compared.

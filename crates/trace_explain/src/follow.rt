@@ -1,5 +1,6 @@
 //! Follows the characters of the line: who sends each, and what they add to an opening or a TPDU.
 pub mod chain;
+pub mod command;
 pub mod links;
 pub mod listener;
 pub mod opening;

@@ -12,6 +12,10 @@ pub const DIFF: &str = "Compares the traces of two files, and shows the first TP
 
 pub const HTML: &str = "Writes one page of HTML, which needs no other file, in place of text";
 
+pub const JSON: &str = "Writes one object of JSON in each line, in place of text";
+
+pub const COMMANDS: &str = "Joins TPDUs to commands: parts of a response, and pieces of a chain";
+
 pub const MASK: &str = "Shows `**` for reference data, and for objects with tags such as `5A,57`";
 
 pub const RESUME: &str = "Continues after an unexpected byte";
@@ -96,6 +100,15 @@ parts of a header, and invalid answers may contain any of it, so they are always
 are a header and its data, if such characters or an unexpected byte precede it, or an unexpected
 byte ends it; and data of ENVELOPE that may contain reference data. With `--resume` the program then
 continues only at a line `reset`.
+
+With `--commands` the TPDUs of a command are joined: its repeat after `6CXX`, each GET RESPONSE
+after `61XX`, and the pieces of a chain. After the last one a line shows the command, its last
+status, and how many bytes of a response, or else of data sent, moved in how many TPDUs. A reset or
+a protocol error ends a command. On a page a box that folds has its TPDUs.
+
+With `--json` each line is one object: `tpdu`, `reset`, `atr`, `pps`, `note`, `error`, and at the
+end `summary`. With `--commands` the TPDUs are in objects `command`, with the notes between them.
+What `--mask` hides is `null`, and its object has `\"masked\": true`.
 
 With `--diff` the traces of two files are compared, TPDU by TPDU, and standard input is not read.
 Headers, data with their direction, and statuses are compared, but not procedure bytes, or what is

@@ -1,9 +1,12 @@
 //! Writes the explanation: boxes with rows, and notes between them, as text or as a page.
 pub mod answer;
 pub mod ascii;
+pub mod command_box;
 pub mod complaint_box;
 pub mod counts;
+pub mod fields;
 pub mod html;
+pub mod json_tree;
 pub mod kept;
 pub mod layout;
 pub mod notes;

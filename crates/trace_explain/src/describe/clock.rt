@@ -118,6 +118,19 @@ impl Clock {
         text.push('\n');
     }
 
+    /// The time of the line in which the last TPDU began, in microseconds from where times count.
+    /// `None` if the line has no time.
+    pub fn began_us(&self) -> Option<u64> {
+        Moment::of(self.shown.as_slice())?;
+        Some(self.began?.nanos / 1_000)
+    }
+
+    /// The time from the first line of characters with a time to the last, in microseconds.
+    pub fn whole_us(&self) -> Option<u64> {
+        self.counted?;
+        Some(self.whole? / 1_000)
+    }
+
     /// Adds the time from the first line of characters with a time to the last, or that it is
     /// unknown. Adds nothing if no line of characters has a time.
     pub fn push_whole(&self, text: &mut Sheet) {

@@ -232,6 +232,11 @@ impl Mask {
         }
     }
 
+    /// Whether it hides some of the data of this origin, perhaps by hiding all but the objects.
+    pub fn hides_some(&self, origin: Origin) -> bool {
+        !matches!(self.shown(origin), Shown::All)
+    }
+
     /// How much is shown of an object whose tag P1-P2 name.
     fn shown_of(&self, named: Tag, continues: bool, goes_on: bool) -> Shown
         ensures { ShowsValue self.now.tags.items named continues goes_on result }
@@ -351,4 +356,5 @@ fn tag_of(alloc: Global, digits: &str) -> Result<Tag, TagsFault> {
 /// Adds the line `**`, with its end, in place of hidden data.
 pub fn push_hidden_line(text: &mut Sheet) {
     writeln!(text, "{HIDDEN}");
+    text.hide();
 }

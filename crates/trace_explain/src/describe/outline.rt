@@ -4,6 +4,7 @@ ghost use Rattle.std.specs.Prelude.{◌≡◌, ◌≢◌, [], get_or};
 use crate::follow::story::{header_of, sent, status_of};
 use crate::follow::tally::Tally;
 use crate::follow::tpdu::Tpdu;
+use crate::instructions::instruction;
 use apdu_core::{Header, Status};
 use t0_core::Direction;
 
@@ -53,6 +54,16 @@ impl Outline {
             moved: tpdu.moved.len(),
             status: status_of(tpdu),
             has_sw1: !tpdu.status.is_empty(),
+        }
+    }
+
+    /// The name of the instruction; empty if it is unknown, hidden or cut off.
+    pub fn instruction(&self) -> &'static str {
+        match self.header {
+            Some((header, _)) if !self.is_hidden => {
+                instruction(header.cla, header.ins).map_or("", |(name, ..)| name)
+            }
+            _ => "",
         }
     }
 }

@@ -55,6 +55,8 @@ pub struct Links {
     pub continues: bool,
     /// The same for the card's data beside the terminal's.
     pub answer_continues: bool,
+    /// It continues the command of the TPDU right before it.
+    pub joins: bool,
 }
 
 impl Links {

@@ -167,6 +167,7 @@ impl Story {
             asker: None,
             continues: false,
             answer_continues: false,
+            joins: false,
         }
     }
 }

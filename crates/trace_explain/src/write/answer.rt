@@ -7,7 +7,7 @@ use crate::describe::mask::Mask;
 use crate::follow::opening::{is_direct, is_short};
 use crate::follow::preface::Preface;
 use crate::write::ascii::push_digits;
-use crate::write::layout::{Anchor, Kind, Side};
+use crate::write::layout::{Anchor, Kind, Side, Topic};
 use crate::write::page::Page;
 use crate::write::pps::push_characters;
 use crate::write::sheet::Sheet;
@@ -19,7 +19,7 @@ pub fn tell_answer(mask: &Mask, preface: &Preface, page: &mut Page) {
     let bytes = preface.answer.as_slice();
     let read = Atr::read(bytes);
     let kind = kind_of(&read);
-    page.open(kind, Anchor::None, "answer to reset", preface.line);
+    page.open(kind, Anchor::None, Topic::Answer, preface.line);
     push_characters(&mut page.lines, mask, bytes, read.is_ok());
     page.row(Side::Card, "characters");
     if !is_direct(preface.turned) {

@@ -3,13 +3,13 @@
 use crate::describe::complaint::{ASTRAY, Complaint, end_text, expected_text};
 use crate::describe::mask::Mask;
 use crate::follow::pair::PairFault;
-use crate::write::layout::{Anchor, Kind, Side};
+use crate::write::layout::{Anchor, Kind, Side, Topic};
 use crate::write::page::Page;
 
 /// Adds the box of the protocol error with this number, an unexpected byte.
 pub fn tell_complaint(number: u64, complaint: Complaint, page: &mut Page) {
     let anchor = Anchor::Error(number);
-    page.open(Kind::Error, anchor, "unexpected byte", complaint.line);
+    page.open(Kind::Error, anchor, Topic::Byte, complaint.line);
     let character = complaint.place.saturating_add(1);
     writeln!(page.lines, "line {}, character {character}", complaint.line);
     page.row(Side::Nobody, "place");
@@ -17,6 +17,9 @@ pub fn tell_complaint(number: u64, complaint: Complaint, page: &mut Page) {
     page.row(Side::Nobody, "expected");
     let (received, from) = (complaint.received, end_text(complaint.from));
     writeln!(page.lines, "{received} from the {from}");
+    if received.hides {
+        page.lines.hide();
+    }
     page.row(Side::Nobody, "received");
     if complaint.is_astray {
         page.lines.push_str(ASTRAY);
@@ -37,7 +40,7 @@ pub fn tell_bad_pair(
     page: &mut Page,
 ) {
     let anchor = Anchor::Error(number);
-    page.open(Kind::Error, anchor, "unexpected command or answer", line);
+    page.open(Kind::Error, anchor, Topic::Pair, line);
     writeln!(page.lines, "{why}");
     page.row(Side::Nobody, "fault");
     mask.push_unknown(&mut page.lines, command);

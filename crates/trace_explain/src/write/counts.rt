@@ -7,7 +7,6 @@ use crate::follow::tpdu::Tpdu;
 use crate::instructions::instruction;
 use crate::write::layout::Side;
 use crate::write::page::Page;
-use crate::write::sheet::Sheet;
 use std::alloc::{AllocError, Global};
 use std::collections::BTreeMap;
 
@@ -112,51 +111,61 @@ impl Counts {
     /// If one step is unknown, so is the time.
     pub fn tell(&self, clock: &Clock, page: &mut Page) {
         page.open_block();
-        write!(page.lines, "{}", self.tpdus);
-        if self.cut_off > 0 {
-            write!(page.lines, " (cut off: {})", self.cut_off);
+        if page.is_json() {
+            page.number("tpdus", self.tpdus);
+            page.number("cut_off", self.cut_off);
+            page.number("errors", self.complaints);
+            if let Some(micros) = clock.whole_us() {
+                page.number("time_us", micros);
+            }
+        } else {
+            write!(page.lines, "{}", self.tpdus);
+            if self.cut_off > 0 {
+                write!(page.lines, " (cut off: {})", self.cut_off);
+            }
+            page.line_row("TPDUs", "\n");
         }
-        page.line_row("TPDUs", "\n");
-        self.push_commands(&mut page.lines);
-        page.row(Side::Nobody, "commands");
-        self.push_statuses(&mut page.lines);
-        page.row(Side::Nobody, "statuses");
-        writeln!(page.lines, "errors: {}", self.complaints);
-        page.row(Side::Nobody, "protocol");
-        clock.push_whole(&mut page.lines);
-        page.row(Side::Nobody, "time");
+        page.begin_counts("commands");
+        self.count_commands(page);
+        page.end_counts("commands", "none\n");
+        page.begin_counts("statuses");
+        self.count_statuses(page);
+        page.end_counts("statuses", "none other than 9000\n");
+        if !page.is_json() {
+            writeln!(page.lines, "errors: {}", self.complaints);
+            page.row(Side::Nobody, "protocol");
+            clock.push_whole(&mut page.lines);
+            page.row(Side::Nobody, "time");
+        }
         page.link_errors(self.error_lines.as_slice(), self.complaints);
         page.link_statuses(self.first_unwell.as_slice(), self.unwell);
         page.close_block();
     }
 
-    /// Adds a line for each name of a command, for each INS without a name, and for headers that
+    /// Adds a count for each name of a command, for each INS without a name, and for headers that
     /// are cut off or hidden.
-    fn push_commands(&self, text: &mut Sheet) {
+    fn count_commands(&self, page: &mut Page) {
         for (name, count) in &self.named {
-            writeln!(text, "{name}: {count}");
+            page.lines.push_str(name);
+            page.count(*count);
         }
         for (ins, count) in &self.unnamed {
-            writeln!(text, "INS {ins:02X}: {count}");
+            write!(page.lines, "INS {ins:02X}");
+            page.count(*count);
         }
-        if self.parts > 0 {
-            writeln!(text, "part of a header: {}", self.parts);
-        }
-        if self.hidden > 0 {
-            writeln!(text, "{HIDDEN}: {}", self.hidden);
-        }
-        if text.is_empty() {
-            text.push_str("none\n");
+        for (name, count) in [("part of a header", self.parts), (HIDDEN, self.hidden)] {
+            if count > 0 {
+                page.lines.push_str(name);
+                page.count(count);
+            }
         }
     }
 
-    /// Adds a line for each status other than `9000`, in the order of the words.
-    fn push_statuses(&self, text: &mut Sheet) {
+    /// Adds a count for each status other than `9000`, in the order of the words.
+    fn count_statuses(&self, page: &mut Page) {
         for (word, count) in &self.statuses {
-            writeln!(text, "{word:04X}: {count}");
-        }
-        if text.is_empty() {
-            text.push_str("none other than 9000\n");
+            write!(page.lines, "{word:04X}");
+            page.count(*count);
         }
     }
 }

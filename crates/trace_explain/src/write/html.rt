@@ -1,4 +1,5 @@
-//! Parts of a page of HTML. The page needs no other file, no script and no network.
+//! The start and end of boxes, and parts of a page of HTML. The page needs no other file, no script
+//! and no network.
 ghost use Rattle.std.specs.Prelude.{◌≡◌};
 ghost use Rattle.trace_explain.specs.Sheets.{Adds};
 ghost use Rattle.trace_explain.specs.Written.{box_begin, box_end, class_of, fold_text, id_text, mark_text, name_of, whole_mark};
@@ -6,7 +7,7 @@ ghost use Rattle.trace_explain.specs.Written.{box_begin, box_end, class_of, fold
 use crate::write::layout::{Anchor, Kind, Medium};
 use crate::write::sheet::Sheet;
 
-/// Adds the start of a box on a page, up to its title.
+/// Adds the start of a box, up to its title. Text has none.
 pub fn push_box(sheet: &mut Sheet, kind: Kind, anchor: Anchor)
     ensures { Adds sheet.old (box_begin sheet.old.layout.medium kind anchor) sheet.new }
 {
@@ -19,6 +20,7 @@ pub fn push_box(sheet: &mut Sheet, kind: Kind, anchor: Anchor)
             push_id(sheet, anchor);
             sheet.push_str(fold_of(kind));
         }
+        Medium::Json => sheet.push_str("{\"type\":\""),
     }
 }
 
@@ -29,6 +31,7 @@ pub fn push_box_end(sheet: &mut Sheet)
     match sheet.layout().medium {
         Medium::Text => {}
         Medium::Html => sheet.push_str("</details>\n"),
+        Medium::Json => sheet.push_str("}"),
     }
 }
 
@@ -86,12 +89,12 @@ pub fn push_name(sheet: &mut Sheet, anchor: Anchor)
     }
 }
 
-/// Adds the status in a title, if it is whole. Text has none.
+/// Adds the status in a title of a page, if it is whole.
 pub fn push_mark(sheet: &mut Sheet, kind: Kind, status: &[u8])
     ensures { Adds sheet.old (mark_text sheet.old.layout.medium kind status.now) sheet.new }
 {
     match sheet.layout().medium {
-        Medium::Text => {}
+        Medium::Text | Medium::Json => {}
         Medium::Html => push_whole_mark(sheet, kind, status),
     }
 }

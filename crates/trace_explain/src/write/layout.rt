@@ -1,4 +1,4 @@
-//! The layout of an explanation: text or HTML, and the kinds of boxes and rows.
+//! The layout of an explanation: text, HTML or JSON, and the kinds of boxes and rows.
 
 /// The format of an explanation.
 #[derive(Clone, Copy)]
@@ -7,6 +7,8 @@ pub enum Medium {
     Text,
     /// One page of HTML.
     Html,
+    /// One object of JSON in each line.
+    Json,
 }
 
 /// The layout of an explanation.
@@ -16,6 +18,8 @@ pub struct Layout {
     pub medium: Medium,
     /// Whether only the last block is written.
     pub is_summary: bool,
+    /// Whether TPDUs are joined to commands.
+    pub joins: bool,
 }
 
 /// Which end sent what a row shows.
@@ -42,6 +46,25 @@ pub enum Kind {
     CutOff,
     /// A protocol error, or an invalid answer to reset.
     Error,
+}
+
+/// What a box or a note is about, if it is not a TPDU.
+#[derive(Clone, Copy)]
+pub enum Topic {
+    /// An answer to reset.
+    Answer,
+    /// A PPS exchange.
+    Pps,
+    /// An unexpected byte.
+    Byte,
+    /// An unexpected command or answer of a log.
+    Pair,
+    /// A line without characters, or bytes outside of TPDUs.
+    Note,
+    /// A reset.
+    Reset,
+    /// A command of several TPDUs.
+    Command,
 }
 
 /// The name of a box in links.

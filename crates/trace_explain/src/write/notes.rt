@@ -3,6 +3,7 @@
 use crate::describe::mask::{HIDDEN, Mask, push_hidden_line};
 use crate::resuming::Passed;
 use crate::write::ascii::are_printable;
+use crate::write::layout::{Medium, Topic};
 use crate::write::page::Page;
 use crate::write::sheet::Sheet;
 use std::fmt;
@@ -70,7 +71,7 @@ pub fn tell_passed(passed: Option<Passed>, page: &mut Page) {
 pub fn tell_bytes(what: &str, bytes: &[u8], mask: &Mask, page: &mut Page) {
     page.lines.push_str(what);
     mask.push_unknown(&mut page.lines, bytes);
-    page.note();
+    page.note(Topic::Note);
 }
 
 /// Adds a line without characters, if not empty. A mask that hides anything hides the line.
@@ -83,13 +84,17 @@ pub fn tell_note(note: &[u8], mask: &Mask, page: &mut Page) {
     } else {
         push_note(&mut page.lines, note);
     }
-    page.note();
+    page.note(Topic::Note);
 }
 
 /// Adds a note, in several lines if it is long.
 fn push_note(text: &mut Sheet, note: &[u8]) {
-    let is_plain = are_printable(note);
-    for piece in note.chunks(if is_plain { NOTE_BYTES } else { ODD_BYTES }) {
+    let size = match text.layout().medium {
+        Medium::Json => usize::MAX,
+        _ if are_printable(note) => NOTE_BYTES,
+        _ => ODD_BYTES,
+    };
+    for piece in note.chunks(size) {
         push_printable(text, piece);
         text.push('\n');
     }

@@ -3,7 +3,7 @@ ghost use Rattle.std.specs.Prelude.{◌≡◌, true};
 ghost use Rattle.trace_explain.specs.Sheets.{Joins};
 ghost use Rattle.trace_explain.specs.Words.{has_own, is_own};
 
-use crate::write::layout::{Anchor, Kind, Layout, Medium, Side};
+use crate::write::layout::{Anchor, Kind, Layout, Medium, Side, Topic};
 use crate::write::row::ROW_INDENT;
 use crate::write::sheet::Sheet;
 use crate::write::style::STYLE;
@@ -18,6 +18,14 @@ const COLUMNS: usize = 100;
 #[derive(Drop)]
 pub struct Page {
     layout: Layout,
+    /// The current line of the trace.
+    pub line: u64,
+    /// Whether a field of the current object of JSON is hidden.
+    is_masked: bool,
+    /// Whether objects of JSON are those of a list.
+    is_list: bool,
+    /// Whether the next count is the first of its object.
+    is_first: bool,
     pieces: Vec<Piece>,
     /// The texts of the pieces, one after another, or that of a row in the box of a TPDU.
     pub text: Sheet,
@@ -32,6 +40,10 @@ impl Page {
     pub fn new(alloc: Global, layout: Layout) -> Page {
         Page {
             layout,
+            line: 0,
+            is_masked: false,
+            is_list: false,
+            is_first: true,
             pieces: Vec::new(alloc),
             text: Sheet::new(alloc, layout),
             begins: 0,
@@ -62,6 +74,16 @@ impl Page {
         self.text.is_cut() || self.lines.is_cut()
     }
 
+    /// Whether TPDUs are joined to commands.
+    pub fn joins(&self) -> bool {
+        self.layout.joins
+    }
+
+    /// Whether it is JSON.
+    pub fn is_json(&self) -> bool {
+        matches!(self.layout.medium, Medium::Json)
+    }
+
     /// Whether the next part is added.
     fn prints(&self) -> bool {
         !self.layout.is_summary && !self.lines.is_cut()
@@ -87,19 +109,32 @@ impl Page {
         }
     }
 
-    /// Opens a box with this title.
-    pub fn open(&mut self, kind: Kind, anchor: Anchor, title: &'static str, line: u64)
-        requires own { is_own title.now ≡ true }
-    {
+    /// Opens a box about this.
+    pub fn open(&mut self, kind: Kind, anchor: Anchor, topic: Topic, line: u64) {
         if self.prints() {
-            self.add(Form::Box(kind, anchor, title, line));
+            if self.is_list {
+                self.add(Form::Comma);
+            }
+            self.add(Form::Box(kind, anchor, topic, line));
         }
     }
 
-    /// Closes the box, which matters on a page of HTML alone.
+    /// Closes the box. Text has no end of a box.
     pub fn close(&mut self) {
         if self.prints() {
+            if self.is_masked {
+                self.add(Form::True("masked"));
+                self.is_masked = false;
+            }
             self.add(Form::BoxEnd);
+            self.end_line();
+        }
+    }
+
+    /// Ends the line of an object of JSON, unless it is in a list.
+    pub fn end_line(&mut self) {
+        if self.is_json() && self.prints() && !self.is_list {
+            self.add(Form::LineEnd);
         }
     }
 
@@ -108,8 +143,113 @@ impl Page {
         requires own { is_own label.now ≡ true }
     {
         if self.prints() {
-            self.wrap(ROW_INDENT.len());
-            self.add(Form::Row(side, label));
+            if self.is_json() && self.lines.hides() {
+                self.add(Form::Null(label));
+                self.is_masked = true;
+            } else {
+                self.wrap(ROW_INDENT.len());
+                self.add(Form::Row(side, label));
+            }
+        }
+        self.lines.clear();
+    }
+
+    /// Adds bytes with this label to an object of JSON.
+    pub fn bytes(&mut self, label: &'static str, bytes: &[u8])
+        requires own { is_own label.now ≡ true }
+    {
+        if self.prints() {
+            self.text.push_str("\n");
+            self.text.push_hex(bytes);
+            self.add(Form::Row(Side::Nobody, label));
+        }
+    }
+
+    /// Adds a field without a value to an object of JSON.
+    pub fn null(&mut self, label: &'static str)
+        requires own { is_own label.now ≡ true }
+    {
+        if self.prints() {
+            self.add(Form::Null(label));
+        }
+    }
+
+    /// Adds a number with this label to an object of JSON.
+    pub fn number(&mut self, label: &'static str, number: u64)
+        requires own { is_own label.now ≡ true }
+    {
+        if self.prints() {
+            self.add(Form::Number(label, number));
+        }
+    }
+
+    /// Begins counts with this label.
+    pub fn begin_counts(&mut self, label: &'static str)
+        requires own { is_own label.now ≡ true }
+    {
+        if self.is_json() {
+            self.add(Form::Map(label));
+            self.is_first = true;
+        }
+    }
+
+    /// Adds a count of what the last line names.
+    pub fn count(&mut self, number: u64) {
+        if !self.is_json() {
+            writeln!(self.lines, ": {number}");
+            return;
+        }
+        if !self.is_first {
+            self.add(Form::Comma);
+        }
+        self.is_first = false;
+        self.text.push_str(self.lines.as_str());
+        self.add(Form::Count(number));
+        self.lines.clear();
+    }
+
+    /// Ends these counts, with this line if it has no count.
+    pub fn end_counts(&mut self, label: &'static str, none: &str)
+        requires own { is_own label.now ≡ true }
+    {
+        if self.is_json() {
+            self.add(Form::BoxEnd);
+            return;
+        }
+        if self.lines.is_empty() {
+            self.lines.push_str(none);
+        }
+        self.row(Side::Nobody, label);
+    }
+
+    /// Begins the list of the TPDUs of a command.
+    pub fn begin_list(&mut self) {
+        if self.prints() {
+            self.add(Form::List);
+            self.is_list = self.is_json();
+        }
+    }
+
+    /// Separates a TPDU from those before it in the list.
+    pub fn separate(&mut self) {
+        if self.prints() && self.is_list {
+            self.add(Form::Comma);
+        }
+    }
+
+    /// Ends the list.
+    pub fn end_list(&mut self) {
+        if self.prints() {
+            self.add(Form::ListEnd);
+            self.is_list = false;
+        }
+    }
+
+    /// Adds the lines as the line of a command.
+    pub fn command(&mut self) {
+        if self.prints() {
+            self.wrap(2);
+            self.add(Form::Command);
         }
         self.lines.clear();
     }
@@ -208,11 +348,17 @@ impl Page {
         }
     }
 
-    /// Adds the lines as a note, with their empty lines; nothing if there are no lines.
-    pub fn note(&mut self) {
+    /// Adds the lines as a note, with their empty lines; nothing if there are no lines. In JSON it
+    /// is an object about this topic.
+    pub fn note(&mut self, topic: Topic) {
+        if self.is_json() && !self.lines.is_empty() {
+            self.open(Kind::Well, Anchor::None, topic, self.line);
+            self.row(Side::Nobody, "text");
+            self.close();
+        }
         if self.prints() && !self.lines.is_empty() {
             match self.layout.medium {
-                Medium::Html => self.text.push_str(self.lines.as_str()),
+                Medium::Html | Medium::Json => self.text.push_str(self.lines.as_str()),
                 Medium::Text => {
                     for line in self.lines.as_str().lines() {
                         self.text.push('\n');
@@ -228,7 +374,7 @@ impl Page {
     /// Adds a note that ends with this text, after the lines.
     pub fn note_line(&mut self, line: &str) {
         self.lines.push_str(line);
-        self.note();
+        self.note(Topic::Note);
     }
 }
 
@@ -236,7 +382,7 @@ impl Page {
 /// replaces a space, and the words continue in column `indent`. Returns the column after the words.
 fn push_wrapped(out: &mut Sheet, words: &str, begins: usize, wrap: &str, indent: usize) -> usize {
     let behind = begins.saturating_add(words.len());
-    if behind <= COLUMNS || matches!(out.layout().medium, Medium::Html) {
+    if behind <= COLUMNS || !matches!(out.layout().medium, Medium::Text) {
         out.push_str(words);
         return behind;
     }

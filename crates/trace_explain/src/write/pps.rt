@@ -4,7 +4,7 @@ use crate::describe::mask::Mask;
 use crate::follow::preface::Preface;
 use crate::write::answer::push_rate;
 use crate::write::ascii::push_hex_lines;
-use crate::write::layout::{Anchor, Kind, Side};
+use crate::write::layout::{Anchor, Kind, Side, Topic};
 use crate::write::page::Page;
 use crate::write::sheet::Sheet;
 use atr_core::{Pps, PpsFault, agreed};
@@ -18,7 +18,7 @@ pub fn tell_pps(mask: &Mask, preface: &Preface, page: &mut Page) {
     let response = Pps::read(answered);
     let is_whole = request.is_ok() && response.is_ok();
     let kind = if is_whole { Kind::Well } else { Kind::CutOff };
-    page.open(kind, Anchor::None, "PPS", preface.line);
+    page.open(kind, Anchor::None, Topic::Pps, preface.line);
     push_characters(&mut page.lines, mask, asked, request.is_ok());
     push_pps(&mut page.lines, &request);
     page.row(Side::Terminal, "request");

@@ -19,6 +19,7 @@ pub fn push_before(sheet: &mut Sheet, side: Side, label: &str)
     match medium {
         Medium::Text => sheet.push_spaces(11usize.saturating_sub(label.len())),
         Medium::Html => sheet.push_str("</b><pre>"),
+        Medium::Json => sheet.push_str("\":\""),
     }
 }
 
@@ -34,6 +35,7 @@ pub fn marks(medium: Medium, side: Side) -> (&'static str, &'static str)
         (Medium::Html, Side::Terminal) => ("<div class=\"m t\"><b>", "</pre><i></i></div>\n"),
         (Medium::Html, Side::Card) => ("<div class=\"m c\"><b>", "</pre><i></i></div>\n"),
         (Medium::Html, Side::Nobody) => ("<div class=\"m n\"><b>", "</pre></div>\n"),
+        (Medium::Json, _) => (",\"", "\""),
     }
 }
 
@@ -48,7 +50,7 @@ fn push_row(sheet: &mut Sheet, side: Side, label: &str, text: &[u8])
 }
 
 /// Adds each byte as a character. In text, `indent` follows LF. On a page of HTML, `<`, `>` and `&`
-/// are escaped.
+/// are escaped; in JSON quotes, backslashes and control characters.
 pub fn push_letters(sheet: &mut Sheet, medium: Medium, indent: &str, text: &[u8])
     ensures { Adds sheet.old (letters medium indent.now text.now) sheet.new }
 {
@@ -97,6 +99,7 @@ fn is_plain(medium: Medium, byte: u8) -> bool
     match medium {
         Medium::Text => byte < 0x80 && byte != b'\n',
         Medium::Html => byte < 0x80 && !matches!(byte, b'<' | b'>' | b'&'),
+        Medium::Json => matches!(byte, b' '..=b'~') && !matches!(byte, b'"' | b'\\'),
     }
 }
 
@@ -112,6 +115,13 @@ fn push_letter(sheet: &mut Sheet, medium: Medium, indent: &str, byte: u8)
         (Medium::Html, b'<') => sheet.push_str("&lt;"),
         (Medium::Html, b'>') => sheet.push_str("&gt;"),
         (Medium::Html, b'&') => sheet.push_str("&amp;"),
+        (Medium::Json, b'\n') => sheet.push_str("\\n"),
+        (Medium::Json, b'"') => sheet.push_str("\\\""),
+        (Medium::Json, b'\\') => sheet.push_str("\\\\"),
+        (Medium::Json, 0..=31) => {
+            sheet.push_str("\\u00");
+            sheet.push_hex(&[byte]);
+        }
         _ => sheet.push(char::from(byte)),
     }
 }

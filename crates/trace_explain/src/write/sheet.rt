@@ -18,6 +18,8 @@ pub struct Sheet {
     layout: Layout,
     text: String,
     is_cut: bool,
+    /// Whether a part of the text is `**` in place of hidden data.
+    hides: bool,
 }
 
 impl Sheet {
@@ -31,6 +33,7 @@ impl Sheet {
             layout,
             text: String::new(alloc),
             is_cut: false,
+            hides: false,
         }
     }
 
@@ -101,6 +104,16 @@ impl Sheet {
         self.is_cut = true;
     }
 
+    /// Notes that the text shows `**` in place of hidden data.
+    pub fn hide(&mut self) {
+        self.hides = true;
+    }
+
+    /// Whether it does.
+    pub fn hides(&self) -> bool {
+        self.hides
+    }
+
     /// The text since the last call of `clear`.
     pub fn as_str(&self) -> &str
         ensures { result.now ≡ string_bytes self.now.text }
@@ -127,6 +140,7 @@ impl Sheet {
         ensures is_cut { self.new.is_cut ≡ self.old.is_cut }
     {
         self.text.clear();
+        self.hides = false;
     }
 
     /// Returns an error if memory ran out.

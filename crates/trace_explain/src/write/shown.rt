@@ -1,7 +1,7 @@
 //! The number, line, header and status of a TPDU.
 ghost use Rattle.std.specs.Prelude.{◌≡◌, ◌++◌, ℕ, List, codes, drop};
 ghost use Rattle.trace_explain.specs.Sheets.{Adds, HasText};
-ghost use Rattle.trace_explain.specs.Written.{before, character_text, header_row, header_text, line_before, line_behind, line_text, named, number_text, status_digits, status_row, title_text};
+ghost use Rattle.trace_explain.specs.Written.{before, character_text, header_row, header_text, line_before, line_behind, line_text, named, number_text, status_digits, status_row, title_text, number_before, number_behind, header_field, header_fields, shown_header};
 
 use crate::write::ascii::cut;
 use crate::write::html::{push_box, push_mark};
@@ -31,20 +31,32 @@ pub fn push_title(
     } else {
         let medium = sheet.layout().medium;
         push_box(sheet, kind, Anchor::Tpdu(number));
-        push_number(sheet, number);
+        push_number(sheet, medium, number);
         push_letters(sheet, medium, TITLE_INDENT, words.as_str().as_bytes());
         push_mark(sheet, kind, status);
         push_line(sheet, line);
     }
 }
 
-/// Adds the number of a TPDU, and a space.
-fn push_number(sheet: &mut Sheet, number: u64)
-    ensures { Adds sheet.old (number_text number) sheet.new }
+/// Adds the number of a TPDU, and what is before its title.
+fn push_number(sheet: &mut Sheet, medium: Medium, number: u64)
+    ensures { Adds sheet.old (number_text medium number) sheet.new }
 {
-    sheet.push_str("#");
+    let (before, behind) = number_marks(medium);
+    sheet.push_str(before);
     sheet.push_number(number);
-    sheet.push_str(" ");
+    sheet.push_str(behind);
+}
+
+/// The text before and after the number of a TPDU.
+fn number_marks(medium: Medium) -> (&'static str, &'static str)
+    ensures before { result.0.now ≡ number_before medium }
+    ensures behind { result.1.now ≡ number_behind medium }
+{
+    match medium {
+        Medium::Text | Medium::Html => ("#", " "),
+        Medium::Json => ("tpdu\",\"number\":", ",\"title\":\""),
+    }
 }
 
 /// Adds the line where a TPDU begins, and the end of its title.
@@ -65,12 +77,52 @@ fn line_marks(medium: Medium) -> (&'static str, &'static str)
     match medium {
         Medium::Text => ("(line ", ")\n"),
         Medium::Html => (" <small>line ", "</small></summary>\n"),
+        Medium::Json => ("\",\"line\":", ""),
     }
 }
 
 /// Adds the row of a header, or `**` if it is hidden. On a page each character follows its name.
+/// In JSON each is a field, `null` if it is hidden.
 pub fn push_header(sheet: &mut Sheet, is_hidden: bool, header: &[u8])
     ensures { Adds sheet.old (header_row is_hidden sheet.old.layout.medium header.now) sheet.new }
+{
+    match sheet.layout().medium {
+        Medium::Json if is_hidden => sheet.push_str(NO_HEADER),
+        Medium::Json => push_fields(sheet, header),
+        _ => push_header_row(sheet, is_hidden, header),
+    }
+}
+
+/// The fields of a hidden header.
+const NO_HEADER: &str = ",\"cla\":null,\"ins\":null,\"p1\":null,\"p2\":null,\"p3\":null";
+
+/// Adds the characters of a header as fields of JSON.
+fn push_fields(sheet: &mut Sheet, header: &[u8])
+    ensures { Adds sheet.old (header_fields header.now) sheet.new }
+{
+    push_field(sheet, "cla", header, 0);
+    push_field(sheet, "ins", header, 1);
+    push_field(sheet, "p1", header, 2);
+    push_field(sheet, "p2", header, 3);
+    push_field(sheet, "p3", header, 4);
+}
+
+/// Adds the character of a header at this place, counted from 0, as a field of JSON.
+fn push_field(sheet: &mut Sheet, name: &str, header: &[u8], place: usize)
+    ensures { Adds sheet.old (header_field name.now header.now place) sheet.new }
+{
+    if place < header.len() {
+        sheet.push_str(",\"");
+        sheet.push_str(name);
+        sheet.push_str("\":\"");
+        sheet.push_hex(&[header[place]]);
+        sheet.push_str("\"");
+    }
+}
+
+/// Adds the row of a header in text or on a page.
+fn push_header_row(sheet: &mut Sheet, is_hidden: bool, header: &[u8])
+    ensures { Adds sheet.old (shown_header is_hidden sheet.old.layout.medium header.now) sheet.new }
 {
     let medium = sheet.layout().medium;
     push_before(sheet, Side::Terminal, "header");
@@ -89,6 +141,7 @@ fn push_characters(sheet: &mut Sheet, medium: Medium, header: &[u8])
     match medium {
         Medium::Text => sheet.push_hex(header),
         Medium::Html => push_named(sheet, header),
+        Medium::Json => push_fields(sheet, header),
     }
 }
 
@@ -133,14 +186,22 @@ pub fn push_status(sheet: &mut Sheet, side: Side, status: &[u8], words: &Sheet)
     }
 }
 
-/// Adds the start of the row of a status: its characters, and a space if there are any.
+/// Adds the start of the row of a status: its characters, and what separates words from them.
 fn push_status_digits(sheet: &mut Sheet, side: Side, status: &[u8])
     ensures { Adds sheet.old (before sheet.old.layout.medium side (codes "status")
-        ++ status_digits status.now) sheet.new }
+        ++ status_digits sheet.old.layout.medium status.now) sheet.new }
 {
+    let medium = sheet.layout().medium;
     push_before(sheet, side, "status");
-    if !status.is_empty() {
-        sheet.push_hex(status);
-        sheet.push_str(" ");
+    match medium {
+        Medium::Json => {
+            sheet.push_hex(status);
+            sheet.push_str("\",\"status_text\":\"");
+        }
+        _ if !status.is_empty() => {
+            sheet.push_hex(status);
+            sheet.push_str(" ");
+        }
+        _ => {}
     }
 }

@@ -11,6 +11,7 @@ ghost use Rattle.trace_explain.specs.Reports.{Report, loose, no_report, report_o
 use crate::describe::clock::Clock;
 use crate::describe::complaint::Complaint;
 use crate::describe::mask::Mask;
+use crate::follow::command::Command;
 use crate::follow::links::Links;
 use crate::follow::listener::{Listener, ListenerFault};
 use crate::follow::opening::{Role, Stage};
@@ -19,10 +20,11 @@ use crate::follow::preface::Preface;
 use crate::follow::story::Story;
 use crate::follow::tpdu::Tpdu;
 use crate::read::entry::Entry;
+use crate::write::command_box::{tell_begin, tell_end, tell_next};
 use crate::write::complaint_box::{tell_bad_pair, tell_complaint};
 use crate::write::counts::Counts;
 use crate::write::kept::{Keeping, Kept};
-use crate::write::layout::Layout;
+use crate::write::layout::{Layout, Topic};
 use crate::write::notes::{Excerpt, tell_bytes, tell_note};
 use crate::write::output::Output;
 use crate::write::preface_box::{tell_after, tell_before, tell_part};
@@ -49,6 +51,8 @@ pub struct Teller {
     /// Whether the next pair of a log is loose: bytes that are no pair precede it.
     is_loose: bool,
     story: Story,
+    /// The command whose TPDUs are written.
+    command: Command,
     /// The times of the lines.
     clock: Clock,
     /// Why the first unexpected command or answer of a log is one. The line is that of its command.
@@ -85,6 +89,7 @@ impl Teller {
             is_led: false,
             is_loose: false,
             story: Story::new(alloc),
+            command: Command::new(alloc),
             clock: Clock::new(alloc),
             first_bad: None,
             first_note: None,
@@ -104,6 +109,7 @@ impl Teller {
         ensures { StaysWritten self.old self.new }
     {
         self.line = line;
+        self.output.page.line = line;
         self.clock.pass(time)
     }
 
@@ -173,10 +179,11 @@ impl Teller {
     fn tell_reset(&mut self, words: &str)
         ensures { StaysWritten self.old self.new }
     {
+        tell_end(&mut self.command, &mut self.output.page);
         let drops = self.story.reset();
         let dropped = if drops { ": the chain is dropped" } else { "" };
         writeln!(self.output.page.lines, "{words}{dropped}");
-        self.output.page.note();
+        self.output.page.note(Topic::Reset);
     }
 
     /// Hears a character of the dialogue, and writes the TPDU that ends with it or before it.
@@ -233,7 +240,26 @@ impl Teller {
         let is_hidden = self.mask.hides_header(tpdu.is_doubtful());
         self.counts.take(tpdu, is_hidden)?;
         let links = self.story.tell(tpdu)?.shown(is_hidden);
-        self.tell(tpdu, links)
+        self.tell_in_command(tpdu, links, is_hidden)
+    }
+
+    /// Writes a TPDU, whose header may be hidden, in its command.
+    fn tell_in_command(
+        &mut self,
+        tpdu: &Tpdu,
+        links: Links,
+        is_hidden: bool,
+    ) -> Result<(), AllocError>
+        requires asker { HasAsker tpdu.now.header.items links }
+        ensures { OnOk result (AddsBox links.number self.old.began (report_of tpdu.now)
+            (account_of self.old) (account_of self.new)) }
+    {
+        let joins = self.command.continues_with(links.link);
+        let links = Links { joins, ..links };
+        tell_begin(&mut self.command, links, self.began, &mut self.output.page);
+        self.tell(tpdu, links)?;
+        let (mask, page) = (&self.mask, &mut self.output.page);
+        tell_next(&mut self.command, tpdu, links, is_hidden, mask, page)
     }
 
     /// Writes the box of a TPDU, or keeps the TPDU with its box.
@@ -328,6 +354,7 @@ impl Teller {
     {
         listener.under_way.is_loose = true;
         self.cut_off(listener)?;
+        tell_end(&mut self.command, &mut self.output.page);
         self.story.lose_some();
         self.counts.complain(complaint.line)?;
         let number = self.counts.complaints();
@@ -342,6 +369,7 @@ impl Teller {
 
     /// Notes that bytes precede which are no pair.
     fn lose_some(&mut self) {
+        tell_end(&mut self.command, &mut self.output.page);
         self.is_loose = true;
         self.story.lose_some();
     }
@@ -442,6 +470,7 @@ impl Teller {
     {
         self.tell_part(preface);
         self.cut_off(listener)?;
+        tell_end(&mut self.command, &mut self.output.page);
         self.counts.tell(&self.clock, &mut self.output.page);
         self.output.outcome()
     }

@@ -1,7 +1,7 @@
 //! The box of a TPDU, row by row.
 ghost use Rattle.std.specs.Prelude.{◌≡◌, ◌∷◌, [], false};
-ghost use Rattle.trace_explain.specs.Boxes.{HasAsker, IsAnswer, IsData, IsStatus, IsTitle, IsTogether, PutsBox, PutsDataRow, PutsWhole, ShowsData, side_of, status_side};
-ghost use Rattle.trace_explain.specs.Sheets.{Puts, PutsLines};
+ghost use Rattle.trace_explain.specs.Boxes.{HasAsker, IsAnswer, IsData, IsDataRow, IsFields, IsStatus, IsTitle, IsTogether, PutsBox, PutsDataRow, PutsWhole, ShowsData, no_data, side_of, status_side};
+ghost use Rattle.trace_explain.specs.Sheets.{Adds, Puts, PutsLines};
 ghost use Rattle.trace_explain.specs.Reports.{report_of};
 ghost use Rattle.trace_explain.specs.Written.{hidden};
 
@@ -15,14 +15,17 @@ use crate::follow::story::Story;
 use crate::follow::tpdu::{Tpdu, are_status};
 use crate::instructions::may_have_objects;
 use crate::write::ascii::push_digits;
+use crate::write::fields::{Fields, push_fields};
 use crate::write::html::push_box_end;
-use crate::write::layout::{Kind, Side};
+use crate::write::json_tree::push_data;
+use crate::write::layout::{Kind, Medium, Side};
 use crate::write::output::Output;
 use crate::write::page::Page;
 use crate::write::row::{ROW_INDENT, push_lines_row, push_row_of};
 use crate::write::sheet::Sheet;
 use crate::write::shown::{push_header, push_status, push_title};
 use crate::write::tree_row::push_tree;
+use apdu_core::count;
 use t0_core::Direction;
 
 /// Adds the box of a TPDU; nothing for a summary. `began` is the line where it began. `links` and
@@ -50,7 +53,8 @@ pub fn tell_box(
     let outline = Outline::of(tpdu, is_hidden);
     let status = tpdu.status.as_slice();
     tell_title(&outline, name_of(tpdu), status, links, began, output);
-    clock.push_begin(&mut output.page.lines);
+    tell_fields(tpdu, &outline, links, clock, mask, output);
+    push_time(&mut output.page.lines, clock);
     output.row(Side::Nobody, "time");
     output.page.lines.push_str(dropped(links.drops_before));
     output.row(Side::Nobody, "before");
@@ -58,7 +62,7 @@ pub fn tell_box(
     phrases::push_procedure(&mut output.page.lines, outline.tally);
     output.row(Side::Card, "procedure");
     tell_data(tpdu, links, mask, output);
-    phrases::push_most(&mut output.page.lines, tpdu.le);
+    push_most(&mut output.page.lines, tpdu);
     output.row(Side::Terminal, "Le");
     tell_answer(tpdu, links, mask, output);
     tell_status(&outline, status_side(tpdu), status, output);
@@ -85,6 +89,64 @@ fn tell_title(
     let (kind, number, words) = (kind_of(outline), links.number, &output.page.text);
     push_title(&mut output.sheet, kind, number, words, status, began);
     output.page.text.clear();
+}
+
+/// Adds the fields that only JSON has.
+fn tell_fields(
+    tpdu: &Tpdu,
+    outline: &Outline,
+    links: Links,
+    clock: &Clock,
+    mask: &Mask,
+    output: &mut Output,
+)
+    ensures { Puts IsFields output.old.sheet output.new.sheet }
+{
+    let fields = match output.sheet.layout().medium {
+        Medium::Json => fields_of(tpdu, outline, links, clock, mask),
+        _ => Fields::NONE,
+    };
+    push_fields(&mut output.sheet, fields);
+}
+
+/// The fields that only JSON has.
+fn fields_of(tpdu: &Tpdu, outline: &Outline, links: Links, clock: &Clock, mask: &Mask) -> Fields {
+    Fields {
+        time_us: clock.began_us(),
+        instruction: outline.instruction(),
+        continues: links.joins.then_some(links.number.saturating_sub(1)),
+        is_again: links.joins && matches!(links.link, Link::AskedAgain(_)),
+        le: tpdu.le.map(|le| u64::from(count(le))),
+        is_masked: outline.is_hidden || masked(tpdu, links, mask) != (false, false),
+    }
+}
+
+/// Whether a mask hides some of the terminal's data, and of the card's.
+pub fn masked(tpdu: &Tpdu, links: Links, mask: &Mask) -> (bool, bool) {
+    let of_way = tpdu.way.and_then(|way| Origin::of(tpdu, links, way));
+    let is_hidden = of_way.is_some_and(|origin| mask.hides_some(origin));
+    if tpdu.way == Some(Direction::FromCard) {
+        return (false, is_hidden);
+    }
+    let answer = Origin::of_answer(tpdu, links).filter(|_| !tpdu.answer.is_empty());
+    (
+        is_hidden,
+        answer.is_some_and(|origin| mask.hides_some(origin)),
+    )
+}
+
+/// Adds the time of the line where the TPDU begins. JSON has a field for it.
+fn push_time(lines: &mut Sheet, clock: &Clock) {
+    if !matches!(lines.layout().medium, Medium::Json) {
+        clock.push_begin(lines);
+    }
+}
+
+/// Adds Le after data of the terminal. JSON has a field for it.
+fn push_most(lines: &mut Sheet, tpdu: &Tpdu) {
+    if !matches!(lines.layout().medium, Medium::Json) {
+        phrases::push_most(lines, tpdu.le);
+    }
 }
 
 /// The kind of the box, by the status.
@@ -116,10 +178,17 @@ fn tell_data(tpdu: &Tpdu, links: Links, mask: &Mask, output: &mut Output)
     let Some(origin) = Origin::of(tpdu, links, way) else {
         return;
     };
-    let may_be_objects = way == Direction::FromCard || may_be_objects(tpdu, links);
+    let may_be_objects = way == Direction::FromCard
+        || (may_be_objects(tpdu, links) && has_place(tpdu, output.sheet.layout().medium));
     let (shown, side) = (mask.shown(origin), side_of(way));
     let bytes = tpdu.moved.as_slice();
     tell_row(shown, side, may_be_objects, bytes, mask, output);
+}
+
+/// Whether objects in the terminal's data have a place: JSON shows those of the card alone, if it
+/// returned data, too.
+fn has_place(tpdu: &Tpdu, medium: Medium) -> bool {
+    tpdu.answer.is_empty() || !matches!(medium, Medium::Json)
 }
 
 /// The end that sends data this way.
@@ -134,6 +203,24 @@ fn side_of(way: Direction) -> Side
 
 /// Adds a row of data, as far as they are shown.
 fn tell_row(
+    shown: Shown,
+    side: Side,
+    may_be_objects: bool,
+    bytes: &[u8],
+    mask: &Mask,
+    output: &mut Output,
+)
+    ensures { Puts (IsDataRow shown mask.now.tags.items side may_be_objects bytes.now)
+        output.old.sheet output.new.sheet }
+{
+    match output.sheet.layout().medium {
+        Medium::Json => push_data(&mut output.sheet, shown, side, may_be_objects, bytes, mask),
+        _ => tell_lines(shown, side, may_be_objects, bytes, mask, output),
+    }
+}
+
+/// Adds a row of data in text or on a page.
+fn tell_lines(
     shown: Shown,
     side: Side,
     may_be_objects: bool,
@@ -171,18 +258,32 @@ fn push_hidden(lines: &mut Sheet)
     lines.push_str("\n**");
 }
 
-/// Adds the row of the data that the card returned beside those of the terminal, if any.
+/// Adds the row of the data that the card returned beside those of the terminal, if any. In JSON
+/// an end without data has an empty field.
 fn tell_answer(tpdu: &Tpdu, links: Links, mask: &Mask, output: &mut Output)
     requires asker { HasAsker tpdu.now.header.items links }
-    ensures { Puts (IsAnswer mask.now tpdu.now.is_loose tpdu.now.header.items tpdu.now.answer.items)
-        output.old.sheet output.new.sheet }
+    ensures { Puts (IsAnswer mask.now tpdu.now.is_loose tpdu.now.way tpdu.now.header.items
+        tpdu.now.answer.items) output.old.sheet output.new.sheet }
 {
     let bytes = tpdu.answer.as_slice();
     if bytes.is_empty() {
+        push_no_data(&mut output.sheet, tpdu.way);
         return;
     }
     if let Some(origin) = Origin::of_answer(tpdu, links) {
         tell_row(mask.shown(origin), Side::Card, true, bytes, mask, output);
+    }
+}
+
+/// Adds an empty field for each end whose data did not move this way. Only JSON has them.
+fn push_no_data(sheet: &mut Sheet, way: Option<Direction>)
+    ensures { Adds sheet.old (no_data sheet.old.layout.medium way) sheet.new }
+{
+    match (sheet.layout().medium, way) {
+        (Medium::Json, None) => sheet.push_str(",\"sent\":\"\",\"received\":\"\""),
+        (Medium::Json, Some(Direction::ToCard)) => sheet.push_str(",\"received\":\"\""),
+        (Medium::Json, Some(Direction::FromCard)) => sheet.push_str(",\"sent\":\"\""),
+        _ => {}
     }
 }
 
@@ -229,7 +330,7 @@ fn tell_together(tpdu: &Tpdu, links: Links, bytes: &[u8], mask: &Mask, output: &
     ensures { Puts (IsTogether mask.now tpdu.now.is_loose tpdu.now.header.items)
         output.old.sheet output.new.sheet }
 {
-    if bytes.is_empty() {
+    if bytes.is_empty() || matches!(output.sheet.layout().medium, Medium::Json) {
         return;
     }
     let Some(origin) = Origin::of_whole(tpdu, links, bytes) else {

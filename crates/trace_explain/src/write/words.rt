@@ -2,27 +2,47 @@
 //! looks like a box of a TPDU, or like a row of one.
 ghost use Rattle.std.specs.Prelude.{◌≡◌, true};
 ghost use Rattle.trace_explain.specs.Sheets.{Adds, Joins};
-ghost use Rattle.trace_explain.specs.Words.{gap, has_own, link_text, marked, piece_text};
+ghost use Rattle.trace_explain.specs.Words.{field_before, gap, has_own, json_piece, link_text, marked, piece_text, topic_text};
 
 use crate::write::ascii::cut;
 use crate::write::html::{push_box, push_box_end, push_name};
-use crate::write::layout::{Anchor, Kind, Medium, Side};
+use crate::write::layout::{Anchor, Kind, Medium, Side, Topic};
 use crate::write::row::{push_letters, push_some_row};
 use crate::write::sheet::Sheet;
 use crate::write::shown::push_line;
 use crate::write::style::{STYLE_BEGIN, STYLE_END};
 
-/// What a piece is. Text has neither a style nor links.
+/// What a piece is. Text has neither a style nor links. Only JSON has fields and signs.
 #[derive(Clone, Copy)]
 pub enum Form {
-    /// The start of a box that is no TPDU's: its kind, name, title, and the line where it begins.
-    Box(Kind, Anchor, &'static str, u64),
+    /// The start of a box that is no TPDU's: its kind, name, topic, and the line where it begins.
+    Box(Kind, Anchor, Topic, u64),
     /// The end of such a box.
     BoxEnd,
     /// A row with a label.
     Row(Side, &'static str),
+    /// A field that is a number.
+    Number(&'static str, u64),
+    /// A field that is `null`.
+    Null(&'static str),
+    /// A field that is `true`.
+    True(&'static str),
+    /// The start of an object of counts, which `BoxEnd` ends.
+    Map(&'static str),
+    /// A count in it, of what the text names.
+    Count(u64),
     /// A note.
     Note,
+    /// The start of a list of TPDUs.
+    List,
+    /// What separates two of the list.
+    Comma,
+    /// The end of the list.
+    ListEnd,
+    /// The end of a line.
+    LineEnd,
+    /// A command of several TPDUs.
+    Command,
     /// The start of the last block.
     Block,
     /// The end of the last block and of a page.
@@ -65,9 +85,9 @@ fn push_piece(sheet: &mut Sheet, form: Form, text: &[u8])
 {
     let medium = sheet.layout().medium;
     match (medium, form) {
-        (_, Form::Box(kind, anchor, title, line)) => {
+        (_, Form::Box(kind, anchor, topic, line)) => {
             push_box(sheet, kind, anchor);
-            sheet.push_str(title);
+            sheet.push_str(topic_text(medium, topic));
             sheet.push_str(gap(medium));
             push_line(sheet, line);
         }
@@ -79,6 +99,11 @@ fn push_piece(sheet: &mut Sheet, form: Form, text: &[u8])
             sheet.push_str("\n");
         }
         (Medium::Text, Form::Block) => sheet.push_str("summary\n"),
+        (Medium::Text, Form::Command) => {
+            sheet.push_str("= ");
+            push_letters(sheet, Medium::Text, "    ", cut(text, 1).1);
+            sheet.push_str("\n");
+        }
         (Medium::Text, _) => {}
         (Medium::Html, Form::Note) => push_marked(sheet, "<pre class=\"note\">", text, "</pre>\n"),
         (Medium::Html, Form::Block) => sheet.push_str("</div><section><h2>summary</h2>\n"),
@@ -89,6 +114,77 @@ fn push_piece(sheet: &mut Sheet, form: Form, text: &[u8])
         (Medium::Html, Form::Links) => push_marked(sheet, "<p>", text, ""),
         (Medium::Html, Form::Link(anchor)) => push_link(sheet, anchor, text),
         (Medium::Html, Form::More) => push_marked(sheet, "", text, "</p>\n"),
+        (Medium::Html, Form::List) => sheet.push_str("<details class=\"command\" open>\n"),
+        (Medium::Html, Form::Command) => {
+            push_marked(sheet, "<summary>", cut(text, 1).1, "</summary></details>\n");
+        }
+        (Medium::Html, _) => {}
+        (Medium::Json, _) => push_json(sheet, form, text),
+    }
+}
+
+/// Adds a piece of JSON that is neither a box nor a row.
+fn push_json(sheet: &mut Sheet, form: Form, text: &[u8])
+    ensures { Adds sheet.old (json_piece form text.now) sheet.new }
+{
+    match form {
+        Form::Number(label, number) => {
+            push_label(sheet, label);
+            sheet.push_number(number);
+        }
+        Form::Null(label) => {
+            push_label(sheet, label);
+            sheet.push_str("null");
+        }
+        Form::True(label) => {
+            push_label(sheet, label);
+            sheet.push_str("true");
+        }
+        Form::Block => sheet.push_str("{\"type\":\"summary\""),
+        Form::BlockEnd => sheet.push_str("}\n"),
+        Form::List => sheet.push_str(",\"tpdus\":["),
+        Form::Comma => sheet.push_str(","),
+        Form::ListEnd => sheet.push_str("]"),
+        Form::LineEnd => sheet.push_str("\n"),
+        Form::Map(label) => {
+            push_label(sheet, label);
+            sheet.push_str("{");
+        }
+        Form::Count(number) => {
+            sheet.push_str("\"");
+            push_letters(sheet, Medium::Json, "", text);
+            sheet.push_str("\":");
+            sheet.push_number(number);
+        }
+        _ => {}
+    }
+}
+
+/// Adds the start of a field, up to its value.
+fn push_label(sheet: &mut Sheet, label: &str)
+    ensures { Adds sheet.old (field_before label.now) sheet.new }
+{
+    sheet.push_str(",\"");
+    sheet.push_str(label);
+    sheet.push_str("\":");
+}
+
+/// The title of a box; in JSON its type, before a title if the type has several.
+fn topic_text(medium: Medium, topic: Topic) -> &'static str
+    ensures { result.now ≡ topic_text medium topic }
+{
+    match (medium, topic) {
+        (Medium::Json, Topic::Answer) => "atr",
+        (Medium::Json, Topic::Pps) => "pps",
+        (Medium::Json, Topic::Byte) => "error\",\"text\":\"unexpected byte",
+        (Medium::Json, Topic::Pair) => "error\",\"text\":\"unexpected command or answer",
+        (_, Topic::Answer) => "answer to reset",
+        (_, Topic::Pps) => "PPS",
+        (_, Topic::Byte) => "unexpected byte",
+        (_, Topic::Pair) => "unexpected command or answer",
+        (_, Topic::Note) => "note",
+        (_, Topic::Reset) => "reset",
+        (_, Topic::Command) => "command",
     }
 }
 
@@ -118,6 +214,6 @@ fn gap(medium: Medium) -> &'static str
 {
     match medium {
         Medium::Text => "  ",
-        Medium::Html => "",
+        Medium::Html | Medium::Json => "",
     }
 }

@@ -1,7 +1,7 @@
 use Rattle.std.proofs.Common.{◌≡◌, ◌&&◌, Bool, List, ℕ, codes, refl, subst}
 use Rattle.trace_explain.specs.declared.write.layout.Side.{Side}
 use Rattle.trace_explain.specs.declared.write.layout.Side.TheVariants.{Terminal, Card, Nobody}
-use Rattle.trace_explain.specs.Boxes.{IsAnswer, IsBox, IsData, IsStatus, IsTitle, IsTogether, status_side}
+use Rattle.trace_explain.specs.Boxes.{IsAnswer, IsBox, IsData, IsFields, IsStatus, IsTitle, IsTogether, status_side}
 use Rattle.trace_explain.specs.Reports.{is_doubtful, report_of}
 use Rattle.trace_explain.specs.Sheets.{Adds, IsRow, Puts}
 use Rattle.trace_explain.specs.Words.{IsWords}
@@ -28,6 +28,7 @@ returns-clause-puts c = λ whole.
     (put_first IsWords c.join.ensures (put_first (IsBox mask number line t)
     (put_first (IsTitle number line t.status)
     (subst T c.as_slice-status.ensures.value c.tell_title.ensures)
+    (put_first IsFields c.tell_fields.ensures
     (put_first (IsRow Nobody (codes "time")) c.row.ensures
     (put_first (IsRow Nobody (codes "before")) c.row-2.ensures
     (put_first (λ m text. text ≡ header_row (mask.hides && is_doubtful t) m t.header) (
@@ -40,10 +41,10 @@ returns-clause-puts c = λ whole.
     (put_first (IsRow Card (codes "procedure")) c.row-3.ensures
     (put_first (IsData mask t.is_loose t.way t.header t.moved) c.tell_data.ensures
     (put_first (IsRow Terminal (codes "Le")) c.row-4.ensures
-    (put_first (IsAnswer mask t.is_loose t.header t.answer) c.tell_answer.ensures
+    (put_first (IsAnswer mask t.is_loose t.way t.header t.answer) c.tell_answer.ensures
     (put_first (IsStatus s t.status)
     (subst S c.status_side.ensures (subst E c.as_slice-status.ensures.value c.tell_status.ensures))
     (put_first (IsRow Nobody (codes "after")) c.row-5.ensures
     (put_first (IsTogether mask t.is_loose t.header) c.tell_together.ensures
     (put_first (λ m text. text ≡ box_end m) (_, refl, c.push_box_end.ensures)
-    put_none)))))))))))).puts put_none)).puts
+    put_none))))))))))))).puts put_none)).puts

@@ -1,0 +1,54 @@
+use Rattle.std.proofs.Common.{◌≡◌, ℕ, List, refl, Bool, true, false}
+use Rattle.tlv_core.specs.TagForm.{is_constructed}
+use Rattle.trace_explain.specs.JsonTrees.{no_object}
+use Rattle.trace_explain.proofs.JsonTreeLemmas.{past_masked, past_primitive, past_template}
+use Rattle.trace_explain.proofs.SheetLemmas.{adds_both}
+use Rattle.trace_explain.proofs.write.json_tree.+push_objects.Goals as goal
+
+constructed : (tag : List ℕ) → (is_constructed tag ≡ false → ⊥) → is_constructed tag ≡ true
+constructed tag is = of (is_constructed tag) is where
+  of : (b : Bool) → (b ≡ false → ⊥) → b ≡ true
+  of true is = refl
+  of false is = absurd (is refl)
+
+pub listing-preserved-then-has : goal.listing-preserved-then-has
+listing-preserved-then-has t c =
+    let g = c.in-Some.ensures.steps in
+    past_masked c.args.mask.now.tags.items c.args.objects c.listing.objects c.next.new.self
+    c.args.sheet.now c.listing.sheet c.push_object.new.sheet c.push_str.new.self c.listing.first
+    g.0.0 c.in-Some.object.tag c.in-Some.object.size c.in-Some.object.value c.tag-tag.result
+    c.listing.invariant g.0.1 g.2 c.tag-tag.ensures (c.has.ensures.0 c.if-has.true)
+    c.push_object.ensures c.push_str.ensures
+
+pub listing-preserved-in-Some-children : goal.listing-preserved-in-Some-children
+listing-preserved-in-Some-children t c =
+    let g = c.in-Some.ensures.steps in
+    past_template c.args.mask.now.tags.items c.args.objects c.listing.objects c.next.new.self
+    c.in-Some-children.children c.args.sheet.now c.listing.sheet c.push_object.new.sheet
+    c.push_objects.new.sheet c.push_str-in-Some-children.new.self c.listing.first g.0.0
+    c.in-Some.object.tag c.in-Some.object.size c.in-Some.object.value c.tag-tag.result
+    c.in-Some.object.level c.listing.invariant g.0.1 g.2 c.tag-tag.ensures g.1
+    (λ h. let e = c.has.ensures.1 h in absurd (cc (e, c.if-has.false)))
+    (constructed c.in-Some.object.tag
+    (λ no. let e = c.in-Some-children.ensures.primitive.1 no in absurd (cc)))
+    c.push_object.ensures c.in-Some-children.ensures.list.0 c.push_objects.ensures
+    c.push_str-in-Some-children.ensures
+
+pub listing-preserved : goal.listing-preserved
+listing-preserved t c =
+    let g = c.in-Some.ensures.steps in
+    past_primitive c.args.mask.now.tags.items c.args.objects c.listing.objects c.next.new.self
+    c.args.sheet.now c.listing.sheet c.push_object.new.sheet c.push_primitive.new.sheet
+    c.listing.first g.0.0 c.in-Some.object.tag c.in-Some.object.size c.in-Some.object.value
+    c.tag-tag.result c.value.result.now c.listing.invariant g.0.1 g.2 c.tag-tag.ensures
+    c.value.ensures (λ h. let e = c.has.ensures.1 h in absurd (cc (e, c.if-has.false)))
+    (c.in_default-children.ensures.primitive.0 refl) c.push_object.ensures
+    c.push_primitive.ensures
+
+pub returns : goal.returns
+returns t c =
+    let i = c.listing.invariant in (
+      _,
+      i.leads _ (no_object c.in_default.ensures.steps.0 c.list_end.ensures),
+      adds_both _ _ _ _ _ i.adds c.push_str-2.ensures,
+    )

@@ -329,8 +329,8 @@ def at_card():
         yield card_cases.Case(f"T=1: a card, {title}", f"< {QUICK} {OPEN}{dialogue}", QUICK,
                               echo=False, slack=300)
     for title, answer, dialogue in own_application():
-        yield card_cases.Case(f"{title}: a card of an application", f"< {answer} {dialogue}", answer,
-                              echo=False, slack=300, program="own_card", objects="")
+        yield card_cases.Case(f"{title}: a card of an application", f"< {answer} {dialogue}",
+                              answer, echo=False, slack=300, program="own_card", objects="")
     yield card_cases.Case("T=1: a card, a block that stops after its first byte",
                           f"< {SLOW} {OPEN}> 00 {R0}{SELECTS}", SLOW, echo=False, slack=300)
     lines = (BOOK / "fine.talk").read_text(encoding="utf-8").splitlines()

@@ -585,7 +585,7 @@ typedef struct gt_atr {
  *                 it is taken or dropped; of a command, until it is carried out or dropped; and of
  *                 a response, until it is dropped. The next command drops a response. S(ABORT),
  *                 S(RESYNCH) and gt_card_reset drop all three. Of your own: a response, until all
- *                 of it is sent or the next command drops it; a TPDU or command that waits as a
+ *                 of it is sent or the next command drops it. A TPDU or command that waits as a
  *                 whole or at T=1, until it is carried out or dropped. gt_card_reset drops both
  * - a session     those of its card; the last answer and, if somebody listens, its characters,
  *                 until the next operation is carried out, or gt_session_end */
@@ -1768,7 +1768,9 @@ GT_FUNCTION void gt_card_free(gt_card *c) {
  *   the card returned   then call                          and then
  *   GT_HEADER           gt_card_command for the header     gt_card_direction; the same call again
  *   GT_COMMAND          gt_card_command for the command    gt_card_respond; the same call again
- *   GT_COMMAND at T=1   gt_card_more_time                  the same call again has S(WTX request)
+ *
+ * At T=1 gt_card_more_time may come in place of gt_card_respond. The same call again then has
+ * S(WTX request).
  *
  * GT_HEADER is only for a card without directions. GT_COMMAND may follow it. The same call again is
  * gt_card_tpdu or gt_card_apdu with NULL and 0 in place of the bytes.

@@ -76,8 +76,8 @@ pub trait Application {
 /// characters and buffers, as whole TPDUs and as whole commands, and over T=1 in a
 /// [`CardT1`](crate::CardT1). A command is carried out at most once, by [`turn`](Card::turn),
 /// [`send_bytes`](Card::send_bytes), [`tpdu`](Card::tpdu), [`apdu`](Card::apdu) or
-/// [`CardT1::block_into`](crate::CardT1::block_into). The card itself answers GET RESPONSE, the same
-/// header after `6CXX`, and INS `6X` and `9X`.
+/// [`CardT1::block_into`](crate::CardT1::block_into). The card itself answers GET RESPONSE, the
+/// same header after `6CXX`, and INS `6X` and `9X`.
 ///
 /// A panic of the application, or an error after it was called, resets the card and the
 /// application: [`Error::Argument`] for a status or a length that no application may return, and

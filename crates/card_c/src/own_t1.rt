@@ -140,7 +140,7 @@ fn copy_command(end: &PatientCard<GivenApplet>, asked: &mut Vec<u8>) -> Result<(
     Ok(())
 }
 
-/// Wipes the command that the caller was told of.
+/// Wipes the command that was shown to the caller.
 fn forget(asked: &mut Vec<u8>)
     ensures { asked.new.items ≡ [] }
 {

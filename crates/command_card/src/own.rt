@@ -154,8 +154,8 @@ impl CommandCard<Given> {
         true
     }
 
-    /// Takes back the response to a command that is dropped, and what was answered about its header,
-    /// unless the card has begun to answer.
+    /// Takes back the response to a command that is dropped, and what was answered about its
+    /// header, unless the card has begun to answer.
     pub fn take_back(&mut self)
         ensures prepared { prepared_in (λ s. s) settled self.new
             ≡ prepared_in (λ s. s) settled self.old }

@@ -1,4 +1,4 @@
--- The end of a patient card: a request of the terminal, while its own S(WTX request) is in progress,
+-- The end of a patient card: a request of the terminal while its own S(WTX request) is in progress,
 -- and all that may happen.
 use Rattle.std.proofs.Common.{◌≡◌, refl, sym, subst, ap, ◌∙◌, ℕ, ◌+◌, ◌≤◌, Bool, true, false, List, [], ◌∷◌, length, Option, Some, None, arith}
 use Rattle.std.specs.Prelude.{cond, is_some, not, ◌&&◌, if◌then◌else◌}
@@ -158,7 +158,8 @@ module _ {C : Type 0} (a : Ghosts C) where
       (new : PatientOf C) (sent : List ℕ) → IsKeeping a.LIMIT old.end sent
       → HearsAt a o bytes old reply new → Called old new (1 + some old.kept)
   heard None bytes old reply new sent keeping takes =
-      more old new 1 (1 + some old.kept) (omega arith) (taken bytes old reply new sent keeping takes)
+      more old new 1 (1 + some old.kept) (omega arith)
+      (taken bytes old reply new sent keeping takes)
   heard (Some multiple) bytes old None new sent keeping (grants, is) =
       more old new (some old.kept) (1 + some old.kept) (omega arith)
       (stayed old new sent keeping (ap (λ p. p.end) is) (ap (λ p. p.kept) is))
@@ -200,7 +201,8 @@ module _ {C : Type 0} (a : Ghosts C) where
       → (all : List Did) × DoesAll a.Does old all last × (length all ≡ count did + length dids)
   one_more old mid last None dids same goes =
       (dids, subst (λ s. DoesAll a.Does s dids last) same goes, omega arith)
-  one_more old mid last (Some d) dids (does, short) goes = (d ∷ dids, (mid, does, goes), omega arith)
+  one_more old mid last (Some d) dids (does, short) goes =
+      (d ∷ dids, (mid, does, goes), omega arith)
 
   weigh : (call : PatientCall) (calls : List PatientCall)
       → blocks_of (call ∷ calls) ≡ blocks_of (call ∷ []) + blocks_of calls

@@ -116,8 +116,8 @@ class OwnCard(Lasting):
         return self._whole(lib.gt_card_apdu, command)
 
     def begin_t1(self) -> None:
-        """Lets the card speak T=1 until the next `reset`. It raises `CallError`, GT_STATE, if it does
-        already, or if a TPDU is in progress."""
+        """Lets the card speak T=1 until the next `reset`. It raises `CallError`, GT_STATE, if the
+        card does already, or if a TPDU is in progress."""
         self._call("t1_begin")
 
     def block(self, came: Bytes) -> bytes:

@@ -3,15 +3,15 @@
 use Rattle.std.proofs.Common.{◌≡◌, refl, sym, subst, ap, ◌∙◌, ℕ, ◌+◌, ◌≤◌, Bool, true, false, List, [], ◌∷◌, length, Option, Some, None, arith}
 use Rattle.std.specs.Prelude.{cond, is_some, not, ◌&&◌, if◌then◌else◌}
 use Rattle.t1_core.specs.declared.applet.Applet.{Ghosts}
-use Rattle.t1_core.specs.declared.block.Control.TheVariants.{Resynch, Ifs, Abort}
+use Rattle.t1_core.specs.declared.block.Control.TheVariants.{Resynch, Ifs, Abort, Wtx}
 use Rattle.t1_core.specs.declared.card.Reply.{Reply}
 use Rattle.t1_core.specs.declared.card.Reply.TheVariants as reply
 use Rattle.t1_core.specs.declared.pcb.BlockReason.TheVariants.{Other}
 use Rattle.t1_core.specs.Block.{Response, is_size}
-use Rattle.t1_core.specs.BlockBytes.{is_whole}
-use Rattle.t1_core.specs.CardSide.{Card, Did, Turn, again, replies, request_of, serves, turn}
+use Rattle.t1_core.specs.BlockBytes.{arrival_of, is_whole}
+use Rattle.t1_core.specs.CardSide.{Card, Did, Turn, again, card_damaged, replies, request_of, serves, turn}
 use Rattle.t1_core.specs.Doing.{DoesAll, DoesSome, EndOf, Goes, IsKeeping, Keeping, after, with_end}
-use Rattle.t1_core.specs.Patience.{Comes, Continues, Extends, Fails, HappenAllTo, HappensTo, HearsAt, PatientCall, PatientOf, Resets, Takes, asking, blocks_of, seen}
+use Rattle.t1_core.specs.Patience.{Comes, Continues, Extends, Fails, HappenAllTo, HappensTo, HearsAt, PatientCall, PatientOf, Resets, Takes, asking, blocks_of, hears_waiting, seen}
 
 -- the request in progress does not change the block of a reply
 unasked : (r : Reply) (multiple : ℕ) (c : Card) → replies r c ≡ replies r (asking (Some multiple) c)
@@ -165,7 +165,8 @@ module _ {C : Type 0} (a : Ghosts C) where
       (stayed old new sent keeping (ap (λ p. p.end) is) (ap (λ p. p.kept) is))
   heard (Some multiple) bytes old (Some reply) new sent keeping (differs, kept_is, goes) =
       more old new (some old.kept) (1 + some old.kept) (omega arith)
-      (went _ old new reply sent keeping goes (kept_at_most new.asked old.kept new.kept kept_is))
+      (went (hears_waiting (Wtx multiple) (arrival_of bytes)) old new reply sent keeping goes
+      (kept_at_most new.asked old.kept new.kept kept_is))
 
   whole_of : (o : Option ℕ) (b : Bool) → (not (is_some o) && b) ≡ true
       → 1 ≤ (if b then 1 else 0)
@@ -187,7 +188,8 @@ module _ {C : Type 0} (a : Ghosts C) where
   called (Extends multiple (Some reply)) old new sent keeping (waits, request, is) =
       stayed old new sent keeping (ap (λ p. p.end) is) (ap (λ p. p.kept) is)
   called (Fails reason reply) old new sent keeping (asked_is, kept_is, goes) =
-      went _ old new reply sent keeping goes (kept_at_most old.asked old.kept new.kept kept_is)
+      went (λ c. card_damaged reason c) old new reply sent keeping goes
+      (kept_at_most old.asked old.kept new.kept kept_is)
   called Resets old new sent keeping is = (
     None,
     [],

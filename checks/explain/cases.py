@@ -19,8 +19,9 @@
   - unsigned.cases: lines without signs; logs.cases: logs of whole TPDUs.
   - loose.cases: headers and commands that a mask hides.
   - forms.cases: forms of logs of many programs.
+  - names.cases: names of objects, and their values in words.
 
-Only cases/ lists the last block. Elsewhere `block_of` counts what is above it. In the ten tables
+Only cases/ lists the last block. Elsewhere `block_of` counts what is above it. In the 11 tables
 a line that begins with `#` is a comment."""
 
 import re
@@ -90,6 +91,9 @@ TOLD_BY_SIGNS = {
     "a sign without characters is one, too",
     "a time before a reset, and before a note",
 }
+# A word beside a hidden value of an object.
+BESIDE = re.compile(r"^(?: {15}|  [<>] data {7}) *(?:[0-9A-F]{2})+ \*\*.")
+WORDED = re.compile(r"^( *(?:[<>] data +)?(?:[0-9A-F]{2})+.*?)  [A-Za-z].*$")
 ROW = re.compile(r"  [ <>] (header|procedure|data|status) ")
 
 
@@ -127,7 +131,8 @@ class Case:
                 return f"{self.name}: {line!r}, and not {wanted!r}"
         if len(said) != len(self.wanted):
             return f"{self.name}: {len(said)} lines, and not {len(self.wanted)}"
-        wide = [it for it in out.splitlines() if len(it) > 100 and self.part != "page"]
+        lines = map(without_words, out.splitlines() if self.part != "page" else [])
+        wide = [it for it in lines if len(it) > 100]
         return f"{self.name}: more than 100 columns: {wide[0]!r}" if wide else ""
 
     def leak(self, out, err):
@@ -137,11 +142,16 @@ class Case:
             for digits in HEX.findall(line):
                 if any(byte in self.secret for byte in bytes.fromhex(digits)):
                     return f"{self.name} {self.words}: {line!r} tells of the secret"
-            if any(pair in line for pair in ("Qz", "zx", "xv", "vT")):
+            if any(pair in line for pair in ("Qz", "zx", "xv", "vT")) or BESIDE.search(line):
                 return f"{self.name} {self.words}: {line!r} tells of the secret"
         if "**" in body or "--summary" in self.words:
             return ""
         return f"{self.name}: nothing is hidden"
+
+
+def without_words(line):
+    """A line of an object without the words that follow its digits, which don't wrap."""
+    return WORDED.sub(r"\1", line)
 
 
 def without_block(lines):
@@ -388,20 +398,20 @@ def lines_of(lines):
 
 
 def tables():
-    """The cases of the ten tables, those of secrets, and the long ones."""
+    """The cases of the tables, those of secrets, and the long ones."""
     ways = [], ["--html"], ["--resume"], ["--summary", "--resume"]
     long = long_cases([*long_traces.traces(), *long_traces.at_limits()])
     return [*rows_and_stories(), *secret_cases(ways), *long]
 
 
 def rows_and_stories():
-    """The cases of the ten tables. Those with signs are also tried without."""
+    """The cases of the tables. Those with signs are also tried without."""
     signed = table_cases()
     return [*signed, *unsigned_cases([*signed, *whole_cases()])]
 
 
 def table_cases():
-    """The cases of the ten tables."""
+    """The cases of the tables."""
     return [
         status_case(),
         title_case(),
@@ -413,6 +423,7 @@ def table_cases():
         *story_cases("logs.cases", "shown"),
         *story_cases("loose.cases", "shown"),
         *story_cases("forms.cases", "shown"),
+        *story_cases("names.cases", "shown"),
         *link_cases(),
     ]
 

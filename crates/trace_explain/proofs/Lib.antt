@@ -5,3 +5,4 @@ pub mod LogLemmas
 pub mod SheetLemmas
 mod TreeLemmas
 pub mod AccountLemmas
+pub mod CarriedLemmas

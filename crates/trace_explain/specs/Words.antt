@@ -10,7 +10,7 @@ use Rattle.trace_explain.specs.Written.{box_begin, box_end, letters, line_text, 
 
 -- titles of boxes that are no TPDUs, and labels of their rows
 abbrev pub own_labels : List (List ℕ)
-own_labels = codes "answer to reset" ∷ codes "PPS" ∷ codes "unexpected byte"
+own_labels = codes "answer to reset" ∷ codes "PPS" ∷ codes "blocks" ∷ codes "unexpected byte"
     ∷ codes "unexpected command or answer" ∷ codes "TPDUs" ∷ codes "answer" ∷ codes "characters"
     ∷ codes "command" ∷ codes "commands" ∷ codes "convention" ∷ codes "expected" ∷ codes "fault"
     ∷ codes "guard time" ∷ codes "hint" ∷ codes "historical" ∷ codes "place" ∷ codes "protocol"

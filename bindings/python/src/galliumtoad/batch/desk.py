@@ -10,7 +10,7 @@ import socket
 import sys
 import threading
 import time
-from itertools import takewhile
+from itertools import count, takewhile
 from pathlib import Path
 from typing import Any, Optional
 
@@ -81,7 +81,7 @@ class Desk:
     def __init__(self, rows: Rows, journal: Journal, given: argparse.Namespace) -> None:
         self.rows, self.journal, self.given = rows, journal, given
         self.stopped, self.keys, self.faults = threading.Event(), 0, list[str]()
-        self._failures, self._alone, self._bar, self._interrupts = 0, threading.Lock(), "", 0
+        self._failures, self._alone, self._bar, self._interrupts = count(1), threading.Lock(), "", 0
         self._begun, self._done_before = time.monotonic(), journal.count("done")
         self._looked, self._reported, self._is_told = 0.0, -1, False
 
@@ -91,8 +91,7 @@ class Desk:
             print(f"{self._bar and _WIPE}{line}\n{self._bar}", end="", flush=True)
 
     def keep(self, row: int, lines: list[str]) -> None:
-        """Adds the dialogue of a failed or unsure row to its file, or prints that it is lost. Ends
-        the run at the `--stop-after`th such row, and without that option never."""
+        """Adds a failed or unsure row's dialogue to its file. The `--stop-after`th ends the run."""
         file, it = Path(f"{self.journal.path}.cards/{row}.trace"), self.journal.rows[row]
         about = f"# row {row}, card {it.card or 'unknown'}, {it.reader}, {it.state}"
         about = f"{about}, {it.ended.isoformat(timespec='seconds')}: {it.reason}"
@@ -104,8 +103,7 @@ class Desk:
         except OSError as error:
             self.say(f"the dialogue of row {row} is lost: {error.strerror}")
         with self._alone:
-            self._failures += 1
-            failures = self._failures
+            failures = next(self._failures)
         if failures == self.given.stop_after:
             self.stopped.set()
             self.say(f"stopped: {failures} rows failed")

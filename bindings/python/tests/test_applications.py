@@ -224,7 +224,7 @@ def test_the_simulation_ends_with_its_program():
      (["--application", "counter:It"], "counter:It: module 'counter' has no attribute 'It'"),
      (["--application", "counter:EXAMPLES"], "has no attribute"),
      (["--application", "pathlib:Path"], "pathlib:Path is no Application"),
-     (["--application", ":"], ": is not MODULE:CLASS"), (["--program", "/none/at/all"], "No such file"),
+     (["--application", ":"], "is not MODULE"), (["--program", "/none/at/all"], "No such file"),
      (["--program", ""], "list index out of range"), (["--program", "'"], "No closing quotation")],
 )
 def test_cards_that_can_not_be_made(capsys, monkeypatch, words, text):

@@ -20,7 +20,7 @@ FIRST_WORDS = 5
 SENTENCE_END = re.compile(r"""(?<!\.)[.!?][)"'*_]*\s+(?=[^a-z\s])""")
 SPAN = re.compile(r"(`+).+?\1")
 LINK = re.compile(r"\[([^\]]*)\]\([^)]*\)")
-ITEM = re.compile(r"\s*(?:[-*+]|\d+\.)\s+")
+ITEM = re.compile(r"^\s*(?:[-*+]|\d+\.)\s+")
 # A source of a program in C, whose strings are printed. Tests also have the names of their helpers.
 TOOL = re.compile(r"(?:.*/)?(?:tools|examples)/[^/]+\.c")
 

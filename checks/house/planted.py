@@ -81,6 +81,7 @@ PAGE = "docs/LAMPS.md"
 TOUR = "docs/TOUR.md"
 RULES = "docs/RULES.md"
 MOST = " ".join(["Word"] + ["word"] * 34)
+MANY = " ".join(["Word"] + ["word"] * 24)
 
 # Planted faults: the kind of the finding, its file and line, and the edits. An edit is a file with
 # an old and a new text, or a new file.
@@ -126,9 +127,11 @@ FAULTS = [
     ("phrase", "tools/lamp.help", 1, [("tools/lamp.help", "Lights a lamp", "It is told")]),
     ("phrase", PAGE, 5, [(PAGE, "red", "is told")]),
     ("phrase", PAGE, 1, [(PAGE, "# Lamps", "# What is told")]),
-    ("sentence", PAGE, 7, [(PAGE, "One burns.", f"One burns. {MOST} `a lit lamp`.")]),
+    ("sentence", PAGE, 7, [(PAGE, "One burns.", f"One burns. {MANY} `a lit lamp`.")]),
     ("sentence", LAMP, 7, [(LAMP, "Lights it.", f"{MOST[:80]}\n    /// {MOST[80:]} word.")]),
     ("cell", PAGE, 5, [(PAGE, "red", "x" * 301)]),
+    ("size", "README.md", 1, [("README.md", None, "x" * 7169)]),
+    ("size", "README.md", 1, [("bench/README.md", None, "é" * 95_000)]),
     ("name", TOUR, 3, [(TOUR, "Lamp::light", "Lamp::lights")]),
     ("name", TOUR, 3, [(TOUR, "src/lamp.rt", "src/lamps.rt")]),
     ("name", TOUR, 3, [(TOUR, "`lit` of", "`burns` of")]),
@@ -139,13 +142,13 @@ FAULTS = [
     ("list", LIST, 2, [(LIST, "stay\n", "stay\nlong crates/low/src/lamp.rt\n")]),
 ]
 
-# No faults: words that are code or in a file that is not listed, 35 words, 300 characters, a
-# requirement that a caller in another crate meets.
+# No faults: words that are code or in a file that is not listed, 35 words, in a document 25, 300
+# characters, a requirement that a caller in another crate meets.
 PLAIN = [
     (LAMP, "Lights it.", "Lights `what is told`. Who is, told him."),
     (HOUSE, "IsDark :", "IsDark : -- is told\n  "),
     (TOOL, '"It is "\n    "lit', '"It is",\n    "told'),
-    (PAGE, "One burns.", f"{MOST}. {MOST}.\n\n```c\nis told {MOST} {MOST}\n```\n"),
+    (PAGE, "One burns.", f"{MANY}. {MANY}.\n\n```c\nis told {MOST} {MOST}\n```\n"),
     (PAGE, "red", "x" * 300),
     (LAMP, "-> bool", "-> bool\n        requires { lit }"),
     ("crates/high/src/lib.rt", "{}", "{\n    Lamp.light();\n}"),

@@ -1,6 +1,7 @@
 """The style of comments and documents: phrases that have a plainer form (phrases.txt), sentences of
-more than 35 words, and cells of tables of more than 300 characters. For the texts that tools in C
-print, their strings and *.help, it checks the phrases alone.
+more than 35 words, and cells of tables of more than 300 characters. In documents outside crates/ a
+sentence has at most 25 words. README, and these documents together, have a limit in bytes. For the
+texts that tools in C print, their strings and *.help, it checks the phrases alone.
 
 It looks at the files that plain.txt lists: those that have been rewritten. Code in fences and
 spans is ignored; a span, or a row of them, counts as one word."""
@@ -13,8 +14,13 @@ from findings import Finding
 PHRASES = "checks/house/phrases.txt"
 DONE = "checks/house/plain.txt"
 MOST_WORDS = 35
+MOST_IN_DOCUMENTS = 25
 MOST_CHARACTERS = 300
 FIRST_WORDS = 5
+README = "README.md"
+README_BYTES = 7168
+SIZED = re.compile(r"README\.md|docs/.*\.md|(?:bindings|bench|checks|examples)/(?:.*/)?README\.md")
+SIZED_BYTES = 190_000
 
 # A full stop, and the start of the next sentence. Two dots are an omission, not an end.
 SENTENCE_END = re.compile(r"""(?<!\.)[.!?][)"'*_]*\s+(?=[^a-z\s])""")
@@ -110,10 +116,12 @@ def of_paragraph(path, line, text, is_cell, phrases):
     if is_cell and len(text) > MOST_CHARACTERS:
         what = f"a cell of {len(text)} characters: '{begins} ..'"
         yield Finding("cell", path, line, begins, what)
+    is_document = path.endswith(".md") and not path.startswith("crates/")
+    most = MOST_IN_DOCUMENTS if is_document else MOST_WORDS
     plain = without_spans(LINK.sub(r"\1", text))
     yield from of_phrases(path, line, plain, phrases)
     for start, sentence in sentences(plain):
-        if (count := count_words(sentence)) > MOST_WORDS:
+        if (count := count_words(sentence)) > most:
             at = line + plain.count("\n", 0, start)
             begins = " ".join(sentence.split()[:FIRST_WORDS])
             what = f"a sentence of {count} words: '{begins} ..'"
@@ -141,7 +149,17 @@ def read_phrases(text):
     return found
 
 
+def of_sizes(texts):
+    sizes = {path: len(text.encode()) for path, text in texts.items() if SIZED.fullmatch(path)}
+    if (count := sizes.get(README, 0)) > README_BYTES:
+        yield Finding("size", README, 1, README, f"{count} bytes, of at most {README_BYTES}")
+    if (count := sum(sizes.values())) > SIZED_BYTES:
+        what = f"documents of {count} bytes, of at most {SIZED_BYTES}"
+        yield Finding("size", README, 1, "documents", what)
+
+
 def findings(repository):
+    yield from of_sizes(repository.texts)
     phrases = read_phrases(repository.texts.get(PHRASES, ""))
     done = list(listed(repository.texts.get(DONE, "")))
     for number, place in done:

@@ -122,7 +122,7 @@ def code(file):
 
 
 # What simulates cards and tries terminals.
-SIMULATION = ("simulate.py", "cards.py", "faults.py", "trials.py")
+SIMULATION = ("simulate.py", "cards.py", "faults.py", "trials.py", "pages.py")
 
 
 def test_the_package_stays_small():

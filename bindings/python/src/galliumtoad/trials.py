@@ -21,6 +21,7 @@ from typing import Iterator, Optional
 
 from .card import Card
 from .faults import ANYWHERE, KINDS, T1, Faults, Mistake, read
+from .pages import begin
 from .simulate import VPCD, Simulator, connected, serve_pty, talk_vpcd
 
 AID, TAG = bytes.fromhex("A0000000031010"), 0x51
@@ -167,10 +168,12 @@ def as_text(results: list[Trial]) -> str:
 
 def as_html(results: list[Trial]) -> str:
     """The results as a page."""
-    rows = "".join("<tr>" + "".join(f"<td>{html.escape(text)}" for text in (
-        it.name, it.faults, it.verdict + "*" * it.is_unseen, it.said, it.says)) for it in results)
-    return ("<!DOCTYPE html><meta charset=utf-8><title>Trials</title><table><tr><th>Trial<th>Fault"
-            f"<th>Verdict<th>Last line<th>What a good terminal does{rows}</table><p>{STAR}\n")
+    rows = "".join(f'<tr class="{"" if it.is_unseen else it.verdict}">' + "".join(
+        f"<td>{html.escape(text)}" for text in (
+            it.name, it.faults, it.verdict + "*" * it.is_unseen, it.said, it.says)) + "\n"
+        for it in results)
+    return (f"{begin('Trials')}<table><tr><th>Trial<th>Fault<th>Verdict<th>Last line"
+            f"<th>What a good terminal does\n{rows}</table><p>{STAR}</html>\n")
 
 
 def parser() -> argparse.ArgumentParser:

@@ -9,12 +9,10 @@ from datetime import timedelta
 from statistics import median
 from typing import Optional
 
+from ..pages import begin
 from .journal import Entry, Journal
 
 _HEAD = ["row", "id", "reader", "time", "seconds", "outcome", "reason"]
-_STYLE = """body { font: 14px sans-serif; margin: 2em } table { border-collapse: collapse }
-td { border: 1px solid #ccc; padding: 2px 8px } .outcome { font-weight: bold }
-.failed, .unsure { background: #fdd } svg { border: 1px solid #ccc }"""
 
 
 def joined(journals: list[Journal]) -> tuple[dict[int, Entry], Counter[str], int]:
@@ -39,9 +37,8 @@ def write(path: Optional[str], journals: list[Journal]) -> None:
         csv.writer(text).writerows(lines)
     else:
         cells = ((it[5], "".join(f"<td>{html.escape(cell)}</td>" for cell in it)) for it in lines)
-        text.write(f"""<!DOCTYPE html><html lang="en"><meta charset="utf-8"><title>Batch</title>
-<style>{_STYLE}</style><h1>Batch</h1>
-<p>{counts['done']} of {all_of} rows done, {counts['failed']} failed, {counts['unsure']} unsure</p>
+        text.write(f"""{begin("Batch")}<p>{counts['done']} of {all_of} rows done, \
+{counts['failed']} failed, {counts['unsure']} unsure</p>
 {_picture([it for it in rows.values() if it.state == "done"])}<table>
 """)
         text.writelines(f'<tr class="{kind}">{it}</tr>\n' for kind, it in cells)

@@ -1,4 +1,4 @@
-"""Names of the sources in docs/TOUR.md."""
+"""Names of the sources in docs/TOUR.md, in its text and its pictures."""
 
 import re
 from pathlib import PurePath
@@ -8,6 +8,9 @@ from sources import WORD, code_without_comments, line_of, without_comments
 
 TOUR = "docs/TOUR.md"
 BLOCK = re.compile(r"^```.*?^```$", re.M | re.S)
+PICTURE = re.compile(r"^```picture$.*?^```$", re.M | re.S)
+# a crate, or a type whose name has several words
+IN_PICTURE = re.compile(r"\b(?:[a-z]\w*_\w+|[A-Z][a-z]+[A-Z]\w*)\b")
 SPAN = re.compile(r"`([^`\n]+)`")
 IS_NAME = re.compile(r"[A-Za-z]\w*(::\w+)*")
 # `lemma`, `other` of `File`
@@ -16,11 +19,17 @@ OF_FILE = re.compile(r"((?:`\w+`, )*`\w+`) of `(\w+(?:Lemmas|Laws))`")
 
 def findings(repository):
     text = repository.texts.get(TOUR, "")
+    words = words_of(repository)
+    for picture in PICTURE.finditer(text):
+        for it in IN_PICTURE.finditer(picture[0]):
+            if it[0] not in words:
+                line = line_of(text, picture.start() + it.start())
+                yield Finding("name", TOUR, line, it[0], f"there is no {it[0]}")
     blocks = " ".join(BLOCK.findall(text))
     # the same lines, without what blocks show
     text = BLOCK.sub(lambda it: "\n" * it[0].count("\n"), text)
     # a file at the top that the check does not read
-    known = words_of(repository) | {"HANDLES", *re.findall(r"\w+", blocks)}
+    known = words | {"HANDLES", *re.findall(r"\w+", blocks)}
     for it in SPAN.finditer(text):
         if IS_NAME.fullmatch(it[1]):
             wrong = [name for name in it[1].split("::") if name not in known]

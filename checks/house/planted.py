@@ -136,7 +136,7 @@ FAULTS = [
     ("name", TOUR, 3, [(TOUR, "src/lamp.rt", "src/lamps.rt")]),
     ("name", TOUR, 3, [(TOUR, "`lit` of", "`burns` of")]),
     ("name", TOUR, 9, [(TOUR, "`dims`", "`shines`")]),
-    ("name", TOUR, 6, [(TOUR, "```\nLamp::dims\n", "```picture\nlow IsLit IsBright\n")]),
+    ("name", TOUR, 6, [(TOUR, "```\nLamp::", "```picture\nIsLit IsBright Lamp::")]),
     ("uncalled", LAMP, 8, [(LAMP, "-> bool", "-> bool\n        requires { lit }")]),
     ("list", DONE, 6, [(DONE, "lamp.h\n", "lamp.h\ncrates/lost/\n")]),
     ("list", LIST, 2, [(LIST, "stay\n", "stay\nlong crates/low/src/lamp.rt: it was long once\n")]),

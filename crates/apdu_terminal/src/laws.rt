@@ -18,8 +18,9 @@ ghost use Rattle.object_card.specs.DataCard.{StandsFor};
 use object_card::DataCard;
 use object_card::laws::only_a_put_changes_entries;
 
-/// The pairs settle the next command. Take a whole exchange that begins with the pairs so far and
-/// is longer, and whose data fit the room. The exchange's next command is that one's.
+/// The pairs so far settle the next command of an exchange. Take any whole exchange of the same
+/// command, with as much wanted, that begins with these pairs and goes on. If its data fit the
+/// room, both have the same next command.
 pub fn the_next_command_is_settled()
     ensures { (c : Command) (wanted : Wanted) (came rest : List Pair) (p : Pair)
         (ex : ApduExchangeOf) (gathered : List ℕ) (status : StatusWord) →

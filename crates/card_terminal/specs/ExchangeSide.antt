@@ -19,7 +19,7 @@ use Rattle.t0_core.specs.Room.{Room}
 use Rattle.t0_core.specs.HostSide.{Hosting, HostStandsAt, IsRequest, turn_of, data_sent}
 use Rattle.card_terminal.specs.declared.wanted.Wanted.{Wanted}
 use Rattle.card_terminal.specs.declared.attempt.Attempt.{Attempt}
-use Rattle.card_terminal.specs.declared.exchange.TheConstants.{RESPONSE_LIMIT}
+use Rattle.object_card.specs.declared.limits.TheConstants.{RESPONSE_LIMIT}
 use Rattle.card_terminal.specs.Attempts.{IsCounted}
 use Rattle.object_card.specs.CarryingOut.{get_response}
 use Rattle.card_terminal.specs.Gathered.{wanted_by, after_unit, fetched_after, repeated_with, Opening, By_command, By_fetch, OpensWith, UnitOf, Single, Repeated, last_of, dialogues_of, unit_data, AreFollowed, IsOpenExchange, Gathers}

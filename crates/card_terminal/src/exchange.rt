@@ -26,14 +26,12 @@ use crate::wanted::Wanted;
 use apdu_core::{Command, Header, Status};
 pub(crate) use exchange_mark::ExchangeMark;
 use handing::handed_by;
+pub use object_card::RESPONSE_LIMIT;
 pub use owned::OwnedExchange;
 use std::alloc::{AllocError, Allocator, Global};
 use std::marker::Model;
 use t0_core::{AnswerFault, DataSent, Gather, HostEnd, HostTurn, LineFault, WholeTpdu};
 use taking::{all_taken_by, taken_by};
-
-/// The most data bytes of a response that any exchange gathers (profile).
-pub const RESPONSE_LIMIT: usize = 16_384;
 
 /// The terminal's side of one command (ISO/IEC 7816-3, clause 12): its TPDU, and a GET RESPONSE
 /// after each `61XX` while the command wants more data. After `6CXX` a TPDU that asks for data is

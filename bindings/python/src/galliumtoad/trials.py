@@ -21,8 +21,8 @@ from typing import Iterator, Optional
 
 from .card import Card
 from .faults import ANYWHERE, KINDS, T1, Faults, Mistake, read
-from .pages import begin
 from .simulate import VPCD, Simulator, connected, serve_pty, talk_vpcd
+from .pages import begin
 
 AID, TAG = bytes.fromhex("A0000000031010"), 0x51
 VALUE = bytes(it % 251 for it in range(600))  # so that no two pieces of it are equal

@@ -575,6 +575,31 @@ def test_no_command_counts_before_since():
     assert len(struck) == 1
 
 
+@pytest.mark.parametrize(
+    ("text", "expected"),
+    [("command 1, byte 300 flip; command 1, byte 1 flip", "fault at command 1: faults:2: command 1, "
+      "byte 1 flip"),
+     ("command 1, flip 300; command 1, flip 0", "fault at command 1: faults:2: command 1, flip 0")],
+)
+def test_of_two_faults_the_one_that_strikes_is_printed(text, expected):
+    it, struck = simulator(text)
+    blocks(it, block(0, 0, JOB[0]))
+    assert struck == [expected]
+
+
+def test_changes_come_in_the_order_of_their_lines():
+    for text, expected in [("add 0102; cut 1", "5f20034a4f45019000"),
+                           ("cut 1; add 0102", "5f20034a4f01029000")]:
+        it, struck = simulator("; ".join(f"command 2, {each}" for each in text.split("; ")))
+        assert whole(it, [JOB[0], GET_NAME])[1].hex() == expected and len(struck) == 2
+
+
+@pytest.mark.parametrize("kind", ["lrc", "nad", "double", "byte 1 flip"])
+def test_nothing_is_left_of_a_lost_block_to_change(kind):
+    it, struck = simulator(f"command 1, lose; command 1, {kind}")
+    assert blocks(it, block(0, 0, JOB[0])) == [b""] and len(struck) == 1
+
+
 WRONG = ["command, mute", "command 1", "mute", "every C, mute", "command 1, nonsense", "p 2, mute",
          "command 1, status 5000", "command 1, cut", "command 1, wtx 256", "command 1, byte 0 flip",
          "command 1, byte 1 insert", "command 1, data A", "after x, mute", "command 1, delay 5"]

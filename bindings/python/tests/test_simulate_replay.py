@@ -3,7 +3,6 @@
 
 import json
 import os
-import platform
 import select
 import subprocess
 import sys
@@ -14,23 +13,17 @@ from galliumtoad import T1, OwnCard, cards, simulate
 from galliumtoad.cards import Replay
 from galliumtoad.faults import Mistake
 from galliumtoad.simulate import Simulator, main
+from room import folder_of_programs
 from test_faults import End, at_t0, at_t1
 from test_simulate import Vpcd
 
 TESTS = Path(__file__).resolve().parent
 CAPTURES = TESTS.parents[2] / "checks" / "explain" / "cases" / "captures"
-PROGRAMS = str(TESTS.parents[1] / "bin" / f"{platform.machine()}-linux-gnu")
-
-
-def folder_of_programs():
-    """A program that was just built comes before that of the repository."""
-    built = os.environ.get("GALLIUMTOAD_BUILT", "")
-    return built if os.path.exists(f"{built}/trace_explain") else PROGRAMS
 
 
 @pytest.fixture(autouse=True)
 def programs(monkeypatch):
-    monkeypatch.setenv("GALLIUMTOAD_BUILT", folder_of_programs())
+    monkeypatch.setenv("PATH", f"{folder_of_programs()}:{os.environ['PATH']}")
 
 
 def tpdu(line, header, sent, received, status, **more):
@@ -53,7 +46,7 @@ def one(line, header, sent="", received="", status="9000", **more):
 
 
 RESET = {"type": "reset", "line": 1}
-ATR = {"type": "atr", "line": 1, "bytes": "3B021450"}
+ATR = {"type": "atr", "line": 1, "characters": "3B021450"}
 SUMMARY = {"type": "summary", "tpdus": 3}
 
 
@@ -235,7 +228,7 @@ def test_a_capture_with_a_fault(tmp_path):
 
 
 def test_without_the_program(monkeypatch, capsys):
-    monkeypatch.setattr(cards.shutil, "which", lambda name, path: None)
+    monkeypatch.setattr(cards, "__file__", "/none/of/the/folders/cards.py")
     monkeypatch.setenv("PATH", "/none")
     path = str(CAPTURES / "sim_tracer.trace")
     assert main(["--replay", path, "--pty"]) == 2

@@ -36,7 +36,7 @@ KINDS: dict[str, tuple[str, Optional[Callable[..., bytes]]]] = {
     # its first byte is a procedure byte, unless it is one of a status
     "procedure XX": (T0, lambda sent, new: new + sent[sent.hex()[:1] not in "69" :]),
     "nulls N": (T0, lambda sent, count: b"\x60" * count + sent),
-    "nad": (T1, lambda sent: b"\x21" + sent[1:-1] + flipped(sent[-1:], 0, 5)),
+    "nad": (T1, lambda sent: flipped(sent[:-1], 0, 5) + flipped(sent[-1:], 0, 5)),
     "lrc": (T1, lambda sent: sent[:-1] + flipped(sent[-1:], *range(8))),
     "double": (T1, lambda sent: sent + sent),
     "lose": (T1, lambda sent: b""),

@@ -197,12 +197,15 @@ class Line:
     def write(self, data: bytes) -> None:
         """Sends the echo of the last character, if there is one, and then characters."""
         echo, self.heard = self.of.faults.edited(self.heard, ECHO) * self.has_echo, b""
-        for out in (echo, data):
-            out = out.translate(TURNED) if self.is_inverse else out
-            while out and not self.is_reset():
-                out = out[os.write(self.fd, out) :]
-            self.of.wait()
+        self.send(echo)
+        self.of.wait()
         self.of.tell(data.hex().upper(), "<")
+        self.send(data)
+
+    def send(self, data: bytes) -> None:
+        data = data.translate(TURNED) if self.is_inverse else data
+        while data and not self.is_reset():
+            data = data[os.write(self.fd, data) :]
 
     def take(self, data: bytes, size: Callable[[bytes], int], seconds: float = FOREVER) -> bytes:
         """Takes characters after these until there are as many as their `size`, or until none comes

@@ -332,8 +332,8 @@ def test_the_simulation_ends_at_such_a_result(tmp_path):
     card = Card("--application", "wrong:Wrong", cwd=tmp_path)
     os.write(card.line, bytes.fromhex("8010000000"))
     assert card.program.wait(60) == 2
-    assert card.end()[1] == ("wrong:Wrong.carry_out returned None, not a status and up to 4096 bytes"
-                             " of data\n")
+    said = "wrong:Wrong.carry_out returned None, not a status and up to 4096 bytes of data\n"
+    assert card.end()[1] == said
 
 
 @pytest.mark.parametrize("result", ["(0x9000, bytearray(b'AB'))", "[0x9000, memoryview(b'AB')]"])

@@ -575,16 +575,12 @@ def test_no_command_counts_before_since():
     assert len(struck) == 1
 
 
-@pytest.mark.parametrize(
-    ("text", "expected"),
-    [("command 1, byte 300 flip; command 1, byte 1 flip", "fault at command 1: faults:2: command 1, "
-      "byte 1 flip"),
-     ("command 1, flip 300; command 1, flip 0", "fault at command 1: faults:2: command 1, flip 0")],
-)
-def test_of_two_faults_the_one_that_strikes_is_printed(text, expected):
-    it, struck = simulator(text)
+@pytest.mark.parametrize("kind", ["byte {} flip", "flip {}"])
+def test_of_two_faults_the_one_that_strikes_is_printed(kind):
+    far, near = (f"command 1, {kind.format(it)}" for it in (300, 1))
+    it, struck = simulator(f"{far}; {near}")
     blocks(it, block(0, 0, JOB[0]))
-    assert struck == [expected]
+    assert struck == [f"fault at command 1: faults:2: {near}"]
 
 
 def test_changes_come_in_the_order_of_their_lines():

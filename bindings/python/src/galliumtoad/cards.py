@@ -36,7 +36,7 @@ def read_table(path: str) -> tuple[Card, bytes]:
     try:
         for line, words in enumerate(Path(path).read_text("utf-8").splitlines(), 1):
             where = f"{path}: line {line}"
-            kind, *rest = words.split() or "#"
+            kind, *rest = words.split() or ["#"]
             if kind[0] == "#":
                 continue
             given = [bytes.fromhex("" if it == "-" else it) for it in rest]

@@ -22,7 +22,7 @@ WHENS = ("command N", "every XX", "INS XX once", "after N", "p CHANCE")
 REQUESTS = {"wtx BYTE": 0xC3, "ifs BYTE": 0xC1, "abort": 0xC2}
 # What a fault does: where it can happen, and if it changes data of a response (anywhere) or what a
 # line carries, what it makes of them.
-KINDS: dict[str, tuple[str, Optional[Callable[..., bytes]]]] = {
+KINDS: dict[str, tuple[str, Optional[Callable[..., Any]]]] = {
     "data HEX": (ANYWHERE, lambda data, new: new),
     "cut N": (ANYWHERE, lambda data, count: data[: max(len(data) - count, 0)]),
     "add HEX": (ANYWHERE, lambda data, new: data + new),
@@ -67,7 +67,7 @@ class Fault:
     kind: str
     values: list[Any]
     place: str
-    change: Optional[Callable[..., bytes]]
+    change: Optional[Callable[..., Any]]
     is_spent: bool = False
 
     def is_due(self, count: int, ins: bytes, is_next: bool, chance: Callable[[], float]) -> bool:
@@ -75,8 +75,9 @@ class Fault:
         if self.when in ("every XX", "INS XX once"):
             return ins == self.number and not (self.is_spent and self.when != "every XX")
         if self.when == "p CHANCE":
-            return chance() < self.number
-        return count > self.number if self.when == "after N" else is_next and count == self.number
+            return bool(chance() < self.number)
+        return bool(count > self.number if self.when == "after N" else
+                    is_next and count == self.number)
 
 
 def matched(table: Iterable[str], words: str) -> tuple[str, list[Any]]:
@@ -105,7 +106,7 @@ def read(text: str, name: str = "faults") -> list[Fault]:
             raise Mistake(f"{name}:{line}: not WHEN, WHAT of a fault: {words}\n"
                           f"{half} is one of: {', '.join(table)}")
         text = f"{at.strip()}, {does.strip()}"
-        found.append(Fault(line, text, when, *number, kind, values, *KINDS[kind]))
+        found.append(Fault(line, text, when, number[0], kind, values, *KINDS[kind]))
     return found
 
 

@@ -101,16 +101,11 @@ class Simulator(contextlib.ExitStack):
         except CommandError as why:
             return b"\x6D\x00" if why.code is Code.INVALID_INS else b"\x67\x00"
 
-    def begin(self, header: bytes) -> Optional[bytes]:
-        """A command begins: its header, or all of it. Returns the answer of a card that does not
-        carry it out, or None if it does."""
-        return self.faults.begin(header, self.card.reset) or self.instead(header)
-
     def whole(self, data: bytes) -> bytes:
         """Carries out a whole TPDU or command, with the faults that strike."""
         if self.faults.gone:
             raise self.faults.gone
-        answer = self.begin(data)
+        answer = self.faults.begin(data, self.card.reset) or self.instead(data)
         if answer is None:
             answer = self.carry_out(data)
             self.carried_out(data)
@@ -249,7 +244,8 @@ class Line:
 
         while True:
             header = self.take(data, lambda it: 5)
-            ins, data, sent, instead = header[1:2], b"", b"", of.begin(header)
+            instead = faults.begin(header, of.card.reset) or of.instead(header)
+            ins, data, sent = header[1:2], b"", b""
             if faults.strikes("early status"):
                 answer = instead = OK
             elif instead is None:

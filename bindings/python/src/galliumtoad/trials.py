@@ -140,7 +140,7 @@ def tried(trial: Trial, given: argparse.Namespace) -> None:
     run, begun, told = Run(trial, given.protocol), time.monotonic(), {"reader": given.reader}
     with placed(run, "" if given.is_line else given.vpcd) as told["tty"]:
         told.update(WORDS)
-        words = [re.sub(r"\{(\w+)\}", lambda it: told.get(it[1], it[0]), word)
+        words = [re.sub(r"\{(\w+)\}", lambda it: told.get(str(it[1]), str(it[0])), word)
                  for word in given.terminal]
         output, trial.status = carried(words, given.limit)
         trial.seconds = round(time.monotonic() - begun, 1)

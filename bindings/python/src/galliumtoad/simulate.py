@@ -273,7 +273,7 @@ class Line:
     def talk_t1(self, data: bytes) -> None:
         """Talks T=1 after the first character."""
         self.of.level, faults = Level.APDU, self.of.faults
-        end, due, size, command = Blocks(), 0, 32, b""
+        due, size, command, end = 0, 32, b"", Blocks()
         while True:
             came, data = self.block(data), b""
             if pcb_of(came) == due << 6 and not end.fields[1:]:  # a command ends

@@ -596,6 +596,16 @@ def test_nothing_is_left_of_a_lost_block_to_change(kind):
     assert blocks(it, block(0, 0, JOB[0])) == [b""] and len(struck) == 1
 
 
+@pytest.mark.parametrize(("t", "expected"), [(0, b"\xa4\x61\x0b"), (1, block(0, 0, b"\x61\x0b"))])
+@pytest.mark.parametrize("kind", ["flip", "drop", "insert 55"])
+def test_a_byte_after_the_last_one_does_not_change(kind, t, expected):
+    """SELECT without Le brings a status alone."""
+    for place in (len(expected), len(expected) + 1):
+        it, struck = simulator(f"command 1, byte {place} {kind}", t)
+        [found] = blocks(it, block(0, 0, SELECT)) if t else said(it, SELECT)
+        assert (found != expected) == len(struck) == (place == len(expected))
+
+
 WRONG = ["command, mute", "command 1", "mute", "every C, mute", "command 1, nonsense", "p 2, mute",
          "command 1, status 5000", "command 1, cut", "command 1, wtx 256", "command 1, byte 0 flip",
          "command 1, byte 1 insert", "command 1, data A", "after x, mute", "command 1, delay 5"]

@@ -201,7 +201,8 @@ class Vpcd:
         self.simulator = of or Simulator(card, faults=found)
         found.tell = self.struck.append
         address = f"localhost:{self.server.getsockname()[1]}"
-        self.thread = threading.Thread(target=serve_vpcd, args=(self.simulator, address), daemon=True)
+        words = {"args": (self.simulator, address), "daemon": True}
+        self.thread = threading.Thread(target=serve_vpcd, **words)
         self.thread.start()
         self.accept()
 

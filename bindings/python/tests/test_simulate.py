@@ -323,7 +323,9 @@ def test_a_table(tmp_path):
      (["--pty"], "nonsense", "faults:1: not WHEN, WHAT of a fault: nonsense\nWHEN is one of: comm"),
      (["--pty"], "after 1, nonsense", "after 1, nonsense\nWHAT is one of: ")],
 )
-def test_errors_before_anything_runs(tmp_path, capsys, words, faults, text):
+def test_errors_before_anything_runs(tmp_path, capsys, monkeypatch, words, faults, text):
+    monkeypatch.setattr(simulate.time, "sleep", lambda _: pytest.fail("it serves a line"))
+    monkeypatch.setattr(simulate, "connected", lambda _: pytest.fail("it serves vpcd"))
     (tmp_path / "table").write_text(TABLE)
     (tmp_path / "faults").write_text(faults)
     files = ["--table", str(tmp_path / "table"), "--faults", str(tmp_path / "faults")]

@@ -19,7 +19,7 @@ from typing import Any, Optional, Sequence
 
 from .card import Card
 from .errors import Error
-from .faults import GET_RESPONSE, Mistake
+from .faults import Mistake
 from .own_card import Application, Command
 
 LEAST_ATR, PATIENCE = b"\x3B\x00", 10.0  # seconds for a line of a program

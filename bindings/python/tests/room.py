@@ -5,6 +5,7 @@ import contextlib
 import io
 import json
 import os
+import platform
 import re
 import signal
 import subprocess
@@ -36,6 +37,13 @@ def ended(run, seconds=100):
     except subprocess.TimeoutExpired:
         os.killpg(run.pid, signal.SIGKILL)
         raise
+
+
+def folder_of_programs():
+    """A program that was just built comes before that of the repository."""
+    built = os.environ.get("GALLIUMTOAD_BUILT", "")
+    kept = HERE.parents[1] / "bin" / f"{platform.machine()}-linux-gnu"
+    return built if os.path.exists(f"{built}/trace_explain") else kept
 
 
 def listed(out):

@@ -1,6 +1,7 @@
 """Tests cards of applications of one's own in `galliumtoad.simulate`, in Python and in programs.
 The examples give the same answers at a pseudo terminal and as whole commands."""
 
+import json
 import os
 import select
 import signal
@@ -11,8 +12,9 @@ from pathlib import Path
 import pytest
 from galliumtoad import T1, Exchange, OwnCard, cards, simulate
 from galliumtoad.cards import Program, application
-from galliumtoad.faults import Faults, Mistake, read
+from galliumtoad.faults import Faults, Mistake, block, read
 from galliumtoad.simulate import Simulator, main
+from room import folder_of_programs
 from test_simulate import Vpcd
 from waiting import wait_until
 
@@ -68,10 +70,10 @@ def dialogue(name):
 class Card:
     """The program at a pseudo terminal without an echo. It talks T=1 with that answer to reset."""
 
-    def __init__(self, *words):
+    def __init__(self, *words, cwd=EXAMPLES):
         program = [sys.executable, "-m", "galliumtoad.simulate", *words, "--pty", "--no-echo"]
         self.program = subprocess.Popen(
-            program, stdout=subprocess.PIPE, stderr=subprocess.PIPE, text=True, cwd=EXAMPLES,
+            program, stdout=subprocess.PIPE, stderr=subprocess.PIPE, text=True, cwd=cwd,
             env={**os.environ, "PYTHONPATH": str(SOURCE)},
             # these tests may run where SIGINT is ignored
             preexec_fn=lambda: signal.signal(signal.SIGINT, signal.SIG_DFL))
@@ -259,11 +261,88 @@ def test_faults_strike_at_such_cards_at_t1(tmp_path):
     card.end()
 
 
+def test_the_dialogue_is_a_trace():
+    """trace_explain reads what -v prints of characters."""
+    card = Card("--application", "counter:Counter", "-v", "--atr", "3B00")
+    assert [card.answer("8010000000") for _ in range(2)] == ["019000", "029000"]
+    done = subprocess.run([f"{folder_of_programs()}/trace_explain", "--json", "--commands"],
+                          input=card.end()[0], text=True, capture_output=True, check=True)
+    found = [json.loads(it) for it in done.stdout.splitlines()]
+    assert [it["characters"] for it in found if it["type"] == "atr"] == ["3B00"]
+    commands = [it for it in found if it["type"] == "command"]
+    assert [(it["cla"], it["received"], it["status"]) for it in commands] == [
+        ("80", "01", "9000"), ("80", "02", "9000")]
+    assert found[-1]["errors"] == 0
+
+
+def test_the_dialogue_at_t1_has_a_line_for_each_block():
+    card = Card("--application", "counter:Counter", "-v", "--atr", T1_ATR)
+    assert card.answer("8010000000") == "019000"
+    blocks = [block(0, 0xC1, b"\xFE"), block(0, 0xE1, b"\xFE"),
+              block(0, 0, bytes.fromhex("8010000000")), block(0, 0, bytes.fromhex("019000"))]
+    assert card.end()[0].splitlines()[:6] == ["reset", f"< {T1_ATR}", *(
+        f"{sign} {it.hex().upper()}" for sign, it in zip("><><", blocks))]
+
+
 def test_faults_strike_at_such_cards():
     faults = Faults(read("command 1, status 6F00\ncommand 2, twice\ncommand 3, forget"))
     with Simulator(OwnCard(application("counter:Counter")), faults=faults) as reader:
         answers = [reader(bytes.fromhex("8010000000")).hex() for _ in range(4)]
     assert answers == ["016f00", "039000", "9000", "049000"]
+
+
+RESULTS = ["None", "0x9000", "(0x9000,)", "(0x9000, 'text')", "('9000', b'')", "(0x6105, b'')",
+           "(0x6C05, b'')", "(0x5000, b'')", "(0x19000, b'')", "(-1, b'')", "(0x9000, bytes(4097))",
+           "(0x9000, b'', 1)"]
+
+
+@pytest.mark.parametrize("atr", ["3B00", T1_ATR])
+@pytest.mark.parametrize("result", RESULTS)
+def test_a_result_that_no_application_may_return(tmp_path, monkeypatch, result, atr):
+    """It is a mistake that names class and method, and the card is reset."""
+    source = COUNTS.replace("RESULT", result)
+    (tmp_path / "wrong.py").write_text(source)
+    monkeypatch.syspath_prepend(str(tmp_path))
+    monkeypatch.delitem(sys.modules, "wrong", raising=False)
+    made = application("wrong:Wrong")
+    with Simulator(OwnCard(made), bytes.fromhex(atr)) as it:
+        with pytest.raises(Mistake) as why:
+            it(bytes.fromhex("8010000001"))
+        assert made.resets == 1
+    text = f"wrong:Wrong.carry_out returned {eval(result)!r:.60}"
+    assert str(why.value).startswith(text) and "not a status and up to 4096 bytes" in str(why.value)
+
+
+COUNTS = """
+from galliumtoad import Application
+
+class Wrong(Application):
+    resets = 0
+    def takes_data(self, header):
+        return False
+    def carry_out(self, command):
+        return RESULT
+    def reset(self):
+        self.resets += 1
+"""
+
+
+def test_the_simulation_ends_at_such_a_result(tmp_path):
+    (tmp_path / "wrong.py").write_text(COUNTS.replace("RESULT", "None"))
+    card = Card("--application", "wrong:Wrong", cwd=tmp_path)
+    os.write(card.line, bytes.fromhex("8010000000"))
+    assert card.program.wait(60) == 2
+    said = "wrong:Wrong.carry_out returned None, not a status and up to 4096 bytes of data\n"
+    assert card.end()[1] == said
+
+
+@pytest.mark.parametrize("result", ["(0x9000, bytearray(b'AB'))", "[0x9000, memoryview(b'AB')]"])
+def test_a_result_in_other_types(tmp_path, monkeypatch, result):
+    (tmp_path / "wrong.py").write_text(COUNTS.replace("RESULT", result))
+    monkeypatch.syspath_prepend(str(tmp_path))
+    monkeypatch.delitem(sys.modules, "wrong", raising=False)
+    with Simulator(OwnCard(application("wrong:Wrong"))) as it:
+        assert it(bytes.fromhex("8010000002")).hex() == "41429000"
 
 
 @pytest.mark.parametrize("name", ["counter", "counter:", ":Counter", ""])

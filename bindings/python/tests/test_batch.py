@@ -543,18 +543,19 @@ def test_cards_get_what_was_checked(tmp_path):
     assert sorted(it["24352"] for it in room.held().values()) == ["01", "02"]
 
 
-def interruptible(room, *words):
-    """Starts a run. A shell's background job ignores Ctrl-C, and the run would inherit that."""
-    before = signal.signal(signal.SIGINT, signal.default_int_handler)
-    run = room.start(*words)
+def interruptible(room, handler=signal.default_int_handler):
+    """Starts a run, which inherits whether SIGINT is ignored, as a script's background job does."""
+    before = signal.signal(signal.SIGINT, handler)
+    run = room.start()
     signal.signal(signal.SIGINT, before)
     return run
 
 
-def test_an_interrupted_run_ends_the_card_in_progress(tmp_path):
+@pytest.mark.parametrize("handler", [signal.default_int_handler, signal.SIG_IGN])
+def test_an_interrupted_run_ends_the_card_in_progress(tmp_path, handler):
     room = Room(tmp_path, 3)
     room.environment["SLOW"] = "0.1"
-    run = interruptible(room)
+    run = interruptible(room, handler)
     begun(room)
     os.kill(run.pid, signal.SIGINT)
     out, error = ended(run)

@@ -16,7 +16,7 @@ from galliumtoad import Card
 from galliumtoad.batch import report
 from galliumtoad.batch.journal import Entry
 from galliumtoad.batch.script import Recorder, Script, carry_out, compared, identity
-from room import AID, SCRIPT, Room, ended, listed, steps_of, told
+from room import AID, SCRIPT, Room, ended, folder_of_programs, listed, steps_of, told
 
 TIME = r"\d{4}-\d\d-\d\dT\d\d:\d\d:\d\d\.\d{3}[+-]\d\d:\d\d"
 
@@ -200,19 +200,24 @@ def test_a_dialogue_is_kept_without_a_value(tmp_path):
     assert re.fullmatch(first, lines[0])
     operations = ("1: select", "2: put 5F20", "3: put {tag}", "4: send", "5: put 50")
     named = [f"# line {it}" for it in operations]
-    assert [it for it in lines[1:] if it[0] == "#"] == named
+    assert [it for it in lines[1:] if it[0] == "#" and "**" not in it] == named
     shown = kept.upper().split("\n", 1)[1]
     for cell in text.splitlines()[1].split(","):
         for form in (cell.encode().hex().upper(), cell.upper()):
             assert form not in shown, cell
     assert "5F24" not in shown and "C1C2" not in shown and "DEADBEEF" not in shown
     # headers of literal words, lengths and statuses are there
-    assert "> 00A4040007 ** 7 bytes" in lines and "> 00DA5F2008 ** 8 bytes" in lines
-    assert "> ** 8 bytes" in lines and "> 10DA0050FF ** 255 bytes" in lines
+    for header, size in [("00A4040007", 7), ("00DA5F2008", 8), ("10DA0050FF", 255)]:
+        assert f"> {header}\n# > ** {size} bytes\n" in kept
+    assert "# line 4: send\n# > ** 8 bytes\n< " in kept  # the whole command is a cell
     for line in lines[1:]:
-        assert re.fullmatch(
-            r"#.*|[<>] (\*\* \d+ bytes|[0-9A-F]{4}|[0-9A-F]{10})( \*\* \d+ bytes)?", line
-        ), line
+        assert re.fullmatch(r"# [<>] \*\* \d+ bytes|# line .*|< [0-9A-F]{4}|> [0-9A-F]{10}", line)
+    # trace_explain names the rest
+    done = subprocess.run([f"{folder_of_programs()}/trace_explain"], input=kept, text=True,
+                          capture_output=True)
+    assert done.returncode == 0 and "protocol   errors: 0" in done.stdout
+    for text in ("SELECT by identifier", "PUT DATA of 5F20", "9000 normal processing"):
+        assert text in done.stdout
 
 
 def test_a_dialogue_shows_the_header_of_each_select():
@@ -220,7 +225,7 @@ def test_a_dialogue_shows_the_header_of_each_select():
     row, recorder = {"aid": "A0000000031010"}, Recorder(Card({AID: {}}).tpdu)
     steps = steps_of(Script("script", "select {aid}\n", ["aid"]), row)
     assert carry_out(steps, recorder)[0] == "done"
-    assert recorder.lines[1] == "> 00A4040007 ** 7 bytes"
+    assert recorder.lines[1:3] == ["> 00A4040007", "# > ** 7 bytes"]
 
 
 @pytest.mark.parametrize("more", ["", "put 50 41\n"])

@@ -1,11 +1,14 @@
 """Tests what faults do to whole commands, TPDUs, characters and blocks: each strikes, and a card
 without a struck fault is as the library's. Expected bytes are written from the standard's forms."""
 
+import threading
+from queue import SimpleQueue
+
 import pytest
 from galliumtoad import (T1, Application, BlockError, Card, Get, Level, OwnCard, Put, Select,
                          Terminal)
-from galliumtoad.faults import ECHO, KINDS, LINE, T0, Faults, Gone, Mistake, block, read
-from galliumtoad.simulate import Simulator, at_t0, at_t1
+from galliumtoad.faults import ECHO, LINE, T0, Faults, Gone, Mistake, block, read
+from galliumtoad.simulate import Line, Simulator
 from galliumtoad.trials import AID, VALUE, trials
 
 FCI = bytes.fromhex("6F098407A0000000031010")
@@ -22,18 +25,40 @@ ANSWERS += [OBJECT[256:512] + b"\x61\x5c", OBJECT[512:] + b"\x90\x00"]
 FIRST = OBJECT[:256]
 
 
-class End:
-    """A card's end of a line, at T=0 or T=1."""
+at_t0, at_t1 = Line.talk_t0, Line.talk_t1
+
+
+class End(Line):
+    """A card's end of a line, at T=0 or T=1, in a thread of its own: the line is two queues."""
 
     def __init__(self, it, talks):
-        self.end = talks(it, b"")
-        self.is_inside = next(self.end) is None
+        self.of, self.cwt, self.sent, self.fault = it, 1.0, b"", None
+        self.asks, self.characters = SimpleQueue(), SimpleQueue()
+        threading.Thread(target=self.run, args=[talks], daemon=True).start()
+        self.asks.get(timeout=60)
 
-    def take(self, byte):
+    def run(self, talks):
+        try:
+            talks(self, b"")
+        except Exception as fault:
+            self.fault = fault
+        self.asks.put("ended")
+
+    def read(self, seconds=0.0):
+        self.asks.put("reads")
+        return self.characters.get()
+
+    def write(self, data):
+        self.sent += data
+
+    def take_in(self, byte):
         """Takes a character, or none if a block stopped, and returns what the card sends."""
-        out = self.end.send(byte)
-        self.is_inside = out is None
-        return out or b""
+        self.characters.put(byte)
+        self.asks.get(timeout=60)
+        sent, self.sent = self.sent, b""
+        if self.fault:
+            raise self.fault
+        return sent
 
 
 def simulator(text, t=1, **more):
@@ -111,7 +136,7 @@ CHANGES = {
                            7: bytes(92) + b"\x61\x10"},
     "get without answer": {5: None},
 }
-ANYWHERE = [it for it in trials() if all(KINDS[each.kind] == "anywhere" for each in it.read().all)]
+ANYWHERE = [it for it in trials() if it.places == {"anywhere"}]
 
 
 def test_each_trial_has_its_row():
@@ -146,7 +171,7 @@ def test_blocks_carry_the_same(trial):
 
     def line(data, waits):
         try:
-            return b"".join(end.take(data[at : at + 1]) for at in range(len(data)))
+            return b"".join(end.take_in(data[at : at + 1]) for at in range(len(data)))
         except Gone:
             return b""
 
@@ -164,7 +189,7 @@ def said(it, *tpdus):
         found.append(b"")
         try:
             for byte in tpdu:
-                found[-1] += end.take(bytes([byte]))
+                found[-1] += end.take_in(bytes([byte]))
         except Gone:
             found[-1] += b"gone"
     return found
@@ -234,7 +259,7 @@ def test_what_is_stored_over_a_line(fault, size):
             sent = []
 
             def line(data, _):
-                sent.append(b"".join(end.take(bytes([it])) for it in data))
+                sent.append(b"".join(end.take_in(bytes([it])) for it in data))
                 return sent[-1]
 
             with T1(line) as terminal:
@@ -269,7 +294,7 @@ def test_blocks(kind):
 
     def line(data, waits):
         if data:
-            came = [end.take(bytes([it])) for it in data]
+            came = [end.take_in(bytes([it])) for it in data]
             sent.append(b"".join(came))
             left[:] = [sent[-1]]
         return left.pop() if left else b""
@@ -302,7 +327,7 @@ def test_blocks_of_a_trial(trial):
 
     def line(data, waits):
         if data:
-            sent.append(b"".join(end.take(bytes([each])) for each in data))
+            sent.append(b"".join(end.take_in(bytes([each])) for each in data))
             left[:] = [sent[-1]]
         return left.pop() if left else b""
 
@@ -327,7 +352,7 @@ def test_a_changed_response_goes_in_fields_of_the_terminal_s_size():
     end, sent = End(it, at_t1), []
 
     def line(data, waits):
-        sent.append(b"".join(end.take(bytes([it])) for it in data))
+        sent.append(b"".join(end.take_in(bytes([it])) for it in data))
         return sent[-1]
 
     with T1(line) as terminal:
@@ -338,7 +363,7 @@ def test_a_changed_response_goes_in_fields_of_the_terminal_s_size():
 def blocks(it, *sent):
     """What the card's end at T=1 answers to each of these blocks."""
     end = End(it, at_t1)
-    return [b"".join(end.take(bytes([each])) for each in one) for one in sent]
+    return [b"".join(end.take_in(bytes([each])) for each in one) for one in sent]
 
 
 GET_NAME = bytes.fromhex("00CA5F2000")
@@ -355,7 +380,7 @@ def test_fields_of_each_size(size):
     end, number = End(it, at_t1), 0
 
     def ask(pcb, field=b""):
-        return b"".join(end.take(bytes([each])) for each in block(0, pcb, field))
+        return b"".join(end.take_in(bytes([each])) for each in block(0, pcb, field))
 
     assert ask(0xC1, bytes([size])) == block(0, 0xE1, bytes([size]))
     asks = [(b"\x00\xDA\x00\x51\x00", b"\x67\x00"), (GET, b"\x51\x81\xFD" + value + b"\x90\x00")]
@@ -431,14 +456,14 @@ def test_a_fault_of_blocks_waits_for_blocks():
 def test_an_abort():
     it, struck = simulator("command 1, abort")
     end = End(it, at_t1)
-    assert b"".join(end.take(bytes([it])) for it in block(0, 0, JOB[0])) == block(0, 0xC2, b"")
+    assert b"".join(end.take_in(bytes([it])) for it in block(0, 0, JOB[0])) == block(0, 0xC2, b"")
     assert struck
 
 
 def test_an_echo():
     faults = Faults(read("command 1, wrong echo"), tell=lambda text: None)
     faults.begin(SELECT)
-    assert [faults.echo(it) for it in (b"\x07", b"\x07")] == [b"\x06", b"\x07"]
+    assert [faults.edited(it, ECHO) for it in (b"\x07", b"\x07")] == [b"\x06", b"\x07"]
 
 
 def test_without_faults_the_library_speaks():
@@ -548,6 +573,37 @@ def test_no_command_counts_before_since():
     found = [each[-2:].hex() for each in whole(it, [GET, other, JOB[0], JOB[0]])]
     assert found[2:] == ["6f00", "9000"]
     assert len(struck) == 1
+
+
+@pytest.mark.parametrize("kind", ["byte {} flip", "flip {}"])
+def test_of_two_faults_the_one_that_strikes_is_printed(kind):
+    far, near = (f"command 1, {kind.format(it)}" for it in (300, 1))
+    it, struck = simulator(f"{far}; {near}")
+    blocks(it, block(0, 0, JOB[0]))
+    assert struck == [f"fault at command 1: faults:2: {near}"]
+
+
+def test_changes_come_in_the_order_of_their_lines():
+    for text, expected in [("add 0102; cut 1", "5f20034a4f45019000"),
+                           ("cut 1; add 0102", "5f20034a4f01029000")]:
+        it, struck = simulator("; ".join(f"command 2, {each}" for each in text.split("; ")))
+        assert whole(it, [JOB[0], GET_NAME])[1].hex() == expected and len(struck) == 2
+
+
+@pytest.mark.parametrize("kind", ["lrc", "nad", "double", "byte 1 flip"])
+def test_nothing_is_left_of_a_lost_block_to_change(kind):
+    it, struck = simulator(f"command 1, lose; command 1, {kind}")
+    assert blocks(it, block(0, 0, JOB[0])) == [b""] and len(struck) == 1
+
+
+@pytest.mark.parametrize(("t", "expected"), [(0, b"\xa4\x61\x0b"), (1, block(0, 0, b"\x61\x0b"))])
+@pytest.mark.parametrize("kind", ["flip", "drop", "insert 55"])
+def test_a_byte_after_the_last_one_does_not_change(kind, t, expected):
+    """SELECT without Le brings a status alone."""
+    for place in (len(expected), len(expected) + 1):
+        it, struck = simulator(f"command 1, byte {place} {kind}", t)
+        [found] = blocks(it, block(0, 0, SELECT)) if t else said(it, SELECT)
+        assert (found != expected) == len(struck) == (place == len(expected))
 
 
 WRONG = ["command, mute", "command 1", "mute", "every C, mute", "command 1, nonsense", "p 2, mute",

@@ -3,6 +3,7 @@ a socket plays here."""
 
 import os
 import pty
+import random
 import select
 import socket
 import subprocess
@@ -111,7 +112,8 @@ def test_a_line_at_t1(at_pty):
     ("atr", "request_", "response"),
     [("3B800181", "FF01FE", "ff01fe"), ("3B80800101", "FF01FE", "ff01fe"),
      ("3B80800101", "FF00FF", "ff00ff"), ("3B800181", "FF1111FF", "ff1111ff"),
-     ("3B800181", "FF11957B", "ff01fe"), ("3B800181", "FF00FF", ""), ("3B800181", "FF01FF", "")],
+     ("3B800181", "FF11957B", "ff01fe"), ("3B800181", "FF00FF", ""), ("3B800181", "FF01FF", ""),
+     ("3B800181", "FF817E", "")],
 )
 def test_pps(at_pty, atr, request_, response):
     card = at_pty(TABLE + f"atr {atr}\n")
@@ -199,7 +201,8 @@ class Vpcd:
         self.simulator = of or Simulator(card, faults=found)
         found.tell = self.struck.append
         address = f"localhost:{self.server.getsockname()[1]}"
-        self.thread = threading.Thread(target=serve_vpcd, args=(self.simulator, address))
+        words = {"args": (self.simulator, address), "daemon": True}
+        self.thread = threading.Thread(target=serve_vpcd, **words)
         self.thread.start()
         self.accept()
 
@@ -265,6 +268,25 @@ def test_vpcd_loses_the_card(vpcd, monkeypatch, fault, least, most):
     assert it.ask(bytes.fromhex("00CA5F2000")).hex() == "6985" and len(it.struck) == 1
 
 
+def test_a_reset_by_a_fault_at_vpcd(vpcd):
+    """It forgets what was selected; vpcd has no message for it."""
+    it = vpcd("command 2, reset")
+    answers = [it.ask(each).hex() for each in (SELECT, bytes.fromhex("00CA5F2000"), SELECT)]
+    assert answers == ["610b", "6985", "610b"] and len(it.struck) == 1
+
+
+def test_the_seed(tmp_path, monkeypatch):
+    """It is that of the faults, and 0 if none is given."""
+    (tmp_path / "table").write_text(TABLE)
+    (tmp_path / "faults").write_text("p 0.5, mute")
+    found = []
+    monkeypatch.setattr(simulate, "serve", lambda it, _: found.append(it.faults.chance()))
+    words = ["--pty", "--table", str(tmp_path / "table"), "--faults", str(tmp_path / "faults")]
+    for seed in (["--seed", "7"], []):
+        assert main([*words, *seed]) == 0
+    assert found == [random.Random(7).random(), random.Random(0).random()]
+
+
 def test_a_delay(vpcd):
     it = vpcd("command 1, delay 0.5s")
     begun = time.monotonic()
@@ -301,7 +323,9 @@ def test_a_table(tmp_path):
      (["--pty"], "nonsense", "faults:1: not WHEN, WHAT of a fault: nonsense\nWHEN is one of: comm"),
      (["--pty"], "after 1, nonsense", "after 1, nonsense\nWHAT is one of: ")],
 )
-def test_errors_before_anything_runs(tmp_path, capsys, words, faults, text):
+def test_errors_before_anything_runs(tmp_path, capsys, monkeypatch, words, faults, text):
+    monkeypatch.setattr(simulate.time, "sleep", lambda _: pytest.fail("it serves a line"))
+    monkeypatch.setattr(simulate, "connected", lambda _: pytest.fail("it serves vpcd"))
     (tmp_path / "table").write_text(TABLE)
     (tmp_path / "faults").write_text(faults)
     files = ["--table", str(tmp_path / "table"), "--faults", str(tmp_path / "faults")]

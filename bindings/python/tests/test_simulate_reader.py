@@ -10,10 +10,10 @@ from pathlib import Path
 
 import pytest
 from galliumtoad import simulate
-from room import SCRIPT
+from room import SCRIPT, folder_of_programs
 from test_applications import CARDS, dialogue
 from test_reader import PRIVATE, missing, namespace
-from test_simulate_replay import CAPTURES, SIM, folder_of_programs
+from test_simulate_replay import CAPTURES, SIM
 from waiting import SECONDS, wait_until
 
 TESTS = Path(__file__).resolve().parent
@@ -87,7 +87,7 @@ class Desk:
         source = str(Path(simulate.__file__).parent.parent)
         self.environment = dict(
             os.environ, PCSCLITE_CSOCK_NAME=str(path / "run" / "pcscd.comm"), PYTHONPATH=source,
-            GALLIUMTOAD_BUILT=folder_of_programs(),
+            PATH=f"{folder_of_programs()}:{os.environ['PATH']}",
         )
         words = [*namespace(), *PRIVATE, path / "run", "pcscd", "--foreground", "--config"]
         self.made = [subprocess.Popen([*words, path / "conf"], stdout=subprocess.DEVNULL,

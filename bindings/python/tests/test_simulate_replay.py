@@ -3,7 +3,6 @@
 
 import json
 import os
-import platform
 import select
 import subprocess
 import sys
@@ -13,24 +12,18 @@ import pytest
 from galliumtoad import T1, OwnCard, cards, simulate
 from galliumtoad.cards import Replay
 from galliumtoad.faults import Mistake
-from galliumtoad.simulate import Simulator, at_t0, at_t1, main
-from test_faults import End
+from galliumtoad.simulate import Simulator, main
+from room import folder_of_programs
+from test_faults import End, at_t0, at_t1
 from test_simulate import Vpcd
 
 TESTS = Path(__file__).resolve().parent
 CAPTURES = TESTS.parents[2] / "checks" / "explain" / "cases" / "captures"
-PROGRAMS = str(TESTS.parents[1] / "bin" / f"{platform.machine()}-linux-gnu")
-
-
-def folder_of_programs():
-    """A program that was just built comes before that of the repository."""
-    built = os.environ.get("GALLIUMTOAD_BUILT", "")
-    return built if os.path.exists(f"{built}/trace_explain") else PROGRAMS
 
 
 @pytest.fixture(autouse=True)
 def programs(monkeypatch):
-    monkeypatch.setenv("GALLIUMTOAD_BUILT", folder_of_programs())
+    monkeypatch.setenv("PATH", f"{folder_of_programs()}:{os.environ['PATH']}")
 
 
 def tpdu(line, header, sent, received, status, **more):
@@ -53,7 +46,7 @@ def one(line, header, sent="", received="", status="9000", **more):
 
 
 RESET = {"type": "reset", "line": 1}
-ATR = {"type": "atr", "line": 1, "bytes": "3B021450"}
+ATR = {"type": "atr", "line": 1, "characters": "3B021450"}
 SUMMARY = {"type": "summary", "tpdus": 3}
 
 
@@ -121,7 +114,7 @@ def test_data_and_no_data(replay):
                  "00200080023133", "00200080023132", "002000800231") == [
         "6D00", "6D00", "63C3", "63C3", "9000", "6D00", "9000", "6700"]
     line = End(Simulator(OwnCard(replay(*verify))), at_t0)
-    said = [b"".join(line.take(bytes([each])) for each in bytes.fromhex(it))
+    said = [b"".join(line.take_in(bytes([each])) for each in bytes.fromhex(it))
             for it in ("0020008000", "00200080023132", "80D6000002")]
     assert [it.hex() for it in said] == ["63c3", "209000", "6d00"]
 
@@ -218,7 +211,7 @@ def test_a_capture_is_a_card(capsys):
     assert asked(Replay(path, is_strict=True), *(it for it, _ in words)) == [it for _, it in words]
     line, found = End(Simulator(OwnCard(Replay(path, is_strict=True))), at_t0), []
     for each, _ in words:
-        found.append(b"".join(line.take(bytes([it])) for it in bytes.fromhex(each)))
+        found.append(b"".join(line.take_in(bytes([it])) for it in bytes.fromhex(each)))
     # INS before data of either end; a status alone refuses
     assert found[0].hex() == "a49f16" and found[6].hex() == "9804"
     assert [it[1:].hex().upper() for at, it in enumerate(found) if at != 6] == [
@@ -235,7 +228,7 @@ def test_a_capture_with_a_fault(tmp_path):
 
 
 def test_without_the_program(monkeypatch, capsys):
-    monkeypatch.setattr(cards.shutil, "which", lambda name, path: None)
+    monkeypatch.setattr(cards, "__file__", "/none/of/the/folders/cards.py")
     monkeypatch.setenv("PATH", "/none")
     path = str(CAPTURES / "sim_tracer.trace")
     assert main(["--replay", path, "--pty"]) == 2
@@ -252,7 +245,7 @@ def test_at_t1(replay):
     """Pieces of a chain, and a response of several blocks."""
     card = replay(CHAIN, READS)
     end = End(Simulator(OwnCard(card), bytes.fromhex("3B800181")), at_t1)
-    with T1(lambda data, waits: b"".join(end.take(bytes([it])) for it in data)) as terminal:
+    with T1(lambda data, waits: b"".join(end.take_in(bytes([it])) for it in data)) as terminal:
         asks = ["10DA005001AA", "00DA005001BB", "00B0000000", "00B0000009", "00CA000000"]
         answers = [terminal(bytes.fromhex(it)) for it in asks]
     assert [it.hex() for it in answers[:2]] == ["9000", "6a84"]

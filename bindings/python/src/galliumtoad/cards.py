@@ -19,7 +19,7 @@ from typing import Any, Optional, Sequence
 
 from .card import Card
 from .errors import Error
-from .faults import GET_RESPONSE, Mistake
+from .faults import Mistake
 from .own_card import Application, Command
 
 LEAST_ATR, PATIENCE = b"\x3B\x00", 10.0  # seconds for a line of a program
@@ -32,19 +32,18 @@ WAY, RESPONSE = "(to|from)-card", f"(?:((?:[0-9A-F]{{2}}){{1,4096}}) )?({STATUS}
 def read_table(path: str) -> tuple[Card, bytes]:
     """Reads the lines `app`, `object`, `locked` and `atr` of a file. Returns the card and its
     answer to reset. Raises `Mistake`."""
-    tables: dict[bytes, dict[int, bytes]] = {}
-    locked, atr, where = [], b"", path
+    tables, locked, atr, where = dict[bytes, dict[int, bytes]](), [], b"", path
     try:
         for line, words in enumerate(Path(path).read_text("utf-8").splitlines(), 1):
             where = f"{path}: line {line}"
-            if words.strip()[:1] in ("", "#"):
+            kind, *rest = words.split() or ["#"]
+            if kind[0] == "#":
                 continue
-            kind, *rest = words.split()
             given = [bytes.fromhex("" if it == "-" else it) for it in rest]
             if (kind, len(given)) == ("app", 1) and given[0] not in tables:
                 tables[given[0]] = {}
             elif (kind, len(given)) == ("atr", 1) and not atr:
-                atr = given[0]
+                [atr] = given
             elif kind in ("object", "locked") and len(given) == 2 and tables:
                 aid, tag = [*tables][-1], int.from_bytes(given[0], "big")
                 tables[aid][tag] = given[1]
@@ -64,7 +63,8 @@ def status_of(digits: str) -> int:
 
 
 def application(name: str) -> Application:
-    """Makes an object of a class, MODULE:CLASS. Raises `Mistake`."""
+    """Makes an object of a class, MODULE:CLASS. Raises `Mistake`, also later for a result of its
+    `carry_out` that no application may return."""
     module, _, kind = name.partition(":")
     if not (module and kind):
         raise Mistake(f"{name} is not MODULE:CLASS")
@@ -75,7 +75,20 @@ def application(name: str) -> Application:
         raise Mistake(f"{name}: {why}") from None
     if not isinstance(made, Application):
         raise Mistake(f"{name} is no Application")
+    carry_out = made.carry_out
+    setattr(made, "carry_out", lambda command: result(f"{name}.carry_out", carry_out(command)))
     return made
+
+
+def result(of: str, given: Any) -> tuple[int, bytes]:
+    """Reads what this method of an application returned. Raises `Mistake`."""
+    try:
+        status, data = given
+        if len(kept := bytes(memoryview(data))) <= 4096:
+            return status_of(f"{status:04X}"), kept
+    except (TypeError, ValueError):
+        pass
+    raise Mistake(f"{of} returned {given!r:.100}, not a status and up to 4096 bytes of data")
 
 
 class Program(Application):
@@ -150,9 +163,8 @@ class Known:
 def explained(path: str) -> list[dict[str, Any]]:
     """The objects of `trace_explain --json --commands` for a capture, or those in a file. Raises
     `Mistake`."""
-    folders = [os.environ.get("GALLIUMTOAD_BUILT"), os.environ.get("PATH"),
-               f"{Path(__file__).parents[3]}/bin/{platform.machine()}-linux-gnu"]
-    name = shutil.which("trace_explain", path=os.pathsep.join(filter(None, folders)))
+    here = f"{Path(__file__).parents[3]}/bin/{platform.machine()}-linux-gnu"
+    name = shutil.which("trace_explain", path=f"{os.environ.get('PATH', '')}{os.pathsep}{here}")
     try:
         text = Path(path).read_bytes()
         if not text.startswith(b'{"type":'):
@@ -186,7 +198,7 @@ class Replay(Application):
                 raise Mistake(f"{path}: line {it['line']}: {it.get('text', 'a masked value')}")
             if it["type"] in ("reset", "atr"):
                 found.append([])
-                self.atr = self.atr or bytes.fromhex(it.get("bytes", it.get("characters", "")))
+                self.atr = self.atr or bytes.fromhex(it.get("characters", ""))
             for tpdu in it["tpdus"] if it["type"] == "command" else []:
                 if tpdu.get("status"):  # without one, the capture ends in it
                     self.take(tpdu, found[-1])

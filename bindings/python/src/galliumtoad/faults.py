@@ -6,36 +6,45 @@ import re
 from dataclasses import dataclass
 from functools import reduce
 from pathlib import Path
-from typing import Callable, Iterable, Optional
+from typing import Any, Callable, Iterable, Optional, Union
 
 ANYWHERE, LINE, T0, T1, ECHO = "anywhere", "a line", "a line at T=0", "a line at T=1", "an echo"
-GET_RESPONSE, OK, MORE = 0xC0, b"\x90\x00", b"\x61\x10"
-# The forms of the words in capitals below.
-FORMS = {"N": "([0-9]+)", "XX": "([0-9A-F]{2})", "HEX": "((?:[0-9A-F]{2})+)",
-         "SW": "([69][0-9A-F]{3})", "BYTE": "(25[0-5]|2[0-4][0-9]|1?[0-9]?[0-9])",
-         "SECONDS": r"([0-9]+(?:\.[0-9]+)?)s", "CHANCE": r"(0?\.[0-9]+|1|0)",
-         "CHANGE": "([1-9][0-9]* (?:flip|drop|insert [0-9A-F]{2}))"}
-WHENS = ("command N", "every XX", "INS XX once", "after N", "p CHANCE")
-# What changes the data of a response.
-EDITS: dict[str, Callable[[bytes, str], bytes]] = {
-    "data HEX": lambda data, value: bytes.fromhex(value),
-    "cut N": lambda data, value: data[: max(len(data) - int(value), 0)],
-    "add HEX": lambda data, value: data + bytes.fromhex(value),
-    "flip N": lambda data, value: flipped(data, int(value)),
-    # the last byte of the first tag, which has one or two
-    "wrong tag": lambda data, _: flipped(data, 8 if data[:1] and data[0] & 0x1F == 0x1F else 0),
+GET_RESPONSE, OK, MORE = b"\xC0", b"\x90\x00", b"\x61\x10"
+# The forms of the words in capitals below, and what reads them.
+FORMS: dict[str, tuple[str, Callable[[str], Any]]] = {
+    "N": ("[0-9]+", int), "PLACE": ("[1-9][0-9]*", int), "CHANCE": (r"0?\.[0-9]+|1|0", float),
+    "BYTE": ("25[0-5]|2[0-4][0-9]|1?[0-9]?[0-9]", int), "XX": ("[0-9A-F]{2}", bytes.fromhex),
+    "HEX": ("(?:[0-9A-F]{2})+", bytes.fromhex), "SW": ("[69][0-9A-F]{3}", bytes.fromhex),
+    "SECONDS": (r"[0-9]+(?:\.[0-9]+)?s", lambda text: float(text[:-1])),
 }
+WHENS = ("command N", "every XX", "INS XX once", "after N", "p CHANCE")
 # The card's requests at T=1, by their PCB (ISO/IEC 7816-3, 11.3.2.2).
 REQUESTS = {"wtx BYTE": 0xC3, "ifs BYTE": 0xC1, "abort": 0xC2}
-# What a fault does, and where it can happen.
-KINDS = {kind: place for place, kinds in {
-    ANYWHERE: [*EDITS, "status SW", "delay SECONDS", "mute", "power off", "reset", "forget",
-               "twice", "6C again", "61 without end"],
-    LINE: ["byte CHANGE"],
-    T0: ["nulls N", "procedure XX", "early status"],
-    ECHO: ["wrong echo"],
-    T1: [*REQUESTS, "lrc", "lose", "double", "nad"],
-}.items() for kind in kinds}
+# What a fault does: where it can happen, and if it changes data of a response (anywhere) or what a
+# line carries, what it makes of them.
+KINDS: dict[str, tuple[str, Optional[Callable[..., Any]]]] = {
+    "data HEX": (ANYWHERE, lambda data, new: new),
+    "cut N": (ANYWHERE, lambda data, count: data[: max(len(data) - count, 0)]),
+    "add HEX": (ANYWHERE, lambda data, new: data + new),
+    "flip N": (ANYWHERE, lambda data, bit: flipped(data, bit)),
+    # the last byte of the first tag, which has one or two
+    "wrong tag": (ANYWHERE, lambda data: flipped(data, 8 * all(it & 31 == 31 for it in data[:1]))),
+    "byte PLACE flip": (LINE, lambda sent, at: flipped(sent, 8 * at - 8)),
+    "byte PLACE drop": (LINE, lambda sent, at: sent[: at - 1] + sent[at:]),
+    "byte PLACE insert XX": (LINE, lambda sent, at, new: (
+        sent[: at - 1] + new + sent[at - 1 :] if at <= len(sent) else sent)),
+    # its first byte is a procedure byte, unless it is one of a status
+    "procedure XX": (T0, lambda sent, new: new + sent[sent.hex()[:1] not in "69" :]),
+    "nulls N": (T0, lambda sent, count: b"\x60" * count + sent),
+    "nad": (T1, lambda sent: flipped(sent[:-1], 0, 5) + flipped(sent[-1:], 0, 5)),
+    "lrc": (T1, lambda sent: sent[:-1] + flipped(sent[-1:], *range(8))),
+    "double": (T1, lambda sent: sent + sent),
+    "lose": (T1, lambda sent: b""),
+    "wrong echo": (ECHO, lambda sent: flipped(sent, 0)),
+    **dict.fromkeys(["status SW", "delay SECONDS", "mute", "power off", "reset", "forget", "twice",
+                     "6C again", "61 without end"], (ANYWHERE, None)),
+    **dict.fromkeys(REQUESTS, (T1, None)), "early status": (T0, None),
+}
 
 
 class Mistake(Exception):
@@ -48,52 +57,56 @@ class Gone(Exception):
 
 @dataclass
 class Fault:
-    """A line of a file. `text` is the line, `when` and `kind` are those of the tables, `value` is
-    the argument of what it does."""
+    """A line of a file. `text` is the line. `when` and `kind`, with their values, are of the tables
+    above, and so are where it can happen and what it changes."""
 
     line: int
     text: str
     when: str
-    number: float
+    number: Any
     kind: str
-    value: str
+    values: list[Any]
+    place: str
+    change: Optional[Callable[..., Any]]
     is_spent: bool = False
 
-    def is_due(self, count: int, ins: int, is_next: bool, chance: Callable[[], float]) -> bool:
+    def is_due(self, count: int, ins: bytes, is_next: bool, chance: Callable[[], float]) -> bool:
         """Whether it strikes at this command, or at what fetches its response."""
-        return {"command N": is_next and count == self.number, "every XX": ins == self.number,
-                "INS XX once": ins == self.number and not self.is_spent,
-                "after N": count > self.number}.get(self.when) or (
-                    self.when == "p CHANCE" and chance() < self.number)
+        if self.when in ("every XX", "INS XX once"):
+            return ins == self.number and not (self.is_spent and self.when != "every XX")
+        if self.when == "p CHANCE":
+            return bool(chance() < self.number)
+        return bool(count > self.number if self.when == "after N" else
+                    is_next and count == self.number)
 
 
-def matched(table: Iterable[str], words: str) -> tuple[str, str]:
-    """Returns the entry of a table that the words have the form of, and its argument, or none."""
+def matched(table: Iterable[str], words: str) -> tuple[str, list[Any]]:
+    """Returns the entry of a table that the words have the form of, and its values."""
     for entry in table:
-        form = " ".join(FORMS.get(it, it) for it in entry.split())
-        if found := re.fullmatch(form, words.strip(), re.I):
-            return entry, "".join(found.groups())
-    return "", ""
+        forms = [FORMS.get(it, (it, None)) for it in entry.split()]
+        if found := re.fullmatch(" ".join(f"({it})" for it, _ in forms), words.strip(), re.I):
+            return entry, [reads(it) for (_, reads), it in zip(forms, found.groups()) if reads]
+    return "", []
 
 
 def read(text: str, name: str = "faults") -> list[Fault]:
     """Reads the lines of a file: WHEN, WHAT. Raises `Mistake` for the first line that is wrong.
 
-    >>> [(it.line, it.kind, it.value) for it in read("# two\\nINS CA once, cut 3\\np 0.5, mute")]
-    [(2, 'cut N', '3'), (3, 'mute', '')]
+    >>> [(it.line, it.kind, it.values) for it in read("# two\\nINS CA once, cut 3\\np 0.5, mute")]
+    [(2, 'cut N', [3]), (3, 'mute', [])]
     """
     found = []
-    for line, words in enumerate(text.splitlines(), 1):
-        if words.strip()[:1] in ("", "#"):
+    for line, words in enumerate(map(str.strip, text.splitlines()), 1):
+        if words[:1] in ("", "#"):
             continue
         at, _, does = words.partition(",")
-        (when, number), (kind, value) = matched(WHENS, at), matched(KINDS, does)
+        (when, number), (kind, values) = matched(WHENS, at), matched(KINDS, does)
         if not (when and kind):
             half, table = ("WHAT", [*KINDS]) if when else ("WHEN", [*WHENS])
-            raise Mistake(f"{name}:{line}: not WHEN, WHAT of a fault: {words.strip()}\n"
+            raise Mistake(f"{name}:{line}: not WHEN, WHAT of a fault: {words}\n"
                           f"{half} is one of: {', '.join(table)}")
-        place = int(number, 16) if "XX" in when else float(number)
-        found.append(Fault(line, f"{at.strip()}, {does.strip()}", when, place, kind, value))
+        text = f"{at.strip()}, {does.strip()}"
+        found.append(Fault(line, text, when, number[0], kind, values, *KINDS[kind]))
     return found
 
 
@@ -109,10 +122,10 @@ def pcb_of(data: bytes) -> int:
     return data[1] if is_block else -1
 
 
-def flipped(data: bytes, bit: int) -> bytes:
-    """Flips a bit of the data; bit 0 is the lowest of the first byte."""
-    return b"".join(bytes([it ^ (1 << bit % 8 if at == bit // 8 else 0)])
-                    for at, it in enumerate(data))
+def flipped(data: bytes, *bits: int) -> bytes:
+    """Flips bits of the data; bit 0 is the lowest of the first byte."""
+    mask = sum(1 << it for it in bits if it < 8 * len(data))
+    return (int.from_bytes(data, "little") ^ mask).to_bytes(len(data), "little")
 
 
 class Faults:
@@ -127,8 +140,8 @@ class Faults:
                  tell: Callable[[str], None] = print, since: bytes = b"") -> None:
         self.all, self.name, self.tell, self.since = list(found), name, tell, since
         self.chance = random.Random(seed).random
-        self.count, self.header, self.was_6c, self.loop, self.pause = 0, b"", False, "", 0.0
-        self.due: list[Fault] = []
+        self.count, self.header, self.was_6c, self.loop = 0, b"", False, ""
+        self.due, self.pauses = list[Fault](), list[float]()
         self.gone: Optional[Gone] = None  # from then on the card is silent until a reset
 
     @classmethod
@@ -141,10 +154,10 @@ class Faults:
 
     def check(self, places: Iterable[str], where: str) -> None:
         """Raises `Mistake` for the faults that can't happen at these places."""
-        wrong = [it for it in self.all if KINDS[it.kind] not in (ANYWHERE, *places)]
+        wrong = [f"{self.name}:{it.line}: {it.text}: this needs {it.place}, and {where} has none"
+                 for it in self.all if it.place not in (ANYWHERE, *places)]
         if wrong:
-            raise Mistake("\n".join(f"{self.name}:{it.line}: {it.text}: this needs"
-                                    f" {KINDS[it.kind]}, and {where} has none" for it in wrong))
+            raise Mistake("\n".join(wrong))
 
     def begin(self, header: bytes, reset: Callable[[], None] = lambda: None) -> Optional[bytes]:
         """A TPDU or command begins: its header, or all of it. Chooses the faults that strike at it,
@@ -153,13 +166,14 @@ class Faults:
         if header[: len(self.since)] != self.since[: len(header)]:
             self.due = []
             return None
-        self.since, ins = b"", header[1] if header[1:] else -1
+        self.since, ins = b"", header[1:2]
         is_again = self.was_6c and header[:4] == self.header
         is_next = not is_again and ins != GET_RESPONSE
         self.count += is_next
-        kept = [it for it in self.due if it.kind in (*EDITS, "byte CHANGE") and not is_next]
-        due = [it for it in self.all if it.is_due(self.count, ins, is_next, self.chance)]
-        self.due = kept + [it for it in due if it not in kept]
+        waits = [it for it in self.due if it.change and it.place in (ANYWHERE, LINE)]
+        self.due = [] if is_next else waits
+        self.due += [it for it in self.all if it not in self.due
+                     and it.is_due(self.count, ins, is_next, self.chance)]
         if is_next:
             self.header, self.loop = header[:4], ""
         self.was_6c, le = False, header[4] if len(header) > 4 else 0
@@ -174,67 +188,45 @@ class Faults:
             reset()
         return None
 
-    def strikes(self, kind: str) -> Optional[Fault]:
-        """Prints and returns the chosen fault of this kind, or returns None."""
+    def strikes(self, *which: Union[str, Fault]) -> Optional[Fault]:
+        """Prints and returns the first chosen fault that is one of these, or of these kinds, or
+        returns None."""
         for it in self.due:
-            if it.kind == kind:
+            if it.kind in which or it in which:
                 self.due.remove(it)
                 it.is_spent = True
                 self.tell(f"fault at command {self.count}: {self.name}:{it.line}: {it.text}")
                 return it
         return None
 
+    def edited(self, data: bytes, *places: str) -> bytes:
+        """What the card sends with the chosen faults of these places in it, in the order of their
+        lines. One that changes nothing does not strike."""
+        for it in [it for it in self.due if it.place in places]:
+            new = it.change(data, *it.values) if it.change else data
+            if new != data and self.strikes(it):
+                data = new
+        return data
+
     def changed(self, answer: bytes) -> bytes:
-        """The answer of the card with the faults in it. Raises `Gone`. `pause` gets the seconds
+        """The answer of the card with the faults in it. Raises `Gone`. `pauses` gets the seconds
         before it."""
         data, status = answer[:-2], answer[-2:]
         self.was_6c |= status[:1] == b"\x6C"
         if data or status[0] not in (0x61, 0x6C):
-            for fault in [it for it in self.due if it.kind in EDITS]:
-                edited = EDITS[fault.kind](data, fault.value)
-                if edited != data and self.strikes(fault.kind):
-                    data = edited
+            data = self.edited(data, ANYWHERE)
         if self.strikes("61 without end"):
             self.loop, status = "61", MORE
         if other := self.strikes("status SW"):
-            status = bytes.fromhex(other.value)
+            [status] = other.values
         if late := self.strikes("delay SECONDS"):
-            self.pause += float(late.value)
-        for kind in ("mute", "power off"):
-            if self.strikes(kind):
-                self.gone = Gone(kind)
-                raise self.gone
+            self.pauses += late.values
+        if silent := self.strikes("mute", "power off"):
+            self.gone = Gone(silent.kind)
+            raise self.gone
         return data + status
-
-    def carried(self, sent: bytes, ins: bytes = b"", place: int = 0) -> bytes:
-        """What the line carries for characters after a header with this INS, or for a block of the
-        card. `place` is the number of characters before in this answer."""
-        if ins and (fault := self.strikes("procedure XX")):
-            sent = bytes.fromhex(fault.value) + sent[sent[:1] == ins :]
-        if ins and (fault := self.strikes("nulls N")):
-            sent = b"\x60" * int(fault.value) + sent
-        if not ins and self.strikes("nad"):
-            sent = block(0x21, sent[1], sent[3:-1])
-        if not ins and self.strikes("lrc"):
-            sent = sent[:-1] + bytes([sent[-1] ^ 0xFF])
-        for fault in [it for it in self.due if it.kind == "byte CHANGE"]:
-            number, does, *value = fault.value.split()
-            at = int(number) - 1 - place
-            if 0 <= at < len(sent) and self.strikes("byte CHANGE"):
-                new = {"flip": bytes([sent[at] ^ 1]), "drop": b""}.get(does)
-                byte = bytes.fromhex(value[0]) + sent[at : at + 1] if new is None else new
-                sent = sent[:at] + byte + sent[at + 1 :]
-        if not ins and self.strikes("double"):
-            sent += sent
-        return b"" if not ins and self.strikes("lose") else sent
-
-    def echo(self, byte: bytes) -> bytes:
-        """The echo of a character."""
-        return bytes([byte[0] ^ 1]) if self.strikes("wrong echo") else byte
 
     def request(self) -> bytes:
         """A request of the card at T=1, which comes before its response, or nothing."""
-        for kind, pcb in REQUESTS.items():
-            if fault := self.strikes(kind):
-                return block(0, pcb, bytes([int(fault.value)]) if fault.value else b"")
-        return b""
+        fault = self.strikes(*REQUESTS)
+        return block(0, REQUESTS[fault.kind], bytes(fault.values)) if fault else b""

@@ -13,7 +13,7 @@ import termios
 import threading
 import time
 import tty
-from typing import Callable, Generator, Optional, Union
+from typing import Callable, Optional, Union
 
 from ._library import ffi, lib
 from .answers import Atr, Edc, Pps
@@ -33,16 +33,13 @@ RESYNCH, IFS, ABORT, RESPONSE, DEFAULT_RATE = 0xC0, 0xC1, 0xC2, 0x20, 0x11  # re
 BAUDS = [9600, 19200, 38400, 57600, 115200]
 SIGNALS = {"cts": termios.TIOCM_CTS, "dsr": termios.TIOCM_DSR, "dcd": termios.TIOCM_CAR}
 TURNED = bytes(int(f"{byte:08b}"[::-1], 2) ^ 0xFF for byte in range(256))  # inverse convention
-# A card's end of a line gets a character, or none if a block stopped, and yields what the card
-# sends then, or None inside of a block.
-End = Generator[Optional[bytes], bytes, bytes]
 
 
-class Simulator(contextlib.AbstractContextManager["Simulator"]):
+class Simulator(contextlib.ExitStack):
     """A card with an answer to reset and faults. In this process it is a transport for a
     `Terminal`: of whole TPDUs if it is a `Card` and the answer to reset offers T=0 first, and of
-    whole commands otherwise. It raises `Gone` if the card is mute or has no power. The end of
-    `with` frees the card.
+    whole commands otherwise. It raises `Gone` if the card is mute or has no power. `carried_out`
+    gets each TPDU or command that the card has carried out. The end of `with` frees the card.
 
     >>> from galliumtoad import Card
     >>> from galliumtoad.faults import Faults, read
@@ -55,18 +52,19 @@ class Simulator(contextlib.AbstractContextManager["Simulator"]):
 
     def __init__(self, card: Union[Card, OwnCard], atr: bytes = LEAST_ATR,
                  faults: Optional[Faults] = None, shows: bool = False) -> None:
+        super().__init__()
+        self.callback(card.close)
         self.card, self.atr, self.faults = card, atr, faults or Faults()
         self.shows, self.sign, self.is_over = shows, "", threading.Event()
         self.own = card.application if isinstance(card, OwnCard) else None
+        self.instead = self.own.instead if isinstance(self.own, Replay) else lambda header: None
+        self.carried_out: Callable[[bytes], object] = lambda command: None
         self.faults.tell = self.tell
         self.says: Optional[Atr] = None
         with contextlib.suppress(AtrError):  # whole commands reach a card with any answer
             self.says = Atr(atr)
         is_t1 = self.says is not None and self.says.protocols[0] > 0
         self.level = Level.APDU if is_t1 or self.own else Level.TPDU
-
-    def __exit__(self, *_: object) -> None:
-        self.card.close()
 
     def __call__(self, data: bytes, /) -> bytes:
         self.faults.check([], "a card in this process")
@@ -96,29 +94,18 @@ class Simulator(contextlib.AbstractContextManager["Simulator"]):
     def carry_out(self, data: bytes) -> bytes:
         """Carries out a whole TPDU or command, whichever the `level` says. A card answers bytes
         that are no command with a status."""
-        if self.level is Level.TPDU:
-            return self.card.tpdu(data)
         try:
-            return self.card.apdu(data)
+            return self.card.tpdu(data) if self.level is Level.TPDU else self.card.apdu(data)
         except OutOfMemory:
             return b"\x65\x81"
         except CommandError as why:
             return b"\x6D\x00" if why.code is Code.INVALID_INS else b"\x67\x00"
 
-    def carried_out(self, data: bytes) -> None:
-        """The card has carried out this TPDU or command."""
-
-    def begin(self, header: bytes) -> Optional[bytes]:
-        """A command begins: its header, or all of it. Returns the answer of a card that does not
-        carry it out, or None if it does."""
-        instead = self.own.instead if isinstance(self.own, Replay) else lambda header: None
-        return self.faults.begin(header, self.card.reset) or instead(header)
-
     def whole(self, data: bytes) -> bytes:
         """Carries out a whole TPDU or command, with the faults that strike."""
         if self.faults.gone:
             raise self.faults.gone
-        answer = self.begin(data)
+        answer = self.faults.begin(data, self.card.reset) or self.instead(data)
         if answer is None:
             answer = self.carry_out(data)
             self.carried_out(data)
@@ -128,69 +115,8 @@ class Simulator(contextlib.AbstractContextManager["Simulator"]):
 
     def wait(self) -> None:
         """Waits before an answer, if a fault says so."""
-        pause, self.faults.pause = self.faults.pause, 0.0
-        self.is_over.wait(pause)
-
-
-def taken(sent: bytes, data: bytes, size: Callable[[bytes], int],
-          inside: Optional[bytes] = b"") -> End:
-    """Sends bytes, and takes characters after these until there are as many as their `size`, or
-    until none comes. Then it has begun: it sends what is for `inside`."""
-    while len(data) < size(data):
-        if not (byte := (yield inside if data else sent)):
-            break
-        data += byte
-    return data
-
-
-def at_line(of: Simulator, says: Atr) -> End:
-    """A card's end of a line after its answer to reset. It answers a PPS request, keeps the rate of
-    a reset, and is mute after an invalid request (ISO/IEC 7816-3, 9.1 and 9.3)."""
-    t, data = says.protocols[0], (yield b"")
-    if data == PPSS and not says.specific:
-        request = yield from taken(b"", data, lambda it: 2 if len(it) < 2 else
-                                   3 + bin(it[1] & 0x70).count("1"))
-        rest, t = [*request[2:-1]], request[1] & 15
-        given = [rest.pop(0) if request[1] & bit else None for bit in (0x10, 0x20, 0x40)]
-        if Pps(t, *given).request != request or t not in says.protocols:
-            of.faults.gone = Gone("mute")
-            raise of.faults.gone
-        data = yield Pps(t, DEFAULT_RATE if given[0] == DEFAULT_RATE else None).request
-    return (yield from (at_t1 if t else at_t0)(of, data))
-
-
-def at_t0(of: Simulator, data: bytes) -> End:
-    """A card's end of a line at T=0, after the first character."""
-
-    def answered(characters: bytes) -> bytes:
-        of.card.receive_bytes(characters)
-        return of.card.send_bytes()
-
-    faults, sent = of.faults, b""
-    while True:
-        header = yield from taken(sent, data, lambda it: 5)
-        ins, data, place, instead = header[1:2], b"", 0, of.begin(header)
-        if instead is None and faults.strikes("early status"):
-            answer = instead = OK
-        elif instead is None:
-            answer = answered(header)
-        else:
-            is_to_card = of.own.takes_data(header[:4]) if of.own else header[1] in TAKE_DATA
-            answer = ins if header[4] and is_to_card else instead
-        if len(answer) == 1:
-            sent = faults.carried(ins, ins)
-            data, place = (yield from taken(sent, b"", lambda it: header[4])), len(sent)
-            answer = instead or answered(data)
-        elif instead is None and len(answer) > 2:
-            answer = answer[1:]  # without the procedure byte
-        if instead is None:
-            of.carried_out(header + data)
-            if faults.strikes("twice"):
-                answered(header)
-                answered(data)
-        answer = faults.changed(answer)
-        answer = ins + answer if len(answer) > 2 and not data else answer
-        data, sent = b"", faults.carried(answer, ins, place)
+        while self.faults.pauses:
+            self.is_over.wait(self.faults.pauses.pop())
 
 
 class Blocks:
@@ -227,91 +153,152 @@ class Blocks:
         return self.answer(block(0, pcb, bytes.fromhex("00CA0050") + bytes([le & 0xFF][:le])))
 
 
-def at_t1(of: Simulator, data: bytes) -> End:
-    """A card's end of a line at T=1, after the first character."""
-
-    def received(sent: bytes, data: bytes = b"") -> End:
-        return (yield from taken(sent, data, lambda it: it[2] + 4 if len(it) > 2 else 4, None))
-
-    of.level, end, faults, sent = Level.APDU, Blocks(), of.faults, b""
-    due, size, command = 0, 32, b""
-    while True:
-        came, data = (yield from received(sent, data)), b""
-        if pcb_of(came) == due << 6 and not end.fields[1:]:  # a command ends
-            response = of.whole(command + came[3:-1])
-            sent, request = end.respond(came[1], response, size), faults.request()
-            for _ in range(4 if request else 0):
-                if pcb_of((yield from received(request))) == request[1] | RESPONSE:
-                    break
-            due, command, sent = 1 - due, b"", faults.carried(sent)
-            continue
-        sent = end.answer(came)
-        if sent[1] == 0x80 | 1 - due << 4:  # an R-block acknowledges a part of it
-            due, command = 1 - due, command + came[3:-1]
-        elif sent[1] == IFS | RESPONSE:
-            size = sent[3]
-        elif sent[1] == ABORT | RESPONSE:
-            command, end.fields = b"", []
-        elif sent[1] == RESYNCH | RESPONSE:
-            end, due, size, command = Blocks(), 0, 32, b""
-
-
 class Line:
-    """A card at a line of characters."""
+    """A card's end of a line of characters."""
 
     def __init__(self, of: Simulator, fd: int, has_echo: bool = False, baud: int = 9600,
                  signal: str = "") -> None:
-        says = of.says
-        if says is None or says.protocols[0] > 1 or says.t1.edc != Edc.LRC or (
-                says.specific and says.rate_code != DEFAULT_RATE):
+        if of.says is None or of.says.protocols[0] > 1 or of.says.t1.edc != Edc.LRC or (
+                of.says.specific and of.says.rate_code != DEFAULT_RATE):
             raise Mistake("a line needs an answer to reset that offers T=0, or T=1 with LRC, first,"
                           " at the rate of a reset")
-        self.of, self.fd, self.has_echo, self.baud, self.says = of, fd, has_echo, baud, says
-        self.is_inverse, self.bit = says.convention == lib.GT_INVERSE, SIGNALS.get(signal, 0)
+        self.of, self.fd, self.says, self.has_echo, self.heard = of, fd, of.says, has_echo, b""
+        self.is_inverse, self.bit = self.says.convention == lib.GT_INVERSE, SIGNALS.get(signal, 0)
+        self.cwt = 0.2 + self.says.t1.cwt_etu / baud  # seconds inside of a block
+        of.faults.check([LINE, *(it for it, t in ((T0, 0), (T1, 1)) if t in self.says.protocols),
+                         *[ECHO] * has_echo], "this line")
 
     def is_reset(self) -> bool:
         """Whether the terminal holds the card in reset, by a signal of the line if it has one."""
         bits = fcntl.ioctl(self.fd, termios.TIOCMGET, bytes(4)) if self.bit else b""
         return bool(int.from_bytes(bits, sys.byteorder) & self.bit)
 
-    def read(self, seconds: float) -> bytes:
+    def read(self, seconds: float = FOREVER) -> bytes:
         """Returns the next character, or none if none came in this time. Raises `OSError` if the
         card is reset, or the line or the program ends."""
+        self.write(b"")
         until = time.monotonic() + seconds
         while not (self.of.is_over.is_set() or self.is_reset()):
             if select.select([self.fd], [], [], LOOKS_EVERY)[0]:
                 if not (byte := os.read(self.fd, 1)):
                     raise OSError("the line is gone")
-                byte = byte.translate(TURNED) if self.is_inverse else byte
-                self.of.tell(byte.hex().upper(), ">")
-                return byte
+                self.heard = byte.translate(TURNED) if self.is_inverse else byte
+                self.of.tell(self.heard.hex().upper(), ">")
+                return self.heard
             if time.monotonic() > until:
                 return b""
         raise OSError
 
     def write(self, data: bytes) -> None:
-        """Sends characters."""
+        """Sends the echo of the last character, if there is one, and then characters."""
+        echo, self.heard = self.of.faults.edited(self.heard, ECHO) * self.has_echo, b""
+        self.send(echo)
+        self.of.wait()
+        self.of.tell(data.hex().upper(), "<")
+        self.send(data)
+
+    def send(self, data: bytes) -> None:
         data = data.translate(TURNED) if self.is_inverse else data
         while data and not self.is_reset():
             data = data[os.write(self.fd, data) :]
+
+    def take(self, data: bytes, size: Callable[[bytes], int], seconds: float = FOREVER) -> bytes:
+        """Takes characters after these until there are as many as their `size`, or until none comes
+        in this time after the first one."""
+        while len(data) < size(data) and (byte := self.read(seconds if data else FOREVER)):
+            data += byte
+        return data
 
     def talk(self) -> None:
         """Resets the card, sends its answer to reset, and talks. Raises `OSError` at the next
         reset, or when the line or the program ends."""
         self.of.reset()
-        faults, end = self.of.faults, at_line(self.of, self.says)
-        out: Optional[bytes] = self.of.atr
-        next(end)
+        self.write(self.of.atr)
+        with contextlib.suppress(Gone):
+            self.begin()
+        while True:  # a card that is gone
+            self.read()
+
+    def begin(self) -> None:
+        """Answers a PPS request, keeps the rate of a reset, and is mute after an invalid request
+        (ISO/IEC 7816-3, 9.1 and 9.3)."""
+        t, data = self.says.protocols[0], self.read()
+        if data == PPSS and not self.says.specific:
+            request = self.take(data, lambda it: 2 if len(it) < 2 else
+                                3 + bin(it[1] & 0x70).count("1"))
+            rest, t = [*request[2:-1]], request[1] & 15
+            given = [rest.pop(0) if request[1] & bit else None for bit in (0x10, 0x20, 0x40)]
+            if Pps(t, *given).request != request or t not in self.says.protocols:
+                raise Gone("mute")
+            self.write(Pps(t, DEFAULT_RATE if given[0] == DEFAULT_RATE else None).request)
+            data = b""
+        (self.talk_t1 if t else self.talk_t0)(data)
+
+    def talk_t0(self, data: bytes) -> None:
+        """Talks T=0 after the first character."""
+        of, faults = self.of, self.of.faults
+
+        def answered(characters: bytes) -> bytes:
+            of.card.receive_bytes(characters)
+            return of.card.send_bytes()
+
         while True:
-            self.of.tell((out or b"").hex().upper(), "<")
-            self.write(out or b"")
-            byte = self.read(FOREVER if out is not None else 0.2 + self.says.t1.cwt_etu / self.baud)
-            out = b""
-            with contextlib.suppress(Gone):
-                out = out if faults.gone else end.send(byte)
-            if self.has_echo and byte:
-                self.write(faults.echo(byte))
-            self.of.wait()
+            header = self.take(data, lambda it: 5)
+            instead = faults.begin(header, of.card.reset) or of.instead(header)
+            ins, data, sent = header[1:2], b"", b""
+            if faults.strikes("early status"):
+                answer = instead = OK
+            elif instead is None:
+                answer = answered(header)
+            else:
+                is_to_card = of.own.takes_data(header[:4]) if of.own else header[1] in TAKE_DATA
+                answer = ins if header[4] and is_to_card else instead
+            if len(answer) == 1:
+                sent = faults.edited(ins, T0, LINE)
+                self.write(sent)
+                data = self.take(b"", lambda it: header[4])
+                answer = instead or answered(data)
+            elif instead is None:
+                answer = answer[len(answer) > 2 :]  # without the procedure byte
+            if instead is None:
+                of.carried_out(header + data)
+                if faults.strikes("twice"):
+                    answered(header)
+                    answered(data)
+            answer = faults.changed(answer)
+            answer = ins + answer if len(answer) > 2 and not data else answer
+            self.write(faults.edited(sent + answer, T0, LINE)[len(sent) :])
+            data = b""
+
+    def talk_t1(self, data: bytes) -> None:
+        """Talks T=1 after the first character."""
+        self.of.level, faults = Level.APDU, self.of.faults
+        due, size, command, end = 0, 32, b"", Blocks()
+        while True:
+            came, data = self.block(data), b""
+            if pcb_of(came) == due << 6 and not end.fields[1:]:  # a command ends
+                response = self.of.whole(command + came[3:-1])
+                sent, request = end.respond(came[1], response, size), faults.request()
+                for _ in range(4 if request else 0):
+                    self.write(request)
+                    if pcb_of(self.block()) == request[1] | RESPONSE:
+                        break
+                due, command, sent = 1 - due, b"", faults.edited(sent, T1, LINE)
+                self.write(sent)
+                continue
+            self.write(sent := end.answer(came))
+            if sent[1] == 0x80 | 1 - due << 4:  # an R-block acknowledges a part of it
+                due, command = 1 - due, command + came[3:-1]
+            elif sent[1] == IFS | RESPONSE:
+                size = sent[3]
+            elif sent[1] == ABORT | RESPONSE:
+                command, end.fields = b"", []
+            elif sent[1] == RESYNCH | RESPONSE:
+                end, due, size, command = Blocks(), 0, 32, b""
+
+    def block(self, data: bytes = b"") -> bytes:
+        """Takes a block after these characters, or as much of it as comes."""
+        return self.take(data, lambda it: it[2] + 4 if len(it) > 2 else 4, self.cwt)
 
 
 def serve_tty(of: Simulator, path: str, baud: int, signal: str) -> None:
@@ -393,6 +380,7 @@ def serve_vpcd(of: Simulator, address: str) -> None:
     """Puts the card into vpcd's reader, again whenever the connection ends. While there is no
     vpcd, it waits, and says so once on standard error."""
     waits = False
+    of.faults.check([], "vpcd")
     while not of.is_over.is_set():
         try:
             with connected(address) as line:
@@ -436,10 +424,6 @@ def parser() -> argparse.ArgumentParser:
 
 def serve(simulator: Simulator, given: argparse.Namespace) -> None:
     """Puts the card where the words say, until the program ends. Raises `Mistake` or `OSError`."""
-    offered = simulator.says.protocols if simulator.says else ()
-    places = [LINE, *(it for it, t in ((T0, 0), (T1, 1)) if t in offered)]
-    places += [ECHO] if given.pty and not given.no_echo else []
-    simulator.faults.check([] if given.vpcd else places, "vpcd" if given.vpcd else "this line")
     if given.vpcd:
         serve_vpcd(simulator, given.vpcd)
     elif given.pty:
@@ -452,9 +436,7 @@ def main(words: Optional[list[str]] = None) -> int:
     """Runs the program. Returns the exit status."""
     try:
         given = parser().parse_args(words)
-        own = given.own
-        if given.replay:
-            own = Replay(given.replay, given.unknown, given.strict)
+        own = Replay(given.replay, given.unknown, given.strict) if given.replay else given.own
         card, atr = given.table or (OwnCard(own), getattr(own, "atr", b"") or LEAST_ATR)
         faults = Faults.of_file(given.faults, given.seed) if given.faults else None
         with Simulator(card, given.atr or atr, faults, given.v) as simulator:

@@ -20,7 +20,7 @@ from queue import Empty, SimpleQueue
 from typing import Iterator, Optional
 
 from .card import Card
-from .faults import ANYWHERE, KINDS, T1, Faults, Mistake, read
+from .faults import ANYWHERE, T1, Faults, Mistake, read
 from .simulate import VPCD, Simulator, connected, serve_pty, talk_vpcd
 from .pages import begin
 
@@ -32,6 +32,7 @@ AWAIT_READER, GONE_AFTER = 60.0, 1.0  # seconds until a reader should have seen 
 BAD = ("wrong", "twice", "hung", "crashed")
 VERDICTS = ("right", "told", "unmet", *BAD)
 STAR = "* no terminal can see this fault, so it does not count"
+WORDS = {"aid": AID.hex().upper(), "tag": f"{TAG:02X}", "value": VALUE.hex().upper()}
 USAGE = """TERMINAL selects {aid}, puts {value} under {tag} in commands of up to 255 bytes, gets
 {tag}, and prints that value in hexadecimal. It has {reader}, for a reader of PC/SC, or {tty}, for a
 serial line. Its exit status is 0 if all of that succeeded."""
@@ -58,7 +59,7 @@ class Trial:
     @property
     def places(self) -> set[str]:
         """Where its faults can happen."""
-        return {KINDS[it.kind] for it in self.read().all}
+        return {it.place for it in self.read().all}
 
 
 def trials() -> list[Trial]:
@@ -69,38 +70,33 @@ def trials() -> list[Trial]:
     """
     found = []
     for block in Path(__file__).with_name("trials.txt").read_text("utf-8").split("\n\n")[1:]:
-        name, faults, *says = block.strip().splitlines()
+        name, faults, says = block.strip().split("\n")
         is_unseen = name.endswith(", unseen")
-        found.append(Trial(name.removesuffix(", unseen"), faults, " ".join(says), is_unseen))
+        found.append(Trial(name.removesuffix(", unseen"), faults, says, is_unseen))
     return found
 
 
 class Run(Simulator):
-    """The card of one trial, and the puts that it has carried out."""
+    """The card of one trial, what it has carried out, and the faults that struck."""
 
     def __init__(self, trial: Trial, protocol: int) -> None:
-        places = trial.places
-        t = T1 in places if places != {ANYWHERE} else protocol
-        faults = trial.read(SELECT + bytes([len(AID)]) + AID)
-        super().__init__(Card({AID: {}}), ATRS[t], faults)
-        self.puts, self.struck = Counter[bytes](), list[str]()
-        faults.tell = self.struck.append
-
-    def carried_out(self, command: bytes) -> None:
-        self.puts[command] += command[1] == PUT
+        self.table, self.done, self.struck = Card({AID: {}}), list[bytes](), list[str]()
+        t = T1 in trial.places if trial.places != {ANYWHERE} else protocol
+        super().__init__(self.table, ATRS[t], trial.read(SELECT + bytes([len(AID)]) + AID))
+        self.carried_out, self.faults.tell = self.done.append, self.struck.append
 
     def verdict(self, status: Optional[int], output: str) -> str:
         """Compares what the terminal said with what the card holds."""
-        assert isinstance(self.card, Card)
-        held = {it.tag: it.value for it in self.card.entries(AID)}
-        printed = VALUE.hex().upper() in re.sub(r"[^0-9A-F]", "", output.upper())
+        held = {it.tag: it.value for it in self.table.entries(AID)}
+        printed = WORDS["value"] in re.sub(r"[^0-9A-F]", "", output.upper())
+        puts = [it for it in self.done if it[1] == PUT]
         if status is None:
             return "hung"
         if status < 0 or status > 128:
             return "crashed"
         if status == 0 and not (held.get(TAG) == VALUE and printed):
             return "wrong"
-        if max(self.puts.values(), default=0) > 1:
+        if len({*puts}) < len(puts):
             return "twice"
         return "told" if status and self.struck else "right" if self.struck else "unmet"
 
@@ -127,41 +123,38 @@ def placed(run: Run, vpcd: str) -> Iterator[str]:
         time.sleep(GONE_AFTER if vpcd else 0)
 
 
-def carried(words: list[str], limit: float) -> tuple[Optional[int], str]:
-    """Runs a terminal. Returns its exit status, or None if it was still running after the limit,
-    and its standard output."""
-    program = subprocess.Popen(words, stdout=subprocess.PIPE, stderr=subprocess.STDOUT,
-                               stdin=subprocess.DEVNULL, start_new_session=True)
+def carried(words: list[str], limit: float) -> tuple[str, Optional[int]]:
+    """Runs a terminal. Returns its output, and its exit status, or None if it was still running
+    after the limit."""
+    program = subprocess.Popen(words, stdin=subprocess.DEVNULL, stdout=subprocess.PIPE,
+                               stderr=subprocess.STDOUT, start_new_session=True, encoding="utf-8",
+                               errors="replace")
     try:
-        output = program.communicate(timeout=limit)[0]
-        status: Optional[int] = program.returncode
+        return program.communicate(timeout=limit)[0], program.returncode
     except subprocess.TimeoutExpired:
-        with contextlib.suppress(ProcessLookupError):
-            os.killpg(program.pid, signal.SIGKILL)
-        output, status = program.communicate()[0], None
-    return status, output.decode("utf-8", "replace")
+        os.killpg(program.pid, signal.SIGKILL)
+        return program.communicate()[0], None
 
 
 def tried(trial: Trial, given: argparse.Namespace) -> None:
     """Lets a terminal do the job with this fault."""
-    run, begun = Run(trial, given.protocol), time.monotonic()
-    told = {"reader": given.reader, "aid": AID.hex().upper(), "tag": f"{TAG:02X}",
-            "value": VALUE.hex().upper()}
+    run, begun, told = Run(trial, given.protocol), time.monotonic(), {"reader": given.reader}
     with placed(run, "" if given.is_line else given.vpcd) as told["tty"]:
+        told.update(WORDS)
         words = [re.sub(r"\{(\w+)\}", lambda it: told.get(str(it[1]), str(it[0])), word)
                  for word in given.terminal]
-        trial.status, output = carried(words, given.limit)
+        output, trial.status = carried(words, given.limit)
         trial.seconds = round(time.monotonic() - begun, 1)
-    lines = [it for it in output.splitlines() if VALUE.hex().upper() not in it] or [""]
+    lines = [it for it in output.splitlines() if WORDS["value"] not in it] or [""]
     trial.verdict, trial.said = run.verdict(trial.status, output), lines[-1][:200]
 
 
 def as_text(results: list[Trial]) -> str:
     """The results as a table of text."""
-    width, counts = max(len(it.name) for it in results), Counter[str]()
+    width = max(len(it.name) for it in results)
     lines = [f"{it.name:{width}}  {it.verdict:7}{'*' if it.is_unseen else ' '} {it.said}".rstrip()
              for it in results]
-    counts.update(it.verdict for it in results if not it.is_unseen)
+    counts = Counter(it.verdict for it in results if not it.is_unseen)
     lines.append(", ".join(f"{counts[it]} {it}" for it in VERDICTS if counts[it]))
     return "\n".join(lines + [STAR] * any(it.is_unseen for it in results))
 

@@ -111,9 +111,8 @@ class Desk:
     def run(self) -> None:
         """Serves the readers. Then waits for cards in progress, unless Ctrl-C was pressed twice."""
         readers = [Reader(self, part) for part in chosen(self.given.reader)]
-        before = signal.getsignal(signal.SIGINT)
-        if before is not signal.SIG_IGN:
-            signal.signal(signal.SIGINT, self._interrupt)
+        # A script's background job inherits that it is ignored.
+        before = signal.signal(signal.SIGINT, self._interrupt)
         try:
             for it in readers:
                 it.start()

@@ -224,7 +224,8 @@ class Refused(Exception):
 
 
 class Recorder:
-    """A transport that keeps what went over it, without data. It raises `ConnectionError` alone."""
+    """A transport that keeps what `trace_explain` reads, without data. It raises `ConnectionError`
+    alone."""
 
     def __init__(self, transport: Transport) -> None:
         self.level = getattr(transport, "level", Level.TPDU)
@@ -242,8 +243,8 @@ class Recorder:
         return answer
 
     def _add(self, sign: str, shown: bytes, hidden: int) -> None:
-        count = f"** {hidden} bytes" if hidden > 0 else ""
-        self.lines.append(" ".join(filter(None, (sign, shown.hex().upper(), count))))
+        self.lines += [f"{sign} {shown.hex().upper()}"] * bool(shown)
+        self.lines += [f"# {sign} ** {hidden} bytes"] * (hidden > 0)
 
 
 def sentence(error: BaseException) -> str:

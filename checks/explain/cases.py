@@ -14,7 +14,7 @@
   - `err`: a line on standard error; `time`: the time in the last block.
   - `\\xHH` in a line is that byte.
 - In the same form, with the whole output above the last block:
-  - lines.cases: the forms of lines; times.cases: times before the signs.
+  - lines.cases: the forms of lines, each also as a row `form`; times.cases: times before the signs.
   - bare.cases: commands without data whose card repeats INS.
   - unsigned.cases: lines without signs; logs.cases: logs of whole TPDUs.
   - loose.cases: headers and commands that a mask hides.
@@ -264,6 +264,30 @@ def title_case():
     return Case("titles", lines_of(given), wanted, part="titles")
 
 
+def form_cases(name, to, back, *others):
+    """The cases of a form of lines, by its two signs. A line with a sign of another form is
+    refused."""
+    talk, said = [f"{to} 00CA5F2001", f"{back} 6A88"], ["--form", name]
+    begun = ["#1 GET DATA of 5F20  (line 1)", "  > header     00CA5F2001"]
+    shown = [*begun, "  < status     6A88 referenced data not found"]
+    fault = f"a sign of another form than {to} and {back}\n"
+    cases = [
+        (f"the signs {to} and {back}, alone too", [*talk, to, back], shown, [], ""),
+        (f"the form {name}, said before", talk, shown, said, ""),
+        (f"digits follow {to} and a space", [talk[0], f"{to} 0G"],
+         [*begun, "    status     cut off"], [], "line 2: bad hex\n"),
+        (f"{back}00 is no sign, but a note", [f"{back}00", "# no character"],
+         [f"| {back}00", "| # no character"], [], "no characters heard\n")
+        if back.isalpha() else
+        (f"a space follows {back}", [f"{back}00"], [], [], "line 1: bad hex\n"),
+    ]
+    for line in (f"{other} 00CA5F2001" for other in others):
+        cases += [(f"after {to}: {line}", [*talk, line], shown, [], f"line 3: {fault}"),
+                  (f"in the form {name}: {line}", [line], [], said, f"line 1: {fault}")]
+    return [Case(title, lines_of(given), wanted, words, error, "shown")
+            for title, given, wanted, words, error in cases]
+
+
 def story_cases(name, part):
     """The cases of a file. `part` names the part of the output that the file lists."""
     found = []
@@ -271,6 +295,8 @@ def story_cases(name, part):
         word, _, rest = line.partition(" ")
         if word == "case":
             found.append(Case(rest, b"", [], part=part))
+        elif word == "form":
+            found += form_cases(*rest.split())
         elif word == "in":
             given = ODD.sub(lambda it: bytes([int(it[1], 16)]), rest.encode())
             found[-1].given += given + b"\n"

@@ -788,7 +788,7 @@ extern "Rust" fn repeat(ops: &[Op], session: &mut Session, times: usize) {
     }
 }
 
-/// With `by_hand 8` it carries out each operation 8 times, once for a profiler to leave out and once
+/// With `by_hand 8` it carries out each operation 8 times for a profiler to leave out, and 8 times
 /// for it to count.
 fn main() {
     let times = env::args().nth(2).and_then(|word| word.parse().ok());

@@ -97,8 +97,8 @@ TOLD_BY_SIGNS = {
     "a time before a reset, and before a note",
 }
 ROW = re.compile(r"  [ <>] (header|procedure|data|status) ")
-# The rows of a GET DATA of 5F20 that the card refuses, and of one that brings a name: by characters,
-# and as a whole command.
+# The rows of a GET DATA of 5F20: one that the card refuses, one that brings a name, and the same as
+# a whole command.
 OF_NAME = ['  < data       4A4F45 "JOE"', "  < status     9000 normal processing"]
 GETS = {
     "refused": ["  > header     00CA5F2001", "  < status     6A88 referenced data not found"],
@@ -282,8 +282,8 @@ def title_case():
 
 
 def rows_of(word, said):
-    """The lines of one of GETS, for its number, its line, and its time if it has one; of an answer
-    to reset, for its line; and of an unexpected byte, for its place, itself, who sent it, and what
+    """The lines that a word stands for. One of GETS has its number, its line, and maybe its time.
+    An answer to reset has its line. An unexpected byte has its place, itself, who sent it, and what
     was expected."""
     if word == "answer":
         return [f"answer to reset  (line {said})", *ANSWER]

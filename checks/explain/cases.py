@@ -11,10 +11,13 @@
   - `in`: a line of the trace; `with`: a line of the second trace for `--diff`; `$`: the words.
   - `out`: a line of the output. Rows of headers, procedure bytes, data and statuses are left out,
     except with a mask or `--diff`. Of a page only the part below its head is compared.
+  - `refused`, `name` and `whole`: the lines of a GET DATA (`GETS`), as `refused #2 3` for its
+    number and line, and then its time if it has one. `answer 1` is 3B00 in line 1, and
+    `unexpected 2 1 55 card a status` an unexpected byte (`rows_of`).
   - `err`: a line on standard error; `time`: the time in the last block.
   - `\\xHH` in a line is that byte.
 - In the same form, with the whole output above the last block:
-  - lines.cases: the forms of lines; times.cases: times before the signs.
+  - lines.cases: the forms of lines, each also as a row `form`; times.cases: times before the signs.
   - bare.cases: commands without data whose card repeats INS.
   - unsigned.cases: lines without signs; logs.cases: logs of whole TPDUs.
   - loose.cases: headers and commands that a mask hides.
@@ -94,6 +97,20 @@ TOLD_BY_SIGNS = {
     "a time before a reset, and before a note",
 }
 ROW = re.compile(r"  [ <>] (header|procedure|data|status) ")
+# The rows of a GET DATA of 5F20: one that the card refuses, one that brings a name, and the same as
+# a whole command.
+OF_NAME = ['  < data       4A4F45 "JOE"', "  < status     9000 normal processing"]
+GETS = {
+    "refused": ["  > header     00CA5F2001", "  < status     6A88 referenced data not found"],
+    "name": ["  > header     00CA5F2003", "  < procedure  all at once", *OF_NAME],
+    "whole": ["  > header     00CA5F2003", *OF_NAME],
+}
+
+
+# The rows of the answer to reset 3B00.
+ANSWER = ["  < characters 3B00", "    convention direct", "    protocols  T=0",
+          "    rate       Fi 372, up to 5000 kHz; Di 1", "    guard time T=0: 12 etu",
+          "    waiting    T=0: 3571200 clock cycles", "    historical none"]
 
 
 @dataclass
@@ -264,6 +281,44 @@ def title_case():
     return Case("titles", lines_of(given), wanted, part="titles")
 
 
+def rows_of(word, said):
+    """The lines that a word stands for. One of GETS has its number, its line, and maybe its time.
+    An answer to reset has its line. An unexpected byte has its place, itself, who sent it, and what
+    was expected."""
+    if word == "answer":
+        return [f"answer to reset  (line {said})", *ANSWER]
+    if word == "unexpected":
+        line, place, byte, end, expected = said.split(" ", 4)
+        return [f"unexpected byte  (line {line})", f"    place      line {line}, character {place}",
+                f"    expected   {expected}", f"    received   {byte} from the {end}"]
+    number, line, *time = said.split(" ", 2)
+    title = f"{number} GET DATA of 5F20  (line {line})"
+    return [title, *(f"    time       {it}" for it in time), *GETS[word]]
+
+
+def form_cases(name, to, back, *others):
+    """The cases of a form of lines, by its two signs. A line with a sign of another form is
+    refused."""
+    talk, said = [f"{to} 00CA5F2001", f"{back} 6A88"], ["--form", name]
+    shown = rows_of("refused", "#1 1")
+    fault = f"a sign of another form than {to} and {back}\n"
+    cases = [
+        (f"the signs {to} and {back}, alone too", [*talk, to, back], shown, [], ""),
+        (f"the form {name}, said before", talk, shown, said, ""),
+        (f"digits follow {to} and a space", [talk[0], f"{to} 0G"],
+         [*shown[:2], "    status     cut off"], [], "line 2: bad hex\n"),
+        (f"{back}00 is no sign, but a note", [f"{back}00", "# no character"],
+         [f"| {back}00", "| # no character"], [], "no characters heard\n")
+        if back.isalpha() else
+        (f"a space follows {back}", [f"{back}00"], [], [], "line 1: bad hex\n"),
+    ]
+    for line in (f"{other} 00CA5F2001" for other in others):
+        cases += [(f"after {to}: {line}", [*talk, line], shown, [], f"line 3: {fault}"),
+                  (f"in the form {name}: {line}", [line], [], said, f"line 1: {fault}")]
+    return [Case(title, lines_of(given), wanted, words, error, "shown")
+            for title, given, wanted, words, error in cases]
+
+
 def story_cases(name, part):
     """The cases of a file. `part` names the part of the output that the file lists."""
     found = []
@@ -271,6 +326,10 @@ def story_cases(name, part):
         word, _, rest = line.partition(" ")
         if word == "case":
             found.append(Case(rest, b"", [], part=part))
+        elif word in (*GETS, "answer", "unexpected"):
+            found[-1].wanted += rows_of(word, rest)
+        elif word == "form":
+            found += form_cases(*rest.split())
         elif word == "in":
             given = ODD.sub(lambda it: bytes([int(it[1], 16)]), rest.encode())
             found[-1].given += given + b"\n"

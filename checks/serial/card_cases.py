@@ -161,8 +161,7 @@ def wrong_echo():
         ("55", "the echo differs from what was sent\n"),
         ("", "there is no echo\n"),
     ):
-        line = Line()
-        try:
+        with Line() as line:
             program = Program("serial_card", ["--slack", "1000", line.name, TABLE])
             other = Other(line, echo=False)
             other.take("3B")
@@ -170,8 +169,6 @@ def wrong_echo():
                 other.send(echo)
             look(program, program.end(), "", fault, 1)
             assert line.is_put_back(), "the tty is not set as it was before"
-        finally:
-            line.close()
 
 
 def is_slow():
@@ -188,8 +185,7 @@ def is_slow():
 def rate_after_response():
     """A card changes its rate once its PPS response was sent: 10 ms after the last character, at
     1,200 baud."""
-    line = Line()
-    try:
+    with Line() as line:
         with tempfile.TemporaryDirectory() as folder:
             path = table(folder, f"atr 3B1095\n{APP}")
             words = ["--no-echo", "--baud", "1200", "--slack", "5000", line.name, path]
@@ -198,8 +194,6 @@ def rate_after_response():
             early = rate_of(line)
             time.sleep(0.2)
             late = rate_of(line)
-    finally:
-        line.close()
     look(program, program.end(), "", GONE, 1)
     assert late == 13950, f"the tty runs at {late} baud"
     if early != 1200:
@@ -208,16 +202,13 @@ def rate_after_response():
 
 def puts_back():
     """A signal ends a card, which restores its tty."""
-    line = Line()
-    try:
+    with Line() as line:
         program = Program("serial_card", ["--slack", "5000", line.name, TABLE])
         play(Other(line), "< 3B00 > 00CA5F", card=False)
         assert not line.is_put_back(), "the tty was not set"
         program.kill(signal.SIGTERM)
         look(program, program.end(), "", "", -signal.SIGTERM)
         assert line.is_put_back(), "the tty is not set as it was before"
-    finally:
-        line.close()
 
 
 class Far:
@@ -377,14 +368,11 @@ def warns():
 
 def closed_descriptors():
     """Text for a closed descriptor does not reach the terminal. A lost trace is a fault."""
-    line = Line()
-    try:
+    with Line() as line:
         program = Program("serial_card", ["-v", "--no-echo", line.name, TABLE], before="exec 1>&-")
         other = Other(line, echo=False)
         play(other, "< 3B00 > 00CA5F2000 < 6985", card=False)
         other.take_nothing(0.1)
-    finally:
-        line.close()
     look(program, program.end(), "", "write fault\n", 1)
     program = Program("serial_card", ["--pty", TABLE], before="exec 1>&-")
     look(program, program.end(), "", "write fault\n", 1)
@@ -392,13 +380,10 @@ def closed_descriptors():
 
 def full_device():
     """If its trace can't be written, a card prints that after the dialogue, and ends."""
-    line = Line()
-    try:
+    with Line() as line:
         with open("/dev/full", "wb") as full:
             program = Program("serial_card", ["-v", "--no-echo", line.name, TABLE], stdout=full)
         play(Other(line, echo=False), "< 3B00 " + ASK_WORDS, card=False)
-    finally:
-        line.close()
     look(program, program.end(), "", "write fault\n", 1)
 
 

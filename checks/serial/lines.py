@@ -46,6 +46,12 @@ class Line:
                 os.close(end)
         self.far = self.near = -1
 
+    def __enter__(self):
+        return self
+
+    def __exit__(self, *_):
+        self.close()
+
 
 class Wire(threading.Thread):
     """Joins the far ends of two lines. With `echo` each end gets back its own bytes. It passes one

@@ -88,8 +88,7 @@ def dialogues():
 
 def block_waiting_time():
     """A terminal that gets no block asks again after BWT and the slack, together 0.3 s."""
-    line = Line()
-    try:
+    with Line() as line:
         program = Program("gt_serial", ["--no-echo", line.name, *terminal_cases.SELECT])
         other = Other(line, echo=False)
         play(other, f"< {QUICK} " + talk(*[">", "C1:FE"] * 5, ">", f"00:{SELECT_APDU}",
@@ -97,8 +96,6 @@ def block_waiting_time():
         look(program, program.end(), "", CAUSE + OUTCOMES["unknown"], 1)
         assert 0.29 <= min(other.gaps[5:26:5]), f"{other.gaps}"
         assert max(other.gaps[5:26:5]) < 0.8, f"{other.gaps}"
-    finally:
-        line.close()
 
 
 def block_guard_time():
@@ -107,8 +104,7 @@ def block_guard_time():
     ms. A busy machine is late at some blocks, so there are eight."""
     gets = [talk(">", f"{pcb}:{GET_APDU}", "~", "0.1", "<", f"{pcb}:{JOE}")
             for pcb in ("40", "00") * 4]
-    line = Line()
-    try:
+    with Line() as line:
         program = Program("gt_serial", ["--no-echo", "--baud", "1200", "--slack", "5000", line.name,
                                         *terminal_cases.SELECT, *terminal_cases.GET * 8])
         other = Other(line, echo=False)
@@ -116,8 +112,6 @@ def block_guard_time():
         look(program, program.end(), terminal_cases.SELECTED + terminal_cases.GOT * 8, "", 0)
         select, get = 4 + len(SELECT_APDU) // 2, 4 + len(GET_APDU) // 2
         assert min(other.gaps[5 + select :: get]) >= 0.018, f"{other.gaps}"
-    finally:
-        line.close()
 
 
 def faults():
@@ -242,8 +236,7 @@ def patience():
 
 def gives_up(dialogue, rest):
     """Plays a dialogue, and then sends the rest again and again, until the terminal ends."""
-    line = Line()
-    try:
+    with Line() as line:
         words = ["--no-echo", "--patience", "1", line.name, *terminal_cases.SELECT]
         program = Program("gt_serial", words)
         other = Other(line, echo=False, heaps=True)
@@ -256,8 +249,6 @@ def gives_up(dialogue, rest):
         ended = time.monotonic() - began
         look(program, program.end(), "", f"operation 1: {terminal_cases.TOO_LONG}", 1)
         must_end(ended, 0.8, 1.0 + terminal_cases.LATE)
-    finally:
-        line.close()
 
 
 def chapter():
@@ -340,8 +331,7 @@ def at_card():
 
 def never_stops():
     """A card is mute, and ends without a reset, if its terminal does not stop sending."""
-    line = Line()
-    try:
+    with Line() as line:
         with tempfile.TemporaryDirectory() as folder:
             path = card_cases.table(folder, f"atr {QUICK}\n{card_cases.APP}")
             program = Program("serial_card", ["--no-echo", "--slack", "5000", line.name, path])
@@ -354,8 +344,6 @@ def never_stops():
                 time.sleep(0.0005)
             other.take_nothing(0)
             look(program, program.end(), "", "the other end does not stop sending\n", 1)
-    finally:
-        line.close()
 
 
 def each_opening():

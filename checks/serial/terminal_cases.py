@@ -71,8 +71,7 @@ def rate_of(line):
 
 def run(case):
     """Plays a case. A wrong result is an error."""
-    line = Line()
-    try:
+    with Line() as line:
         options = [] if case.slack is None else ["--slack", case.slack]
         options += case.options if case.echo else ["--no-echo", *case.options]
         other = Other(line, case.echo, case.inverse, case.heaps)
@@ -100,8 +99,6 @@ def run(case):
         assert line.is_put_back(), "the tty is not set as it was before"
         assert case.baud in (None, baud), f"the tty runs at {baud} baud"
         assert not other.gaps or min(other.gaps) >= case.gap, f"{min(other.gaps)} s between two"
-    finally:
-        line.close()
 
 
 def tried(case):
@@ -621,23 +618,19 @@ def guard_time():
 
 def gaps_after(answer, echo):
     """Returns the pauses between the characters of a header, after this answer to reset."""
-    line = Line()
-    try:
+    with Line() as line:
         words = ["--baud", "1200", "--slack", "5000", *([] if echo else ["--no-echo"]), line.name]
         program = Program("gt_serial", [*words, *SHORT])
         other = Other(line, echo=echo)
         play(other, f"< {answer} " + SHORT_WORDS + DONE, card=True)
         look(program, program.end(), "= 9000\n", "", 0)
         return other.gaps[1:]
-    finally:
-        line.close()
 
 
 def puts_back(number):
     """A signal ends the program, which restores the tty. Before that the tty is set for the
     line."""
-    line = Line()
-    try:
+    with Line() as line:
         program = Program("gt_serial", ["--slack", "60000", line.name, *SHORT])
         other = Other(line)
         play(other, "< 3B00 " + SHORT_WORDS, card=True)
@@ -646,15 +639,12 @@ def puts_back(number):
         status = program.end()
         assert status == -number, f"status {status}: {program.faults}"
         assert line.is_put_back(), "the tty is not set as it was before"
-    finally:
-        line.close()
 
 
 def turn_time():
     """The terminal sends at the earliest 16 etu after the start of the card's character, so 6 etu
     after its end: 5 ms at 1,200 baud."""
-    line = Line()
-    try:
+    with Line() as line:
         # a header takes 50 ms; a busy machine is late at some turns, so there are twelve
         words = ["--baud", "1200", "--slack", "5000", line.name, *SHORT * 12]
         program = Program("gt_serial", words)
@@ -662,8 +652,6 @@ def turn_time():
         play(other, "< 3B00 " + (SHORT_WORDS + "~ 0.08 " + DONE) * 12, card=True)
         look(program, program.end(), "= 9000\n" * 12, "", 0)
         assert min(other.gaps[5::5]) >= 0.005, f"{other.gaps}"
-    finally:
-        line.close()
 
 
 def late_echo():
@@ -692,36 +680,29 @@ def late_echo():
 def wrong_echo():
     """A wrong echo, at the first place and at a later one."""
     for echo in ("55", "00201000"):
-        line = Line()
-        try:
+        with Line() as line:
             program = Program("gt_serial", ["--slack", "5000", line.name, *SHORT])
             other = Other(line, echo=False)
             play(other, f"< 3B00 > 0020 < {echo}", card=True)
             look(program, program.end(), "",
                  "operation 1: the echo differs from what was sent\n", 1)
-        finally:
-            line.close()
 
 
 def no_echo_of_data():
     """The echo of the first of 255 characters must be there after 10 ms and the slack, at 1,200
     baud. The last takes 2.55 s."""
-    line = Line()
-    try:
+    with Line() as line:
         words = ["--baud", "1200", line.name, "put", "5F20", "41*255"]
         program = Program("gt_serial", words)
         play(Other(line), "< 3B00 > 00DA5F20FF < DA", card=True)
         began = time.monotonic()
         look(program, program.end(), "", "operation 1: there is no echo\n", 1)
         must_end(time.monotonic() - began, 0.15, 2.0)
-    finally:
-        line.close()
 
 
 def passes_over_a_signal():
     """SIGHUP does not end a program that is started with it ignored, as by nohup."""
-    line = Line()
-    try:
+    with Line() as line:
         program = Program("gt_serial", ["--slack", "5000", line.name, *SHORT],
                           before='trap "" HUP')
         other = Other(line)
@@ -730,8 +711,6 @@ def passes_over_a_signal():
         time.sleep(0.2)
         other.send("9000")
         look(program, program.end(), "= 9000\n", "", 0)
-    finally:
-        line.close()
 
 
 def line_gone():
@@ -752,8 +731,7 @@ def line_gone():
 def nulls_for_ever(options, seconds, clock):
     """The program gives up a card that sends only NULLs after the time of --patience, or after 600
     s. Its clock is faster than that of these tests."""
-    line = Line()
-    try:
+    with Line() as line:
         words = [*options, "--slack", "2000", line.name, *SHORT]
         program = Program("gt_serial", words, environment={"STANDIN_CLOCK": str(clock)})
         other = Other(line)
@@ -765,30 +743,24 @@ def nulls_for_ever(options, seconds, clock):
         ended = time.monotonic() - began
         look(program, program.end(), "", f"operation 1: {TOO_LONG}", 1)
         must_end(ended, seconds / clock - 0.2, seconds / clock + 0.8)
-    finally:
-        line.close()
 
 
 def is_quiet():
     """How long the card is silent before a header. A busy machine is late at some."""
     long = ["--no-echo", "--quiet", "100"]
     for options, least in (([], 0.0), (["--no-echo"], 0.02), (long, 0.1)):
-        line = Line()
-        try:
+        with Line() as line:
             program = Program("gt_serial", ["--slack", "5000", *options, line.name, *SHORT * 8])
             other = Other(line, echo=not options)
             play(other, "< 3B00 " + (SHORT_WORDS + DONE) * 8, card=True)
             look(program, program.end(), "= 9000\n" * 8, "", 0)
             gap = min(other.gaps[5::5])
             assert least <= gap < least + 0.02, f"{options}: {other.gaps}"
-        finally:
-            line.close()
 
 
 def is_stopped():
     """A program that is stopped before a header still finds what arrived in that time."""
-    line = Line()
-    try:
+    with Line() as line:
         words = ["--slack", "5000", "--no-echo", "--quiet", "200", line.name, *SHORT * 2]
         program = Program("gt_serial", words)
         other = Other(line, echo=False)
@@ -799,15 +771,12 @@ def is_stopped():
         other.send("9000")
         program.kill(signal.SIGCONT)
         look(program, program.end(), "= 9000\n", "operation 2: unexpected byte\n", 1)
-    finally:
-        line.close()
 
 
 def settings():
     """The settings of the tty while the terminal talks: raw, 8 bits, 2 stop bits. A pseudo terminal
     has no parity."""
-    line = Line()
-    try:
+    with Line() as line:
         program = Program("gt_serial", ["--slack", "5000", line.name, *SHORT])
         other = Other(line)
         play(other, "< 3B00 " + SHORT_WORDS, card=True)
@@ -816,41 +785,32 @@ def settings():
         look(program, program.end(), "= 9000\n", "", 0)
         found = (input_flags, output_flags, local, control & 0o160)
         assert found == (0, 0, 0, 0o160), f"flags {found}"
-    finally:
-        line.close()
 
 
 def full_device():
     """If an answer can't be printed, that is a fault, and the tty is restored."""
     for options in ([], ["-v"]):
-        line = Line()
-        try:
+        with Line() as line:
             with open("/dev/full", "wb") as full:
                 words = ["--slack", "2000", *options, line.name, *SHORT]
                 program = Program("gt_serial", words, stdout=full)
             play(Other(line), "< 3B00 " + SHORT_WORDS + DONE, card=True)
             look(program, program.end(), "", "operation 1: write fault\n", 1)
             assert line.is_put_back(), "the tty is not set as it was before"
-        finally:
-            line.close()
 
 
 def full_device_for_an_answer():
     """The same for the values of an answer to reset."""
-    line = Line()
-    try:
+    with Line() as line:
         with open("/dev/full", "wb") as full:
             program = Program("gt_serial", ["--slack", "2000", line.name], stdout=full)
         play(Other(line), "< 3B00", card=True)
         look(program, program.end(), "", "write fault\n", 1)
-    finally:
-        line.close()
 
 
 def nobody_reads():
     """If nobody reads its output, a signal ends the program, which restores the tty."""
-    line = Line()
-    try:
+    with Line() as line:
         reads, writes = os.pipe()
         os.close(reads)
         line.write(b"\x3b\x00")
@@ -859,8 +819,6 @@ def nobody_reads():
         os.close(writes)
         look(program, program.end(), "", "", -signal.SIGPIPE)
         assert line.is_put_back(), "the tty is not set as it was before"
-    finally:
-        line.close()
 
 
 def closed_descriptors():
@@ -872,8 +830,7 @@ def closed_descriptors():
         ("exec 0<&- 1>&- 2>&-", [], SHORT, SHORT_WORDS + DONE, "", 1),
         ("exec 0<&-", [], SHORT, SHORT_WORDS + DONE, "", 0),
     ):
-        line = Line()
-        try:
+        with Line() as line:
             program = Program("gt_serial", ["--slack", "5000", *options, line.name, *given],
                               before=closed)
             other = Other(line)
@@ -881,8 +838,6 @@ def closed_descriptors():
             output = "= 9000\n" if status == 0 else ""
             look(program, program.end(), output, fault, status)
             other.take_nothing(0.1)
-        finally:
-            line.close()
     program = Program("gt_serial", ["-f", "-", "/dev/null"], before="exec 0<&-")
     look(program, program.end(), "", "read fault: '-': Bad file descriptor\n", 1)
 

@@ -430,8 +430,7 @@ def ff_is_no_mark(refuses):
 
 def is_locked():
     """A second program at a tty prints which process has it, and disturbs nothing."""
-    line = Line()
-    try:
+    with Line() as line:
         words = ["--slack", "5000", line.name, *SHORT]
         first = Program("gt_serial", words)
         play(Other(line), "< 3B00 " + SHORT_WORDS, card=True)
@@ -450,8 +449,6 @@ def is_locked():
         fourth = Program("gt_serial", words)
         play(Other(line), f"< 3B00 {SHORT_WORDS}{DONE}", card=True)
         look(fourth, fourth.end(), "= 9000\n", "", 0)
-    finally:
-        line.close()
 
 
 def keeps_others_out():

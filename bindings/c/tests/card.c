@@ -10,6 +10,9 @@ static const uint8_t JOE[] = { 0x4A, 0x4F, 0x45 };
 static void build(gt_card *card) {
     CHECK(gt_card_new(card), GT_OK);
     CHECK(gt_card_app(card, AID, sizeof AID), GT_OK);
+    /* a second object under a tag takes the place of the first, locked or not */
+    CHECK(gt_card_object(card, 0x5F20, JOE, 1, 1), GT_OK);
+    CHECK(gt_card_object(card, 0x50, JOE, 1, 0), GT_OK);
     CHECK(gt_card_object(card, 0x5F20, JOE, sizeof JOE, 0), GT_OK);
     CHECK(gt_card_object(card, 0x50, JOE, sizeof JOE, 1), GT_OK);
     CHECK(gt_card_finish(card), GT_OK);

@@ -1,8 +1,7 @@
-//! Tests each call, by the rules of the card and the line.
+//! Tests objects, and the tables of a card, by the rules of BER-TLV and of the card.
 
-use galliumtoad::Turn;
-use galliumtoad::{encode, find, head, ObjectsError};
-use galliumtoad::{Card, CardBuilder, Error, Exchange, Objects, Operation, Reason, Session};
+use galliumtoad::{encode, find, ObjectsError};
+use galliumtoad::{CardBuilder, Error, Objects, Reason, Session};
 use std::error::Error as _;
 
 const AID: [u8; 7] = [0xA0, 0x00, 0x00, 0x00, 0x03, 0x10, 0x10];
@@ -13,18 +12,6 @@ fn builder() -> CardBuilder {
     builder.object(0x5F20, b"JOE").expect("an object");
     builder.locked(0x50, b"VISA").expect("an object");
     builder
-}
-
-/// Gives the card these characters. Returns what it sends until it listens.
-fn heard(card: &mut Card, sent: &[u8]) -> Vec<u8> {
-    for byte in sent {
-        card.take(*byte).expect("a character in turn");
-    }
-    let mut heard = Vec::new();
-    while let Turn::Sends(byte) = card.turn().expect("a turn") {
-        heard.push(byte);
-    }
-    heard
 }
 
 /// The place and the reason of a fault in the bytes.
@@ -86,15 +73,6 @@ fn objects_are_found_by_path() {
         assert_eq!(placed(fault), Some((0, Reason::LengthForm)));
     }
     assert!(find(b"\x50\x81\x00\x51\x82\x00\x00", &[0x51]).is_ok());
-}
-
-#[test]
-fn heads_have_the_shortest_length() {
-    assert_eq!(head(0x50, 127), Some(vec![0x50, 0x7F]));
-    assert_eq!(head(0x5F20, 128), Some(vec![0x5F, 0x20, 0x81, 0x80]));
-    let longest = vec![0x9F, 0x81, 0x01, 0x82, 0x01, 0x00];
-    assert_eq!(head(0x9F8101, 256), Some(longest));
-    assert_eq!(head(0x9F00, 1), None);
 }
 
 /// Returns the tag, the level, the place and the value of each object.
@@ -213,129 +191,4 @@ fn a_builder_refuses_and_stays() {
     let name = (0x5F20, b"JOE".to_vec(), false);
     assert_eq!(entries, [name, (0x50, b"VISA".to_vec(), true)]);
     assert_eq!(card.selected(), None);
-}
-
-#[test]
-fn an_exchange_follows_its_card() {
-    let command = [0x00, 0xCA, 0x5F, 0x20, 0x00];
-    let mut exchange = Exchange::start(&command).expect("an exchange");
-    assert_eq!(exchange.take(0x6C), Err(Error::NotListening));
-    for byte in command {
-        assert_eq!(exchange.turn(), Ok(Turn::Sends(byte)));
-    }
-    assert_eq!(exchange.turn(), Ok(Turn::Listens));
-    for byte in [0x6C, 0x02] {
-        assert_eq!(exchange.take(byte), Ok(()));
-    }
-    for byte in [0x00, 0xCA, 0x5F, 0x20, 0x02] {
-        assert_eq!(exchange.turn(), Ok(Turn::Sends(byte)));
-    }
-    assert_eq!(exchange.answer(), Err(Error::State));
-    for byte in [0xCA, 0x50, 0x00, 0x90, 0x00] {
-        assert_eq!(exchange.take(byte), Ok(()));
-    }
-    assert_eq!(exchange.turn(), Ok(Turn::Done));
-    let answer = exchange.answer().expect("an answer");
-    assert_eq!(answer.status, 0x9000);
-    assert_eq!(answer.data, [0x50, 0x00]);
-    assert_eq!(exchange.take(0x00), Err(Error::AfterEnd));
-}
-
-/// Passes characters until the exchange is done, or both ends wait.
-fn talk(exchange: &mut Exchange, card: &mut Card) -> Result<Turn, Error> {
-    loop {
-        match exchange.turn()? {
-            Turn::Sends(byte) => card.take(byte)?,
-            Turn::Listens => match card.turn()? {
-                Turn::Sends(byte) => exchange.take(byte)?,
-                waits => return Ok(waits),
-            },
-            Turn::Done => return Ok(Turn::Done),
-        }
-    }
-}
-
-#[test]
-fn ends_that_do_not_agree_are_mended_by_a_reset() {
-    let rows: [(&[u8], _); 2] = [
-        (&[0x00, 0xA4, 0x04, 0x00, 0x05], Ok(Turn::Listens)),
-        (
-            &[0x00, 0xCA, 0x5F, 0x20, 0x01, 0xAA],
-            Err(Error::NotListening),
-        ),
-    ];
-    let mut card = builder().finish().expect("a card");
-    for (command, wanted) in rows {
-        heard(&mut card, &[0x00, 0xA4, 0x04, 0x00, 0x07]);
-        assert_eq!(heard(&mut card, &AID), [0x61, 0x0B]);
-        let mut exchange = Exchange::start(command).expect("an exchange");
-        assert_eq!(talk(&mut exchange, &mut card), wanted);
-        card.reset().expect("a reset");
-    }
-    assert_eq!(
-        heard(&mut card, &[0x00, 0xCA, 0x5F, 0x20, 0x06]),
-        [0x69, 0x85]
-    );
-}
-
-#[test]
-fn an_exchange_fails_for_good() {
-    let refused = |command: &[u8]| Exchange::start(command).err();
-    assert_eq!(refused(&[0x00, 0xCA]), Some(Error::TooShort));
-    assert_eq!(refused(&[0x00, 0x60, 0x00, 0x00]), Some(Error::InvalidIns));
-    let mut exchange = Exchange::start(&[0x00, 0xCA, 0x5F, 0x20]).expect("an exchange");
-    while let Ok(Turn::Sends(_)) = exchange.turn() {}
-    assert_eq!(exchange.take(0x41), Err(Error::BadProcedure));
-    assert_eq!(exchange.turn(), Err(Error::Failed));
-    assert_eq!(exchange.take(0x41), Err(Error::AfterEnd));
-}
-
-#[test]
-fn a_session_carries_out_operations() {
-    let card = builder().finish().expect("a card");
-    let mut session = Session::start(card).expect("a session");
-    assert_eq!(session.answer(), Err(Error::NotFound));
-    assert_eq!(session.get(0x5F20).expect("an answer").status, 0x6985);
-    assert_eq!(session.select(&AID).expect("an answer").status, 0x9000);
-    assert_eq!(session.put(0x50, b"A").expect("one"), 0x6982);
-    assert_eq!(session.put(0x5F20, &[0x42; 300]).expect("one"), 0x9000);
-    let answer = session.get(0x5F20).expect("an answer");
-    assert_eq!(&answer.data[..5], [0x5F, 0x20, 0x82, 0x01, 0x2C]);
-    assert_eq!(&answer.data[5..], [0x42; 300]);
-    assert_eq!(session.answer().expect("the same"), answer);
-    assert_eq!(session.get(0x9F8101), Err(Error::Argument));
-    session.reset().expect("a reset");
-    assert_eq!(session.get(0x5F20).expect("an answer").status, 0x6985);
-    let card = session.end().expect("the card");
-    assert_eq!(card.entries(0).next().expect("one").value, [0x42; 300]);
-}
-
-#[test]
-fn a_session_that_nobody_listens_to() {
-    let card = builder().finish().expect("a card");
-    let mut session = Session::start(card).expect("a session");
-    assert_eq!(session.heard(), Err(Error::State));
-    session.listen().expect("somebody listens");
-    assert_eq!(session.heard(), Ok(Vec::new()));
-    assert_eq!(session.is_idle(), Ok(true));
-    assert_eq!(session.plan("x", 256), Err(Error::Argument));
-    assert_eq!(session.plan("", 257), Err(Error::Argument));
-    assert_eq!(session.run(Operation::Send(&[0x00])), Err(Error::TooShort));
-}
-
-#[test]
-fn a_chain_keeps_a_session_busy() {
-    let card = builder().finish().expect("a card");
-    let mut session = Session::start(card).expect("a session");
-    assert_eq!(session.select(&AID).expect("an answer").status, 0x9000);
-    let first = session.send(&[0x10, 0xDA, 0x5F, 0x20, 0x01, 0xAA]);
-    assert_eq!(first.expect("an answer").status, 0x9000);
-    assert_eq!(session.is_idle(), Ok(false));
-    assert_eq!(session.get(0x5F20), Err(Error::Busy));
-    let other = session.send(&[0x00, 0xCA, 0x5F, 0x20, 0x00]);
-    assert_eq!(other.expect("an answer").status, 0x6883);
-    assert_eq!(session.is_idle(), Ok(true));
-    let with_data = session.send(&[0x00, 0xCA, 0x5F, 0x20, 0x01, 0xAA]);
-    assert_eq!(with_data, Err(Error::Argument));
-    assert_eq!(session.send(&[0x00, 0xCA]), Err(Error::TooShort));
 }

@@ -3,8 +3,8 @@
 
 use galliumtoad::{head, CardBuilder, Entry, Error, Exchange, Objects, Session, Turn};
 use galliumtoad::{Operation, Terminal, ANSWER_LIMIT, APDU_LIMIT, TPDU_LIMIT};
-use galliumtoad::{AID_LEAST, AID_LIMIT, APPS_LIMIT, ENTRIES_LIMIT, LEVELS_LIMIT};
-use galliumtoad::{PLANS_LIMIT, RESPONSE_LIMIT, VALUE_LIMIT};
+use galliumtoad::{AID_LEAST, AID_LIMIT, APPS_LIMIT, ENTRIES_LIMIT};
+use galliumtoad::{RESPONSE_LIMIT, VALUE_LIMIT};
 
 /// A pattern of bytes whose period is prime.
 fn bytes(n: usize, from: usize) -> Vec<u8> {
@@ -105,20 +105,6 @@ fn a_session_tells_all_of_its_tables() {
     assert_eq!(parts(card.entries(7)), wanted_entries());
 }
 
-#[test]
-fn identifiers_have_5_to_16_bytes() {
-    let mut builder = CardBuilder::new().expect("memory");
-    assert_eq!(builder.app(&aid(0, 4)), Err(Error::Argument));
-    assert_eq!(builder.app(&aid(0, 17)), Err(Error::Argument));
-    assert_eq!(builder.app(&[]), Err(Error::Argument));
-    builder.app(&aid(0, 16)).expect("an application");
-    let card = builder.finish().expect("a card");
-    let mut session = Session::start(card).expect("a session");
-    assert_eq!(session.select(&aid(0, 4)), Err(Error::Argument));
-    assert_eq!(session.select(&aid(0, 17)), Err(Error::Argument));
-    assert_eq!(session.select(&aid(0, 5)).expect("one").status, 0x6A82);
-}
-
 /// Sends 64 TPDUs of 256 bytes, the longest answer: one byte more is too much.
 fn longest_answer(exchange: &mut Exchange) {
     for tpdu in 0..64 {
@@ -155,22 +141,6 @@ fn the_longest_answer_is_told() {
     exchange.take(0xC0).expect("a procedure byte");
     assert_eq!(exchange.take(0x00), Err(Error::TooLong));
     assert_eq!(exchange.answer(), Err(Error::State));
-}
-
-#[test]
-fn the_longest_command_is_sent() {
-    let command = [&[0x00, 0xDA, 0xDF, 0x01, 0xFF], &bytes(255, 3)[..]].concat();
-    let mut exchange = Exchange::start(&command).expect("an exchange");
-    for (i, byte) in command.iter().enumerate() {
-        if i == 5 {
-            assert_eq!(exchange.turn(), Ok(Turn::Listens));
-            exchange.take(0xDA).expect("a procedure byte");
-        }
-        assert_eq!(exchange.turn(), Ok(Turn::Sends(*byte)));
-    }
-    assert_eq!(exchange.turn(), Ok(Turn::Listens));
-    let refused = Exchange::start(&[&command[..], &[0x00, 0x00]].concat());
-    assert_eq!(refused.err(), Some(Error::BadLength));
 }
 
 /// A TPDU with 255 bytes of data, and 64 TPDUs that return 256 bytes each.
@@ -215,56 +185,6 @@ fn the_longest_tpdu_of_a_card_is_told() {
     assert_eq!(card.apdu(&put), Ok(vec![0x90, 0x00]));
 }
 
-/// Plans of 9 and of 300 letters. Each letter is a NULL before the card continues.
-#[test]
-fn plans_of_many_letters_are_carried_out() {
-    let card = full_card().finish().expect("a card");
-    let mut session = Session::start(card).expect("a session");
-    session.listen().expect("somebody listens");
-    session.plan("nnnnnnnnn", 256).expect("nine letters");
-    session.plan(&"n".repeat(300), 1).expect("300 letters");
-    let _ = session.select(&aid(7, 16)).expect("an answer");
-    let line = session.heard().expect("all");
-    let nulls = line.iter().filter(|(_, byte)| *byte == 0x60).count();
-    assert_eq!(nulls, 309);
-    assert_eq!(session.plan("n", 0), Err(Error::Argument));
-    let mut card = session.end().expect("the card");
-    assert_eq!(card.plan("n", 0), Err(Error::Argument));
-    assert_eq!(card.plan("n", 257), Err(Error::Argument));
-    assert_eq!(card.plan("nox", 1), Err(Error::Argument));
-    card.plan("nnnnnnnnno", 1).expect("ten letters");
-    for byte in [0x00, 0xCA, 0x00, 0x50, 0x01] {
-        card.take(byte).expect("a character in turn");
-    }
-    for wanted in [0x60; 9].iter().chain(&[0x69, 0x85]) {
-        assert_eq!(card.turn(), Ok(Turn::Sends(*wanted)));
-    }
-    assert_eq!(card.turn(), Ok(Turn::Listens));
-}
-
-/// With the most plans waiting, one more is refused and changes nothing. A TPDU takes the first,
-/// and makes room for one.
-#[test]
-fn a_plan_too_many_is_refused() {
-    let mut card = full_card().finish().expect("a card");
-    card.plan("", 5).expect("the first");
-    for _ in 1..PLANS_LIMIT {
-        card.plan("", 6).expect("memory");
-    }
-    assert_eq!(card.plan("", 7), Err(Error::Plans));
-    let mut select = vec![0x00, 0xA4, 0x04, 0x00, 16];
-    select.extend(aid(7, 16));
-    assert_eq!(card.tpdu(&select), Ok(vec![0x61, 5]));
-    card.plan("", 7).expect("a place");
-    assert_eq!(card.plan("", 7), Err(Error::Plans));
-    assert_eq!(card.tpdu(&select), Ok(vec![0x61, 6]));
-    let mut session = Session::start(card).expect("a session");
-    for _ in 0..PLANS_LIMIT {
-        session.plan("", 256).expect("memory");
-    }
-    assert_eq!(session.plan("", 256), Err(Error::Plans));
-}
-
 #[test]
 fn heads_have_2_to_6_bytes() {
     assert_eq!(head(0x50, 0), Some(vec![0x50, 0x00]));
@@ -289,20 +209,4 @@ fn objects_are_listed_to_the_last() {
     assert_eq!(objects.next(), None);
     assert_eq!(objects.next(), None);
     assert_eq!(objects.len(), 0);
-}
-
-#[test]
-fn objects_stand_at_16_levels() {
-    let nested = |levels: u8| -> Vec<u8> {
-        let inside = (0..levels).rev().map(|level| [0x70, 2 * level]);
-        inside.flatten().collect()
-    };
-    let list = nested(LEVELS_LIMIT);
-    let levels: Vec<u8> = Objects::over(&list)
-        .expect("objects")
-        .map(|it| it.level)
-        .collect();
-    assert_eq!(levels, (1..=16).collect::<Vec<u8>>());
-    let fault = Objects::over(&nested(17)).expect_err("a fault");
-    assert_eq!(fault.to_string(), "too deep at 32");
 }

@@ -2,7 +2,7 @@
 
 use galliumtoad::{whole_commands, By, DataSent, Exchange, Level, Turn};
 use galliumtoad::{Card, CardBuilder, Error, Operation, RunError, Status, Terminal, Transport};
-use galliumtoad::{ANSWER_LIMIT, APDU_LIMIT, TPDU_LIMIT};
+use galliumtoad::{ANSWER_LIMIT, APDU_LIMIT};
 use std::convert::Infallible;
 use std::error::Error as _;
 use std::io;
@@ -327,29 +327,6 @@ fn closures_carry_whole_commands() {
     assert_eq!(found, Err(RunError::Transport("gone")));
 }
 
-/// Buffers of another length than the limits: too short is an error, and longer is not.
-#[test]
-fn buffers_may_be_of_any_length() {
-    let mut terminal = Terminal::new().expect("memory");
-    terminal.begin(Operation::Select(&AID)).expect("begun");
-    let mut room = [0xEE; TPDU_LIMIT + 9];
-    assert_eq!(terminal.tpdu_into(&mut room[..11]), Err(Error::Buffer));
-    assert_eq!(terminal.apdu_into(&mut room[..12]), Err(Error::Buffer));
-    assert_eq!(room, [0xEE; TPDU_LIMIT + 9]);
-    let due = terminal
-        .tpdu_into(&mut room[..12])
-        .expect("room")
-        .expect("due");
-    assert_eq!((due.count, due.most), (12, 0));
-    let due = terminal.apdu_into(&mut room).expect("room").expect("due");
-    assert_eq!((due.count, due.most), (13, 256));
-    assert_eq!(
-        terminal.apdu().expect("memory").expect("due").bytes,
-        room[..13]
-    );
-    assert_eq!(terminal.apdu().expect("memory").expect("due").most, 256);
-}
-
 #[test]
 fn a_panic_in_a_transport_leaves_the_terminal_reset() {
     let mut terminal = Terminal::new().expect("memory");
@@ -463,27 +440,6 @@ fn answers_take_what_they_need() {
     assert_eq!(card.expect("an answer").capacity(), ANSWER_LIMIT);
 }
 
-#[test]
-fn a_terminal_at_rest_has_no_turn() {
-    let mut terminal = Terminal::new().expect("memory");
-    for _ in 0..2 {
-        assert_eq!(terminal.turn(), Err(Error::State));
-        assert_eq!(terminal.take(0x90), Err(Error::AfterEnd));
-        assert_eq!(terminal.send_bytes(&mut [0; 2]), Err(Error::State));
-        let early = terminal.receive_bytes(&[0x90]).expect_err("a fault");
-        assert_eq!((early.taken, early.error), (0, Error::AfterEnd));
-        assert_eq!(terminal.answered(&[0x90, 0x00]), Err(Error::NotDue));
-        assert_eq!(terminal.tpdu(), Ok(None));
-        assert_eq!(terminal.answer(), Err(Error::State));
-        terminal.begin(Operation::Get(0x5F20)).expect("begun");
-        assert_eq!(terminal.take(0xCA), Err(Error::NotListening));
-        assert_eq!(terminal.turn(), Ok(Turn::Sends(0x00)));
-        assert_eq!(terminal.tpdu(), Ok(None));
-        assert_eq!(terminal.answered(&[0x90, 0x00]), Err(Error::NotDue));
-        terminal.reset().expect("it drops what is under way");
-    }
-}
-
 /// Plays a card: the terminal sends as many characters as it has, and then gets these.
 fn played(terminal: &mut Terminal, came: &[&[u8]]) -> usize {
     let mut sent = 0;
@@ -503,61 +459,15 @@ fn played(terminal: &mut Terminal, came: &[&[u8]]) -> usize {
 #[test]
 fn data_that_have_not_left() {
     let put = Operation::Put(0x5F20, b"ANN");
-    let long = [0; 300];
     let mut terminal = Terminal::new().expect("memory");
     assert_eq!(terminal.data_sent(), None);
-    let cases: [(Operation<'_>, &[&[u8]], usize, DataSent); 11] = [
-        (put, &[&[0x90, 0x00]], 5, DataSent::NotAll),
-        (put, &[&[0x25], &[0x90, 0x00]], 6, DataSent::NotAll),
-        (
-            put,
-            &[&[0x25], &[0x25], &[0xDA], &[0x90, 0x00]],
-            8,
-            DataSent::All,
-        ),
-        (put, &[&[0xDA], &[0x90, 0x00]], 8, DataSent::All),
-        (
-            Operation::Put(0x5F20, &[]),
-            &[&[0x90, 0x00]],
-            5,
-            DataSent::All,
-        ),
-        (Operation::Get(0x5F20), &[&[0x90, 0x00]], 5, DataSent::All),
-        // SELECT is fetched from after 61XX, and the end of the fetch is the end of the operation.
-        (
-            Operation::Select(&AID),
-            &[&[0x61, 0x01], &[0xC0, 0x00, 0x90, 0x00]],
-            10,
-            DataSent::NotAll,
-        ),
-        (
-            Operation::Select(&AID),
-            &[&[0xA4], &[0x61, 0x01], &[0xC0, 0x00, 0x90, 0x00]],
-            17,
-            DataSent::All,
-        ),
-        // Each piece of a put counts.
-        (
-            Operation::Put(0x5F20, &long),
-            &[&[0x90, 0x00], &[0xDA], &[0x90, 0x00]],
-            55,
-            DataSent::NotAll,
-        ),
-        (
-            Operation::Put(0x5F20, &long),
-            &[&[0xDA], &[0x90, 0x00], &[0x90, 0x00]],
-            265,
-            DataSent::NotAll,
-        ),
-        (
-            Operation::Put(0x5F20, &long),
-            &[&[0xDA], &[0x90, 0x00], &[0xDA], &[0x90, 0x00]],
-            310,
-            DataSent::All,
-        ),
+    let cases: [(&[&[u8]], usize, DataSent); 3] = [
+        (&[&[0x90, 0x00]], 5, DataSent::NotAll),
+        (&[&[0x25], &[0x90, 0x00]], 6, DataSent::NotAll),
+        (&[&[0xDA], &[0x90, 0x00]], 8, DataSent::All),
     ];
-    for (operation, came, sent, told) in cases {
-        terminal.begin(operation).expect("begun");
+    for (came, sent, told) in cases {
+        terminal.begin(put).expect("begun");
         assert_eq!(played(&mut terminal, came), sent);
         assert_eq!(terminal.answer().expect("an answer").status, 0x9000);
         assert_eq!(terminal.data_sent(), Some(told), "{came:02X?}");

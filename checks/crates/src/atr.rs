@@ -1,73 +1,7 @@
-//! Tests of PPS requests and responses, and of answers to reset that are made of parts.
+//! Tests of answers to reset that are made of parts.
 
-use atr_core::{Atr, BuildFault, Convention, Group, Pps, PpsFault, TypedGroup, agreed};
+use atr_core::{Atr, BuildFault, Convention, Group, TypedGroup};
 use std::process::Abort;
-
-fn reads(rt: &impl Abort, bytes: &[u8], pps: Pps) {
-    assert!(rt; Pps::read(bytes) == Ok(pps), "in {bytes:?}");
-    assert!(rt; &pps.write()[..] == bytes, "in {bytes:?}");
-}
-
-fn pps(t: u8, pps1: Option<u8>) -> Pps {
-    Pps {
-        t,
-        pps1,
-        pps2: None,
-        pps3: None,
-    }
-}
-
-/// The PCKs were worked out by hand, as the exclusive-or of the characters before them.
-#[test]
-fn reads_and_writes_pps(rt: HostRuntime) {
-    reads(&rt, b"\xFF\x00\xFF", pps(0, None));
-    reads(&rt, b"\xFF\x01\xFE", pps(1, None));
-    reads(&rt, b"\xFF\x10\x18\xF7", pps(0, Some(0x18)));
-    reads(&rt, b"\xFF\x11\x95\x7B", pps(1, Some(0x95)));
-    let all = Pps {
-        t: 15,
-        pps1: Some(0x11),
-        pps2: Some(0x22),
-        pps3: Some(0x44),
-    };
-    reads(&rt, b"\xFF\x7F\x11\x22\x44\xF7", all);
-    let last = Pps {
-        t: 0,
-        pps1: None,
-        pps2: None,
-        pps3: Some(0x00),
-    };
-    reads(&rt, b"\xFF\x40\x00\xBF", last);
-}
-
-#[test]
-fn finds_the_fault_of_pps(rt: HostRuntime) {
-    for (bytes, fault) in &[
-        (b"".as_slice(), PpsFault::Cut),
-        (b"\xFE", PpsFault::NoPpss),
-        (b"\xFF", PpsFault::Cut),
-        (b"\xFF\x80", PpsFault::Reserved),
-        (b"\xFF\x00", PpsFault::Cut),
-        (b"\xFF\x10\x18", PpsFault::Cut),
-        (b"\xFF\x00\xFF\x00", PpsFault::Surplus),
-        (b"\xFF\x00\xFE", PpsFault::CheckWrong),
-        (b"\xFF\x10\x18\xF6", PpsFault::CheckWrong),
-    ] {
-        assert!(&rt; Pps::read(bytes) == Err(*fault), "in {bytes:?}");
-    }
-}
-
-/// An omitted value is not agreed, the others are. A response must not add a value.
-#[test]
-fn agrees_to_what_was_asked_for(rt: HostRuntime) {
-    let asked = pps(0, Some(0x18));
-    assert!(&rt; agreed(&asked, &asked));
-    assert!(&rt; agreed(&asked, &pps(0, None)));
-    assert!(&rt; !agreed(&asked, &pps(0, Some(0x11))));
-    assert!(&rt; !agreed(&asked, &pps(1, Some(0x18))));
-    assert!(&rt; !agreed(&pps(0, None), &asked));
-    assert!(&rt; asked.rate_code() == 0x18 && pps(0, None).rate_code() == 0x11);
-}
 
 fn group(ta: Option<u8>) -> Group {
     Group {

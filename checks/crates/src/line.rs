@@ -4,4 +4,3 @@ mod card_tests;
 mod tap_tests;
 mod test_card;
 mod tests;
-mod tpdu_tests;

@@ -1,18 +1,12 @@
 //! Tests of `card_terminal`, `apdu_terminal` and `t1_terminal`.
 
 mod apdu_tests;
-mod buffer_tests;
 mod command_tests;
 mod data_objects;
 mod exchange_tests;
-mod kept_memory_tests;
-mod limit_tests;
 mod line_tests;
 mod long_run_tests;
-mod memory_tests;
-mod run_memory_tests;
 mod run_tests;
 mod session_tests;
-mod side;
 mod test_card;
 mod trace;

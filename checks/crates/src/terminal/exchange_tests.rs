@@ -1,11 +1,11 @@
-//! Exchanges that a test drives character by character, or by whole TPDUs.
+//! Exchanges that a test drives character by character.
 
 use super::trace::{bytes, characters, pass, word};
-use apdu_core::{Command, Status};
-use card_terminal::{Answer, Exchange, RESPONSE_LIMIT};
+use apdu_core::Command;
+use card_terminal::{Answer, Exchange};
 use std::alloc::AllocGlobal;
 use std::process::Abort;
-use t0_core::{AnswerFault, End, HostTurn, LineFault};
+use t0_core::{HostTurn, LineFault};
 
 /// A GET DATA of `5F20` that asks for everything.
 const GET: &[u8] = &[0x00, 0xCA, 0x5F, 0x20, 0x00];
@@ -235,43 +235,6 @@ fn fails(rt: &(impl Abort + AllocGlobal), of: &[u8], trace: &str, byte: u8, faul
     has_failed(rt, exchange);
 }
 
-#[test]
-fn no_procedure_byte_ends_it(rt: HostRuntime) {
-    let fault = LineFault::BadProcedure(0x41);
-    fails(&rt, GET, "> 00CA5F2000", 0x41, fault);
-}
-
-/// One character passes. When the terminal sends it, the exchange takes none.
-fn passes(rt: &(impl Abort + AllocGlobal), exchange: &mut Exchange<'_>, character: (End, u8)) {
-    if character.0 == End::Terminal {
-        assert!(rt; fault_for(exchange, 0x90) == Some(LineFault::NotListening));
-    }
-    pass(rt, exchange, &[character]);
-}
-
-#[test]
-fn listens_to_nothing_while_it_sends(rt: HostRuntime) {
-    let mut exchange = begun(&rt, GET);
-    for character in characters(&rt, "> 00CA5F2000 < 6C06 > 00CA5F2006 < CA 0102") {
-        passes(&rt, &mut exchange, character);
-    }
-}
-
-#[test]
-fn no_answer_before_the_end(rt: HostRuntime) {
-    for front in &[
-        "",
-        "> 00CA",
-        "> 00CA5F2000",
-        "> 00CA5F2000 < 90",
-        "> 00CA5F2000 < 6C06",
-        "> 00CA5F2000 < 6105 > 00C0000005 < C00102",
-    ] {
-        let answer = passed(&rt, GET, front).into_answer();
-        assert!(rt; answer.is_none(), "{front}");
-    }
-}
-
 /// A first `61XX` without data does not stall the exchange. A fetch without data does, at the last
 /// character of its status.
 #[test]
@@ -286,52 +249,6 @@ fn fetch_that_brings_nothing_stalls(rt: HostRuntime) {
     ] {
         fails(&rt, &bytes(&rt, of), trace, 0x05, LineFault::Stalled);
     }
-}
-
-/// Fills the room except the last 256 bytes, which the card announces.
-fn nearly_fill(rt: &(impl Abort + AllocGlobal), exchange: &mut Exchange<'_>) {
-    pass_all(rt, exchange, "> 00CA5F2000 < CA 42*256 6100");
-    for _ in 0..62 {
-        pass_all(rt, exchange, "> 00C0000000 < C0 42*256 6100");
-    }
-}
-
-/// One byte more than the room is too long.
-fn overfill(rt: &(impl Abort + AllocGlobal), exchange: &mut Exchange<'_>) {
-    nearly_fill(rt, exchange);
-    let last = "> 00C0000000 < C0 42*256 6101 > 00C0000001 < C0";
-    pass_all(rt, exchange, last);
-    assert!(rt; fault_for(exchange, 0x41) == Some(LineFault::TooLong));
-    assert!(rt; fault_for(exchange, 0x90) == Some(LineFault::AfterEnd));
-}
-
-/// An exchange of another command in the same room.
-fn again<'a>(rt: &(impl Abort + AllocGlobal), exchange: Exchange<'_>) -> Exchange<'a> {
-    exchange.again(command(rt, GET))
-}
-
-/// Another command uses the same room, emptied.
-#[test]
-fn room_is_filled_and_emptied(rt: HostRuntime) {
-    let mut exchange = begun(&rt, GET);
-    for _ in 0..2 {
-        overfill(&rt, &mut exchange);
-        exchange = again(&rt, exchange);
-    }
-    let trace = "> 00CA5F2000 < CA 43*256 9000";
-    pass_all(&rt, &mut exchange, trace);
-    let answer = answer_of(&rt, exchange);
-    assert!(rt; answer.data() == bytes(&rt, "43*256").as_slice());
-}
-
-/// An answer may fill the whole room, `RESPONSE_LIMIT` bytes.
-#[test]
-fn whole_room_is_an_answer(rt: HostRuntime) {
-    let mut exchange = begun(&rt, GET);
-    nearly_fill(&rt, &mut exchange);
-    pass_all(&rt, &mut exchange, "> 00C0000000 < C0 42*256 9000");
-    let answer = answer_of(&rt, exchange);
-    assert!(rt; answer.data().len() == RESPONSE_LIMIT);
 }
 
 /// Whether the answer is one object; then it is `50 01 41`.
@@ -354,98 +271,4 @@ fn object_is_all_the_data(rt: HostRuntime) {
         let answer = answer_to(&rt, &bytes(&rt, of), trace);
         assert!(rt; is_object(&rt, &answer) == *wanted, "{trace}");
     }
-}
-
-/// The next TPDU: its P3, the number of bytes to the card, and the most bytes from it.
-fn next_tpdu(exchange: &Exchange<'_>) -> Option<(u8, usize, u16)> {
-    match exchange.tpdu() {
-        Some(tpdu) => Some((tpdu.p3, tpdu.content.len(), tpdu.may_come)),
-        None => None,
-    }
-}
-
-/// The fault for an answer to a whole TPDU, given as its data and its status.
-fn answer_fault(
-    rt: &(impl Abort + AllocGlobal),
-    exchange: &mut Exchange<'_>,
-    data: &str,
-    (sw1, sw2): (u8, u8),
-) -> Option<AnswerFault> {
-    let status = Status::new(sw1, sw2).expect(rt, "a status");
-    exchange.answered(&bytes(rt, data), status).err()
-}
-
-/// A TPDU, if one is next; the answer to it, as data and status; and the fault.
-type Answered<'a> = (
-    Option<(u8, usize, u16)>,
-    &'a str,
-    (u8, u8),
-    Option<AnswerFault>,
-);
-
-/// The exchange goes through these rows in order.
-fn answers_tpdus(
-    rt: &(impl Abort + AllocGlobal),
-    exchange: &mut Exchange<'_>,
-    rows: &[Answered<'_>],
-) {
-    for (tpdu, data, status, fault) in rows {
-        assert!(rt; next_tpdu(exchange) == *tpdu, "{data}");
-        assert!(rt;
-            answer_fault(rt, exchange, data, *status) == *fault,
-            "{data}"
-        );
-    }
-}
-
-#[test]
-fn driven_by_whole_tpdus(rt: HostRuntime) {
-    let mut exchange = begun(&rt, GET);
-    let repeated = Some((0x06, 0, 6));
-    answers_tpdus(
-        &rt,
-        &mut exchange,
-        &[
-            (Some((0x00, 0, 256)), "", (0x6C, 0x06), None),
-            (
-                repeated,
-                "00000000000000",
-                (0x90, 0x00),
-                Some(AnswerFault::TooMany),
-            ),
-            (repeated, "5F20034A4F45", (0x90, 0x00), None),
-            (None, "", (0x90, 0x00), Some(AnswerFault::NotDue)),
-        ],
-    );
-    is_name(&rt, &answer_of(&rt, exchange));
-}
-
-#[test]
-fn whole_tpdus_with_data_to_the_card(rt: HostRuntime) {
-    let of = bytes(&rt, "00A4040007A000000003101000");
-    let mut exchange = begun(&rt, &of);
-    let sent = Some((0x07, 7, 0));
-    answers_tpdus(
-        &rt,
-        &mut exchange,
-        &[
-            (sent, "6F", (0x90, 0x00), Some(AnswerFault::NotAsked)),
-            (sent, "", (0x61, 0x0B), None),
-            (
-                Some((0x0B, 0, 11)),
-                "",
-                (0x61, 0x0B),
-                Some(AnswerFault::Stalled),
-            ),
-        ],
-    );
-    assert!(rt; turn(&mut exchange) == HostTurn::Failed && next_tpdu(&exchange).is_none());
-}
-
-#[test]
-fn no_answer_in_mid_tpdu(rt: HostRuntime) {
-    let mut exchange = begun(&rt, GET);
-    let _ = turn(&mut exchange);
-    let not_due = Some(AnswerFault::NotDue);
-    answers_tpdus(&rt, &mut exchange, &[(None, "", (0x90, 0x00), not_due)]);
 }

@@ -1,11 +1,9 @@
-//! Objects in bytes, faults, paths, heads and addresses of tags, checked against the rules.
+//! Objects in bytes, and their faults, checked against the rules.
 
 use super::forests::{SEVENTEEN_LEVELS, SIXTEEN_LEVELS, has_fault, tag};
 use std::alloc::AllocGlobal;
 use std::process::Abort;
-use tlv_core::{
-    Obj, ObjectTag, Objects, Reason, Tag, TlvFault, find, find_placed, head, value_fault,
-};
+use tlv_core::{Obj, Objects, Reason, Tag, TlvFault, value_fault};
 
 /// Objects and their parts.
 fn over<'a>(rt: &impl Abort, bytes: &'a [u8]) -> Objects<'a> {
@@ -163,152 +161,6 @@ const CUT: TlvFault = TlvFault {
     place: 0,
     reason: Reason::ValueCut,
 };
-
-/// The tags of these bytes, one each.
-fn path(rt: &(impl Abort + AllocGlobal), names: &[u8]) -> Vec<Tag> {
-    let mut tags = Vec::new(rt.alloc());
-    for name in names {
-        tags.push(tag(rt, &[*name])).expect(rt, "memory");
-    }
-    tags
-}
-
-/// The first object on a path.
-fn found<'a>(
-    rt: &(impl Abort + AllocGlobal),
-    bytes: &'a [u8],
-    names: &[u8],
-) -> Result<Option<Obj<'a>>, TlvFault> {
-    find(bytes, &path(rt, names))
-}
-
-/// Checks that the first object on the path has this value, and the last tag of the path.
-fn finds(rt: &(impl Abort + AllocGlobal), bytes: &[u8], names: &[u8], value: &[u8]) {
-    let object = found(rt, bytes, names).expect(rt, "objects");
-    let (_, last) = names.split_at(names.len().saturating_sub(1));
-    is_object(rt, object, last, value);
-}
-
-/// Checks that the bytes are objects, but none is on the path.
-fn finds_nothing(rt: &(impl Abort + AllocGlobal), bytes: &[u8], names: &[u8]) {
-    assert!(rt; found(rt, bytes, names).expect(rt, "objects").is_none());
-}
-
-#[test]
-fn finds_by_path(rt: HostRuntime) {
-    let name = b"\x6F\x09\x84\x07\xA0\x00\x00\x00\x03\x10\x10";
-    finds(&rt, name, b"\x6F\x84", b"\xA0\x00\x00\x00\x03\x10\x10");
-    finds_nothing(&rt, name, b"\x84");
-    finds_nothing(&rt, name, b"");
-    assert!(rt; found(&rt, b"\x50\x05\x41", b"\x84").err() == Some(CUT));
-
-    let among = b"\x6F\x02\x51\x00\x00\x70\x05\x6F\x03\x84\x01\x41\x6F\x03\x84\x01\x42";
-    finds(&rt, among, b"\x6F\x84", b"\x42");
-    finds(&rt, among, b"\x70\x6F\x84", b"\x41");
-    finds_nothing(&rt, among, b"\x6F\x6F");
-
-    finds(&rt, TEMPLATES, b"\x70\x51", b"\x42");
-    finds(&rt, TEMPLATES, b"\x70\x50", b"\x41");
-}
-
-const TEMPLATES: &[u8] = b"\x70\x03\x50\x01\x41\x70\x03\x51\x01\x42\x70\x03\x50\x01\x43";
-
-/// The place and size of the first object on a path.
-fn placed(
-    rt: &(impl Abort + AllocGlobal),
-    bytes: &[u8],
-    names: &[u8],
-) -> Result<Option<(usize, usize)>, TlvFault> {
-    match find_placed(bytes, &path(rt, names)) {
-        Ok(Some((place, object))) => Ok(Some((place, object.size()))),
-        Ok(None) => Ok(None),
-        Err(fault) => Err(fault),
-    }
-}
-
-#[test]
-fn finds_places(rt: HostRuntime) {
-    let padded = b"\x00\x50\x00\x00\x70\x07\x00\x51\x81\x01\x42\x00\x00";
-    for (bytes, names, wanted) in &[
-        (TEMPLATES, b"\x70".as_slice(), Some((0, 5))),
-        (TEMPLATES, b"\x70\x50", Some((2, 3))),
-        (TEMPLATES, b"\x70\x51", Some((7, 3))),
-        (padded, b"\x70\x51", Some((7, 4))),
-        (SIXTEEN_LEVELS, &[0x70; 16], Some((30, 2))),
-        (SIXTEEN_LEVELS, &[0x70; 17], None),
-        (padded, b"\x51", None),
-        (padded, b"", None),
-    ] {
-        assert!(rt; placed(&rt, bytes, names) == Ok(*wanted), "in {bytes:?}");
-    }
-    let cut = TlvFault {
-        place: 2,
-        reason: Reason::ValueCut,
-    };
-    assert!(rt; placed(&rt, b"\x70\x03\x50\x02\xAA", b"\x70") == Err(cut));
-}
-
-/// Checks that the head of a value of this length is these bytes, followed by `00` up to six.
-fn has_head(rt: &impl Abort, name: &[u8], len: u16, padded: [u8; 6], size: usize) {
-    let head = head(tag(rt, name), len);
-    assert!(rt; head.padded() == padded && Some(head.bytes()) == padded.get(..size));
-}
-
-#[test]
-fn writes_heads(rt: HostRuntime) {
-    has_head(&rt, b"\x50", 127, [0x50, 0x7F, 0, 0, 0, 0], 2);
-    has_head(&rt, b"\x50", 128, [0x50, 0x81, 0x80, 0, 0, 0], 3);
-    has_head(&rt, b"\x50", 255, [0x50, 0x81, 0xFF, 0, 0, 0], 3);
-    has_head(&rt, b"\x50", 256, [0x50, 0x82, 0x01, 0x00, 0, 0], 4);
-    has_head(&rt, b"\x5F\x20", 2048, [0x5F, 0x20, 0x82, 0x08, 0x00, 0], 5);
-}
-
-/// The tag of P1-P2, and the P1-P2 of a tag.
-fn named(p1: u8, p2: u8) -> Option<ObjectTag> {
-    ObjectTag::from_p1p2(p1, p2)
-}
-
-fn address(tag: Tag) -> Option<ObjectTag> {
-    ObjectTag::new(tag)
-}
-
-/// Checks that P1-P2 name the tag of these bytes, and that it has no others.
-fn is_named(rt: &impl Abort, p1: u8, p2: u8, bytes: &[u8]) {
-    let tag = named(p1, p2).expect(rt, "an address");
-    assert!(rt; tag.p1p2() == (p1, p2) && address(tag.tag()) == Some(tag));
-    assert!(rt; tag.tag().bytes() == bytes);
-}
-
-#[test]
-fn names_tags_by_p1p2(rt: HostRuntime) {
-    for p2 in &[0x40, 0x50, 0xFE] {
-        is_named(&rt, 0x00, *p2, &[*p2]);
-    }
-    for (p1, p2) in &[(0x5F, 0x20), (0x9F, 0x36), (0xFF, 0x7F)] {
-        is_named(&rt, *p1, *p2, &[*p1, *p2]);
-    }
-}
-
-#[test]
-fn names_no_other_tags(rt: HostRuntime) {
-    for (p1, p2) in &[
-        (0x00, 0xFF),
-        (0x00, 0x5F),
-        (0x9F, 0x00),
-        (0x9F, 0x80),
-        (0x01, 0x40),
-    ] {
-        assert!(rt; named(*p1, *p2).is_none(), "at {p1} {p2}");
-    }
-    for bytes in &[
-        b"\x3E".as_slice(),
-        b"\x1F\x20",
-        b"\x3F\x20",
-        b"\xDF\x81\x01",
-    ] {
-        assert!(rt; address(tag(&rt, bytes)).is_none());
-    }
-}
 
 /// Checks the text of a fault at 7.
 fn says(rt: &(impl Abort + AllocGlobal), reason: Reason, wanted: &str) {

@@ -1,6 +1,6 @@
 /* c_session: gets and puts of small and large objects through C, the same as crates/session_speed.
- * The first word names the way. The second is how often `repeat` carries out each operation, for a
- * profiler. The ways:
+ * The first word names the way, and the program prints the time of a character. A number after it
+ * is how often `repeat` carries out each operation, for a profiler. The ways:
  *
  * - session: a session, which joins both ends.
  * - heard: the same with a listener.
@@ -10,6 +10,8 @@
  * - apdus: the same, by whole commands. The characters are those of the TPDUs.
  * - by_hand: both ends of ends_by_hand.c, one character at a time.
  * - hand_buffers: the same by buffers. */
+#define _POSIX_C_SOURCE 199309L
+
 #include "ends_by_hand.h"
 
 #include <galliumtoad.h>
@@ -17,6 +19,7 @@
 #include <stdio.h>
 #include <stdlib.h>
 #include <string.h>
+#include <time.h>
 
 static const uint8_t AID[] = { 0xA0, 0x00, 0x00, 0x00, 0x03, 0x10, 0x10 };
 
@@ -24,19 +27,26 @@ enum { CONTENT = 0x42, BUFFER = 512, OK = 0x9000 };
 
 enum task { TASK_SELECT, TASK_GET, TASK_PUT };
 
+/* An operation, and how often it is carried out. */
 struct load {
+    const char *name;
     enum task task;
     uint16_t tag;
     size_t size;
+    int tpdus;
     size_t characters;
+    long times;
 };
 
 static const struct load LOADS[] = {
-    { TASK_GET, 0x5F20, 3, 21 },    { TASK_GET, 0x5F50, 20, 38 },    { TASK_PUT, 0x5F50, 20, 28 },
-    { TASK_PUT, 0x50, 8192, 8456 }, { TASK_GET, 0x50, 8192, 8460 },
+    { "get of 3 bytes", TASK_GET, 0x5F20, 3, 2, 21, 1000000 },
+    { "get of 20 bytes", TASK_GET, 0x5F50, 20, 2, 38, 500000 },
+    { "put of 20 bytes", TASK_PUT, 0x5F50, 20, 1, 28, 1000000 },
+    { "put of 8,192 bytes", TASK_PUT, 0x50, 8192, 33, 8456, 2000 },
+    { "get of 8,192 bytes", TASK_GET, 0x50, 8192, 33, 8460, 2000 },
 };
 
-static const struct load SELECTION = { TASK_SELECT, 0, 0, 0 };
+static const struct load SELECTION = { "selection", TASK_SELECT, 0, 0, 2, 0, 1 };
 
 static uint8_t value[VALUE_LIMIT], data[RESPONSE_LIMIT];
 
@@ -254,7 +264,7 @@ static uint16_t hand_buffers(const struct load *load, size_t *len)
     }
 }
 
-/* ---- What is counted ------------------------------------------------------------------------- */
+/* ---- What is measured ------------------------------------------------------------------------ */
 
 static const struct way {
     const char *name;
@@ -270,6 +280,14 @@ static const struct way {
     { "by_hand", hand_start, hand_carry_out },
     { "hand_buffers", hand_start, hand_buffers },
 };
+
+/* The processor time of this program, so that other work of the machine matters less. */
+static double processor_time(void)
+{
+    struct timespec time;
+    clock_gettime(CLOCK_PROCESS_CPUTIME_ID, &time);
+    return (double)time.tv_sec + (double)time.tv_nsec / 1e9;
+}
 
 /* Carries out one operation, and checks its answer. */
 static void carry_out(const struct way *way, const struct load *load)
@@ -304,6 +322,18 @@ void repeat(const struct way *way, const struct load *load, long times)
 
 static void (*const volatile repeated)(const struct way *, const struct load *, long) = repeat;
 
+static void measure(const struct way *way, const struct load *load)
+{
+    double seconds;
+    check_characters(way, load);
+    seconds = processor_time();
+    repeated(way, load, load->times);
+    seconds = processor_time() - seconds;
+    printf("%s: %d TPDUs, %lu characters\n  %ld times in %.2f s, %.2f ns a character\n", load->name,
+           load->tpdus, (unsigned long)load->characters, load->times, seconds,
+           seconds * 1e9 / ((double)load->times * (double)load->characters));
+}
+
 /* Carries out `times` operations for a profiler. As many precede them uncounted, so that memory is
  * laid out as in a long run. */
 static void count(const struct way *way, const struct load *load, long times)
@@ -321,15 +351,18 @@ int main(int argc, char **argv)
     size_t i, j;
     memset(value, CONTENT, sizeof value);
     for (i = 0; i < sizeof WAYS / sizeof *WAYS; i++) {
-        if (times < 1 || strcmp(argv[1], WAYS[i].name) != 0)
+        if (argc < 2 || strcmp(argv[1], WAYS[i].name) != 0)
             continue;
         WAYS[i].start();
         carry_out(&WAYS[i], &SELECTION);
         for (j = 0; j < sizeof LOADS / sizeof *LOADS; j++)
-            count(&WAYS[i], &LOADS[j], times);
+            if (times > 0)
+                count(&WAYS[i], &LOADS[j], times);
+            else
+                measure(&WAYS[i], &LOADS[j]);
         return 0;
     }
-    fail("a way and a number: session, heard, buffers, characters, tpdus, apdus, by_hand or "
+    fail("one word: session, heard, buffers, characters, tpdus, apdus, by_hand or "
          "hand_buffers");
     return 1;
 }

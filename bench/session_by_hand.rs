@@ -1,5 +1,12 @@
 //! A terminal and a card of data objects written by hand in safe Rust, which pass one character at
-//! a time over a line in memory. They carry out the same operations as `crates/session_speed`.
+//! a time over a line in memory. They carry out the same operations as the proved ones, timed in
+//! the same way as `crates/session_speed` times those.
+//!
+//! ```sh
+//! mkdir -p out && rustc --edition 2021 -O -C target-cpu=x86-64-v2 -C codegen-units=1 \
+//!     -C lto=fat -C panic=abort bench/session_by_hand.rs -o out/session_by_hand
+//! out/session_by_hand measure
+//! ```
 //!
 //! The card refuses headers by the same rules in the same order, and changes nothing before the
 //! second status character. It clears the received data after each TPDU. The terminal follows
@@ -8,14 +15,17 @@
 
 use std::env;
 use std::hint::black_box;
+use std::time::Instant;
 
 #[path = "../crates/session_speed/src/load.rt"]
-#[allow(dead_code)]
 mod load;
 
 use load::{Load, Task, CONTENT, LOADS, OBJECTS};
 
 const AID: [u8; 7] = [0xA0, 0x00, 0x00, 0x00, 0x03, 0x10, 0x10];
+
+/// The characters of one operation of each load.
+const CHARACTERS: [usize; 5] = [21, 38, 28, 8_456, 8_460];
 
 // ---- The card
 
@@ -788,16 +798,36 @@ extern "Rust" fn repeat(ops: &[Op], session: &mut Session, times: usize) {
     }
 }
 
-/// With `by_hand 8` it carries out each operation 8 times for a profiler to leave out, and 8 times
-/// for it to count.
+/// Prints the speed of lists. With `by_hand 8` it carries out each operation 8 times, once for a
+/// profiler to leave out and once for it to count.
 fn main() {
-    let times = env::args().nth(2).and_then(|word| word.parse().ok());
-    let times = times.expect("by_hand, and a number");
+    let times = env::args()
+        .nth(2)
+        .map(|word| word.parse().expect("a number"));
     let mut session = selected();
-    for load in &LOADS {
+    for (load, characters) in LOADS.iter().zip(CHARACTERS) {
         check(&mut session, load);
-        let ops = [operation(load)];
-        (0..times).for_each(|_| carry_out(&mut session, &ops));
-        repeat(&ops, &mut session, times);
+        if let Some(times) = times {
+            let ops = [operation(load)];
+            (0..times).for_each(|_| carry_out(&mut session, &ops));
+            repeat(&ops, &mut session, times);
+            continue;
+        }
+        println!(
+            "{}: {} TPDUs, {characters} characters",
+            load.name, load.tpdus
+        );
+        let ops: Vec<Op> = (0..load.length).map(|_| operation(load)).collect();
+        let start = Instant::now();
+        repeat(&ops, &mut session, load.rounds);
+        let seconds = start.elapsed().as_secs_f64();
+        let rate = load.operations() as f64 / seconds;
+        let tpdus = rate * load.tpdus as f64 / 1e6;
+        let each = 1e9 / (rate * characters as f64);
+        println!(
+            "  {} times in {seconds:.2} s: {tpdus:.2} million TPDUs a second, \
+             {each:.2} ns a character",
+            load.operations()
+        );
     }
 }

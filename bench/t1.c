@@ -1,17 +1,22 @@
-/* t1: puts and gets over T=1, with blocks by buffers. Its words are a way, and how often `repeat`
- * carries out each operation, for a profiler. The terminal and the card above the ends are the same
- * in each way:
+/* t1: puts and gets over T=1, with blocks by buffers. It prints how many bytes of blocks a second
+ * both ends pass with 8,192 bytes. With a way and a number, `repeat` carries out each operation so
+ * often, for a profiler. The terminal and the card above the ends are the same in each way:
  *
  * - library: the library's ends.
  * - by_hand: those of t1_by_hand.c.
  * - straight: none, so the other ways less this one are the ends alone. */
+#define _POSIX_C_SOURCE 199309L
+
 #include "t1_by_hand.h"
 
 #include <stdio.h>
 #include <stdlib.h>
 #include <string.h>
+#include <time.h>
 
 static const uint8_t AID[] = { 0xA0, 0x00, 0x00, 0x00, 0x03, 0x10, 0x10 };
+
+enum { TIMES = 1000 };
 
 /* The operations of bench/c_session.c. */
 struct load {
@@ -26,6 +31,7 @@ static const struct load LOADS[] = {
 };
 
 static uint8_t value[GT_VALUE_LIMIT], data[GT_RESPONSE_LIMIT];
+static size_t passed;
 
 static void need(bool holds, const char *what)
 {
@@ -46,8 +52,10 @@ static size_t carry_by_library(const uint8_t *apdu, size_t n, uint8_t *response)
     size_t size, taken;
     need(gt_t1_begin(&end, apdu, n) == GT_OK, "a command");
     while (gt_t1_send_bytes(&end, block, sizeof block, &size, &waits) == GT_OK) {
+        passed += size;
         need(gt_card_t1_receive_bytes(&card, block, size, &taken) == GT_SENDS
              && gt_card_t1_send_bytes(&card, block, sizeof block, &size) == GT_OK, "an answer");
+        passed += size;
         need(gt_t1_receive_bytes(&end, block, size, &taken) == GT_SENDS, "a block");
     }
     need(gt_t1_response(&end, response, GT_ANSWER_LIMIT, &size) == GT_OK, "a response");
@@ -65,6 +73,7 @@ static size_t carry_by_hand(const uint8_t *apdu, size_t n, uint8_t *response)
     size_t size = t1_terminal_begins(&hand_end, apdu, n, block);
     while (size > 0) {
         const size_t back = t1_card_takes(&hand_card, block, size, answer);
+        passed += size + back;
         size = t1_terminal_takes(&hand_end, answer, back, block);
     }
     memcpy(response, hand_end.response.bytes, hand_end.response.n);
@@ -142,6 +151,22 @@ static void start(carry *carries)
     run(carries);
 }
 
+static void measure(const char *way, carry *carries)
+{
+    struct timespec from, until;
+    double seconds;
+    start(carries);
+    passed = 0;
+    clock_gettime(CLOCK_MONOTONIC, &from);
+    for (int i = 0; i < TIMES; i++) {
+        carry_out(carries, &LOADS[3]);
+        carry_out(carries, &LOADS[4]);
+    }
+    clock_gettime(CLOCK_MONOTONIC, &until);
+    seconds = (double)(until.tv_sec - from.tv_sec) + (double)(until.tv_nsec - from.tv_nsec) / 1e9;
+    printf("%-8s %6.1f million bytes a second\n", way, (double)passed / seconds / 1e6);
+}
+
 /* Each operation once before it is counted, so that the memory for it is there. */
 static void profile(carry *carries, long times)
 {
@@ -154,11 +179,15 @@ static void profile(carry *carries, long times)
 
 int main(int argc, char **argv)
 {
-    need(argc == 3, "a way and a number");
     begin();
-    profile(strcmp(argv[1], "library") == 0 ? carry_by_library
-            : strcmp(argv[1], "by_hand") == 0 ? carry_by_hand : carry_straight,
-            atol(argv[2]));
+    if (argc > 2) {
+        profile(strcmp(argv[1], "library") == 0 ? carry_by_library
+                : strcmp(argv[1], "by_hand") == 0 ? carry_by_hand : carry_straight,
+                atol(argv[2]));
+    } else {
+        measure("by hand", carry_by_hand);
+        measure("library", carry_by_library);
+    }
     gt_t1_free(&end);
     gt_terminal_free(&terminal);
     gt_card_free(&card);

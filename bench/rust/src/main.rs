@@ -1,30 +1,48 @@
 //! The operations of `c_session.c` through the crate for Rust, with the same words. The first is a
-//! way: `session`, `heard`, `buffers` or `characters`. The second is how often `repeat` carries out
-//! each operation, for a profiler.
+//! way: `session`, `heard`, `buffers` or `characters`. A number after it is how often `repeat`
+//! carries out each operation, for a profiler.
 
 use galliumtoad::{Card, CardBuilder, Operation, Session, Stop, Terminal, Turn, RESPONSE_LIMIT};
+use std::time::Instant;
 
 const AID: [u8; 7] = [0xA0, 0x00, 0x00, 0x00, 0x03, 0x10, 0x10];
 const CONTENT: u8 = 0x42;
 const BUFFER: usize = 512;
 
 struct Load {
+    name: &'static str,
     is_put: bool,
     tag: u32,
     size: usize,
+    characters: usize,
+    times: u32,
 }
 
 /// The object 5F20 has 3 bytes, 5F50 has 20, and 50 has the longest value.
 const LOADS: [Load; 5] = [
-    load(false, 0x5F20, 3),
-    load(false, 0x5F50, 20),
-    load(true, 0x5F50, 20),
-    load(true, 0x50, 8192),
-    load(false, 0x50, 8192),
+    load("get of 3 bytes", false, 0x5F20, 3, 21, 1_000_000),
+    load("get of 20 bytes", false, 0x5F50, 20, 38, 500_000),
+    load("put of 20 bytes", true, 0x5F50, 20, 28, 1_000_000),
+    load("put of 8,192 bytes", true, 0x50, 8192, 8456, 2000),
+    load("get of 8,192 bytes", false, 0x50, 8192, 8460, 2000),
 ];
 
-const fn load(is_put: bool, tag: u32, size: usize) -> Load {
-    Load { is_put, tag, size }
+const fn load(
+    name: &'static str,
+    is_put: bool,
+    tag: u32,
+    size: usize,
+    characters: usize,
+    times: u32,
+) -> Load {
+    Load {
+        name,
+        is_put,
+        tag,
+        size,
+        characters,
+        times,
+    }
 }
 
 fn card() -> Card {
@@ -140,17 +158,29 @@ extern "Rust" fn repeat(way: &mut Way, load: &Load, value: &[u8], room: &mut [u8
 fn main() {
     let mut words = std::env::args().skip(1);
     let mut way = Way::of(&words.next().unwrap_or_default());
-    let times = words.next().and_then(|word| word.parse().ok());
-    let times = times.expect("a way and a number");
+    let times = words.next().map(|word| word.parse().expect("a number"));
     let mut room = vec![0; RESPONSE_LIMIT];
     way.operate(Operation::Select(&AID), &mut room, |data| {
         assert_eq!(data.len(), 11)
     });
     for load in &LOADS {
         let value = vec![CONTENT; load.size];
-        for _ in 0..times {
+        for _ in 0..times.unwrap_or(1) {
             way.carry_out(load, &value, &mut room);
         }
-        repeat(&mut way, load, &value, &mut room, times);
+        let start = Instant::now();
+        repeat(
+            &mut way,
+            load,
+            &value,
+            &mut room,
+            times.unwrap_or(load.times),
+        );
+        if times.is_none() {
+            let each = f64::from(load.times) * load.characters as f64;
+            let nanoseconds = start.elapsed().as_secs_f64() * 1e9 / each;
+            println!("{}: {} characters", load.name, load.characters);
+            println!("  {nanoseconds:.2} ns a character");
+        }
     }
 }

@@ -19,7 +19,7 @@
   - unsigned.cases: lines without signs; logs.cases: logs of whole TPDUs.
   - loose.cases: headers and commands that a mask hides.
   - forms.cases: forms of logs of many programs; commands.cases: TPDUs that are joined.
-  - json.cases: objects of JSON, with the last one.
+  - json.cases: objects of JSON, with the last one; blocks.cases: blocks of T=1.
 
 Only cases/ lists the last block. Elsewhere `block_of` counts what is above it. In the tables
 a line that begins with `#` is a comment."""
@@ -165,11 +165,32 @@ def block_of(lines, time):
     return [
         BLOCK,
         *row("TPDUs", [f"{commands.total()}{of_them}"]),
+        *(row("blocks", [marked(blocks)]) if (blocks := blocks_in(lines)) else []),
         *row("commands", counted(commands, rank) or ["none"]),
         *row("statuses", counted(statuses, str) or ["none other than 9000"]),
         *row("protocol", [f"errors: {sum(line.startswith(PROTOCOL_ERRORS) for line in lines)}"]),
         *(row("time", [time]) if time else []),
     ]
+
+
+def blocks_in(lines):
+    """The lines of blocks at T=1, also of those outside of TPDUs."""
+    found, within = [], False
+    for line in lines:
+        within = line.startswith("    blocks     ") or (within and line.startswith(" " * 15))
+        if within:
+            found.append(line[15:])
+        elif re.match(r"\| [<>] (?:[IRS]\(|damaged block |part of a block)", line):
+            found.append(line[2:])
+    return found
+
+
+def marked(blocks):
+    """How many blocks there are, and how many of them are marked."""
+    again = sum(line.endswith(", again") for line in blocks)
+    damaged = sum("damaged block" in line for line in blocks)
+    lossy = sum("part of a block" in line or line.endswith("missing") for line in blocks)
+    return f"{len(blocks)}: {again} again, {damaged} damaged, {lossy} in part or after a gap"
 
 
 def counted(counts, order):
@@ -423,6 +444,7 @@ def table_cases():
         *story_cases("forms.cases", "shown"),
         *story_cases("commands.cases", "shown"),
         *story_cases("json.cases", "json"),
+        *story_cases("blocks.cases", "shown"),
         *link_cases(),
     ]
 

@@ -13,7 +13,8 @@ use Rattle.trace_explain.specs.Written.{box_begin, box_end, letters, line_text, 
 
 -- labels of rows and fields in boxes that are no TPDUs
 abbrev pub own_labels : List (List ℕ)
-own_labels = codes "TPDUs" ∷ codes "answer" ∷ codes "characters" ∷ codes "cla" ∷ codes "command"
+own_labels = codes "TPDUs" ∷ codes "answer" ∷ codes "blocks" ∷ codes "characters" ∷ codes "cla"
+    ∷ codes "command"
     ∷ codes "commands" ∷ codes "convention" ∷ codes "cut_off" ∷ codes "errors" ∷ codes "expected"
     ∷ codes "fault" ∷ codes "guard time" ∷ codes "hint" ∷ codes "historical" ∷ codes "ins"
     ∷ codes "instruction" ∷ codes "masked" ∷ codes "number" ∷ codes "p1" ∷ codes "p2"

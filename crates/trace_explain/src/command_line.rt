@@ -61,6 +61,7 @@ pub fn parsed<'a>(
             is_unsigned: matches.get_flag("unsigned"),
             ways,
             of_tpdus: matches.get_flag("tpdu"),
+            is_of_blocks: matches.get_str("protocol").is_some(),
         },
         layout,
         resumes: matches.get_flag("resume"),
@@ -137,10 +138,14 @@ enum Takes {
     Form,
     File,
     Instructions,
+    Protocol,
 }
 
+/// What `--protocol` takes.
+static PROTOCOLS: [&str; 1] = ["t1"];
+
 /// The options, in the order of the help.
-static OPTIONS: [Row; 14] = [
+static OPTIONS: [Row; 15] = [
     Row(
         "diff",
         help::DIFF,
@@ -169,6 +174,7 @@ static OPTIONS: [Row; 14] = [
     Row("to-card", help::TO_CARD, Takes::Instructions, &[]),
     Row("from-card", help::FROM_CARD, Takes::Instructions, &[]),
     Row("summary", help::SUMMARY, Takes::Nothing, &[]),
+    Row("protocol", help::PROTOCOL, Takes::Protocol, &["tpdu"]),
     Row("tpdu", help::TPDU, Takes::Nothing, &["resume", "unsigned"]),
 ];
 
@@ -202,6 +208,12 @@ fn taking<'a>(takes: Takes, option: Arg<'a>, forms: &'a [&'a str]) -> Result<Arg
                 .action(ArgAction::Set)
                 .value_name("FORM")
                 .value_parser(forms),
+        ),
+        Takes::Protocol => Ok(
+            option
+                .action(ArgAction::Set)
+                .value_name("T")
+                .value_parser(PROTOCOLS.as_slice()),
         ),
         Takes::File => Ok(option.action(ArgAction::Set).value_name("FILE")),
         Takes::Instructions => option

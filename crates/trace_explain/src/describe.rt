@@ -1,4 +1,5 @@
 //! Words for a TPDU, and which of its data are shown.
+pub mod block_words;
 pub mod clock;
 pub mod complaint;
 pub mod mask;

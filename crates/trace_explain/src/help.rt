@@ -1,7 +1,8 @@
 //! The texts of `--help` and `--version`, and the error for words that are not UTF-8.
 
 /// The help of the program.
-pub const PROGRAM: &str = "Explains the trace of a dialogue with a smart card over T=0: each \
+pub const PROGRAM: &str =
+    "Explains the trace of a dialogue with a smart card over T=0 or T=1: each \
     command and its response";
 
 /// The version.
@@ -34,6 +35,8 @@ pub const FROM_CARD: &str = "Lists instructions whose data come from the card";
 
 pub const SUMMARY: &str = "Writes the last block alone, which contains the counts";
 
+pub const PROTOCOL: &str = "Reads a trace that begins among blocks of T=1";
+
 pub const TPDU: &str = "Reads a log of whole TPDUs or APDUs, as programs of PC/SC write them";
 
 /// What the program reads and prints.
@@ -65,10 +68,16 @@ most 2^40 bytes, and a line at most 4,194,304.
 
 At the start of the trace, and after a reset, a first character `3B`, `3F` or `03` of the card
 begins an answer to reset. After an answer, `FF` of the terminal begins a PPS request. Both are
-shown with their meaning, or with what is wrong and where. If an answer does not offer T=0 first, a
-hint says that the program reads T=0 only. Other characters of the card before the dialogue are
-shown as such. An answer that begins between two TPDUs is shown, too: the card was reset there,
-though no line says so.
+shown with their meaning, or with what is wrong and where. If an answer offers neither T=0 nor T=1
+first, a hint says that the program reads these only. Other characters of the card before the
+dialogue are shown as such. An answer that begins between two TPDUs at T=0 is shown, too: the card
+was reset there, though no line says so.
+
+After an answer and PPS that lead to T=1, bytes are read as blocks with LRC, up to the next line
+`reset`. A command is shown when its response is whole, with its blocks: `I(0) 16, more` is an
+I-block with N(S) 0 and 16 bytes, and more of its chain follow. Repeated, damaged and missing blocks
+are marked and counted, and are no protocol errors. A command that is not short is one. Without
+signs, each end sends a block in turn. With `--protocol t1` the trace begins among blocks.
 
 A byte is unexpected if no dialogue continues with it. The program prints its line and place,
 counted from 1, the byte, and what was expected; then it stops. With `--resume` it skips what

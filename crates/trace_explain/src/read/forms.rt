@@ -21,6 +21,8 @@ form angle: characters
 reset: reset
 command: > {bytes}
 answer: < {bytes}
+command: pps > {bytes}
+answer: pps < {bytes}
 form angles: characters
 command: >> {bytes}
 answer: << {bytes}
@@ -133,6 +135,7 @@ impl fmt::Display for Signs {
         for line in rows.split('\n') {
             if let Some((_, pattern)) = line.split_once(": ")
                 && let Some(sign) = pattern.strip_suffix(" {bytes}")
+                && !sign.starts_with("pps ")
             {
                 write!(f, "{between}{sign}")?;
                 between = " and ";

@@ -2,6 +2,7 @@
 
 use crate::describe::clock::Clock;
 use crate::describe::mask::HIDDEN;
+use crate::follow::block_row::BlockRow;
 use crate::follow::story::{header_of, status_of};
 use crate::follow::tpdu::Tpdu;
 use crate::instructions::instruction;
@@ -27,6 +28,8 @@ pub struct Counts {
     unnamed: BTreeMap<u8, u64>,
     /// Statuses other than `9000`.
     statuses: BTreeMap<u16, u64>,
+    /// Blocks at T=1: all, those that came again, damaged ones, and those with a gap.
+    blocks: [u64; 4],
     complaints: u64,
     /// The lines of the first protocol errors.
     error_lines: Vec<u64>,
@@ -47,6 +50,7 @@ impl Counts {
             named: BTreeMap::new(alloc),
             unnamed: BTreeMap::new(alloc),
             statuses: BTreeMap::new(alloc),
+            blocks: [0; 4],
             complaints: 0,
             error_lines: Vec::new(alloc),
             unwell: 0,
@@ -95,6 +99,14 @@ impl Counts {
         count(&mut self.statuses, word)
     }
 
+    /// Counts a block at T=1.
+    pub fn take_block(&mut self, row: BlockRow) {
+        let kinds = [true, row.is_again(), row.is_damaged(), row.is_lossy()];
+        for (count, is) in self.blocks.iter_mut().zip(kinds) {
+            *count = count.saturating_add(u64::from(is));
+        }
+    }
+
     /// Counts the command of a TPDU.
     fn take_command(&mut self, tpdu: &Tpdu) -> Result<(), AllocError> {
         let Some((header, _)) = header_of(tpdu) else {
@@ -124,6 +136,8 @@ impl Counts {
                 write!(page.lines, " (cut off: {})", self.cut_off);
             }
             page.line_row("TPDUs", "\n");
+            self.push_blocks(&mut page.lines);
+            page.row(Side::Nobody, "blocks");
         }
         page.begin_counts("commands");
         self.count_commands(page);
@@ -140,6 +154,17 @@ impl Counts {
         page.link_errors(self.error_lines.as_slice(), self.complaints);
         page.link_statuses(self.first_unwell.as_slice(), self.unwell);
         page.close_block();
+    }
+
+    /// Adds the number of blocks, if there are any, and of those that are marked.
+    fn push_blocks(&self, text: &mut Sheet) {
+        let [all, again, damaged, lossy] = self.blocks;
+        if all > 0 {
+            writeln!(
+                text,
+                "{all}: {again} again, {damaged} damaged, {lossy} in part or after a gap"
+            );
+        }
     }
 
     /// Adds a count for each name of a command, for each INS without a name, and for headers that

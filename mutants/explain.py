@@ -23,7 +23,7 @@ PATH = re.compile(rf"\bcrate::(?:(?:{'|'.join(FOLDERS)})::)?")
 # The most faults in one program. A program of 50 took 8 GB of memory to build.
 COPIES = 30
 # The number of runs for a module's cases. A run may write a mebibyte at most.
-BATCHES = 3
+BATCHES = 4
 # Separates the cases in the program's input, and its outputs.
 MARK = "\x1e"
 DECLARED = re.compile(r"^ *(?:ghost use [^;]*;|#\[tactic\(auto, using\(.*)\n", re.M)
@@ -152,12 +152,13 @@ fn run{number}(rt: &HostRuntime, part: &[u8]) {{
         return;
     }};
     let mut trace = &part[size + 1..];
-    let mask = if words.len() > 6 {{
+    let mut mask = if words.len() > 6 {{
         let tags = str::from_utf8(&words[7..]).unwrap_or("");
         m{number}::mask::Mask::of(rt.alloc(), tags).unwrap()
     }} else {{
         m{number}::mask::Mask::none(rt.alloc())
     }};
+    mask.names = m{number}::names::Names::of(rt.alloc(), "").unwrap();
     let mut out = io::writer(rt);
     if words[3] == b'd' {{
         let Some(other) = reading{number}(rt, &options) else {{

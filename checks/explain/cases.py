@@ -20,6 +20,7 @@
   - loose.cases: headers and commands that a mask hides.
   - forms.cases: forms of logs of many programs; commands.cases: TPDUs that are joined.
   - json.cases: objects of JSON, with the last one; blocks.cases: blocks of T=1.
+  - names.cases: names of objects, and their values in words.
 
 Only cases/ lists the last block. Elsewhere `block_of` counts what is above it. In the tables
 a line that begins with `#` is a comment."""
@@ -93,6 +94,9 @@ TOLD_BY_SIGNS = {
     "a sign without characters is one, too",
     "a time before a reset, and before a note",
 }
+# A word beside a hidden value of an object.
+BESIDE = re.compile(r"^(?: {15}|  [<>] data {7}) *(?:[0-9A-F]{2})+ \*\*.")
+WORDED = re.compile(r"^( *(?:[<>] data +)?(?:[0-9A-F]{2})+.*?)  [A-Za-z].*$")
 ROW = re.compile(r"  [ <>] (header|procedure|data|status) ")
 
 
@@ -131,7 +135,8 @@ class Case:
         if len(said) != len(self.wanted):
             return f"{self.name}: {len(said)} lines, and not {len(self.wanted)}"
         is_text = self.part not in ("page", "json")
-        wide = [it for it in out.splitlines() if len(it) > 100 and is_text]
+        lines = map(without_words, out.splitlines() if is_text else [])
+        wide = [it for it in lines if len(it) > 100]
         return f"{self.name}: more than 100 columns: {wide[0]!r}" if wide else ""
 
     def leak(self, out, err):
@@ -141,11 +146,16 @@ class Case:
             for digits in HEX.findall(line):
                 if any(byte in self.secret for byte in bytes.fromhex(digits)):
                     return f"{self.name} {self.words}: {line!r} tells of the secret"
-            if any(pair in line for pair in ("Qz", "zx", "xv", "vT")):
+            if any(pair in line for pair in ("Qz", "zx", "xv", "vT")) or BESIDE.search(line):
                 return f"{self.name} {self.words}: {line!r} tells of the secret"
         if "**" in body or '"masked":true' in body or "--summary" in self.words:
             return ""
         return f"{self.name}: nothing is hidden"
+
+
+def without_words(line):
+    """A line of an object without the words that follow its digits, which don't wrap."""
+    return WORDED.sub(r"\1", line)
 
 
 def without_block(lines):
@@ -445,6 +455,7 @@ def table_cases():
         *story_cases("commands.cases", "shown"),
         *story_cases("json.cases", "json"),
         *story_cases("blocks.cases", "shown"),
+        *story_cases("names.cases", "shown"),
         *link_cases(),
     ]
 

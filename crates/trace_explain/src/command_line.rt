@@ -23,6 +23,10 @@ pub struct Request<'a> {
     pub options: Options<'a>,
     /// The paths of two traces, A and B, if two are compared.
     pub compared: Option<(&'a str, &'a str)>,
+    /// The path of a file with names.
+    pub names: Option<&'a str>,
+    /// Whether it lists the names in place of an explanation.
+    pub lists_names: bool,
 }
 
 /// Parses the command line. Its first word is the program's name. `forms` are the names of forms.
@@ -69,6 +73,8 @@ pub fn parsed<'a>(
             Some([a, b]) => Some((*a, *b)),
             _ => None,
         },
+        names: matches.get_str("names-file"),
+        lists_names: matches.get_flag("list-names"),
     })
 }
 
@@ -145,7 +151,7 @@ enum Takes {
 static PROTOCOLS: [&str; 1] = ["t1"];
 
 /// The options, in the order of the help.
-static OPTIONS: [Row; 15] = [
+static OPTIONS: [Row; 17] = [
     Row(
         "diff",
         help::DIFF,
@@ -164,6 +170,8 @@ static OPTIONS: [Row; 15] = [
         Takes::File,
         &["form", "unsigned"],
     ),
+    Row("names-file", help::NAMES_FILE, Takes::File, &[]),
+    Row("list-names", help::LIST_NAMES, Takes::Nothing, &[]),
     Row("swap", help::SWAP, Takes::Nothing, &[]),
     Row(
         "unsigned",

@@ -2,8 +2,10 @@
 pub mod block_words;
 pub mod clock;
 pub mod complaint;
+pub mod format;
 pub mod mask;
 pub mod meaning;
+pub mod names;
 pub mod outline;
 pub mod parts;
 pub mod phrases;

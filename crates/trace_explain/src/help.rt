@@ -25,6 +25,10 @@ pub const FORM: &str = "Sets the form of the lines, in place of the first ones";
 
 pub const FORM_FILE: &str = "Reads lines by the first form in this file";
 
+pub const NAMES_FILE: &str = "Adds the names in this file to those of the program";
+
+pub const LIST_NAMES: &str = "Lists the names of tags, application identifiers and bits";
+
 pub const SWAP: &str = "Takes each sign for that of the other end, if TX is the card's";
 
 pub const UNSIGNED: &str = "Reads lines without signs: the dialogue shows who sent each character";
@@ -100,6 +104,11 @@ cut off, and an answer without a command as before one. A command that is not sh
 without SW1-SW2 at its end, are protocol errors: the program shows what is wrong, and continues.
 Every other line is a note, but one that begins as one of these and can't be read is a fault. So are
 characters of T=0, with INS before data.
+
+After the digits of an object its name follows, if the program knows it. So does its value in words:
+a date, a number, or what its bits mean. No word is beside a hidden value. `--list-names` prints the
+rows of tags, application identifiers and bits. `--names-file` adds rows in the same form, which
+precede those of the program. Lines with such words may be longer than 100 columns.
 
 With `--mask` reference data are shown as `**`: the data of VERIFY, CHANGE REFERENCE DATA, DISABLE
 and ENABLE VERIFICATION REQUIREMENT and RESET RETRY COUNTER. So are objects with the given tags,

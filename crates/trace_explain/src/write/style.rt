@@ -20,9 +20,9 @@ section .m::before, section .m::after { display: none; }
 section .m b { width: 7rem; flex: none; }
 section p { margin: .3rem 0 0; overflow-wrap: anywhere; }
 a { color: var(--to); }
-.ends { order: -1; position: sticky; top: 0; display: flex; justify-content: space-between;
-  padding: .35rem 1.6rem; background: var(--page); border-bottom: 1px solid var(--line);
-  font-weight: 600; }
+.ends { order: -1; position: sticky; top: 0; z-index: 1; display: flex;
+  justify-content: space-between; padding: .35rem 1.6rem; background: var(--page);
+  border-bottom: 1px solid var(--line); font-weight: 600; }
 .ends :first-child { color: var(--to); }
 .ends :last-child { color: var(--from); }
 details { margin: .35rem 0; background: var(--box); border: 1px solid var(--line);

@@ -74,6 +74,7 @@ topic_text m topic.Pair = codes "unexpected command or answer"
 topic_text m topic.Note = codes "note"
 topic_text m topic.Reset = codes "reset"
 topic_text m topic.Command = codes "command"
+topic_text m topic.Blocks = codes "blocks"
 
 abbrev pub field_before : List ℕ → List ℕ
 field_before label = codes ",\"" ++ label ++ codes "\":"

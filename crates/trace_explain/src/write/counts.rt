@@ -8,6 +8,7 @@ use crate::follow::tpdu::Tpdu;
 use crate::instructions::instruction;
 use crate::write::layout::Side;
 use crate::write::page::Page;
+use crate::write::sheet::Sheet;
 use std::alloc::{AllocError, Global};
 use std::collections::BTreeMap;
 

@@ -6,7 +6,7 @@ use crate::follow::block_row::BlockRows;
 use crate::follow::opening::{Role, Stage};
 use crate::follow::preface::Preface;
 use crate::write::answer::tell_answer;
-use crate::write::layout::{Anchor, Kind, Side};
+use crate::write::layout::{Anchor, Kind, Side, Topic};
 use crate::write::page::Page;
 use crate::write::pps::tell_pps;
 use crate::write::sheet::Sheet;
@@ -36,7 +36,7 @@ fn tell_blocks(mask: &Mask, preface: &Preface, page: &mut Page) {
     if blocks.is_empty() {
         return;
     }
-    page.open(Kind::CutOff, Anchor::None, "blocks", blocks.line);
+    page.open(Kind::CutOff, Anchor::None, Topic::Blocks, blocks.line);
     push_blocks(&mut page.lines, &blocks.rows);
     if let Some(part) = blocks.part() {
         push_row(&mut page.lines, part);
@@ -53,7 +53,7 @@ fn tell_blocks(mask: &Mask, preface: &Preface, page: &mut Page) {
 /// Adds the blocks of a command that is no TPDU as a note.
 pub fn tell_dropped(blocks: BlockRows, page: &mut Page) {
     push_blocks(&mut page.lines, &blocks);
-    page.note();
+    page.note(Topic::Note);
 }
 
 /// Adds what blocks carry, if anything.

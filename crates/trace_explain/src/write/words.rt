@@ -185,6 +185,7 @@ fn topic_text(medium: Medium, topic: Topic) -> &'static str
         (_, Topic::Note) => "note",
         (_, Topic::Reset) => "reset",
         (_, Topic::Command) => "command",
+        (_, Topic::Blocks) => "blocks",
     }
 }
 

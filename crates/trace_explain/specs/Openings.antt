@@ -1,5 +1,5 @@
 -- What comes before a dialogue: answer to reset and PPS exchanges (ISO/IEC 7816-3, 8 and 9).
-use Rattle.std.specs.Prelude.{ℕ, zero, suc, ◌+◌, ◌/◌, ◌%◌, List, [], ◌∷◌, ◌++◌, length, slice_index, get_or, nat_lt, Option, Some, None, Bool, true, false, not, ◌==◌, ◌&&◌, is_some, if◌then◌else◌}
+use Rattle.std.specs.Prelude.{ℕ, zero, suc, ◌+◌, ◌/◌, ◌%◌, List, [], ◌∷◌, ◌++◌, length, slice_index, get_or, min, nat_lt, Option, Some, None, Bool, true, false, not, ◌==◌, ◌&&◌, is_some, if◌then◌else◌}
 use Rattle.std.specs.Option.{option_map, unwrap_or}
 use Rattle.atr_core.specs.Conventions.{convention_of, as_sent}
 use Rattle.atr_core.specs.FirstFault.{first_fault}
@@ -16,7 +16,8 @@ use Rattle.trace_explain.specs.declared.follow.opening.Stage.TheVariants as stag
 use Rattle.trace_explain.specs.declared.follow.opening.Role.{Role}
 use Rattle.trace_explain.specs.declared.follow.opening.Role.TheVariants as role
 use Rattle.trace_explain.specs.declared.follow.preface.Preface.{Preface}
-use Rattle.trace_explain.specs.Overheard.{Overheard, answered, overheard_by, overhears, silent}
+use Rattle.t1_core.specs.declared.settings.Edc.TheVariants.{Lrc}
+use Rattle.trace_explain.specs.Overheard.{Overheard, answered, edc_of, overheard_by, overhears, silent}
 use Rattle.trace_explain.specs.Reports.{Report}
 
 -- What was received since the trace began or the card was reset: how far it is; how the characters
@@ -57,7 +58,7 @@ unopened = opening_at stage.Ready
 -- how a trace begins, by `--protocol`: before an answer to reset, or among blocks
 abbrev pub first_opening : (is_of_blocks : Bool) → Opening
 first_opening false = unopened
-first_opening true = record (opening_at stage.Blocks) { blocks = Some (silent true) }
+first_opening true = record (opening_at stage.Blocks) { blocks = Some (silent Lrc true) }
 
 abbrev pub begun : Opening
 begun = opening_at stage.Begun
@@ -107,17 +108,41 @@ abbrev pub protocol_in : List ℕ → ℕ → ℕ
 protocol_in answer place = if get_or answer place 0 / 16 % 2 == 1
     then get_or answer (place + 1) 0 % 16 else get_or answer place 0 % 16
 
-abbrev pub td1_behind : ℕ → ℕ
-td1_behind t0 = 2 + t0 / 16 % 2 + t0 / 32 % 2 + t0 / 64 % 2
+-- how many of TA, TB and TC an indicator (T0 or a TD) announces
+abbrev pub announced_by : ℕ → ℕ
+announced_by y = y / 16 % 2 + y / 32 % 2 + y / 64 % 2
+
+-- the place of the TD that an indicator at this place announces, if it does
+abbrev pub td_behind : List ℕ → ℕ → ℕ
+td_behind answer place = place + 1 + announced_by (get_or answer place 0)
 
 abbrev pub protocol_of : List ℕ → ℕ
 protocol_of answer = if nat_lt (get_or answer 1 0) 128 then 0
-    else protocol_in answer (td1_behind (get_or answer 1 0))
+    else protocol_in answer (td_behind answer 1)
 
 -- after a response to PPS it is that of PPS0, the second character (9.2)
 abbrev pub protocol_after : List ℕ → List ℕ → ℕ
 protocol_after answer (ppss ∷ pps0 ∷ response) = pps0 % 16
 protocol_after answer other = protocol_of answer
+
+-- Bit 1 of the first TC for T=1, if one of these TDs is before it: blocks have CRC (11.4). The first
+-- TD is at this place.
+abbrev pub crc_from : (tds : ℕ) → List ℕ → ℕ → Bool
+crc_from zero answer place = false
+crc_from (suc tds) answer place =
+    let td : ℕ = get_or answer place 0 in
+    if (td % 16 == 1) && (td / 64 % 2 == 1)
+    then get_or answer (place + announced_by td) 0 % 2 == 1
+    else if nat_lt td 128 then false
+    else crc_from tds answer (td_behind answer place)
+
+-- TC2, which follows TD1, is not for T=1. An answer has at most 33 characters.
+abbrev pub has_crc : List ℕ → Bool
+has_crc answer =
+    let td1 : ℕ = td_behind answer 1 in
+    if nat_lt (get_or answer 1 0) 128 then false
+    else if nat_lt (get_or answer td1 0) 128 then false
+    else crc_from (min (length answer) 33) answer (td_behind answer td1)
 
 abbrev pub is_ready : Stage → Bool
 is_ready stage.Ready = true
@@ -188,7 +213,7 @@ opens o role.Response b = record o {
 opens o role.Stray b = record o { stage = stage.Astray }
 opens o role.Dialogue b = begun
 opens o (role.Block from) b = record (opening_at stage.Blocks) {
-  blocks = Some (overhears (unwrap_or o.blocks (silent false)) from b);
+  blocks = Some (overhears (unwrap_or o.blocks (silent (edc_of (has_crc o.answer)) false)) from b);
 }
 
 -- A header that begins here is loose: the bytes before it are neither a whole answer nor PPS.

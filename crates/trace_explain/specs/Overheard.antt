@@ -7,7 +7,8 @@ use Rattle.t1_core.specs.declared.gathered.Progress.{Progress}
 use Rattle.t1_core.specs.declared.gathered.Progress.TheVariants.{Nothing, Begun, Whole}
 use Rattle.t1_core.specs.declared.reading.End as block
 use Rattle.t1_core.specs.declared.reading.End.TheVariants.{Terminal, Card}
-use Rattle.t1_core.specs.declared.settings.Edc.TheVariants.{Lrc}
+use Rattle.t1_core.specs.declared.settings.Edc.{Edc}
+use Rattle.t1_core.specs.declared.settings.Edc.TheVariants.{Lrc, Crc}
 use Rattle.t1_core.specs.Gathering.{Gathered, adds, newly}
 use Rattle.t1_core.specs.Hearing.{Ear, Item, hears, item_of, listening}
 use Rattle.t1_core.specs.Items.{Found, Cut}
@@ -38,10 +39,14 @@ overheard_by b = record {
   turn = b.turn;
 }
 
+abbrev pub edc_of : (has_crc : Bool) → Edc
+edc_of false = Lrc
+edc_of true = Crc
+
 -- before the first byte
-abbrev pub silent : Bool → Overheard
-silent is_loose = record {
-  ear = listening Lrc Terminal [] fresh;
+abbrev pub silent : Edc → Bool → Overheard
+silent edc is_loose = record {
+  ear = listening edc Terminal [] fresh;
   gathered = newly Nothing Terminal;
   command = [];
   is_answered = false;

@@ -1,7 +1,7 @@
 //! What was heard of blocks at T=1: the command that waits for its response, and its blocks.
 ghost use Rattle.std.specs.Prelude.{◌≡◌, ◌==◌, ◌&&◌, length, not, OnOk};
 ghost use Rattle.t1_core.specs.Items.{seen};
-ghost use Rattle.trace_explain.specs.Overheard.{answers, as_t1, commanded, goes_on_from, is_answer, is_command, is_response, overheard_by, overhears, silent, turn_after};
+ghost use Rattle.trace_explain.specs.Overheard.{answers, as_t1, commanded, edc_of, goes_on_from, is_answer, is_command, is_response, overheard_by, overhears, silent, turn_after};
 
 use crate::follow::block_row::{BlockRow, BlockRows};
 use crate::read::reading::other_end;
@@ -10,7 +10,7 @@ use std::mem;
 use t0_core::End;
 use t1_core::{Edc, End as BlockEnd, Found, Gathered, Progress, Tap};
 
-/// A tap at T=1, with the command in progress. It hears blocks with LRC.
+/// A tap at T=1, with the command in progress.
 #[derive(Drop)]
 pub struct Blocks {
     tap: Tap,
@@ -37,11 +37,11 @@ pub struct Blocks {
 
 impl Blocks {
     /// Starts before the first block. If it `is_loose`, so is the header of the first command.
-    pub fn new(alloc: Global, is_loose: bool) -> Blocks
-        ensures { overheard_by result ≡ silent is_loose }
+    pub fn new(alloc: Global, edc: Edc, is_loose: bool) -> Blocks
+        ensures { overheard_by result ≡ silent edc is_loose }
     {
         Blocks {
-            tap: Tap::new(Edc::Lrc),
+            tap: Tap::new(edc),
             gathered: Gathered::new(alloc),
             command: Vec::new(alloc),
             is_answered: false,
@@ -172,6 +172,13 @@ impl Blocks {
     {
         mem::replace(&mut self.rows, BlockRows::new(self.alloc))
     }
+}
+
+/// The error detection code of blocks.
+pub fn edc_of(has_crc: bool) -> Edc
+    ensures { result ≡ edc_of has_crc }
+{
+    if has_crc { Edc::Crc } else { Edc::Lrc }
 }
 
 /// This end, as `t1_core` names it.

@@ -1,7 +1,7 @@
 //! What a character is before the dialogue: part of an answer to reset, a PPS exchange, or neither.
-ghost use Rattle.std.specs.Prelude.{◌≡◌, get_or};
+ghost use Rattle.std.specs.Prelude.{◌≡◌, ◌+◌, ◌*◌, ◌<◌, ◌≤◌, get_or};
 ghost use Rattle.atr_core.specs.FirstFault.{first_fault};
-ghost use Rattle.trace_explain.specs.Openings.{after_answer, as_ts, begins_answer, has_begun, is_block, is_dialogue, is_direct, is_full, is_loose, is_short, protocol_after, protocol_of, role_at, turned_by};
+ghost use Rattle.trace_explain.specs.Openings.{after_answer, announced_by, as_ts, begins_answer, crc_from, has_begun, has_crc, is_block, is_dialogue, is_direct, is_full, is_loose, is_short, protocol_after, protocol_of, role_at, td_behind, turned_by};
 
 use atr_core::{Atr, AtrFault, AtrReason, Convention, Pps};
 use t0_core::End;
@@ -205,13 +205,61 @@ fn protocol_of(answer: &[u8]) -> u8
     if t0 < 128 {
         return 0;
     }
-    let place = 2 + usize::from(t0 / 16 % 2) + usize::from(t0 / 32 % 2) + usize::from(t0 / 64 % 2);
+    let place = td_behind(answer, 1);
     let td1 = at(answer, place);
     if td1 / 16 % 2 == 1 {
         at(answer, place + 1) % 16
     } else {
         td1 % 16
     }
+}
+
+/// Returns the place of the TD that an indicator (T0 or a TD) at this place announces, if it does.
+fn td_behind(answer: &[u8], place: usize) -> usize
+    requires { place < 4_096 }
+    ensures { result ≡ td_behind answer.now place }
+{
+    place + 1 + announced_by(at(answer, place))
+}
+
+/// Returns how many of TA, TB and TC an indicator announces.
+fn announced_by(indicator: u8) -> usize
+    ensures is { result ≡ announced_by indicator }
+    ensures few { result ≤ 3 }
+{
+    usize::from(indicator / 16 % 2)
+        + usize::from(indicator / 32 % 2)
+        + usize::from(indicator / 64 % 2)
+}
+
+/// Whether blocks have CRC after this answer: bit 1 of the first TC for T=1, after TD2 or a later
+/// TD.
+pub fn has_crc(answer: &[u8]) -> bool
+    ensures { result ≡ has_crc answer.now }
+{
+    let td1 = td_behind(answer, 1);
+    if at(answer, 1) < 128 {
+        return false;
+    }
+    if at(answer, td1) < 128 {
+        return false;
+    }
+    crc_from(answer.len().min(33), answer, td_behind(answer, td1))
+}
+
+/// The same, if at most this many TDs follow, the first of them at this place.
+fn crc_from(tds: usize, answer: &[u8], place: usize) -> bool
+    requires { place + 4 * tds < 4_096 }
+    ensures { result ≡ crc_from tds answer.now place }
+{
+    if tds == 0 {
+        return false;
+    }
+    let td = at(answer, place);
+    if td % 16 == 1 && td / 64 % 2 == 1 {
+        return at(answer, place + announced_by(td)) % 2 == 1;
+    }
+    td >= 128 && crc_from(tds - 1, answer, td_behind(answer, place))
 }
 
 /// Returns the character at this place, or 0.

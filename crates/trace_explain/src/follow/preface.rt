@@ -5,13 +5,14 @@ ghost use Rattle.trace_explain.specs.Overheard.{overheard_by, silent};
 ghost use Rattle.trace_explain.specs.declared.follow.opening.Role.TheVariants.{Block};
 ghost use Rattle.trace_explain.specs.Openings.{first_opening, has_answered, is_full, leads_to_blocks, opening_of, opens, or_block, role_of, opening_at, unopened};
 
-use crate::follow::blocks::Blocks;
+use crate::follow::blocks::{Blocks, edc_of};
 use crate::follow::opening::{
-    Role, Stage, after_answer, is_direct, is_full, protocol_after, role_at,
+    Role, Stage, after_answer, has_crc, is_direct, is_full, protocol_after, role_at,
 };
 use crate::read::digits::push;
 use atr_core::Convention;
 use std::alloc::{AllocError, Global};
+use t1_core::Edc;
 use t0_core::End;
 
 /// The characters since the trace began or the card was reset, up to the dialogue.
@@ -42,7 +43,7 @@ impl Preface {
         let mut preface = Preface::unopened(alloc);
         if is_of_blocks {
             preface.stage = Stage::Blocks;
-            preface.blocks = Some(Blocks::new(alloc, true));
+            preface.blocks = Some(Blocks::new(alloc, Edc::Lrc, true));
         }
         preface
     }
@@ -146,7 +147,8 @@ impl Preface {
         ensures { OnOk result
             (opening_of self.new ≡ opens (opening_of self.old) (Block from) byte) }
     {
-        let mut blocks = begun(self.alloc, self.blocks.take());
+        let edc = edc_of(has_crc(self.answer.as_slice()));
+        let mut blocks = begun(self.alloc, edc, self.blocks.take());
         blocks.hear(from, byte)?;
         self.begin(Stage::Blocks);
         self.blocks = Some(blocks);
@@ -174,13 +176,13 @@ impl Preface {
 }
 
 /// These blocks, or none so far.
-fn begun(alloc: Global, blocks: Option<Blocks>) -> Blocks
+fn begun(alloc: Global, edc: Edc, blocks: Option<Blocks>) -> Blocks
     ensures { overheard_by result
-        ≡ unwrap_or (option_map overheard_by blocks) (silent false) }
+        ≡ unwrap_or (option_map overheard_by blocks) (silent edc false) }
 {
     match blocks {
         Some(blocks) => blocks,
-        None => Blocks::new(alloc, false),
+        None => Blocks::new(alloc, edc, false),
     }
 }
 

@@ -8,12 +8,15 @@ use crate::follow::tpdu::Tpdu;
 use crate::instructions::instruction;
 use crate::write::layout::Side;
 use crate::write::page::Page;
-use crate::write::sheet::Sheet;
 use std::alloc::{AllocError, Global};
 use std::collections::BTreeMap;
 
 /// How many protocol errors, and how many statuses, have links on a page.
 const LINKS: usize = 1_000;
+
+/// The counts of blocks in JSON: all, those that came again, damaged ones, and those that are in part
+/// or follow a gap.
+static BLOCK_WORDS: [&str; 4] = ["all", "again", "damaged", "gaps"];
 
 /// The counts of TPDUs, commands, statuses and protocol errors.
 #[derive(Drop)]
@@ -29,7 +32,7 @@ pub struct Counts {
     unnamed: BTreeMap<u8, u64>,
     /// Statuses other than `9000`.
     statuses: BTreeMap<u16, u64>,
-    /// Blocks at T=1: all, those that came again, damaged ones, and those with a gap.
+    /// Blocks at T=1, as `BLOCK_WORDS` names them.
     blocks: [u64; 4],
     complaints: u64,
     /// The lines of the first protocol errors.
@@ -137,9 +140,8 @@ impl Counts {
                 write!(page.lines, " (cut off: {})", self.cut_off);
             }
             page.line_row("TPDUs", "\n");
-            self.push_blocks(&mut page.lines);
-            page.row(Side::Nobody, "blocks");
         }
+        self.tell_blocks(page);
         page.begin_counts("commands");
         self.count_commands(page);
         page.end_counts("commands", "none\n");
@@ -158,14 +160,25 @@ impl Counts {
     }
 
     /// Adds the number of blocks, if there are any, and of those that are marked.
-    fn push_blocks(&self, text: &mut Sheet) {
+    fn tell_blocks(&self, page: &mut Page) {
         let [all, again, damaged, lossy] = self.blocks;
-        if all > 0 {
+        if all == 0 {
+            return;
+        }
+        if !page.is_json() {
             writeln!(
-                text,
+                page.lines,
                 "{all}: {again} again, {damaged} damaged, {lossy} in part or after a gap"
             );
+            page.row(Side::Nobody, "blocks");
+            return;
         }
+        page.begin_counts("blocks");
+        for (word, number) in BLOCK_WORDS.iter().zip(self.blocks) {
+            page.lines.push_str(word);
+            page.count(number);
+        }
+        page.end_counts("blocks", "");
     }
 
     /// Adds a count for each name of a command, for each INS without a name, and for headers that

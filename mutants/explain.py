@@ -13,7 +13,7 @@ TOP = Path(__file__).resolve().parent.parent
 sys.path.insert(0, str(TOP / "checks/explain"))
 from cases import all_cases  # noqa: E402
 
-BELOW = ("apdu_core", "tlv_core", "t0_core", "atr_core")
+BELOW = ("apdu_core", "tlv_core", "t0_core", "t1_core", "atr_core")
 SOURCE = TOP / "crates" / "trace_explain" / "src"
 FOLDERS = ("read", "follow", "describe", "write")
 # The files that read arguments and streams, which the program below replaces, and the folders' own.
@@ -37,7 +37,7 @@ def write_program(folder, faults):
         for part in ("src", "specs", "proofs"):
             (crates / name / part).symlink_to(TOP / "crates" / name / part)
     (folder / "crates.txt").write_text(
-        "apdu_core:\ntlv_core:\nt0_core: apdu_core\natr_core: arrayvec\n"
+        "apdu_core:\ntlv_core:\nt0_core: apdu_core\nt1_core:\natr_core: arrayvec\n"
         f"trace_explain: {' '.join(BELOW)} arrayvec hex thiserror\n",
         encoding="utf-8",
     )
@@ -147,13 +147,14 @@ fn run{number}(rt: &HostRuntime, part: &[u8]) {{
         is_unsigned: part[5] == b'u',
         ways,
         of_tpdus: part[5] == b't',
+        is_of_blocks: part[6] == b'b',
     }};
     let Some(reading) = reading{number}(rt, &options) else {{
         return;
     }};
     let mut trace = &part[size + 1..];
-    let mut mask = if words.len() > 6 {{
-        let tags = str::from_utf8(&words[7..]).unwrap_or("");
+    let mut mask = if words.len() > 7 {{
+        let tags = str::from_utf8(&words[8..]).unwrap_or("");
         m{number}::mask::Mask::of(rt.alloc(), tags).unwrap()
     }} else {{
         m{number}::mask::Mask::none(rt.alloc())
@@ -229,6 +230,7 @@ def input_of(case):
     words += "d" if "--diff" in case.words else "-"
     words += "w" if "--swap" in case.words else "-"
     words += lines_of(case.words)
+    words += "b" if "--protocol" in case.words else "-"
     if "--mask" in case.words:
         tags = case.words[case.words.index("--mask") + 1 :]
         words += "=" + "".join(tag for tag in tags[:1] if not tag.startswith("--"))

@@ -87,6 +87,10 @@ TOLD_BY_SIGNS = {
     "the status of a hidden command is worded as that of any command",
     "a comparison of two such traces",
     "a page",
+    # a block that is cut off or comes again: ends take no turns
+    "made here: a chain of the terminal, as a line that damages a block shows it",
+    "made here: a byte is lost, so that the block is cut off where the other end begins",
+    "a mask hides what blocks without a response carry",
     # separators other than spaces
     "colons, commas and 0x between bytes",
     # notes that consist of digits

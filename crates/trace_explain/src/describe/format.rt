@@ -149,18 +149,26 @@ fn three_pairs(digits: &str) -> Option<(u8, u8, u8)> {
 fn push_methods(text: &mut Sheet, names: &Names, value: &[u8]) {
     let (amounts, rules) = value.split_at(value.len().min(8));
     let (x, y) = amounts.split_at(amounts.len().min(4));
-    let mut separator = ": ";
-    for (name, amount) in [("X", joined(0, x)), ("Y", joined(0, y))] {
-        if amount != 0 {
-            separate(text, separator);
-            write!(text, "{name} {amount}");
-            separator = "; ";
-        }
+    let (x, y) = (joined(0, x), joined(0, y));
+    push_amount(text, true, "X", x);
+    push_amount(text, x == 0, "Y", y);
+    for (place, rule) in rules.chunks(2).enumerate() {
+        let is_first = place == 0 && x == 0 && y == 0;
+        names.push_bits(text, "cvm", rule, before_part(is_first));
     }
-    for rule in rules.chunks(2) {
-        names.push_bits(text, "cvm", rule, separator);
-        separator = "; ";
+}
+
+/// Adds an amount, if not 0.
+fn push_amount(text: &mut Sheet, is_first: bool, name: &str, amount: u64) {
+    if amount != 0 {
+        separate(text, before_part(is_first));
+        write!(text, "{name} {amount}");
     }
+}
+
+/// The separator before a part of a list of methods.
+fn before_part(is_first: bool) -> &'static str {
+    if is_first { ": " } else { "; " }
 }
 
 /// Adds the kind of a file, and its records (ISO/IEC 7816-4, 5.3.3.2).

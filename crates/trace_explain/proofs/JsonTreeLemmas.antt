@@ -5,7 +5,7 @@ use Rattle.tlv_core.specs.Object.{ObjectList}
 use Rattle.tlv_core.specs.Spelling.{Begins}
 use Rattle.tlv_core.specs.TagForm.{is_constructed}
 use Rattle.trace_explain.specs.declared.write.sheet.Sheet.{Sheet}
-use Rattle.trace_explain.specs.JsonTrees.{AreFields, AreNames, PutsFields, PutsText, listed, masked, masked_end, object_begin, primitive, primitive_end, template, template_end}
+use Rattle.trace_explain.specs.JsonTrees.{AreFields, AreNames, IsWords, PutsFields, PutsText, listed, masked, masked_end, object_begin, primitive, primitive_end, template, template_end}
 use Rattle.trace_explain.specs.Sheets.{Adds}
 use Rattle.trace_explain.proofs.SheetLemmas.{adds_both}
 
@@ -17,6 +17,15 @@ pub record Going (tags : List (List ℕ)) (all now : ObjectList) (old new : Shee
       → AreFields tags all.bytes all.level true (text ++ more)
   pub adds : Adds old text new
   pub same_level : now.level ≡ all.level
+
+-- a name, and then a value in words
+pub both_names : (a b c : Sheet) → PutsText (IsWords (codes ",\"name\":\"")) a b
+    → PutsText (IsWords (codes ",\"words\":\"")) b c → PutsText AreNames a c
+both_names a b c (name, is_name, first) (value, is_value, second) = (
+  name ++ value,
+  (name, value, is_name, is_value, refl),
+  adds_both name value a b c first second,
+)
 
 -- one more object, with this rest after its tag
 past_object : (tags : List (List ℕ)) (all now next : ObjectList) (old new put after : Sheet)

@@ -35,10 +35,13 @@ abbrev pub words_field : List ℕ → List ℕ → List ℕ
 words_field start words = if length words == 0 then []
     else start ++ letters Json [] words ++ codes "\""
 
+abbrev pub IsWords : List ℕ → List ℕ → Type 0
+IsWords start text = (words : List ℕ) × (text ≡ words_field start words)
+
 -- the name of an object, and its value in words
 abbrev pub AreNames : List ℕ → Type 0
-AreNames names = (name words : List ℕ) × (names ≡ words_field (codes ",\"name\":\"") name
-    ++ words_field (codes ",\"words\":\"") words)
+AreNames names = (name value : List ℕ) × IsWords (codes ",\"name\":\"") name
+    × IsWords (codes ",\"words\":\"") value × (names ≡ name ++ value)
 
 -- the rest of an object after its tag: hidden, a value, or objects
 abbrev pub masked_end : List ℕ

@@ -1,7 +1,7 @@
 //! Data as fields of JSON: digits, and the objects in them.
-ghost use Rattle.std.specs.Prelude.{◌≡◌, ℕ, List, not, true};
-ghost use Rattle.trace_explain.specs.JsonTrees.{AreFields, AreNames, IsField, IsTreeField, PutsFields, PutsText, list_begin, list_end, object_begin, primitive_end, value_field, value_name, words_field};
-ghost use Rattle.trace_explain.specs.Sheets.{Adds, HasText};
+ghost use Rattle.std.specs.Prelude.{◌≡◌, not, true};
+ghost use Rattle.trace_explain.specs.JsonTrees.{AreFields, AreNames, IsField, IsTreeField, IsWords, PutsFields, PutsText, list_begin, list_end, object_begin, primitive_end, value_field, value_name, words_field};
+ghost use Rattle.trace_explain.specs.Sheets.{Adds};
 
 use crate::describe::format;
 use crate::describe::mask::{Mask, Shown};
@@ -127,8 +127,7 @@ fn push_names(sheet: &mut Sheet, mask: &Mask, place: Place, object: &Obj<'_>, wo
 
 /// Adds words as a field with this start. If memory ran out for them, it has for the sheet.
 fn push_words(sheet: &mut Sheet, start: &str, words: &Sheet)
-    ensures { (text : List ℕ) → HasText words.now text →
-        Adds sheet.old (words_field start.now text) sheet.new }
+    ensures { PutsText (IsWords start.now) sheet.old sheet.new }
 {
     if words.is_cut() {
         sheet.cut();

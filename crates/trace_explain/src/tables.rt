@@ -46,8 +46,8 @@ tag 7C . * t dynamic authentication template
 tag 7D . * t secure messaging template
 #
 # ISO/IEC 7816-4: file control parameters
-tag 80 62,64,6F 1-4 uint bytes of data in the file:
-tag 81 62,64,6F 2-4 uint bytes of the whole file:
+tag 80 62,64,6F 1-4 uint bytes of data in the file
+tag 81 62,64,6F 2-4 uint bytes of the whole file
 tag 82 62,64,6F 1-6 fd file descriptor
 tag 83 62,64,6F 2 b file identifier
 tag 84 62,64,6F 1-16 aid DF name
@@ -73,7 +73,7 @@ tag C6 62 * t PIN status template
 tag 80 62A5 1 b UICC characteristics
 tag 81 62A5 3 b application power consumption
 tag 82 62A5 1 b minimum application clock frequency
-tag 83 62A5 * uint bytes of memory available:
+tag 83 62A5 * uint bytes of memory available
 tag 83 C6 1 b key reference
 tag 90 C6 1-4 b PIN status
 tag 95 C6 1 b usage qualifier
@@ -155,7 +155,7 @@ tag 9F13 * 2 uint last online ATC
 tag 9F14 * 1 uint lower consecutive offline limit
 tag 9F15 * 2 b merchant category code
 tag 9F16 * 15 an merchant identifier
-tag 9F17 * 1 uint PIN tries left:
+tag 9F17 * 1 uint PIN tries left
 tag 9F18 * 4 b issuer script identifier
 tag 9F1A * 2 n3 terminal country code
 tag 9F1B * 4 uint terminal floor limit
@@ -213,7 +213,7 @@ tag 9F6C 77 2 =ctq CTQ
 # GlobalPlatform Card Specification 2.3
 tag 73 66 * t card recognition data
 tag 84 E3 5-16 aid executable module AID
-tag 9F65 6FA5 1-2 uint most bytes of a command's data:
+tag 9F65 6FA5 1-2 uint most bytes of a command's data
 tag 9F6E 6FA5 * b application production life cycle
 tag 9F70 .,E3 * b life cycle state
 tag 9F7F * 42 b CPLC

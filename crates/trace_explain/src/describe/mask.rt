@@ -3,7 +3,7 @@ ghost use Rattle.std.specs.Prelude.{◌≡◌, ◌↔◌, ◌&&◌, ℕ, List, [
 ghost use Rattle.std.specs.List.{Contains};
 ghost use Rattle.t0_core.specs.declared.direction.Direction.TheVariants.{FromCard, ToCard};
 ghost use Rattle.trace_explain.specs.Boxes.{whole_way};
-ghost use Rattle.trace_explain.specs.Secrets.{Names, Shows, ShowsValue, carries_secret, has_secret, is_name, may_be_cut, whole_or_nothing};
+ghost use Rattle.trace_explain.specs.Secrets.{NamesObject, Shows, ShowsValue, carries_secret, has_secret, is_name, may_be_cut, whole_or_nothing};
 ghost use Rattle.trace_explain.specs.Reports.{IsOfCommand};
 
 use crate::describe::names::Names;
@@ -324,8 +324,8 @@ fn is_name(ins: u8, way: Direction) -> bool
 
 /// The tag that P1-P2 of GET DATA or PUT DATA name.
 fn named(header: Header) -> Option<Tag>
-    ensures some { IfSome result (Names header) }
-    ensures none { result ≡ None → (tag : List ℕ) → Names header tag → ⊥ }
+    ensures some { IfSome result (NamesObject header) }
+    ensures none { result ≡ None → (tag : List ℕ) → NamesObject header tag → ⊥ }
 {
     match header.ins {
         0xCA | 0xDA => Some(ObjectTag::from_p1p2(header.p1, header.p2)?.tag()),

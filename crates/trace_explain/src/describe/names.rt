@@ -1,6 +1,6 @@
 //! The names of tags, application identifiers and bits, from the rows of tables.
 
-use crate::describe::format::is_format;
+use crate::describe::format::{is_format, separate};
 use crate::read::forms::FormsFault;
 use crate::tables::{AIDS, BITS, TAGS};
 use crate::write::ascii::are_printable;
@@ -188,16 +188,16 @@ impl Names {
         best.1
     }
 
-    /// Adds the words for the bits of a value, with commas between.
-    pub fn push_bits(&self, text: &mut Sheet, set: &str, value: &[u8], before: &str) {
-        let mut before = before;
+    /// Adds the words for the bits of a value, with commas between, after a separator.
+    pub fn push_bits(&self, text: &mut Sheet, set: &str, value: &[u8], separator: &str) {
+        let mut separator = separator;
         let set = joined(0, set.as_bytes());
         for BitRow(other, place, mask, bits, words) in &self.bits {
             let byte = value.get(*place).copied();
             if *other == set && byte.is_some_and(|byte| byte & *mask == *bits) {
-                text.push_str(before);
+                separate(text, separator);
                 text.push_str(self.words(*words));
-                before = ", ";
+                separator = ", ";
             }
         }
     }

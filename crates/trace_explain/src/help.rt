@@ -77,11 +77,12 @@ first, a hint says that the program reads these only. Other characters of the ca
 dialogue are shown as such. An answer that begins between two TPDUs at T=0 is shown, too: the card
 was reset there, though no line says so.
 
-After an answer and PPS that lead to T=1, bytes are read as blocks with LRC, up to the next line
-`reset`. A command is shown when its response is whole, with its blocks: `I(0) 16, more` is an
-I-block with N(S) 0 and 16 bytes, and more of its chain follow. Repeated, damaged and missing blocks
-are marked and counted, and are no protocol errors. A command that is not short is one. Without
-signs, each end sends a block in turn. With `--protocol t1` the trace begins among blocks.
+After an answer and PPS that lead to T=1, bytes are read as blocks up to the next line `reset`, with
+LRC or CRC as the answer says. A command is shown when its response is whole, with its blocks:
+`I(0) 16, more` is an I-block with N(S) 0 and 16 bytes, and more of its chain follow. Repeated,
+damaged and missing blocks are marked and counted, and are no protocol errors. A command that is not
+short is one. Without signs, each end sends a block in turn. With `--protocol t1` the trace begins
+among blocks with LRC.
 
 A byte is unexpected if no dialogue continues with it. The program prints its line and place,
 counted from 1, the byte, and what was expected; then it stops. With `--resume` it skips what

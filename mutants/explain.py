@@ -13,7 +13,7 @@ TOP = Path(__file__).resolve().parent.parent
 sys.path.insert(0, str(TOP / "checks/explain"))
 from cases import all_cases  # noqa: E402
 
-BELOW = ("apdu_core", "tlv_core", "t0_core", "atr_core")
+BELOW = ("apdu_core", "tlv_core", "t0_core", "t1_core", "atr_core")
 SOURCE = TOP / "crates" / "trace_explain" / "src"
 FOLDERS = ("read", "follow", "describe", "write")
 # The files that read arguments and streams, which the program below replaces, and the folders' own.
@@ -37,7 +37,7 @@ def write_program(folder, faults):
         for part in ("src", "specs", "proofs"):
             (crates / name / part).symlink_to(TOP / "crates" / name / part)
     (folder / "crates.txt").write_text(
-        "apdu_core:\ntlv_core:\nt0_core: apdu_core\natr_core: arrayvec\n"
+        "apdu_core:\ntlv_core:\nt0_core: apdu_core\nt1_core:\natr_core: arrayvec\n"
         f"trace_explain: {' '.join(BELOW)} arrayvec hex thiserror\n",
         encoding="utf-8",
     )
@@ -147,6 +147,7 @@ fn run{number}(rt: &HostRuntime, part: &[u8]) {{
         is_unsigned: part[5] == b'u',
         ways,
         of_tpdus: part[5] == b't',
+        is_of_blocks: part[5] == b'b',
     }};
     let Some(reading) = reading{number}(rt, &options) else {{
         return;
@@ -239,9 +240,11 @@ def input_of(case):
 
 
 def lines_of(words):
-    """Returns the kind of the lines: without signs, of a log of TPDUs, or with signs."""
+    """Returns the kind of the lines: without signs, of a log of TPDUs, of blocks, or with signs."""
     if "--unsigned" in words:
         return "u"
+    if "--protocol" in words:
+        return "b"
     return "t" if "--tpdu" in words else "-"
 
 

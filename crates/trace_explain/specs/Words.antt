@@ -95,7 +95,11 @@ json_piece Block text = codes "{\"type\":\"summary\""
 json_piece BlockEnd text = codes "}\n"
 json_piece form text = []
 
--- Text has neither a style nor links.
+abbrev pub part_begin : ℕ → List ℕ
+part_begin number = codes "<details class=\"part\"><summary>from #" ++ decimal number
+    ++ codes "</summary>\n"
+
+-- Text has neither a style nor parts nor links.
 abbrev pub piece_text : Medium → Form → List ℕ → List ℕ
 piece_text m (Box kind anchor about line) text =
     box_begin m kind anchor ++ topic_text m about ++ gap m ++ line_text m line
@@ -111,8 +115,7 @@ piece_text Html Block text = codes "</div><section><h2>summary</h2>\n"
 piece_text Html BlockEnd text = codes "</section>\n</main>\n</body>\n</html>\n"
 piece_text Html Style text = marked style_begin text (codes "</style>\n")
 piece_text Html Script text = marked (codes "<script>\n") text head_end
-piece_text Html (Part number) text = codes "<details class=\"part\"><summary>from #"
-    ++ decimal number ++ codes "</summary>\n"
+piece_text Html (Part number) text = part_begin number
 piece_text Html PartEnd text = codes "</details>\n"
 piece_text Html Links text = marked (codes "<p>") text []
 piece_text Html (Link anchor) text = link_text anchor text

@@ -2,7 +2,7 @@
 //! looks like a box of a TPDU, or like a row of one.
 ghost use Rattle.std.specs.Prelude.{◌≡◌, true};
 ghost use Rattle.trace_explain.specs.Sheets.{Adds, Joins};
-ghost use Rattle.trace_explain.specs.Words.{field_before, gap, has_own, json_piece, link_text, marked, piece_text, topic_text};
+ghost use Rattle.trace_explain.specs.Words.{field_before, gap, has_own, json_piece, link_text, marked, part_begin, piece_text, topic_text};
 
 use crate::write::ascii::cut;
 use crate::write::html::{push_box, push_box_end, push_name};
@@ -118,11 +118,7 @@ fn push_piece(sheet: &mut Sheet, form: Form, text: &[u8])
         }
         (Medium::Html, Form::Style) => push_marked(sheet, STYLE_BEGIN, text, "</style>\n"),
         (Medium::Html, Form::Script) => push_marked(sheet, "<script>\n", text, HEAD_END),
-        (Medium::Html, Form::Part(number)) => {
-            sheet.push_str("<details class=\"part\"><summary>from #");
-            sheet.push_number(number);
-            sheet.push_str("</summary>\n");
-        }
+        (Medium::Html, Form::Part(number)) => push_part(sheet, number),
         (Medium::Html, Form::PartEnd) => sheet.push_str("</details>\n"),
         (Medium::Html, Form::Links) => push_marked(sheet, "<p>", text, ""),
         (Medium::Html, Form::Link(anchor)) => push_link(sheet, anchor, text),
@@ -200,6 +196,15 @@ fn topic_text(medium: Medium, topic: Topic) -> &'static str
         (_, Topic::Command) => "command",
         (_, Topic::Blocks) => "blocks",
     }
+}
+
+/// Adds the start of a part of a page.
+fn push_part(sheet: &mut Sheet, number: u64)
+    ensures { Adds sheet.old (part_begin number) sheet.new }
+{
+    sheet.push_str("<details class=\"part\"><summary>from #");
+    sheet.push_number(number);
+    sheet.push_str("</summary>\n");
 }
 
 /// Adds text of a page between two pieces of markup.

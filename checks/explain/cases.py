@@ -126,7 +126,7 @@ class Case:
         if err != self.error:
             return f"{self.name}: on standard error {err!r}, and not {self.error!r}"
         lines = out.splitlines()
-        if self.part not in ("page", "json") and not {"--summary", "--diff"} & set(self.words):
+        if self.part not in ("page", "parts", "json") and not {"--summary", "--diff"} & set(self.words):
             lines, block = without_block(lines)
             for wanted, line in zip_longest(block_of(lines, self.time), block):
                 if wanted != line:
@@ -139,7 +139,7 @@ class Case:
                 return f"{self.name}: {line!r}, and not {wanted!r}"
         if len(said) != len(self.wanted):
             return f"{self.name}: {len(said)} lines, and not {len(self.wanted)}"
-        is_text = self.part not in ("page", "json")
+        is_text = self.part not in ("page", "parts", "json")
         lines = map(without_words, out.splitlines() if is_text else [])
         wide = [it for it in lines if len(it) > 100]
         return f"{self.name}: more than 100 columns: {wide[0]!r}" if wide else ""
@@ -247,6 +247,17 @@ def page_in(lines):
     return lines[lines.index(ENDS) + 1 : lines.index("</main>")]
 
 
+def parts_in(lines):
+    """The lines that begin and end the parts of a page of TPDUs."""
+    said, is_box = [], False
+    for line in lines:
+        if line.startswith('<details class="part"') or (line == "</details>" and not is_box):
+            said.append(line)
+        elif line.startswith("<details") or line == "</details>":
+            is_box = line != "</details>"
+    return said
+
+
 def story_in(lines):
     """All lines except the rows that other tables test."""
     said = []
@@ -264,6 +275,7 @@ PARTS = {
     "statuses": statuses_in,
     "story": story_in,
     "page": page_in,
+    "parts": parts_in,
     "shown": lambda lines: lines,
     "json": lambda lines: lines,
 }
@@ -349,15 +361,9 @@ def secret_cases(ways):
 
 def link_cases():
     """A page with more errors, and with more statuses, than it has links for."""
-    for count, more in ((1000, ""), (1001, " and 1 more"), (1003, " and 3 more")):
-        given = ["> 00CA5F2000", "< 6A88"] * count
-        links = [f'<a href="#t{it}">#{it} 6A88</a>' for it in range(1, 1001)]
-        wanted = f"<p>statuses other than 9000, 61XX and 6CXX: {' '.join(links)}{more}</p>"
-        block = page_block(count, "", f"6A88: {count}", 0, wanted)
-        words = ["--html", "--summary"]
-        yield Case(f"{count} statuses", lines_of(given), block, words, part="page")
+    for count, more in ((4, ""), (5, " and 1 more"), (7, " and 3 more")):
         given = ["> 00CA5F2000", "< 55"] * count
-        links = [f'<a href="#e{it}">line {2 * it}</a>' for it in range(1, 1001)]
+        links = [f'<a href="#e{it}">line {2 * it}</a>' for it in range(1, 5)]
         wanted = f"<p>protocol errors in {' '.join(links)}{more}</p>"
         block = page_block(count, f" (cut off: {count})", "none other than 9000", count, wanted)
         error = (
@@ -366,9 +372,31 @@ def link_cases():
         )
         words = ["--html", "--summary", "--resume"]
         yield Case(f"{count} protocol errors", lines_of(given), block, words, error, part="page")
+    for count, more in ((8, []), (9, ["<p>1 more status</p>"]), (10, ["<p>2 more statuses</p>"])):
+        words = [f"6A{0x80 + it:02X}" for it in range(count)] + ["6A80"]
+        given = [line for word in words for line in ("> 00CA5F2000", f"< {word}")]
+        twice = f'<p>6A80, 2 times: <a href="#t1">first (#1)</a> <a href="#t{count + 1}">next '
+        once = [
+            f'<p>6A{0x7F + it:02X}, 1 time: <a href="#t{it}">first (#{it})</a></p>'
+            for it in range(2, 9)
+        ]
+        wanted = [f"{twice}(#{count + 1})</a></p>", *once, *more]
+        told = "6A80: 2\n" + "\n".join(f"6A{0x80 + it:02X}: 1" for it in range(1, count))
+        block = page_block(count + 1, "", told, 0, *wanted)
+        words = ["--html", "--summary"]
+        yield Case(f"{count} statuses", lines_of(given), block, words, part="page")
 
 
-def page_block(count, cut_off, statuses, errors, links):
+def part_cases():
+    """Pages with as many TPDUs as are shown without a part, and with two parts beyond them."""
+    for count, begun in ((2000, []), (2001, [2001]), (3001, [2001, 3001])):
+        given = ["> 00CA5F2000", "< 6A88"] * count
+        heads = [f'<details class="part"><summary>from #{it}</summary>' for it in begun]
+        wanted = [line for head in heads for line in (head, "</details>")]
+        yield Case(f"{count} on a page", lines_of(given), wanted, ["--html"], part="parts")
+
+
+def page_block(count, cut_off, statuses, errors, *links):
     """The last block of a page with `count` GET DATA."""
     rows = {
         "TPDUs": f"{count}{cut_off}",
@@ -377,7 +405,7 @@ def page_block(count, cut_off, statuses, errors, links):
         "protocol": f"errors: {errors}",
     }
     told = [f'<div class="m n"><b>{it}</b><pre>{rows[it]}</pre></div>' for it in rows]
-    return ["</div><section><h2>summary</h2>", *told, links, "</section>"]
+    return ["</div><section><h2>summary</h2>", *told, *links, "</section>"]
 
 
 def long_cases(traces):
@@ -462,6 +490,7 @@ def table_cases():
         *story_cases("blocks.cases", "shown"),
         *story_cases("names.cases", "shown"),
         *link_cases(),
+        *part_cases(),
     ]
 
 

@@ -1,5 +1,5 @@
 -- Commands at T=1 that are reported.
-use Rattle.std.proofs.Common.{◌≡◌, ◌<◌, ℕ, ◌+◌, List, [], ◌∷◌, ◌++◌, ◌∙◌, ap, refl, sym, subst, lit<, append-nil, append_assoc, length, Bool, true, false, Option, Some, None, arith, ◌==◌, if◌then◌else◌}
+use Rattle.std.proofs.Common.{◌≡◌, ◌<◌, ℕ, ◌+◌, List, [], ◌∷◌, ◌++◌, ◌∙◌, ap, refl, sym, subst, lit<, append-nil, append_assoc, length, Bool, true, false, Option, Some, None, OnOk, Result, arith, ◌==◌, if◌then◌else◌}
 use Rattle.std.proofs.lemmas.List.{length-drop}
 use Rattle.t0_core.specs.declared.end.End.{End}
 use Rattle.t0_core.specs.DialogueLaws.{all_more, flat_map_last}
@@ -22,7 +22,7 @@ use Rattle.trace_explain.specs.Overheard.{Overheard, exchanged}
 use Rattle.trace_explain.specs.Pairs.{IsBadPair, IsPair, beside, command_in, data_in, moved_of, status_in, way_of}
 use Rattle.trace_explain.specs.Reports.{Report, ReportsFront, no_report, report_of, uncounted}
 use Rattle.trace_explain.proofs.AccountLemmas.{boxes_both}
-use Rattle.trace_explain.proofs.ExplainedLemmas.{front_of_none, none_on_line}
+use Rattle.trace_explain.proofs.ExplainedLemmas.{front_of_none, none_on_line, on_ok_too}
 use Rattle.trace_explain.proofs.NotedLemmas.{noted_between, reports_both, size_of}
 
 front_is_fresh : (t : Report) (loose : Bool) (front : Front) → ReportsFront t loose front
@@ -56,11 +56,11 @@ carries_on events reports l t n none =
 
 -- What is reported after a reset of the listener.
 pub carries_one : (t : Report) (events : List Event) (before ended : List Report)
-    {old mid new : Teller} (l : Listener)
+    (old mid new : Teller) (l : Listener)
     → HasNoted (events ++ Reset ∷ []) (before ++ ended) l → report_of l.under_way ≡ no_report
     → AddsBoxes ended old mid → AddsBoxes (t ∷ []) mid new
     → CarriesAll (t ∷ []) events before l old new
-carries_one t events before ended l noted none first next =
+carries_one t events before ended old mid new l noted none first next =
     let all = carries_on (events ++ Reset ∷ []) (before ++ ended) l t noted none in
     let P : List Event → Type 0 = λ es. HasNoted es ((before ++ ended) ++ t ∷ []) l in
     let Q : List Report → Type 0 = λ ts. HasNoted (events ++ Reset ∷ Carried t ∷ []) ts l in
@@ -114,34 +114,54 @@ exchanged_none bad.Length loose command answer (four, short, none) other =
 exchanged_none bad.NoStatus loose command answer ((c, is), none) other = rw (is, none) refl
 exchanged_none bad.OutOfMemory loose command answer h other = absurd (other refl)
 
+-- A command with its response was reported, or is no TPDU.
+pub carries_pair : {T E : Type 0} (r : Result T E) (loose : Bool) (command answer : List ℕ)
+    (t : Tpdu) (events : List Event) (before : List Report) {l : Listener} {old new : Teller}
+    → IsPair command answer t
+    → OnOk r (CarriesAll (record (report_of t) { is_loose = loose } ∷ []) events before l old new)
+    → OnOk r (CarriesAll (exchanged loose command answer) events before l old new)
+carries_pair r loose command answer t events before {l} {old} {new} is h =
+    let P : List Report → Type 0 = λ ts. OnOk r (CarriesAll ts events before l old new) in
+    subst P (sym (exchanged_is loose command answer t is)) h
+
+pub carries_refused : {T E : Type 0} (r : Result T E) (why : PairFault) (loose : Bool)
+    (command answer : List ℕ) (events : List Event) (before : List Report) {l : Listener}
+    {old new : Teller} → IsBadPair why command answer → (why ≡ bad.OutOfMemory → ⊥)
+    → HasNoted events before l → OnOk r (AddsBoxes [] old new)
+    → OnOk r (CarriesAll (exchanged loose command answer) events before l old new)
+carries_refused r why loose command answer events before {l} {old} {new} is other noted h =
+    let P : List Report → Type 0 = λ ts. OnOk r (CarriesAll ts events before l old new) in
+    subst P (sym (exchanged_none why loose command answer is other))
+    (on_ok_too r _ _ h (λ boxes. carries_none events before l noted boxes))
+
 -- No other character is one of a block.
 pub none_with : (r : Role) (o : Option Overheard) → is_block r ≡ false → reports_with r o ≡ []
-none_with (role.Block from) o no = absurd (let bad : true ≡ false = no in cc)
-none_with role.Dialogue o no = refl
-none_with (role.Ts turned) o no = refl
-none_with role.Answer o no = refl
-none_with role.RequestPpss o no = refl
-none_with role.Request o no = refl
-none_with role.ResponsePpss o no = refl
-none_with role.Response o no = refl
-none_with role.Stray o no = refl
+none_with (role.Block from) o other = absurd (let bad : true ≡ false = other in cc)
+none_with role.Dialogue o other = refl
+none_with (role.Ts turned) o other = refl
+none_with role.Answer o other = refl
+none_with role.RequestPpss o other = refl
+none_with role.Request o other = refl
+none_with role.ResponsePpss o other = refl
+none_with role.Response o other = refl
+none_with role.Stray o other = refl
 
 -- The events of a character, by what it is.
 pub none_opens : (o : Opening) (from : End) (b : ℕ) → is_dialogue (role_of o from b) ≡ false
     → is_block (role_of o from b) ≡ false → [] ≡ dialogue_events o from b
-none_opens o from b no block = rw (
-  no,
+none_opens o from b other block = rw (
+  other,
   none_with (role_of o from b)
       (opens o (role_of o from b) b).blocks block,
 ) refl
 
 pub one_passes : (o : Opening) (from : End) (b : ℕ) → is_dialogue (role_of o from b) ≡ true
     → Passed (from, b) (is_loose o.stage) ∷ [] ≡ dialogue_events o from b
-one_passes o from b yes = rw yes refl
+one_passes o from b is = rw is refl
 
 no_dialogue : (r : Role) → is_block r ≡ true → is_dialogue r ≡ false
 no_dialogue (role.Block from) block = refl
-no_dialogue role.Dialogue block = absurd (let no : false ≡ true = block in cc)
+no_dialogue role.Dialogue block = absurd (let bad : false ≡ true = block in cc)
 no_dialogue (role.Ts turned) block = refl
 no_dialogue role.Answer block = refl
 no_dialogue role.RequestPpss block = refl

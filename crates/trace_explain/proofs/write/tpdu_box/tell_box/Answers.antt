@@ -48,4 +48,4 @@ returns-clause-puts c = λ whole.
     (put_first (IsRow Nobody (codes "after")) c.row-6.ensures
     (put_first (IsTogether mask t.is_loose t.header) c.tell_together.ensures
     (put_first (λ m text. text ≡ box_end m) (_, refl, c.push_box_end.ensures)
-    put_none))))))))))))).puts put_none)).puts
+    put_none)))))))))))))).puts put_none)).puts

@@ -13,7 +13,7 @@ TOP = Path(__file__).resolve().parent.parent
 sys.path.insert(0, str(TOP / "checks/explain"))
 from cases import all_cases  # noqa: E402
 
-BELOW = ("apdu_core", "tlv_core", "t0_core", "atr_core")
+BELOW = ("apdu_core", "tlv_core", "t0_core", "t1_core", "atr_core")
 SOURCE = TOP / "crates" / "trace_explain" / "src"
 FOLDERS = ("read", "follow", "describe", "write")
 # The files that read arguments and streams, which the program below replaces, and the folders' own.
@@ -23,7 +23,7 @@ PATH = re.compile(rf"\bcrate::(?:(?:{'|'.join(FOLDERS)})::)?")
 # The most faults in one program. A program of 50 took 8 GB of memory to build.
 COPIES = 30
 # The number of runs for a module's cases. A run may write a mebibyte at most.
-BATCHES = 3
+BATCHES = 4
 # Separates the cases in the program's input, and its outputs.
 MARK = "\x1e"
 DECLARED = re.compile(r"^ *(?:ghost use [^;]*;|#\[tactic\(auto, using\(.*)\n", re.M)
@@ -37,7 +37,7 @@ def write_program(folder, faults):
         for part in ("src", "specs", "proofs"):
             (crates / name / part).symlink_to(TOP / "crates" / name / part)
     (folder / "crates.txt").write_text(
-        "apdu_core:\ntlv_core:\nt0_core: apdu_core\natr_core: arrayvec\n"
+        "apdu_core:\ntlv_core:\nt0_core: apdu_core\nt1_core:\natr_core: arrayvec\n"
         f"trace_explain: {' '.join(BELOW)} arrayvec hex thiserror\n",
         encoding="utf-8",
     )
@@ -147,17 +147,19 @@ fn run{number}(rt: &HostRuntime, part: &[u8]) {{
         is_unsigned: part[5] == b'u',
         ways,
         of_tpdus: part[5] == b't',
+        is_of_blocks: part[6] == b'b',
     }};
     let Some(reading) = reading{number}(rt, &options) else {{
         return;
     }};
     let mut trace = &part[size + 1..];
-    let mask = if words.len() > 6 {{
-        let tags = str::from_utf8(&words[7..]).unwrap_or("");
+    let mut mask = if words.len() > 7 {{
+        let tags = str::from_utf8(&words[8..]).unwrap_or("");
         m{number}::mask::Mask::of(rt.alloc(), tags).unwrap()
     }} else {{
         m{number}::mask::Mask::none(rt.alloc())
     }};
+    mask.names = m{number}::names::Names::of(rt.alloc(), "").unwrap();
     let mut out = io::writer(rt);
     if words[3] == b'd' {{
         let Some(other) = reading{number}(rt, &options) else {{
@@ -228,6 +230,7 @@ def input_of(case):
     words += "d" if "--diff" in case.words else "-"
     words += "w" if "--swap" in case.words else "-"
     words += lines_of(case.words)
+    words += "b" if "--protocol" in case.words else "-"
     if "--mask" in case.words:
         tags = case.words[case.words.index("--mask") + 1 :]
         words += "=" + "".join(tag for tag in tags[:1] if not tag.startswith("--"))

@@ -22,7 +22,8 @@
   - unsigned.cases: lines without signs; logs.cases: logs of whole TPDUs.
   - loose.cases: headers and commands that a mask hides.
   - forms.cases: forms of logs of many programs; commands.cases: TPDUs that are joined.
-  - json.cases: objects of JSON, with the last one.
+  - json.cases: objects of JSON, with the last one; blocks.cases: blocks of T=1.
+  - names.cases: names of objects, and their values in words.
 
 Only cases/ lists the last block. Elsewhere `block_of` counts what is above it. In the tables
 a line that begins with `#` is a comment."""
@@ -89,6 +90,11 @@ TOLD_BY_SIGNS = {
     "the status of a hidden command is worded as that of any command",
     "a comparison of two such traces",
     "a page",
+    # a block that is cut off or comes again: ends take no turns
+    "made here: a chain of the terminal, as a line that damages a block shows it",
+    "made here: a byte is lost, so that the block is cut off where the other end begins",
+    "a mask hides what blocks without a response carry",
+    "from memory: firmware of a reader, with times; the third block is lost on its way to the card",
     # separators other than spaces
     "colons, commas and 0x between bytes",
     # notes that consist of digits
@@ -96,6 +102,9 @@ TOLD_BY_SIGNS = {
     "a sign without characters is one, too",
     "a time before a reset, and before a note",
 }
+# A word beside a hidden value of an object.
+BESIDE = re.compile(r"^(?: {15}|  [<>] data {7}) *(?:[0-9A-F]{2})+ \*\*.")
+WORDED = re.compile(r"^( *(?:[<>] data +)?(?:[0-9A-F]{2})+.*?)  [A-Za-z].*$")
 ROW = re.compile(r"  [ <>] (header|procedure|data|status) ")
 # The rows of a GET DATA of 5F20: one that the card refuses, one that brings a name, and the same as
 # a whole command.
@@ -134,7 +143,7 @@ class Case:
         if err != self.error:
             return f"{self.name}: on standard error {err!r}, and not {self.error!r}"
         lines = out.splitlines()
-        if self.part not in ("page", "json") and not {"--summary", "--diff"} & set(self.words):
+        if self.part not in ("page", "parts", "json") and not {"--summary", "--diff"} & set(self.words):
             lines, block = without_block(lines)
             for wanted, line in zip_longest(block_of(lines, self.time), block):
                 if wanted != line:
@@ -147,8 +156,9 @@ class Case:
                 return f"{self.name}: {line!r}, and not {wanted!r}"
         if len(said) != len(self.wanted):
             return f"{self.name}: {len(said)} lines, and not {len(self.wanted)}"
-        is_text = self.part not in ("page", "json")
-        wide = [it for it in out.splitlines() if len(it) > 100 and is_text]
+        is_text = self.part not in ("page", "parts", "json")
+        lines = map(without_words, out.splitlines() if is_text else [])
+        wide = [it for it in lines if len(it) > 100]
         return f"{self.name}: more than 100 columns: {wide[0]!r}" if wide else ""
 
     def leak(self, out, err):
@@ -158,11 +168,16 @@ class Case:
             for digits in HEX.findall(line):
                 if any(byte in self.secret for byte in bytes.fromhex(digits)):
                     return f"{self.name} {self.words}: {line!r} tells of the secret"
-            if any(pair in line for pair in ("Qz", "zx", "xv", "vT")):
+            if any(pair in line for pair in ("Qz", "zx", "xv", "vT")) or BESIDE.search(line):
                 return f"{self.name} {self.words}: {line!r} tells of the secret"
         if "**" in body or '"masked":true' in body or "--summary" in self.words:
             return ""
         return f"{self.name}: nothing is hidden"
+
+
+def without_words(line):
+    """A line of an object without the words that follow its digits, which don't wrap."""
+    return WORDED.sub(r"\1", line)
 
 
 def without_block(lines):
@@ -182,11 +197,32 @@ def block_of(lines, time):
     return [
         BLOCK,
         *row("TPDUs", [f"{commands.total()}{of_them}"]),
+        *(row("blocks", [marked(blocks)]) if (blocks := blocks_in(lines)) else []),
         *row("commands", counted(commands, rank) or ["none"]),
         *row("statuses", counted(statuses, str) or ["none other than 9000"]),
         *row("protocol", [f"errors: {sum(line.startswith(PROTOCOL_ERRORS) for line in lines)}"]),
         *(row("time", [time]) if time else []),
     ]
+
+
+def blocks_in(lines):
+    """The lines of blocks at T=1, also of those outside of TPDUs."""
+    found, within = [], False
+    for line in lines:
+        within = line.startswith("    blocks     ") or (within and line.startswith(" " * 15))
+        if within:
+            found.append(line[15:])
+        elif re.match(r"\| [<>] (?:[IRS]\(|damaged block |part of a block)", line):
+            found.append(line[2:])
+    return found
+
+
+def marked(blocks):
+    """How many blocks there are, and how many of them are marked."""
+    again = sum(line.endswith(", again") for line in blocks)
+    damaged = sum("damaged block" in line for line in blocks)
+    lossy = sum("part of a block" in line or line.endswith("missing") for line in blocks)
+    return f"{len(blocks)}: {again} again, {damaged} damaged, {lossy} in part or after a gap"
 
 
 def counted(counts, order):
@@ -228,6 +264,17 @@ def page_in(lines):
     return lines[lines.index(ENDS) + 1 : lines.index("</main>")]
 
 
+def parts_in(lines):
+    """The lines that begin and end the parts of a page of TPDUs."""
+    said, is_box = [], False
+    for line in lines:
+        if line.startswith('<details class="part"') or (line == "</details>" and not is_box):
+            said.append(line)
+        elif line.startswith("<details") or line == "</details>":
+            is_box = line != "</details>"
+    return said
+
+
 def story_in(lines):
     """All lines except the rows that other tables test."""
     said = []
@@ -245,6 +292,7 @@ PARTS = {
     "statuses": statuses_in,
     "story": story_in,
     "page": page_in,
+    "parts": parts_in,
     "shown": lambda lines: lines,
     "json": lambda lines: lines,
 }
@@ -372,15 +420,9 @@ def secret_cases(ways):
 
 def link_cases():
     """A page with more errors, and with more statuses, than it has links for."""
-    for count, more in ((1000, ""), (1001, " and 1 more"), (1003, " and 3 more")):
-        given = ["> 00CA5F2000", "< 6A88"] * count
-        links = [f'<a href="#t{it}">#{it} 6A88</a>' for it in range(1, 1001)]
-        wanted = f"<p>statuses other than 9000, 61XX and 6CXX: {' '.join(links)}{more}</p>"
-        block = page_block(count, "", f"6A88: {count}", 0, wanted)
-        words = ["--html", "--summary"]
-        yield Case(f"{count} statuses", lines_of(given), block, words, part="page")
+    for count, more in ((4, ""), (5, " and 1 more"), (7, " and 3 more")):
         given = ["> 00CA5F2000", "< 55"] * count
-        links = [f'<a href="#e{it}">line {2 * it}</a>' for it in range(1, 1001)]
+        links = [f'<a href="#e{it}">line {2 * it}</a>' for it in range(1, 5)]
         wanted = f"<p>protocol errors in {' '.join(links)}{more}</p>"
         block = page_block(count, f" (cut off: {count})", "none other than 9000", count, wanted)
         error = (
@@ -389,9 +431,31 @@ def link_cases():
         )
         words = ["--html", "--summary", "--resume"]
         yield Case(f"{count} protocol errors", lines_of(given), block, words, error, part="page")
+    for count, more in ((8, []), (9, ["<p>1 more status</p>"]), (10, ["<p>2 more statuses</p>"])):
+        words = [f"6A{0x80 + it:02X}" for it in range(count)] + ["6A80"]
+        given = [line for word in words for line in ("> 00CA5F2000", f"< {word}")]
+        twice = f'<p>6A80, 2 times: <a href="#t1">first (#1)</a> <a href="#t{count + 1}">next '
+        once = [
+            f'<p>6A{0x7F + it:02X}, 1 time: <a href="#t{it}">first (#{it})</a></p>'
+            for it in range(2, 9)
+        ]
+        wanted = [f"{twice}(#{count + 1})</a></p>", *once, *more]
+        told = "6A80: 2\n" + "\n".join(f"6A{0x80 + it:02X}: 1" for it in range(1, count))
+        block = page_block(count + 1, "", told, 0, *wanted)
+        words = ["--html", "--summary"]
+        yield Case(f"{count} statuses", lines_of(given), block, words, part="page")
 
 
-def page_block(count, cut_off, statuses, errors, links):
+def part_cases():
+    """Pages with as many TPDUs as are shown without a part, and with two parts beyond them."""
+    for count, begun in ((2000, []), (2001, [2001]), (3001, [2001, 3001])):
+        given = ["> 00CA5F2000", "< 6A88"] * count
+        heads = [f'<details class="part"><summary>from #{it}</summary>' for it in begun]
+        wanted = [line for head in heads for line in (head, "</details>")]
+        yield Case(f"{count} on a page", lines_of(given), wanted, ["--html"], part="parts")
+
+
+def page_block(count, cut_off, statuses, errors, *links):
     """The last block of a page with `count` GET DATA."""
     rows = {
         "TPDUs": f"{count}{cut_off}",
@@ -400,7 +464,7 @@ def page_block(count, cut_off, statuses, errors, links):
         "protocol": f"errors: {errors}",
     }
     told = [f'<div class="m n"><b>{it}</b><pre>{rows[it]}</pre></div>' for it in rows]
-    return ["</div><section><h2>summary</h2>", *told, links, "</section>"]
+    return ["</div><section><h2>summary</h2>", *told, *links, "</section>"]
 
 
 def long_cases(traces):
@@ -482,7 +546,10 @@ def table_cases():
         *story_cases("forms.cases", "shown"),
         *story_cases("commands.cases", "shown"),
         *story_cases("json.cases", "json"),
+        *story_cases("blocks.cases", "shown"),
+        *story_cases("names.cases", "shown"),
         *link_cases(),
+        *part_cases(),
     ]
 
 

@@ -21,7 +21,7 @@ def traces():
     yield behind_notes()
     yield passed_over(250)
     yield alike()
-    yield dropped_chains(16, "50 3132")
+    yield dropped_chains(16, "50 3132  application label \"12\"")
     yield dropped_chains(17, "**")
 
 

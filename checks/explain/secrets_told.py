@@ -24,6 +24,12 @@ def brought(header, digits, status="9000"):
     return [f"> {header}{len(digits) // 2:02X}", f"< {header[2:4]}{digits}{status}"]
 
 
+def of_tag(template, tag, digits):
+    """A template with one object."""
+    inner = f"{tag}{len(digits) // 2:02X}{digits}"
+    return f"{template}{len(inner) // 2:02X}{inner}"
+
+
 def cuts(digits):
     """Both parts of the digits, cut after each byte except the last."""
     return [(digits[:i], digits[i:]) for i in range(2, len(digits), 2)]
@@ -167,3 +173,6 @@ def traces():
         yield name, TAGS, lines
     for name, lines in of_objects():
         yield name, TAGS, lines
+    # names and values in words: text, a date, bits and a number
+    for tag, value in (("5F20", DIGITS), ("5F24", "512776"), ("95", DIGITS[:10]), ("9F36", "517A")):
+        yield f"a value of {tag} in words", [tag], brought("00B2010C", of_tag("70", tag, value))

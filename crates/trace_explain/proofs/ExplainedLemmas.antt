@@ -46,14 +46,14 @@ explains_from begins h =
     record { reports = h.reports; explained = h.explained; boxes = boxes_both begins h.boxes }
 
 -- If no character of a header is reported, no dialogue has started.
-front_of_none : (t : Report) (loose : Bool) (front : Front) → ReportsFront t loose front
+pub front_of_none : (t : Report) (loose : Bool) (front : Front) → ReportsFront t loose front
     → length t.header ≡ 0 → passed (front_characters front) ≡ []
 front_of_none t loose (In_header bytes) reports none = grind (arith, nil_from_length, size_of)
 front_of_none t loose (In_body b) reports none = absurd (omega (arith, none, size_of reports))
 front_of_none t loose (After_first b sw1) reports none =
     absurd (omega (arith, none, size_of reports))
 
-none_on_line : (events : List Event) → map on_line events ≡ [] → events ≡ []
+pub none_on_line : (events : List Event) → map on_line events ≡ [] → events ≡ []
 none_on_line [] is = refl
 none_on_line (e ∷ events) is = absurd (cc)
 

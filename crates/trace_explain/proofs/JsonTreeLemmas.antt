@@ -5,7 +5,7 @@ use Rattle.tlv_core.specs.Object.{ObjectList}
 use Rattle.tlv_core.specs.Spelling.{Begins}
 use Rattle.tlv_core.specs.TagForm.{is_constructed}
 use Rattle.trace_explain.specs.declared.write.sheet.Sheet.{Sheet}
-use Rattle.trace_explain.specs.JsonTrees.{AreFields, PutsFields, listed, masked, masked_end, object_begin, primitive, primitive_end, template, template_end}
+use Rattle.trace_explain.specs.JsonTrees.{AreFields, AreNames, IsWords, PutsFields, PutsText, listed, masked, masked_end, object_begin, primitive, primitive_end, template, template_end}
 use Rattle.trace_explain.specs.Sheets.{Adds}
 use Rattle.trace_explain.proofs.SheetLemmas.{adds_both}
 
@@ -17,6 +17,15 @@ pub record Going (tags : List (List ℕ)) (all now : ObjectList) (old new : Shee
       → AreFields tags all.bytes all.level true (text ++ more)
   pub adds : Adds old text new
   pub same_level : now.level ≡ all.level
+
+-- a name, and then a value in words
+pub both_names : (a b c : Sheet) → PutsText (IsWords (codes ",\"name\":\"")) a b
+    → PutsText (IsWords (codes ",\"words\":\"")) b c → PutsText AreNames a c
+both_names a b c (name, is_name, first) (value, is_value, second) = (
+  name ++ value,
+  (name, value, is_name, is_value, refl),
+  adds_both name value a b c first second,
+)
 
 -- one more object, with this rest after its tag
 past_object : (tags : List (List ℕ)) (all now next : ObjectList) (old new put after : Sheet)
@@ -55,35 +64,40 @@ past_masked tags all now next old new put after first padding tag size value tol
     (λ others are. masked padding tag size value next.bytes others b (subst H tag_is has) refl are)
     begun more
 
-pub past_primitive : (tags : List (List ℕ)) (all now next : ObjectList) (old new put after : Sheet)
-    (first : Bool) (padding tag size value told given : List ℕ) → Going tags all now old new first
+pub past_primitive : (tags : List (List ℕ)) (all now next : ObjectList)
+    (old new put said after : Sheet) (first : Bool) (padding tag size value told given : List ℕ)
+    → Going tags all now old new first
     → Begins now.bytes padding tag size value next.bytes now.level → next.level ≡ now.level
     → told ≡ tag → given ≡ value → (Contains tags told → ⊥) → is_constructed tag ≡ false
-    → Adds new (object_begin first told) put → Adds put (primitive_end given) after
-    → Going tags all next old after false
-past_primitive tags all now next old new put after first padding tag size value told given g b
-    next_is tag_is given_is not plain begun more =
+    → Adds new (object_begin first told) put → PutsText AreNames put said
+    → Adds said (primitive_end given) after → Going tags all next old after false
+past_primitive tags all now next old new put said after first padding tag size value told given g b
+    next_is tag_is given_is not plain begun (names, are, adds) more =
     let H : List ℕ → Type 0 = λ t. Contains tags t → ⊥ in
-    let V : List ℕ → Type 0 = λ v. Adds put (primitive_end v) after in
-    past_object tags all now next old new put after first tag told (primitive_end value) g next_is
-    tag_is (λ others are. primitive padding tag size value next.bytes others b (subst H tag_is not)
-    plain refl are) begun (subst V given_is more)
+    let V : List ℕ → Type 0 = λ v. Adds said (primitive_end v) after in
+    past_object tags all now next old new put after first tag told (names ++ primitive_end value) g
+    next_is tag_is (λ others rest. primitive padding tag size value next.bytes names others b
+    (subst H tag_is not) plain are refl rest) begun
+    (adds_both names (primitive_end value) put said after adds (subst V given_is more))
 
 pub past_template : (tags : List (List ℕ)) (all now next inner : ObjectList)
-    (old new put mid after : Sheet) (first : Bool) (padding tag size value told : List ℕ)
+    (old new put said mid after : Sheet) (first : Bool) (padding tag size value told : List ℕ)
     (deep : ℕ) → Going tags all now old new first
     → Begins now.bytes padding tag size value next.bytes now.level → next.level ≡ now.level
     → told ≡ tag → deep ≡ now.level → (Contains tags told → ⊥) → is_constructed tag ≡ true
-    → Adds new (object_begin first told) put → inner ≡ record { bytes = value; level = deep + 1 }
-    → PutsFields tags inner.bytes inner.level true put mid → Adds mid (codes "}") after
+    → Adds new (object_begin first told) put → PutsText AreNames put said
+    → inner ≡ record { bytes = value; level = deep + 1 }
+    → PutsFields tags inner.bytes inner.level true said mid → Adds mid (codes "}") after
     → Going tags all next old after false
-past_template tags all now next inner old new put mid after first padding tag size value told deep g
-    b next_is tag_is deep_is not templ begun inner_is (inside, are, more) ended =
+past_template tags all now next inner old new put said mid after first padding tag size value told
+    deep g b next_is tag_is deep_is not templ begun (names, are, adds) inner_is
+    (inside, objects, more) ended =
     let H : List ℕ → Type 0 = λ t. Contains tags t → ⊥ in
     let Q : ObjectList → Type 0 = λ o. AreFields tags o.bytes o.level true inside in
     let S : ℕ → Type 0 = λ l. AreFields tags value l true inside in
     let down : deep + 1 ≡ suc now.level = omega (arith, deep_is) in
-    past_object tags all now next old new put after first tag told (template_end inside) g next_is
-    tag_is (λ others rest. template padding tag size value next.bytes inside others b
-    (subst H tag_is not) templ (subst S down (subst Q inner_is are)) refl rest) begun
-    (adds_both inside (codes "}") put mid after more ended)
+    past_object tags all now next old new put after first tag told (names ++ template_end inside) g
+    next_is tag_is (λ others rest. template padding tag size value next.bytes names inside others b
+    (subst H tag_is not) templ are (subst S down (subst Q inner_is objects)) refl rest) begun
+    (adds_both names (template_end inside) put said after adds
+    (adds_both inside (codes "}") said mid after more ended))

@@ -6,3 +6,4 @@ pub mod SheetLemmas
 mod TreeLemmas
 mod JsonTreeLemmas
 pub mod AccountLemmas
+pub mod CarriedLemmas

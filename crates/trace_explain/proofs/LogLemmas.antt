@@ -1,15 +1,27 @@
 -- What the lines of a log add, one step further.
-use Rattle.std.proofs.Common.{◌≡◌, ℕ, List, [], ◌∷◌, ◌++◌, take, drop, map, ap, subst, ◌∙◌, append_assoc}
+use Rattle.std.proofs.Common.{◌≡◌, ◌≢◌, ◌≤◌, ℕ, List, [], ◌∷◌, ◌++◌, take, drop, length, map, ap, subst, ◌∙◌, append_assoc, slice_index, Some}
+use Rattle.std.proofs.lemmas.Bool.{le-ltb, ne_eqb}
 use Rattle.std.proofs.lemmas.List.{map-append}
 use Rattle.t0_core.specs.declared.end.End.{End}
 use Rattle.trace_explain.specs.declared.read.log.Log.{Log}
 use Rattle.trace_explain.specs.declared.read.entry.Entry.{Entry}
 use Rattle.trace_explain.specs.Logs.{LogAt, Note, Pair, Step, Takes, Took, begun, behind, both, closed, command_len, entry_of, log_at, noted, resets}
+use Rattle.trace_explain.specs.Pairs.{Command, command_in, with_p3}
 use Rattle.trace_explain.specs.Patterns.{ReadsAs}
 
 pub entries_more : (before after : List Entry) (one : Entry) → after ≡ before ++ one ∷ []
     → map entry_of after ≡ map entry_of before ++ entry_of one ∷ []
 entries_more before after one is = ap (map entry_of) is ∙ map-append entry_of before (one ∷ [])
+
+-- A command of five bytes or more.
+pub command_by : (command header rest : List ℕ) (x : Command) → 4 ≤ length command
+    → length command ≢ 4 → header ≡ take 4 command → rest ≡ drop 5 command
+    → with_p3 header (slice_index command 4) rest ≡ Some x → command_in command ≡ Some x
+command_by command header rest x long other front back is =
+    let H : List ℕ → Type 0 = λ h. with_p3 h (slice_index command 4) (drop 5 command) ≡ Some x in
+    let R : List ℕ → Type 0 = λ r. with_p3 header (slice_index command 4) r ≡ Some x in
+    rw (le-ltb (length command) 4 long, ne_eqb (length command) 4 other)
+    (subst H front (subst R back is))
 
 -- A command begins, and its answer is behind it.
 pub pair_took : (at : LogAt) (bytes x y : List ℕ) (a b c : List Entry) (mid : Log)

@@ -15,7 +15,7 @@ use Rattle.t0_core.specs.TapSide.{Makes, Concludes, TapStandsAt, turned, afresh,
 use Rattle.t0_core.specs.TapHistory.{HasHeard, HearsOn, IsOverheard}
 use Rattle.trace_explain.specs.declared.follow.listener.Listener.{Listener}
 use Rattle.trace_explain.specs.Reports.{Report, loosened, report_of, counted, uncounted, no_report, noted, is_last, reported, Reports, ReportsFront, reported_body}
-use Rattle.trace_explain.specs.Noted.{Event, HasNoted, IsNoted, IsNotedItem, Part, Passed, ReportItems, AreStatus, IsBare, Reset, are_loose, bared, ended_by, events_in, is_bare, on_line}
+use Rattle.trace_explain.specs.Noted.{Carried, Event, HasNoted, IsNoted, IsNotedItem, Part, Passed, ReportItems, AreStatus, IsBare, Reset, are_loose, bared, carried_in, ended_by, events_in, is_bare, on_line}
 use Rattle.apdu_core.specs.HeaderBytes.{header_bytes}
 use Rattle.apdu_core.specs.StatusWord.{IsStatusWord, count}
 use Rattle.t0_core.specs.declared.direction.Direction.TheVariants.{ToCard, FromCard}
@@ -73,12 +73,25 @@ loose_last [] c false = refl
 loose_last (Passed d true ∷ events) c is = refl
 loose_last (Passed d false ∷ events) c is = loose_last events c is
 loose_last (Reset ∷ events) c is = loose_last events c is
+loose_last (Carried t ∷ events) c is = loose_last events c is
 
 loose_reset : (events : List Event) → are_loose (events ++ Reset ∷ []) ≡ are_loose events
 loose_reset [] = refl
 loose_reset (Passed d true ∷ events) = refl
 loose_reset (Passed d false ∷ events) = loose_reset events
 loose_reset (Reset ∷ events) = loose_reset events
+loose_reset (Carried t ∷ events) = loose_reset events
+
+-- A dialogue at T=0 carries nothing at T=1.
+none_carried : (events : List Event) (cs : List Character) → map on_line events ≡ passed cs
+    → carried_in (events ++ Reset ∷ []) ≡ []
+none_carried [] cs is = refl
+none_carried (Passed c l ∷ events) [] is = absurd (cc)
+none_carried (Passed c l ∷ events) (d ∷ cs) is = none_carried events cs (cc)
+none_carried (Reset ∷ events) [] is = absurd (cc)
+none_carried (Reset ∷ events) (d ∷ cs) is = absurd (cc)
+none_carried (Carried t ∷ events) [] is = absurd (cc)
+none_carried (Carried t ∷ events) (d ∷ cs) is = absurd (cc)
 
 loosened_front : (t : Report) (loose is : Bool) (front : Front) → ReportsFront t loose front
     → ReportsFront (loosened is t) (loose || is) front
@@ -105,11 +118,14 @@ reports_both [] (t ∷ reports) more later h k = absurd h
 reports_both ((Whole d, events) ∷ parts) [] more later h k = absurd h
 reports_both ((Whole d, events) ∷ parts) (t ∷ reports) more later h k =
     (h.0, reports_both parts reports more later h.1 k)
-reports_both ((Cut_off [], events) ∷ parts) reports more later h k =
-    reports_both parts reports more later h k
+reports_both ((Cut_off [], events) ∷ parts) reports more later (rest, is, h) k = (
+  rest ++ later,
+  ap (λ ts. ts ++ later) is ∙ append_assoc (carried_in events) rest later,
+  reports_both parts rest more later h k,
+)
 reports_both ((Cut_off (c ∷ part), events) ∷ parts) [] more later h k = absurd h
 reports_both ((Cut_off (c ∷ part), events) ∷ parts) (t ∷ reports) more later h k =
-    (h.0, reports_both parts reports more later h.1 k)
+    (h.0, h.1, reports_both parts reports more later h.2 k)
 
 -- The report of a dialogue that is cut off, unless nothing of it was received.
 abbrev pub cut_of : Report → List Report
@@ -123,15 +139,16 @@ pub size_of : {t u : Report} → t ≡ u → length t.header ≡ length u.header
 size_of is = ap (λ (x : Report). length x.header) is
 
 reports_part : (t : Report) (front : Front) (events : List Event)
-    → ReportsFront t (are_loose events) front
+    → ReportsFront t (are_loose events) front → carried_in events ≡ []
     → ReportItems ((Cut_off (front_characters front), events) ∷ []) (cut_of t)
-reports_part t (In_header []) events h = rw (ap (λ (x : Report). x.header) h) tt
-reports_part t (In_header (b ∷ bytes)) events h =
-    rw (cut_some t (omega (arith, size_of h))) ((In_header (b ∷ bytes), refl, h), tt)
-reports_part t (In_body b) events h =
-    rw (cut_some t (omega (arith, size_of h))) ((In_body b, refl, h), tt)
-reports_part t (After_first b sw1) events h =
-    rw (cut_some t (omega (arith, size_of h))) ((After_first b sw1, refl, h), tt)
+reports_part t (In_header []) events h none = rw (ap (λ (x : Report). x.header) h)
+    ([], sym (ap (λ ts. ts ++ []) none), tt)
+reports_part t (In_header (b ∷ bytes)) events h none =
+    rw (cut_some t (omega (arith, size_of h))) ((In_header (b ∷ bytes), refl, h), none, tt)
+reports_part t (In_body b) events h none =
+    rw (cut_some t (omega (arith, size_of h))) ((In_body b, refl, h), none, tt)
+reports_part t (After_first b sw1) events h none =
+    rw (cut_some t (omega (arith, size_of h))) ((After_first b sw1, refl, h), none, tt)
 
 -- The front of the tap, with nothing before it.
 abbrev pub alone : (events : List Event) (reports : List Report) (l : Listener)
@@ -274,7 +291,8 @@ hears_reset events reports old new n tap_is is =
     law.heard_reset (passed part) old.tap new.tap tap_is (alone events reports old n) in
     noted_more events reports (cut_of t) old new Reset (Cut_off part) n cut items_are front_is
     (reports_part t n.front (n.last ++ Reset ∷ [])
-    (subst V (sym (loose_reset n.last)) n.under_way)) is
+    (subst V (sym (loose_reset n.last)) n.under_way)
+    (none_carried n.last (front_characters n.front) n.last_are)) is
 
 pub both_hold : (a b : Bool) → (a && b) ≡ true → (a ≡ true) × (b ≡ true)
 both_hold true b e = (refl, e)

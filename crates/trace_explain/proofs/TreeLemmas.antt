@@ -1,25 +1,25 @@
 -- The lines of objects, one after another.
-use Rattle.std.proofs.Common.{◌≡◌, ◌<◌, ◌+◌, ℕ, suc, List, [], ◌∷◌, ◌++◌, ◌∙◌, codes, length, take, drop, ap, append_assoc, Bool, true, false, refl, subst, sym, arith}
+use Rattle.std.proofs.Common.{◌≡◌, ◌<◌, ◌+◌, ℕ, suc, List, [], ◌∷◌, ◌++◌, ◌∙◌, codes, length, take, drop, ap, append-nil, append_assoc, Bool, true, false, refl, subst, sym, arith}
 use Rattle.std.specs.List.{Contains}
 use Rattle.tlv_core.specs.Object.{ObjectList}
 use Rattle.tlv_core.specs.Spelling.{Begins}
 use Rattle.tlv_core.specs.TagForm.{is_constructed}
 use Rattle.trace_explain.specs.declared.write.sheet.Sheet.{Sheet}
-use Rattle.trace_explain.specs.Sheets.{Adds, PutsAny, PutsLines, PutsValue, has_lines}
-use Rattle.trace_explain.specs.Trees.{AreTree, IsValue, indent, listed, masked, object, primitive, template, value_width}
-use Rattle.trace_explain.specs.Written.{AreLines, content, is_text, lines_text}
-use Rattle.trace_explain.proofs.SheetLemmas.{adds_as, adds_both, lines_both}
+use Rattle.trace_explain.specs.Sheets.{Adds, PutsAny, PutsLines, PutsRemark, PutsValue, has_lines}
+use Rattle.trace_explain.specs.Trees.{AreTree, IsValue, indent, listed, masked, object, primitive, remark, template, value_width}
+use Rattle.trace_explain.specs.Written.{AreLines, are_printable, content, is_text, lines_text}
+use Rattle.trace_explain.proofs.SheetLemmas.{adds_as, adds_both, adds_nothing, lines_both}
 
--- a value with the words after its tag, and the lines below
+-- a value with the words after its tag, a remark, and the lines below
 pub whole_value : (in_text : Bool) (level : ℕ) (value line rest : List ℕ) (w n : ℕ)
-    (a b c d : Sheet) → 0 < length value → in_text ≡ is_text value → w ≡ value_width in_text
+    (a b c r d : Sheet) → 0 < length value → in_text ≡ is_text value → w ≡ value_width in_text
     → line ≡ take w value → rest ≡ drop w value → n ≡ indent level + 5
-    → Adds a (codes " ") b → Adds b (content in_text line) c
-    → PutsLines (AreLines n w in_text rest) c d → PutsValue level value a d
-whole_value in_text level [] line rest w n a b c d some text_is w_is line_is rest_is n_is h k puts =
-    absurd (omega (arith, some))
-whole_value in_text level (x ∷ bytes) line rest w n a b c d some text_is w_is line_is rest_is n_is
-    h k (below, are, l) =
+    → Adds a (codes " ") b → Adds b (content in_text line) c → PutsRemark c r
+    → PutsLines (AreLines n w in_text rest) r d → PutsValue level value a d
+whole_value in_text level [] line rest w n a b c r d some text_is w_is line_is rest_is n_is h k m
+    puts = absurd (omega (arith, some))
+whole_value in_text level (x ∷ bytes) line rest w n a b c r d some text_is w_is line_is rest_is n_is
+    h k (says, plain, m) (below, are, l) =
     let value : List ℕ = x ∷ bytes in
     let t : Bool = is_text value in
     let width : ℕ = value_width t in
@@ -33,20 +33,36 @@ whole_value in_text level (x ∷ bytes) line rest w n a b c d some text_is w_is 
     adds_as (content in_text line) (content t (take width value)) b c
     (ap (λ f. content f line) text_is
     ∙ ap (λ x. content t x) (line_is ∙ ap (λ m. take m value) w_all)) k in (
-      words,
+      says,
+      words ++ remark says,
       below,
+      plain,
       (
         refl,
         subst R (rest_is ∙ ap (λ m. drop m value) w_all)
             (subst T text_is (subst W w_all (subst N n_is are))),
       ),
-      adds_both words (lines_text below) a c d (adds_both (codes " ") _ a b c h first) l,
+      adds_both (words ++ remark says) (lines_text below) a r d (adds_both words (remark says) a c r
+          (adds_both (codes " ") _ a b c h first) m) l,
     )
 
-pub no_value : (level : ℕ) (value : List ℕ) (a b : Sheet) → length value ≡ 0
-    → Adds a (codes " -") b → PutsValue level value a b
-no_value level [] a b none h = (codes " -", [], (refl, refl), h)
-no_value level (x ∷ value) a b none h = absurd (omega (arith, none))
+pub no_value : (level : ℕ) (value : List ℕ) (a b c : Sheet) → length value ≡ 0
+    → Adds a (codes " -") b → PutsRemark b c → PutsValue level value a c
+no_value level [] a b c none h (says, plain, m) =
+    let words : List ℕ = codes " -" ++ remark says in
+    let all : Adds a words c = adds_both (codes " -") (remark says) a b c h m in
+    (says, words, [], plain, (refl, refl), adds_as words (words ++ []) a c (sym (append-nil words)) all)
+no_value level (x ∷ value) a b c none h m = absurd (omega (arith, none))
+
+-- words after two spaces
+pub some_remark : (says : List ℕ) (a b c : Sheet) → 0 < length says → are_printable says ≡ true
+    → Adds a (codes "  ") b → Adds b says c → PutsRemark a c
+some_remark [] a b c some plain h k = absurd (omega (arith, some))
+some_remark (x ∷ says) a b c some plain h k =
+    (x ∷ says, plain, adds_both (codes "  ") (x ∷ says) a b c h k)
+
+pub no_remark : (a : Sheet) → PutsRemark a a
+no_remark a = ([], refl, adds_nothing a)
 
 has_some : (xs ys : List (List ℕ)) (y : List ℕ) → has_lines (xs ++ y ∷ ys) ≡ true
 has_some [] ys y = refl
@@ -114,31 +130,33 @@ pub past_primitive : (tags : List (List ℕ)) (all now next : ObjectList)
     → is_constructed tag ≡ false → Adds new (10 ∷ object level told) put
     → PutsValue level given put after → Going tags all next old after true
 past_primitive tags all now next old new put after some padding tag size value told given level g b
-    next_is tag_is given_is level_is not plain begun (words, below, is, more) =
+    next_is tag_is given_is level_is not plain begun (says, words, below, printable, is, more) =
     let H : List ℕ → Type 0 = λ t. Contains tags t → ⊥ in
-    let V : List ℕ → Type 0 = λ v. IsValue level v words below in
-    let L : ℕ → Type 0 = λ l. IsValue l value words below in
+    let V : List ℕ → Type 0 = λ v. IsValue level v says words below in
+    let L : ℕ → Type 0 = λ l. IsValue l value says words below in
     past_object tags all now next old new put after some tag words below g next_is
-    (λ others are. primitive padding tag size value next.bytes words below others b
-    (subst H tag_is not) plain (subst L level_is (subst V given_is is)) refl are)
+    (λ others are. primitive padding tag size value next.bytes says words below others b
+    (subst H tag_is not) plain printable (subst L level_is (subst V given_is is)) refl are)
     (begun_as told tag level now.level new put tag_is level_is begun) more
 
 pub past_template : (tags : List (List ℕ)) (all now next inner : ObjectList)
-    (old new put after : Sheet) (some any : Bool) (padding tag size value told : List ℕ)
+    (old new put said after : Sheet) (some any : Bool) (padding tag size value told : List ℕ)
     (level deep : ℕ) → Going tags all now old new some
     → Begins now.bytes padding tag size value next.bytes now.level → next.level ≡ now.level
     → told ≡ tag → level ≡ now.level → deep ≡ now.level → (Contains tags told → ⊥)
-    → is_constructed tag ≡ true → Adds new (10 ∷ object level told) put
+    → is_constructed tag ≡ true → Adds new (10 ∷ object level told) put → PutsRemark put said
     → inner ≡ record { bytes = value; level = deep + 1 }
-    → PutsAny (AreTree tags inner.bytes inner.level) any put after
+    → PutsAny (AreTree tags inner.bytes inner.level) any said after
     → Going tags all next old after true
-past_template tags all now next inner old new put after some any padding tag size value told level
-    deep g b next_is tag_is level_is deep_is not templ begun inner_is (inside, (are, is), more) =
+past_template tags all now next inner old new put said after some any padding tag size value told
+    level deep g b next_is tag_is level_is deep_is not templ begun (says, printable, remarks)
+    inner_is (inside, (are, is), more) =
     let H : List ℕ → Type 0 = λ t. Contains tags t → ⊥ in
     let Q : ObjectList → Type 0 = λ o. AreTree tags o.bytes o.level inside in
     let S : ℕ → Type 0 = λ l. AreTree tags value l inside in
     let down : deep + 1 ≡ suc now.level = omega (arith, deep_is) in
-    past_object tags all now next old new put after some tag [] inside g next_is
-    (λ others rest. template padding tag size value next.bytes inside others b
-    (subst H tag_is not) templ (subst S down (subst Q inner_is are)) refl rest)
-    (begun_as told tag level now.level new put tag_is level_is begun) more
+    past_object tags all now next old new put after some tag (remark says) inside g next_is
+    (λ others rest. template padding tag size value next.bytes says inside others b
+    (subst H tag_is not) templ printable (subst S down (subst Q inner_is are)) refl rest)
+    (begun_as told tag level now.level new put tag_is level_is begun)
+    (adds_both (remark says) (lines_text inside) put said after remarks more)

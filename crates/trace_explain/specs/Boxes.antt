@@ -161,6 +161,7 @@ IsBox mask number line t = InOrder
     ∷ IsFields
     ∷ IsRow side.Nobody (codes "time")
     ∷ IsRow side.Nobody (codes "before")
+    ∷ IsRow side.Nobody (codes "blocks")
     ∷ (λ m text. text ≡ header_row (mask.hides && is_doubtful t) m t.header)
     ∷ IsRow side.Card (codes "procedure")
     ∷ IsData mask t.is_loose t.way t.header t.moved

@@ -16,7 +16,7 @@ use Rattle.trace_explain.specs.declared.read.entry.Entry.TheVariants as entry
 use Rattle.trace_explain.specs.declared.follow.turn.TurnFault.{TurnFault}
 use Rattle.trace_explain.specs.declared.write.teller.Teller.{Teller}
 use Rattle.trace_explain.specs.Account.{AddsBoxes}
-use Rattle.trace_explain.specs.Lines.{IsBadLine, LineLeads, Says, Position, TakesCharacter, TakesCharacters, read_on}
+use Rattle.trace_explain.specs.Lines.{block_events, IsBadLine, LineLeads, Says, Position, TakesCharacter, TakesCharacters, read_on}
 use Rattle.trace_explain.specs.Noted.{Event, HasNoted, NoneContinues, Passed, ended_by}
 use Rattle.trace_explain.specs.Openings.{Opening, begins_answer, has_begun, is_dialogue, opening_of, role_of}
 use Rattle.trace_explain.specs.Reports.{Report, loose, report_of}
@@ -45,6 +45,13 @@ pub record ExplainsMore (more events : List Event) (before : List Report) (old n
   pub reports : List Report
   pub explained : HasExplained (events ++ more) (before ++ reports) new
   pub boxes : AddsBoxes reports old.teller new.teller
+
+-- A teller and a listener have reported these commands at T=1 more.
+pub record CarriesAll (all : List Report) (events : List Event) (before : List Report)
+    (listener : Listener) (old new : Teller) : Type 0 where
+  pub reports : List Report
+  pub noted : HasNoted (events ++ block_events all) (before ++ reports) listener
+  pub boxes : AddsBoxes reports old new
 
 -- The events are those of a character.
 abbrev pub ExplainsCharacter : End → ℕ → List Event → List Report → Explainer → Explainer → Type 0

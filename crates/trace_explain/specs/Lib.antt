@@ -8,6 +8,7 @@ pub mod WaysOf
 pub mod Turns
 pub mod Pairs
 pub mod Logs
+pub mod Overheard
 pub mod Explained
 pub mod Trace
 pub mod Secrets

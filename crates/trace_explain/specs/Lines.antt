@@ -12,8 +12,8 @@ use Rattle.trace_explain.specs.declared.read.entry.Source.{Source}
 use Rattle.trace_explain.specs.declared.read.entry.Source.TheVariants.{Sign, Turn}
 use Rattle.trace_explain.specs.declared.read.entry.Entry.{Entry}
 use Rattle.trace_explain.specs.declared.read.entry.Entry.TheVariants as entry
-use Rattle.trace_explain.specs.Noted.{Event, HasNoted, IsNoted, NoneContinues, Part, Passed, Reset, events_in}
-use Rattle.trace_explain.specs.Openings.{Opening, begins_answer, has_begun, is_dialogue, is_loose, opens, role_of, unopened}
+use Rattle.trace_explain.specs.Noted.{Carried, Event, HasNoted, IsNoted, NoneContinues, Part, Passed, Reset, events_in}
+use Rattle.trace_explain.specs.Openings.{Opening, begins_answer, first_opening, has_begun, is_dialogue, is_loose, opens, reports_with, role_of, unopened}
 use Rattle.trace_explain.specs.Patterns.{Found, NoRow, ReadsAs, BadRow, all_of, bytes_in, is_digits, reads}
 use Rattle.trace_explain.specs.Times.{behind_clock, behind_time}
 use Rattle.trace_explain.specs.Reports.{Report}
@@ -108,7 +108,11 @@ pub record Position : Type 0 where
 
 -- The position before the first line.
 abbrev pub first_of_all : Reading → Position
-first_of_all reading = record { opening = unopened; has_characters = false; reading = reading }
+first_of_all reading = record {
+  opening = first_opening reading.is_of_blocks;
+  has_characters = false;
+  reading = reading;
+}
 
 -- The reading after a line of characters of this source, whose sign decides the form.
 abbrev pub read_on : Source → Reading → Reading
@@ -123,10 +127,17 @@ after_character at from b = record {
   reading = at.reading;
 }
 
--- The event of a character. A character of an opening has no event.
+-- The events of a character of blocks: the reports of the commands that get their response with it. The
+-- listener at T=0 is reset before each.
+abbrev pub block_events : List Report → List Event
+block_events [] = []
+block_events (t ∷ reports) = Reset ∷ Carried t ∷ block_events reports
+
+-- The events of a character. A character of an opening has none.
 abbrev pub dialogue_events : Opening → End → ℕ → List Event
 dialogue_events o from b =
-    if is_dialogue (role_of o from b) then Passed (from, b) (is_loose o.stage) ∷ [] else []
+    if is_dialogue (role_of o from b) then Passed (from, b) (is_loose o.stage) ∷ []
+    else block_events (reports_with (role_of o from b) (opens o (role_of o from b) b).blocks)
 
 -- These events are whole dialogues and resets alone.
 pub record AreOver (events : List Event) : Type 0 where

@@ -18,21 +18,31 @@ use Rattle.trace_explain.specs.declared.follow.listener.ListenerFault.{ListenerF
 use Rattle.trace_explain.specs.declared.follow.listener.ListenerFault.TheVariants.{NoDialogue, OutOfMemory}
 use Rattle.trace_explain.specs.Reports.{Report, report_of, Reports, ReportsFront}
 
--- An event of a trace: a reset, or a character of a dialogue. A character is loose if bytes right
--- before it are part of no dialogue, and neither a whole answer to reset nor PPS.
+-- An event of a trace: a reset, a character of a dialogue at T=0, or the report of a command that
+-- blocks carried at T=1. A character is loose if bytes right before it are part of no dialogue, and
+-- neither a whole answer to reset nor PPS.
 pub data Event : Type 0 where
   Passed : (c : Character) (is_loose : Bool) → Event
   Reset : Event
+  Carried : (t : Report) → Event
 
+-- A command at T=1 is outside of each dialogue at T=0, as a reset is.
 abbrev pub on_line : Event → history.Event
 on_line (Passed c is_loose) = history.Passed c
 on_line Reset = history.Reset
+on_line (Carried t) = history.Reset
+
+abbrev pub carried_in : List Event → List Report
+carried_in [] = []
+carried_in (Carried t ∷ events) = t ∷ carried_in events
+carried_in (e ∷ events) = carried_in events
 
 -- A header is loose if a character of its dialogue is.
 abbrev pub are_loose : List Event → Bool
 are_loose [] = false
 are_loose (Passed c is_loose ∷ events) = is_loose || are_loose events
 are_loose (Reset ∷ events) = are_loose events
+are_loose (Carried t ∷ events) = are_loose events
 
 -- A whole dialogue, or what a reset cut off of one, and its events.
 abbrev pub Part : Type 0
@@ -46,17 +56,20 @@ abbrev pub ReportsPart : Report → Bool → List Character → Type 0
 ReportsPart t is_loose part =
     (front : Front) × (part ≡ front_characters front) × ReportsFront t is_loose front
 
--- The reports of these items in turn: whole dialogues, and what a reset cut off of one, if any.
+-- The reports of these items in turn: whole dialogues, and what a reset cut off of one, if any; and
+-- commands at T=1.
 abbrev pub ReportItems : List Part → List Report → Type 0
 ReportItems [] [] = Unit {0}
 ReportItems [] (t ∷ reports) = ⊥
 ReportItems ((Whole d, events) ∷ parts) [] = ⊥
 ReportItems ((Whole d, events) ∷ parts) (t ∷ reports) =
     Reports t (are_loose events) d × ReportItems parts reports
-ReportItems ((Cut_off [], events) ∷ parts) reports = ReportItems parts reports
+ReportItems ((Cut_off [], events) ∷ parts) reports = (rest : List Report)
+    × (reports ≡ carried_in events ++ rest) × ReportItems parts rest
 ReportItems ((Cut_off (c ∷ part), events) ∷ parts) [] = ⊥
 ReportItems ((Cut_off (c ∷ part), events) ∷ parts) (t ∷ reports) =
-    ReportsPart t (are_loose events) (c ∷ part) × ReportItems parts reports
+    ReportsPart t (are_loose events) (c ∷ part) × (carried_in events ≡ [])
+    × ReportItems parts reports
 
 -- A command without data, with P3 00, whose card repeats INS before its status, perhaps after
 -- NULLs. A tap reads INS as the beginning of 256 data from the card.
@@ -100,7 +113,8 @@ abbrev pub ended_by : Report → List Report
 ended_by t = if length t.header == 0 then [] else as_ended t ∷ []
 
 -- These events are whole dialogues, with a report of each; resets, with a report of what each cut
--- off; and a front of one more dialogue, where the tap is. The current report is of that front.
+-- off; commands at T=1, with theirs; and a front of one more dialogue, where the tap is. The current
+-- report is of that front.
 pub record HasNoted (events : List Event) (reports : List Report) (l : Listener) : Type 0 where
   pub parts : List Part
   pub last : List Event

@@ -42,8 +42,8 @@ is_name ins ToCard = ins == 0xA4
 is_name ins FromCard = false
 
 -- P1-P2 of GET DATA and PUT DATA name an object
-abbrev pub Names : Header → List ℕ → Type 0
-Names h tag = (is_among h.ins (0xCA ∷ 0xDA ∷ []) ≡ true) × NamesTag tag h.p1 h.p2
+abbrev pub NamesObject : Header → List ℕ → Type 0
+NamesObject h tag = (is_among h.ins (0xCA ∷ 0xDA ∷ []) ≡ true) × NamesTag tag h.p1 h.p2
 
 -- Data may be objects, or parts of objects. Parts are hidden.
 abbrev pub whole_or_nothing : Bool → Shown
@@ -61,9 +61,9 @@ pub record ShowsValue (tags : List (List ℕ)) (tag : List ℕ) (continues goes_
 -- data that are not secret, with tags
 pub record ShowsTagged (tags : List (List ℕ)) (o : Origin) (shown : Shown) : Type 0 where
   pub name : is_name o.header.ins o.way ≡ true → shown ≡ All
-  pub named : is_name o.header.ins o.way ≡ false → (t : List ℕ) → Names o.header t
-      → (tag : List ℕ) × Names o.header tag × ShowsValue tags tag o.continues o.goes_on shown
-  pub others : is_name o.header.ins o.way ≡ false → ((tag : List ℕ) → Names o.header tag → ⊥)
+  pub named : is_name o.header.ins o.way ≡ false → (t : List ℕ) → NamesObject o.header t
+      → (tag : List ℕ) × NamesObject o.header tag × ShowsValue tags tag o.continues o.goes_on shown
+  pub others : is_name o.header.ins o.way ≡ false → ((tag : List ℕ) → NamesObject o.header tag → ⊥)
       → shown ≡ whole_or_nothing (o.continues || may_be_cut o.header)
 
 -- Without a mask all data are shown. A mask hides secret data. Without tags it shows all others.

@@ -4,9 +4,9 @@ use Rattle.std.specs.String.{string_bytes}
 use Rattle.trace_explain.specs.declared.write.layout.Medium.{Medium}
 use Rattle.trace_explain.specs.declared.write.layout.Side.{Side}
 use Rattle.trace_explain.specs.declared.write.sheet.Sheet.{Sheet}
-use Rattle.trace_explain.specs.Trees.{IsValue}
+use Rattle.trace_explain.specs.Trees.{IsValue, remark}
 use Rattle.trace_explain.specs.Words.{IsWords}
-use Rattle.trace_explain.specs.Written.{lines_text, some_row}
+use Rattle.trace_explain.specs.Written.{are_printable, lines_text, some_row}
 
 -- Exactly this was added, unless memory ran out. Once it ran out, nothing is added.
 pub record Adds (old : Sheet) (more : List ℕ) (new : Sheet) : Type 0 where
@@ -45,7 +45,12 @@ abbrev pub PutsAny : (List (List ℕ) → Type 0) → Bool → Sheet → Sheet �
 PutsAny Are some old new =
     PutsLines (λ lines. Are lines × (some ≡ has_lines lines)) old new
 
--- a value was added after its tag
+-- a remark was added
+abbrev pub PutsRemark : Sheet → Sheet → Type 0
+PutsRemark old new = (says : List ℕ) × (are_printable says ≡ true) × Adds old (remark says) new
+
+-- a value was added after its tag, with a remark
 abbrev pub PutsValue : ℕ → List ℕ → Sheet → Sheet → Type 0
-PutsValue level value old new = (words : List ℕ) × (below : List (List ℕ))
-    × IsValue level value words below × Adds old (words ++ lines_text below) new
+PutsValue level value old new = (says words : List ℕ) × (below : List (List ℕ))
+    × (are_printable says ≡ true) × IsValue level value says words below
+    × Adds old (words ++ lines_text below) new

@@ -4,7 +4,7 @@ use Rattle.std.specs.List.{Contains}
 use Rattle.hex.specs.Hex.{encode_upper}
 use Rattle.tlv_core.specs.Spelling.{AreObjects, Begins}
 use Rattle.tlv_core.specs.TagForm.{is_constructed}
-use Rattle.trace_explain.specs.Written.{AreLines, content, is_text, spaces}
+use Rattle.trace_explain.specs.Written.{AreLines, are_printable, content, is_text, spaces}
 
 -- an object's tag, after two spaces for each level below 1, the first
 abbrev pub indent : ℕ → ℕ
@@ -18,12 +18,18 @@ abbrev pub value_width : Bool → ℕ
 value_width true = 15
 value_width false = 24
 
--- a value after its tag, and in the lines below
-abbrev pub IsValue : ℕ → List ℕ → List ℕ → List (List ℕ) → Type 0
-IsValue level [] words below = (words ≡ codes " -") × (below ≡ [])
-IsValue level (b ∷ bytes) words below =
-    (words ≡ codes " " ++ content (is_text (b ∷ bytes))
-    (take (value_width (is_text (b ∷ bytes))) (b ∷ bytes)))
+-- The remark on an object follows its digits: these words, which are printable, so that no line ends
+-- in them; or nothing.
+abbrev pub remark : List ℕ → List ℕ
+remark [] = []
+remark (b ∷ words) = codes "  " ++ b ∷ words
+
+-- a value after its tag, with a remark, and in the lines below
+abbrev pub IsValue : ℕ → List ℕ → List ℕ → List ℕ → List (List ℕ) → Type 0
+IsValue level [] says words below = (words ≡ codes " -" ++ remark says) × (below ≡ [])
+IsValue level (b ∷ bytes) says words below =
+    (words ≡ (codes " " ++ content (is_text (b ∷ bytes))
+    (take (value_width (is_text (b ∷ bytes))) (b ∷ bytes))) ++ remark says)
     × AreLines (indent level + 5) (value_width (is_text (b ∷ bytes))) (is_text (b ∷ bytes))
     (drop (value_width (is_text (b ∷ bytes))) (b ∷ bytes)) below
 
@@ -32,7 +38,7 @@ abbrev pub listed : ℕ → List ℕ → List ℕ → List (List ℕ) → List (
 listed level tag words below others = ((object level tag ++ words) ∷ below) ++ others
 
 -- The lines of bytes that are objects of a level. If an object's tag is among these, its value is
--- hidden. Below a template are its objects.
+-- hidden, and has no remark. Below a template are its objects.
 pub data AreTree : List (List ℕ) → List ℕ → ℕ → List (List ℕ) → Type 0 where
   no_object : {tags : List (List ℕ)} {bytes : List ℕ} {level : ℕ} {lines : List (List ℕ)}
       → All (λ b. b ≡ 0) bytes → lines ≡ [] → AreTree tags bytes level lines
@@ -42,16 +48,17 @@ pub data AreTree : List (List ℕ) → List ℕ → ℕ → List (List ℕ) → 
       → lines ≡ listed level tag (codes " **") [] others
       → AreTree tags rest level others → AreTree tags bytes level lines
   primitive : {tags : List (List ℕ)} {bytes : List ℕ} {level : ℕ} {lines : List (List ℕ)}
-      (padding tag size value rest words : List ℕ) (below others : List (List ℕ))
+      (padding tag size value rest says words : List ℕ) (below others : List (List ℕ))
       → Begins bytes padding tag size value rest level → (Contains tags tag → ⊥)
-      → is_constructed tag ≡ false → IsValue level value words below
+      → is_constructed tag ≡ false → are_printable says ≡ true → IsValue level value says words below
       → lines ≡ listed level tag words below others
       → AreTree tags rest level others → AreTree tags bytes level lines
   template : {tags : List (List ℕ)} {bytes : List ℕ} {level : ℕ} {lines : List (List ℕ)}
-      (padding tag size value rest : List ℕ) (inside others : List (List ℕ))
+      (padding tag size value rest says : List ℕ) (inside others : List (List ℕ))
       → Begins bytes padding tag size value rest level → (Contains tags tag → ⊥)
-      → is_constructed tag ≡ true → AreTree tags value (suc level) inside
-      → lines ≡ listed level tag [] inside others
+      → is_constructed tag ≡ true → are_printable says ≡ true
+      → AreTree tags value (suc level) inside
+      → lines ≡ listed level tag (remark says) inside others
       → AreTree tags rest level others → AreTree tags bytes level lines
 
 -- The lines of data as a tree: none, unless the data may be objects and are some.

@@ -17,6 +17,7 @@ use Rattle.trace_explain.specs.declared.read.reading.Reading.{Reading}
 use Rattle.trace_explain.specs.declared.read.entry.Source.{Source}
 use Rattle.trace_explain.specs.declared.read.entry.Source.TheVariants.{Sign, Turn}
 use Rattle.trace_explain.specs.declared.read.ways.Ways.{Ways}
+use Rattle.trace_explain.specs.Overheard.{Overheard}
 use Rattle.trace_explain.specs.Openings.{Opening, has_answered, has_begun, turned_by}
 use Rattle.trace_explain.specs.Reports.{Report, report_of}
 use Rattle.trace_explain.specs.WaysOf.{way_of}
@@ -44,6 +45,7 @@ turn_before stage.Request answered b = Ok Terminal
 turn_before stage.Asked answered b = Ok (if b == 0xFF then Card else between b)
 turn_before stage.Response answered b = Ok Card
 turn_before stage.Begun answered b = Ok Terminal
+turn_before stage.Blocks answered b = Ok Terminal
 
 -- Data go as the first of them did, or as those of the instruction do if that is known. P3 `00`
 -- asks the card for 256 bytes (ISO/IEC 7816-3, 10.3.2). If the data go to the card, it means no
@@ -57,6 +59,10 @@ data_at false None (Some FromCard) ins count = Ok Card
 data_at false None (Some ToCard) ins count = Ok Terminal
 data_at p3_00 seen None ins count = Err (unknown.Way ins)
 
+abbrev pub turn_beside : Option Overheard → Result End TurnFault → Result End TurnFault
+turn_beside None before = before
+turn_beside (Some o) before = Ok o.turn
+
 -- In the dialogue, the terminal sends a whole header (10.3.2), and the card procedure bytes, SW1
 -- and SW2 (10.3.3).
 abbrev pub turn_within : Ways → Due → Report → ℕ → Result End TurnFault
@@ -68,11 +74,11 @@ turn_within ways (due.Data seen) t b =
     (length t.moved)
 turn_within ways due.SecondStatus t b = Ok Card
 
--- Whose turn it is to send the next character.
+-- Whose turn it is to send the next character. At T=1 ends take turns, a block each.
 abbrev pub turn_at : Ways → Opening → Listener → ℕ → Result End TurnFault
 turn_at ways o l b =
     if has_begun o.stage then turn_within ways (due_at l.tap) (report_of l.under_way) b
-    else turn_before o.stage (has_answered o) b
+    else turn_beside o.blocks (turn_before o.stage (has_answered o) b)
 
 -- The end whose characters follow this end's sign: the other one if signs are swapped.
 abbrev pub sender : Reading → End → End

@@ -8,12 +8,13 @@ use Rattle.trace_explain.specs.declared.write.layout.Medium.TheVariants.{Text, H
 use Rattle.trace_explain.specs.declared.write.layout.Topic.{Topic}
 use Rattle.trace_explain.specs.declared.write.layout.Topic.TheVariants as topic
 use Rattle.trace_explain.specs.declared.write.words.Form.{Form}
-use Rattle.trace_explain.specs.declared.write.words.Form.TheVariants.{Box, BoxEnd, Row, Number, Null, True, Map, Count, Note, List as Begin, Comma, ListEnd, LineEnd, Command, Block, BlockEnd, Style, Links, Link, More}
+use Rattle.trace_explain.specs.declared.write.words.Form.TheVariants.{Box, BoxEnd, Row, Number, Null, True, Map, Count, Note, List as Begin, Comma, ListEnd, LineEnd, Command, Block, BlockEnd, Style, Script, Part, PartEnd, Links, Link, More}
 use Rattle.trace_explain.specs.Written.{box_begin, box_end, letters, line_text, name_of, newline, some_row}
 
 -- labels of rows and fields in boxes that are no TPDUs
 abbrev pub own_labels : List (List ℕ)
-own_labels = codes "TPDUs" ∷ codes "answer" ∷ codes "characters" ∷ codes "cla" ∷ codes "command"
+own_labels = codes "TPDUs" ∷ codes "answer" ∷ codes "blocks" ∷ codes "characters" ∷ codes "cla"
+    ∷ codes "command"
     ∷ codes "commands" ∷ codes "convention" ∷ codes "cut_off" ∷ codes "errors" ∷ codes "expected"
     ∷ codes "fault" ∷ codes "guard time" ∷ codes "hint" ∷ codes "historical" ∷ codes "ins"
     ∷ codes "instruction" ∷ codes "masked" ∷ codes "number" ∷ codes "p1" ∷ codes "p2"
@@ -38,14 +39,14 @@ has_own (True label) = is_own label.now
 has_own (Map label) = is_own label.now
 has_own form = true
 
--- the start of a page, before its style and after it
+-- the start of a page, before its style and after its script
 abbrev pub style_begin : List ℕ
 style_begin = codes "<!DOCTYPE html>\n<html lang=\"en\">\n<head>\n<meta charset=\"utf-8\">\n"
     ++ codes "<meta name=\"viewport\" content=\"width=device-width, initial-scale=1\">\n"
     ++ codes "<title>A trace, explained</title>\n<style>\n"
 
-abbrev pub style_end : List ℕ
-style_end = codes "</style>\n</head>\n<body>\n<main>\n<h1>A trace, explained</h1>\n"
+abbrev pub head_end : List ℕ
+head_end = codes "</script>\n</head>\n<body>\n<main>\n<h1>A trace, explained</h1>\n"
     ++ codes "<div class=\"ends\"><span>Terminal</span><span>Card</span></div><div>\n"
 
 -- text of a page between two pieces of markup
@@ -73,6 +74,7 @@ topic_text m topic.Pair = codes "unexpected command or answer"
 topic_text m topic.Note = codes "note"
 topic_text m topic.Reset = codes "reset"
 topic_text m topic.Command = codes "command"
+topic_text m topic.Blocks = codes "blocks"
 
 abbrev pub field_before : List ℕ → List ℕ
 field_before label = codes ",\"" ++ label ++ codes "\":"
@@ -93,7 +95,11 @@ json_piece Block text = codes "{\"type\":\"summary\""
 json_piece BlockEnd text = codes "}\n"
 json_piece form text = []
 
--- Text has neither a style nor links.
+abbrev pub part_begin : ℕ → List ℕ
+part_begin number = codes "<details class=\"part\"><summary>from #" ++ decimal number
+    ++ codes "</summary>\n"
+
+-- Text has neither a style nor parts nor links.
 abbrev pub piece_text : Medium → Form → List ℕ → List ℕ
 piece_text m (Box kind anchor about line) text =
     box_begin m kind anchor ++ topic_text m about ++ gap m ++ line_text m line
@@ -107,7 +113,10 @@ piece_text Text form text = []
 piece_text Html Note text = marked (codes "<pre class=\"note\">") text (codes "</pre>\n")
 piece_text Html Block text = codes "</div><section><h2>summary</h2>\n"
 piece_text Html BlockEnd text = codes "</section>\n</main>\n</body>\n</html>\n"
-piece_text Html Style text = marked style_begin text style_end
+piece_text Html Style text = marked style_begin text (codes "</style>\n")
+piece_text Html Script text = marked (codes "<script>\n") text head_end
+piece_text Html (Part number) text = part_begin number
+piece_text Html PartEnd text = codes "</details>\n"
 piece_text Html Links text = marked (codes "<p>") text []
 piece_text Html (Link anchor) text = link_text anchor text
 piece_text Html More text = marked [] text (codes "</p>\n")

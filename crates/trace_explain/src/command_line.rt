@@ -23,6 +23,10 @@ pub struct Request<'a> {
     pub options: Options<'a>,
     /// The paths of two traces, A and B, if two are compared.
     pub compared: Option<(&'a str, &'a str)>,
+    /// The path of a file with names.
+    pub names: Option<&'a str>,
+    /// Whether it lists the names in place of an explanation.
+    pub lists_names: bool,
 }
 
 /// Parses the command line. Its first word is the program's name. `forms` are the names of forms.
@@ -61,6 +65,7 @@ pub fn parsed<'a>(
             is_unsigned: matches.get_flag("unsigned"),
             ways,
             of_tpdus: matches.get_flag("tpdu"),
+            is_of_blocks: matches.get_str("protocol").is_some(),
         },
         layout,
         resumes: matches.get_flag("resume"),
@@ -68,6 +73,8 @@ pub fn parsed<'a>(
             Some([a, b]) => Some((*a, *b)),
             _ => None,
         },
+        names: matches.get_str("names-file"),
+        lists_names: matches.get_flag("list-names"),
     })
 }
 
@@ -137,10 +144,14 @@ enum Takes {
     Form,
     File,
     Instructions,
+    Protocol,
 }
 
+/// What `--protocol` takes.
+static PROTOCOLS: [&str; 1] = ["t1"];
+
 /// The options, in the order of the help.
-static OPTIONS: [Row; 14] = [
+static OPTIONS: [Row; 17] = [
     Row(
         "diff",
         help::DIFF,
@@ -159,6 +170,8 @@ static OPTIONS: [Row; 14] = [
         Takes::File,
         &["form", "unsigned"],
     ),
+    Row("names-file", help::NAMES_FILE, Takes::File, &[]),
+    Row("list-names", help::LIST_NAMES, Takes::Nothing, &[]),
     Row("swap", help::SWAP, Takes::Nothing, &[]),
     Row(
         "unsigned",
@@ -169,6 +182,7 @@ static OPTIONS: [Row; 14] = [
     Row("to-card", help::TO_CARD, Takes::Instructions, &[]),
     Row("from-card", help::FROM_CARD, Takes::Instructions, &[]),
     Row("summary", help::SUMMARY, Takes::Nothing, &[]),
+    Row("protocol", help::PROTOCOL, Takes::Protocol, &["tpdu"]),
     Row("tpdu", help::TPDU, Takes::Nothing, &["resume", "unsigned"]),
 ];
 
@@ -202,6 +216,12 @@ fn taking<'a>(takes: Takes, option: Arg<'a>, forms: &'a [&'a str]) -> Result<Arg
                 .action(ArgAction::Set)
                 .value_name("FORM")
                 .value_parser(forms),
+        ),
+        Takes::Protocol => Ok(
+            option
+                .action(ArgAction::Set)
+                .value_name("T")
+                .value_parser(PROTOCOLS.as_slice()),
         ),
         Takes::File => Ok(option.action(ArgAction::Set).value_name("FILE")),
         Takes::Instructions => option

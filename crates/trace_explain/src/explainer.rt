@@ -64,13 +64,14 @@ impl Explainer {
         ensures position { position_of result ≡ first_of_all reading }
         ensures line { result.line ≡ 0 }
     {
+        let is_of_blocks = reading.is_of_blocks;
         Explainer {
             alloc,
             reading,
             resuming: Resuming::new(resumes),
             has_characters: false,
             line: 0,
-            preface: Preface::new(alloc),
+            preface: Preface::new(alloc, is_of_blocks),
             listener: Listener::new(alloc),
             log: Log::new(alloc),
             teller: Teller::new(alloc, layout, mask),
@@ -228,6 +229,8 @@ impl Explainer {
                         &self.listener.under_way,
                         byte,
                     )
+                } else if let Some(blocks) = &self.preface.blocks {
+                    Ok(blocks.turn)
                 } else {
                     turn_before(stage, self.preface.has_answered(), byte)
                 }
@@ -244,6 +247,12 @@ impl Explainer {
         ensures counts { OnOk result (self.new.line ≡ self.old.line) }
     {
         self.has_characters = true;
+        let role = self.preface.role_of(from, byte);
+        if role.is_block() {
+            let (preface, listener) = (&mut self.preface, &mut self.listener);
+            self.teller.hear_block(preface, listener, role, byte)?;
+            return Ok(false);
+        }
         let begun = self.preface.stage.has_begun();
         let is_loose = self.preface.stage.is_loose();
         let opens = self.teller.open(&mut self.preface, from, byte, rest)?;

@@ -1,7 +1,8 @@
 //! The texts of `--help` and `--version`, and the error for words that are not UTF-8.
 
 /// The help of the program.
-pub const PROGRAM: &str = "Explains the trace of a dialogue with a smart card over T=0: each \
+pub const PROGRAM: &str =
+    "Explains the trace of a dialogue with a smart card over T=0 or T=1: each \
     command and its response";
 
 /// The version.
@@ -24,6 +25,10 @@ pub const FORM: &str = "Sets the form of the lines, in place of the first ones";
 
 pub const FORM_FILE: &str = "Reads lines by the first form in this file";
 
+pub const NAMES_FILE: &str = "Adds the names in this file to those of the program";
+
+pub const LIST_NAMES: &str = "Lists the names of tags, application identifiers and bits";
+
 pub const SWAP: &str = "Takes each sign for that of the other end, if TX is the card's";
 
 pub const UNSIGNED: &str = "Reads lines without signs: the dialogue shows who sent each character";
@@ -33,6 +38,8 @@ pub const TO_CARD: &str = "Lists instructions whose data go to the card, as `5A,
 pub const FROM_CARD: &str = "Lists instructions whose data come from the card";
 
 pub const SUMMARY: &str = "Writes the last block alone, which contains the counts";
+
+pub const PROTOCOL: &str = "Reads a trace that begins among blocks of T=1";
 
 pub const TPDU: &str = "Reads a log of whole TPDUs or APDUs, as programs of PC/SC write them";
 
@@ -65,10 +72,17 @@ most 2^40 bytes, and a line at most 4,194,304.
 
 At the start of the trace, and after a reset, a first character `3B`, `3F` or `03` of the card
 begins an answer to reset. After an answer, `FF` of the terminal begins a PPS request. Both are
-shown with their meaning, or with what is wrong and where. If an answer does not offer T=0 first, a
-hint says that the program reads T=0 only. Other characters of the card before the dialogue are
-shown as such. An answer that begins between two TPDUs is shown, too: the card was reset there,
-though no line says so.
+shown with their meaning, or with what is wrong and where. If an answer offers neither T=0 nor T=1
+first, a hint says that the program reads these only. Other characters of the card before the
+dialogue are shown as such. An answer that begins between two TPDUs at T=0 is shown, too: the card
+was reset there, though no line says so.
+
+After an answer and PPS that lead to T=1, bytes are read as blocks up to the next line `reset`, with
+LRC or CRC as the answer says. A command is shown when its response is whole, with its blocks:
+`I(0) 16, more` is an I-block with N(S) 0 and 16 bytes, and more of its chain follow. Repeated,
+damaged and missing blocks are marked and counted, and are no protocol errors. A command that is not
+short is one. Without signs, each end sends a block in turn. With `--protocol t1` the trace begins
+among blocks with LRC.
 
 A byte is unexpected if no dialogue continues with it. The program prints its line and place,
 counted from 1, the byte, and what was expected; then it stops. With `--resume` it skips what
@@ -91,6 +105,11 @@ cut off, and an answer without a command as before one. A command that is not sh
 without SW1-SW2 at its end, are protocol errors: the program shows what is wrong, and continues.
 Every other line is a note, but one that begins as one of these and can't be read is a fault. So are
 characters of T=0, with INS before data.
+
+After the digits of an object its name follows, if the program knows it. So does its value in words:
+a date, a number, or what its bits mean. No word is beside a hidden value. `--list-names` prints the
+rows of tags, application identifiers and bits. `--names-file` adds rows in the same form, which
+precede those of the program. Lines with such words may be longer than 100 columns.
 
 With `--mask` reference data are shown as `**`: the data of VERIFY, CHANGE REFERENCE DATA, DISABLE
 and ENABLE VERIFICATION REQUIREMENT and RESET RETRY COUNTER. So are objects with the given tags,

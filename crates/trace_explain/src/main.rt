@@ -14,6 +14,7 @@ mod instructions;
 mod main_status;
 mod read;
 mod resuming;
+mod tables;
 mod write;
 
 use main_status::{main_status, status_without_words};

@@ -3,7 +3,7 @@ ghost use Rattle.std.specs.Prelude.{◌≡◌, ◌≤◌, OnOk, IfErr};
 ghost use Rattle.trace_explain.specs.Trace.{status_of};
 
 use crate::command_line::{Request, parsed};
-use crate::describe::mask::Mask;
+use crate::describe::names::Names;
 use crate::detect::{forms_of, head_of};
 use crate::diff::{DiffFault, diff};
 use crate::explain::explain;
@@ -42,10 +42,17 @@ pub fn main_status<D: Files, R: Read, W: Write, F: Write>(
         Ok(names) => names,
         Err(fault) => return print_fault(&fault, faults),
     };
-    let asked = match parsed(alloc, words, names.as_slice()) {
+    let mut asked = match parsed(alloc, words, names.as_slice()) {
         Ok(request) => request,
         Err(error) => return answered(&error, output, faults),
     };
+    asked.mask.names = match tables(alloc, asked.names, files) {
+        Ok(names) => names,
+        Err(fault) => return print_fault(&fault, faults),
+    };
+    if asked.lists_names {
+        return list(&asked.mask.names, output, faults);
+    }
     let Some(paths) = asked.compared else {
         let (head, reading) = match begin(alloc, &asked, files, input, faults) {
             Ok(begun) => begun,
@@ -123,13 +130,40 @@ fn reading<D: Files>(
     let Some(path) = options.file else {
         return Ok(options.reading(alloc, Forms::of(alloc, FORMS)?)?);
     };
-    let file = File::open(files, path).map_err(|_| FormsFault::Open)?;
-    let text = read_to_string(alloc, file).map_err(|_| FormsFault::Open)?;
+    let text = text_of(alloc, files, path, "forms")?;
     let forms = Forms::of(alloc, text.as_str())?;
     if forms.forms.is_empty() {
         return Err(FormsFault::Line(1));
     }
     Ok(options.reading(alloc, forms)?)
+}
+
+/// Returns the names of the program, after those of the file at this path, if any.
+fn tables<D: Files>(alloc: Global, path: Option<&str>, files: &D) -> Result<Names, FormsFault> {
+    match path {
+        Some(path) => Names::of(alloc, text_of(alloc, files, path, "names")?.as_str()),
+        None => Names::of(alloc, ""),
+    }
+}
+
+/// Returns the text of a file with rows of this kind.
+fn text_of<D: Files>(
+    alloc: Global,
+    files: &D,
+    path: &str,
+    kind: &'static str,
+) -> Result<String, FormsFault> {
+    let file = File::open(files, path).map_err(|_| FormsFault::Open(kind))?;
+    read_to_string(alloc, file).map_err(|_| FormsFault::Open(kind))
+}
+
+/// Writes the rows of names. Returns 0, or 1 for a fault.
+fn list<W: Write, F: Write>(names: &Names, output: &mut W, faults: &mut F) -> u8
+    ensures status { result ≤ 2 }
+{
+    let outcome = output.write_all(names.text().as_bytes());
+    let outcome = outcome.map_err(|error| ExplainFault::of_writing(&error));
+    status(&outcome, faults)
 }
 
 /// Compares the traces of two files.

@@ -15,6 +15,7 @@ pub mod page;
 pub mod pps;
 pub mod preface_box;
 pub mod row;
+pub mod script;
 pub mod sheet;
 pub mod shown;
 pub mod sink;

@@ -10,6 +10,9 @@ const SECOND: u64 = 1_000_000_000;
 /// The nanoseconds of a day.
 const DAY: u64 = 86_400_000_000_000;
 
+/// A clock of days that goes back by fewer nanoseconds was set back (profile).
+const SET_BACK: u64 = 60_000_000_000;
+
 /// The start from which a time counts.
 #[derive(Clone, Copy, PartialEq, Eq)]
 enum Measure {
@@ -223,16 +226,16 @@ fn of_day(time: &[u8]) -> &[u8] {
         .unwrap_or(time)
 }
 
-/// How much later the second moment is, if both count from the same start. Days end at midnight.
+/// How much later the second moment is, if both count from the same start. A clock of days that
+/// goes back has passed midnight, unless it was set back.
 fn span(before: Option<Moment>, now: Option<Moment>) -> Option<u64> {
     let (before, now) = (before?, now?);
     if before.measure != now.measure {
         return None;
     }
     match now.nanos.checked_sub(before.nanos) {
-        None if now.measure == Measure::Day => {
-            now.nanos.checked_add(DAY)?.checked_sub(before.nanos)
-        }
+        None if now.measure == Measure::Day && before.nanos.saturating_sub(now.nanos) >= SET_BACK =>
+            { now.nanos.checked_add(DAY)?.checked_sub(before.nanos) }
         known => known,
     }
 }

@@ -3,9 +3,10 @@ ghost use Rattle.std.specs.Prelude.{◌≡◌, ◌↔◌, ◌&&◌, ℕ, List, [
 ghost use Rattle.std.specs.List.{Contains};
 ghost use Rattle.t0_core.specs.declared.direction.Direction.TheVariants.{FromCard, ToCard};
 ghost use Rattle.trace_explain.specs.Boxes.{whole_way};
-ghost use Rattle.trace_explain.specs.Secrets.{Names, Shows, ShowsValue, carries_secret, has_secret, is_name, may_be_cut, whole_or_nothing};
+ghost use Rattle.trace_explain.specs.Secrets.{NamesObject, Shows, ShowsValue, carries_secret, has_secret, is_name, may_be_cut, whole_or_nothing};
 ghost use Rattle.trace_explain.specs.Reports.{IsOfCommand};
 
+use crate::describe::names::Names;
 use crate::follow::chain::has_more;
 use crate::follow::links::{Links, Whole};
 use crate::follow::response::waiting;
@@ -27,10 +28,14 @@ pub const HIDDEN: &str = "**";
 /// With tags it also hides data that may be part of such an object: parts of longer data, and data
 /// that are not a list of objects. It still shows the name of SELECT, and what GET DATA and PUT
 /// DATA move under another tag of a primitive object.
+///
+/// It also has the names of what is shown.
 #[derive(Drop)]
 pub struct Mask {
     hides: bool,
     tags: Vec<Tag>,
+    /// The names. A new mask has none.
+    pub names: Names,
 }
 
 /// Why a text is not a list of tags.
@@ -149,6 +154,7 @@ impl Mask {
         Mask {
             hides: false,
             tags: Vec::new(alloc),
+            names: Names::none(alloc),
         }
     }
 
@@ -165,25 +171,32 @@ impl Mask {
         ensures no_tags { words.now ≡ [] → IfOk result (λ mask. mask.tags.items ≡ []) }
     {
         let mut tags = Vec::new(alloc);
-        if words.is_empty() {
-            return Ok(Mask { hides: true, tags });
+        if !words.is_empty() {
+            for word in words.split(',') {
+                let tag = tag_of(alloc, word)?;
+                tags.push(tag).map_err(AllocError::from)?;
+            }
         }
-        for word in words.split(',') {
-            let tag = tag_of(alloc, word)?;
-            tags.push(tag).map_err(AllocError::from)?;
-        }
-        Ok(Mask { hides: true, tags })
+        let names = Names::none(alloc);
+        Ok(Mask {
+            hides: true,
+            tags,
+            names,
+        })
     }
 
-    /// Returns a copy, or `AllocError` if memory ran out.
+    /// Returns a copy, with a copy of the names, or `AllocError` if memory ran out.
     pub fn copied(&self, alloc: Global) -> Result<Mask, AllocError>
         ensures { IfOk result (λ mask. (mask.hides ≡ self.now.hides)
             × (mask.tags.items ≡ self.now.tags.items)) }
     {
         let mut tags = Vec::new(alloc);
         tags.extend_from_slice(self.tags.as_slice())?;
-        let hides = self.hides;
-        Ok(Mask { hides, tags })
+        Ok(Mask {
+            hides: self.hides,
+            tags,
+            names: self.names.copied(alloc).map_err(|_| AllocError)?,
+        })
     }
 
     /// Whether it hides anything. If so it hides all bytes of unknown meaning, such as notes and
@@ -311,8 +324,8 @@ fn is_name(ins: u8, way: Direction) -> bool
 
 /// The tag that P1-P2 of GET DATA or PUT DATA name.
 fn named(header: Header) -> Option<Tag>
-    ensures some { IfSome result (Names header) }
-    ensures none { result ≡ None → (tag : List ℕ) → Names header tag → ⊥ }
+    ensures some { IfSome result (NamesObject header) }
+    ensures none { result ≡ None → (tag : List ℕ) → NamesObject header tag → ⊥ }
 {
     match header.ins {
         0xCA | 0xDA => Some(ObjectTag::from_p1p2(header.p1, header.p2)?.tag()),

@@ -1,7 +1,7 @@
 //! What a character is before the dialogue: part of an answer to reset, a PPS exchange, or neither.
-ghost use Rattle.std.specs.Prelude.{◌≡◌};
+ghost use Rattle.std.specs.Prelude.{◌≡◌, ◌+◌, ◌*◌, ◌<◌, ◌≤◌, get_or};
 ghost use Rattle.atr_core.specs.FirstFault.{first_fault};
-ghost use Rattle.trace_explain.specs.Openings.{after_answer, as_ts, begins_answer, has_begun, is_dialogue, is_direct, is_full, is_loose, is_short, role_at, turned_by};
+ghost use Rattle.trace_explain.specs.Openings.{after_answer, announced_by, as_ts, begins_answer, crc_from, has_begun, has_crc, is_block, is_dialogue, is_direct, is_full, is_loose, is_short, protocol_after, protocol_of, role_at, td_behind, turned_by};
 
 use atr_core::{Atr, AtrFault, AtrReason, Convention, Pps};
 use t0_core::End;
@@ -27,8 +27,10 @@ pub enum Stage {
     Asked,
     /// The response has started.
     Response,
-    /// The dialogue has begun.
+    /// The dialogue at T=0 has begun.
     Begun,
+    /// The dialogue at T=1 has begun.
+    Blocks,
 }
 
 /// What a character is.
@@ -48,8 +50,10 @@ pub enum Role {
     Response,
     /// The card's, and none of these.
     Stray,
-    /// Part of the dialogue.
+    /// Part of the dialogue at T=0.
     Dialogue,
+    /// Part of a block of this end, at T=1.
+    Block(End),
 }
 
 impl Role {
@@ -57,7 +61,7 @@ impl Role {
     pub fn continues(self) -> bool {
         matches!(
             self,
-            Role::Answer | Role::Request | Role::ResponsePpss | Role::Response
+            Role::Answer | Role::Request | Role::ResponsePpss | Role::Response | Role::Block(_)
         )
     }
 
@@ -66,7 +70,14 @@ impl Role {
         matches!(self, Role::Stray)
     }
 
-    /// Whether it is part of the dialogue.
+    /// Whether it is part of a block.
+    pub fn is_block(self) -> bool
+        ensures { result ≡ is_block self }
+    {
+        matches!(self, Role::Block(_))
+    }
+
+    /// Whether it is part of the dialogue at T=0.
     pub fn is_dialogue(self) -> bool
         ensures { result ≡ is_dialogue self }
     {
@@ -98,6 +109,7 @@ pub fn role_at(stage: Stage, may_ask: bool, from: End, byte: u8) -> Role
 {
     match (from, stage) {
         (_, Stage::Begun) => Role::Dialogue,
+        (_, Stage::Blocks) => Role::Block(from),
         (End::Terminal, Stage::Request) => Role::Request,
         (End::Terminal, _) if may_ask && byte == PPSS => Role::RequestPpss,
         (End::Terminal, _) => Role::Dialogue,
@@ -172,6 +184,89 @@ pub fn is_short(reason: AtrReason) -> bool
     ensures { result ≡ is_short reason }
 {
     matches!(reason, AtrReason::Cut | AtrReason::CheckMissing)
+}
+
+/// Returns the protocol after an answer and the response to a PPS request, or no response. Without
+/// one it is that of TA2, or else the first that is offered (ISO/IEC 7816-3, 8.3 and 9).
+pub fn protocol_after(answer: &[u8], response: &[u8]) -> u8
+    ensures { result ≡ protocol_after answer.now response.now }
+{
+    match response {
+        [_, pps0, ..] => pps0 % 16,
+        _ => protocol_of(answer),
+    }
+}
+
+/// The same without PPS.
+fn protocol_of(answer: &[u8]) -> u8
+    ensures { result ≡ protocol_of answer.now }
+{
+    let t0 = at(answer, 1);
+    if t0 < 128 {
+        return 0;
+    }
+    let place = td_behind(answer, 1);
+    let td1 = at(answer, place);
+    if td1 / 16 % 2 == 1 {
+        at(answer, place + 1) % 16
+    } else {
+        td1 % 16
+    }
+}
+
+/// Returns the place of the TD that an indicator (T0 or a TD) at this place announces, if it does.
+fn td_behind(answer: &[u8], place: usize) -> usize
+    requires { place < 4_096 }
+    ensures { result ≡ td_behind answer.now place }
+{
+    place + 1 + announced_by(at(answer, place))
+}
+
+/// Returns how many of TA, TB and TC an indicator announces.
+fn announced_by(indicator: u8) -> usize
+    ensures is { result ≡ announced_by indicator }
+    ensures few { result ≤ 3 }
+{
+    usize::from(indicator / 16 % 2)
+        + usize::from(indicator / 32 % 2)
+        + usize::from(indicator / 64 % 2)
+}
+
+/// Whether blocks have CRC after this answer: bit 1 of the first TC for T=1, after TD2 or a later
+/// TD.
+pub fn has_crc(answer: &[u8]) -> bool
+    ensures { result ≡ has_crc answer.now }
+{
+    let td1 = td_behind(answer, 1);
+    if at(answer, 1) < 128 {
+        return false;
+    }
+    if at(answer, td1) < 128 {
+        return false;
+    }
+    crc_from(answer.len().min(33), answer, td_behind(answer, td1))
+}
+
+/// The same, if at most this many TDs follow, the first of them at this place.
+fn crc_from(tds: usize, answer: &[u8], place: usize) -> bool
+    requires { place + 4 * tds < 4_096 }
+    ensures { result ≡ crc_from tds answer.now place }
+{
+    if tds == 0 {
+        return false;
+    }
+    let td = at(answer, place);
+    if td % 16 == 1 && td / 64 % 2 == 1 {
+        return at(answer, place + announced_by(td)) % 2 == 1;
+    }
+    td >= 128 && crc_from(tds - 1, answer, td_behind(answer, place))
+}
+
+/// Returns the character at this place, or 0.
+fn at(bytes: &[u8], place: usize) -> u8
+    ensures { result ≡ get_or bytes.now place 0 }
+{
+    bytes.get(place).copied().unwrap_or(0)
 }
 
 /// Whether a request or response has as many characters as it announces.

@@ -2,6 +2,7 @@
 ghost use Rattle.std.specs.Prelude.{◌≡◌, [], ◌∷◌, ◌++◌, Some, IfOk, IfErr};
 ghost use Rattle.trace_explain.specs.Pairs.{Command, IsBadCommand, IsBadPair, IsBadRest, IsCommand, IsPair, ReportsPair, beside, command_in, moved_of, way_of, with_p3};
 
+use crate::follow::block_row::BlockRows;
 use crate::follow::tally::Tally;
 use crate::follow::tpdu::{Tpdu, are_status};
 use crate::read::digits::push;
@@ -160,6 +161,7 @@ fn whole(
         le,
         answer: copied(alloc, answer)?,
         is_loose: false,
+        blocks: BlockRows::new(alloc),
     })
 }
 

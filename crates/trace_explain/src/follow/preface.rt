@@ -1,11 +1,18 @@
 //! What precedes a dialogue: the card's answer to reset, and PPS exchanges.
-ghost use Rattle.std.specs.Prelude.{◌≡◌, if◌then◌else◌, OnOk};
-ghost use Rattle.trace_explain.specs.Openings.{has_answered, is_full, opening_of, opens, role_of, opening_at, unopened};
+ghost use Rattle.std.specs.Prelude.{◌≡◌, false, if◌then◌else◌, OnOk};
+ghost use Rattle.std.specs.Option.{option_map, unwrap_or};
+ghost use Rattle.trace_explain.specs.Overheard.{overheard_by, silent};
+ghost use Rattle.trace_explain.specs.declared.follow.opening.Role.TheVariants.{Block};
+ghost use Rattle.trace_explain.specs.Openings.{first_opening, has_answered, is_full, leads_to_blocks, opening_of, opens, or_block, role_of, opening_at, unopened};
 
-use crate::follow::opening::{Role, Stage, after_answer, is_direct, is_full, role_at};
+use crate::follow::blocks::{Blocks, edc_of};
+use crate::follow::opening::{
+    Role, Stage, after_answer, has_crc, is_direct, is_full, protocol_after, role_at,
+};
 use crate::read::digits::push;
 use atr_core::Convention;
 use std::alloc::{AllocError, Global};
+use t1_core::Edc;
 use t0_core::End;
 
 /// The characters since the trace began or the card was reset, up to the dialogue.
@@ -23,11 +30,26 @@ pub struct Preface {
     pub response: Vec<u8>,
     /// The line, counted from 1, in which the answer or the last request began.
     pub line: u64,
+    /// The blocks since then, at T=1.
+    pub blocks: Option<Blocks>,
+    alloc: Global,
 }
 
 impl Preface {
-    /// Starts before the first character.
-    pub fn new(alloc: Global) -> Preface
+    /// Starts before the first character of a trace, or among blocks if `is_of_blocks`.
+    pub fn new(alloc: Global, is_of_blocks: bool) -> Preface
+        ensures { opening_of result ≡ first_opening is_of_blocks }
+    {
+        let mut preface = Preface::unopened(alloc);
+        if is_of_blocks {
+            preface.stage = Stage::Blocks;
+            preface.blocks = Some(Blocks::new(alloc, Edc::Lrc, true));
+        }
+        preface
+    }
+
+    /// Starts before an answer.
+    fn unopened(alloc: Global) -> Preface
         ensures { opening_of result ≡ unopened }
     {
         Preface {
@@ -37,6 +59,8 @@ impl Preface {
             request: Vec::new(alloc),
             response: Vec::new(alloc),
             line: 0,
+            blocks: None,
+            alloc,
         }
     }
 
@@ -52,7 +76,18 @@ impl Preface {
         ensures { result ≡ role_of (opening_of self.now) from byte }
     {
         let may_ask = is_direct(self.turned) && self.has_answered();
-        role_at(self.stage, may_ask, from, byte)
+        let role = role_at(self.stage, may_ask, from, byte);
+        or_block(role.is_dialogue() && self.leads_to_blocks(), from, role)
+    }
+
+    /// Whether what precedes the dialogue leads to T=1.
+    fn leads_to_blocks(&self) -> bool
+        ensures { result ≡ leads_to_blocks (opening_of self.now) }
+    {
+        matches!(self.stage, Stage::Ready)
+            && is_direct(self.turned)
+            && self.has_answered()
+            && protocol_after(self.answer.as_slice(), self.response.as_slice()) == 1
     }
 
     /// Takes a character of this line, in this role. TS of an answer, and each character of the
@@ -103,7 +138,21 @@ impl Preface {
                 self.begin(Stage::Begun);
                 Ok(())
             }
+            Role::Block(from) => self.take_block(from, byte),
         }
+    }
+
+    /// Takes a byte of a block. Returns `AllocError` if memory ran out: drop the preface.
+    fn take_block(&mut self, from: End, byte: u8) -> Result<(), AllocError>
+        ensures { OnOk result
+            (opening_of self.new ≡ opens (opening_of self.old) (Block from) byte) }
+    {
+        let edc = edc_of(has_crc(self.answer.as_slice()));
+        let mut blocks = begun(self.alloc, edc, self.blocks.take());
+        blocks.hear(from, byte)?;
+        self.begin(Stage::Blocks);
+        self.blocks = Some(blocks);
+        Ok(())
     }
 
     /// Forgets all characters after a reset.
@@ -122,7 +171,26 @@ impl Preface {
         self.answer.clear();
         self.request.clear();
         self.response.clear();
+        self.blocks = None;
     }
+}
+
+/// These blocks, or none so far.
+fn begun(alloc: Global, edc: Edc, blocks: Option<Blocks>) -> Blocks
+    ensures { overheard_by result
+        ≡ unwrap_or (option_map overheard_by blocks) (silent edc false) }
+{
+    match blocks {
+        Some(blocks) => blocks,
+        None => Blocks::new(alloc, edc, false),
+    }
+}
+
+/// This role, or that of a byte of a block if `is_block`.
+fn or_block(is_block: bool, from: End, role: Role) -> Role
+    ensures { result ≡ or_block is_block from role }
+{
+    if is_block { Role::Block(from) } else { role }
 }
 
 /// Returns the stage after these characters of a request or response: `all` if it is full.

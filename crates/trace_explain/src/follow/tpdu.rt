@@ -3,6 +3,7 @@ ghost use Rattle.std.specs.Prelude.{◌≡◌, ◌==◌, length, true, OnOk};
 ghost use Rattle.trace_explain.specs.Reports.{is_doubtful, report_of, no_report, noted};
 ghost use Rattle.trace_explain.specs.Noted.{AreStatus, are_status, as_ended, bared, is_bare};
 
+use crate::follow::block_row::BlockRows;
 use crate::follow::tally::Tally;
 use apdu_core::Status;
 use std::alloc::{AllocError, Global};
@@ -29,6 +30,8 @@ pub struct Tpdu {
     /// Whether its header is loose: bytes that no dialogue explains precede it, or follow in the
     /// TPDU. A mask hides it.
     pub is_loose: bool,
+    /// Its blocks, if it was carried at T=1.
+    pub blocks: BlockRows,
 }
 
 impl Tpdu {
@@ -45,6 +48,7 @@ impl Tpdu {
             le: None,
             answer: Vec::new(alloc),
             is_loose: false,
+            blocks: BlockRows::new(alloc),
         }
     }
 
@@ -55,6 +59,7 @@ impl Tpdu {
             moved: self.moved.clone()?,
             status: self.status.clone()?,
             answer: self.answer.clone()?,
+            blocks: self.blocks.copied()?,
             ..*self
         })
     }

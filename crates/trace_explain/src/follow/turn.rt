@@ -38,7 +38,7 @@ pub fn turn_before(stage: Stage, has_answered: bool, byte: u8) -> Result<End, Tu
         Stage::Request => Ok(End::Terminal),
         Stage::Asked if byte == PPSS => Ok(End::Card),
         Stage::Asked => Ok(between(byte)),
-        Stage::Begun => Ok(End::Terminal),
+        Stage::Begun | Stage::Blocks => Ok(End::Terminal),
     }
 }
 

@@ -21,6 +21,8 @@ form angle: characters
 reset: reset
 command: > {bytes}
 answer: < {bytes}
+command: pps > {bytes}
+answer: pps < {bytes}
 form angles: characters
 command: >> {bytes}
 answer: << {bytes}
@@ -133,6 +135,7 @@ impl fmt::Display for Signs {
         for line in rows.split('\n') {
             if let Some((_, pattern)) = line.split_once(": ")
                 && let Some(sign) = pattern.strip_suffix(" {bytes}")
+                && !sign.starts_with("pps ")
             {
                 write!(f, "{between}{sign}")?;
                 between = " and ";
@@ -142,18 +145,21 @@ impl fmt::Display for Signs {
     }
 }
 
-/// Why a text is not a list of forms.
+/// Why a text is not a list of forms, or of names.
 #[derive(Clone, Copy, Debug, Error)]
 pub enum FormsFault {
     /// The form is of whole commands, and `--resume` is for characters.
     #[error("error: `--resume` cannot be used with a form of whole commands")]
     Resume,
-    /// The file can't be read.
-    #[error("the file of forms can't be read")]
-    Open,
+    /// The file of these rows can't be read.
+    #[error("the file of {0} can't be read")]
+    Open(&'static str),
     /// This line is neither the head of a form, nor a row of one.
     #[error("the file of forms, line {0}: neither the head of a form nor a row of one")]
     Line(usize),
+    /// This line is no row of names.
+    #[error("the file of names, line {0}: no row of a tag, an application identifier or a bit")]
+    Name(usize),
     /// Memory ran out.
     #[error("out of memory")]
     OutOfMemory,

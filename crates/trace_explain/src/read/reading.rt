@@ -27,6 +27,8 @@ pub struct Options<'a> {
     pub ways: Ways,
     /// Whether they are a log of whole TPDUs, whatever their form says.
     pub of_tpdus: bool,
+    /// As in `Reading`.
+    pub is_of_blocks: bool,
 }
 
 impl Options<'_> {
@@ -60,6 +62,7 @@ impl Options<'_> {
             is_unsigned: self.is_unsigned,
             ways: self.ways,
             of_tpdus,
+            is_of_blocks: self.is_of_blocks,
         })
     }
 }
@@ -79,6 +82,8 @@ pub struct Reading {
     pub ways: Ways,
     /// Whether the lines are a log of whole TPDUs or APDUs.
     pub of_tpdus: bool,
+    /// Whether the trace begins among blocks of T=1.
+    pub is_of_blocks: bool,
 }
 
 impl Reading {
@@ -111,7 +116,8 @@ impl Reading {
     }
 }
 
-fn other_end(from: End) -> End
+/// Returns the other end.
+pub fn other_end(from: End) -> End
     ensures { result ≡ other_end from }
 {
     match from {

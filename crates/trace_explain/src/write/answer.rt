@@ -68,16 +68,16 @@ fn tell_values(answer: &Atr, page: &mut Page) {
 fn tell_unread(answer: &Atr, page: &mut Page) {
     if let Some(t) = unread(answer) {
         write!(page.lines, "the card offers T={t} first");
-        page.line_row("hint", ", and this program reads T=0 only\n");
+        page.line_row("hint", ", and this program reads T=0 and T=1\n");
     }
 }
 
-/// Returns the first protocol that an answer offers, if it is not T=0.
+/// Returns the first protocol that an answer offers, if it is neither T=0 nor T=1.
 fn unread(answer: &Atr) -> Option<u8>
     ensures { result ≡ unread (protocols_of answer.now.others) }
 {
     match answer.protocols().as_slice() {
-        [t, ..] if *t != 0 => Some(*t),
+        [t, ..] if *t > 1 => Some(*t),
         _ => None,
     }
 }

@@ -23,6 +23,7 @@ pub fn tell_begin(command: &mut Command, links: Links, line: u64, page: &mut Pag
         return;
     }
     tell_end(command, page);
+    page.begin_part(links.number);
     if !page.joins() {
         return;
     }

@@ -2,6 +2,7 @@
 
 use crate::describe::clock::Clock;
 use crate::describe::mask::HIDDEN;
+use crate::follow::block_row::BlockRow;
 use crate::follow::story::{header_of, status_of};
 use crate::follow::tpdu::Tpdu;
 use crate::instructions::instruction;
@@ -10,8 +11,23 @@ use crate::write::page::Page;
 use std::alloc::{AllocError, Global};
 use std::collections::BTreeMap;
 
-/// How many protocol errors, and how many statuses, have links on a page.
-const LINKS: usize = 1_000;
+/// How many protocol errors have links on a page.
+const ERROR_LINKS: usize = 4;
+
+/// How many statuses have links on a page, to two TPDUs each.
+const STATUS_LINKS: usize = 8;
+
+/// How often a status came, and the numbers of the first TPDUs that have it: one or two.
+#[derive(Clone, Copy)]
+struct Seen {
+    count: u64,
+    first: u64,
+    next: Option<u64>,
+}
+
+/// The counts of blocks in JSON: all, those that came again, damaged ones, and those that are in part
+/// or follow a gap.
+static BLOCK_WORDS: [&str; 4] = ["all", "again", "damaged", "gaps"];
 
 /// The counts of TPDUs, commands, statuses and protocol errors.
 #[derive(Drop)]
@@ -26,14 +42,12 @@ pub struct Counts {
     /// Commands without a name, by INS.
     unnamed: BTreeMap<u8, u64>,
     /// Statuses other than `9000`.
-    statuses: BTreeMap<u16, u64>,
+    statuses: BTreeMap<u16, Seen>,
+    /// Blocks at T=1, as `BLOCK_WORDS` names them.
+    blocks: [u64; 4],
     complaints: u64,
     /// The lines of the first protocol errors.
     error_lines: Vec<u64>,
-    /// TPDUs with a status other than `9000`, `61XX` and `6CXX`.
-    unwell: u64,
-    /// The numbers of the first of these, and their statuses.
-    first_unwell: Vec<(u64, u16)>,
 }
 
 impl Counts {
@@ -47,10 +61,9 @@ impl Counts {
             named: BTreeMap::new(alloc),
             unnamed: BTreeMap::new(alloc),
             statuses: BTreeMap::new(alloc),
+            blocks: [0; 4],
             complaints: 0,
             error_lines: Vec::new(alloc),
-            unwell: 0,
-            first_unwell: Vec::new(alloc),
         }
     }
 
@@ -68,7 +81,10 @@ impl Counts {
     /// counted, and its line may be missing.
     pub fn complain(&mut self, line: u64) -> Result<(), AllocError> {
         self.complaints = self.complaints.saturating_add(1);
-        push_first(&mut self.error_lines, line)
+        if self.error_lines.len() < ERROR_LINKS {
+            self.error_lines.push(line)?;
+        }
+        Ok(())
     }
 
     /// Counts a TPDU, whose header may be hidden. Returns `AllocError` if memory ran out: the TPDU
@@ -87,12 +103,30 @@ impl Counts {
         if status.is_ok() {
             return Ok(());
         }
-        let word = u16::from_be_bytes([status.sw1(), status.sw2()]);
-        if !matches!(status.sw1(), 0x61 | 0x6C) {
-            self.unwell = self.unwell.saturating_add(1);
-            push_first(&mut self.first_unwell, (self.tpdus, word))?;
+        self.take_status(u16::from_be_bytes([status.sw1(), status.sw2()]))
+    }
+
+    /// Counts a status other than `9000` of the last TPDU.
+    fn take_status(&mut self, word: u16) -> Result<(), AllocError> {
+        let number = self.tpdus;
+        let seen = self.statuses.entry(word)?.or_insert(Seen {
+            count: 0,
+            first: number,
+            next: None,
+        });
+        seen.count = seen.count.saturating_add(1);
+        if seen.count == 2 {
+            seen.next = Some(number);
         }
-        count(&mut self.statuses, word)
+        Ok(())
+    }
+
+    /// Counts a block at T=1.
+    pub fn take_block(&mut self, row: BlockRow) {
+        let kinds = [true, row.is_again(), row.is_damaged(), row.is_lossy()];
+        for (count, is) in self.blocks.iter_mut().zip(kinds) {
+            *count = count.saturating_add(u64::from(is));
+        }
     }
 
     /// Counts the command of a TPDU.
@@ -125,6 +159,7 @@ impl Counts {
             }
             page.line_row("TPDUs", "\n");
         }
+        self.tell_blocks(page);
         page.begin_counts("commands");
         self.count_commands(page);
         page.end_counts("commands", "none\n");
@@ -138,8 +173,30 @@ impl Counts {
             page.row(Side::Nobody, "time");
         }
         page.link_errors(self.error_lines.as_slice(), self.complaints);
-        page.link_statuses(self.first_unwell.as_slice(), self.unwell);
+        self.link_statuses(page);
         page.close_block();
+    }
+
+    /// Adds the number of blocks, if there are any, and of those that are marked.
+    fn tell_blocks(&self, page: &mut Page) {
+        let [all, again, damaged, lossy] = self.blocks;
+        if all == 0 {
+            return;
+        }
+        if !page.is_json() {
+            writeln!(
+                page.lines,
+                "{all}: {again} again, {damaged} damaged, {lossy} in part or after a gap"
+            );
+            page.row(Side::Nobody, "blocks");
+            return;
+        }
+        page.begin_counts("blocks");
+        for (word, number) in BLOCK_WORDS.iter().zip(self.blocks) {
+            page.lines.push_str(word);
+            page.count(number);
+        }
+        page.end_counts("blocks", "");
     }
 
     /// Adds a count for each name of a command, for each INS without a name, and for headers that
@@ -163,19 +220,29 @@ impl Counts {
 
     /// Adds a count for each status other than `9000`, in the order of the words.
     fn count_statuses(&self, page: &mut Page) {
-        for (word, count) in &self.statuses {
+        for (word, seen) in &self.statuses {
             write!(page.lines, "{word:04X}");
-            page.count(*count);
+            page.count(seen.count);
         }
     }
-}
 
-/// Keeps an element, unless there are `LINKS` already.
-fn push_first<T: Drop>(all: &mut Vec<T>, one: T) -> Result<(), AllocError> {
-    if all.len() < LINKS {
-        all.push(one).map_err(AllocError::from)?;
+    /// Links statuses other than `61XX` and `6CXX`, in the order of the words. Text has no links.
+    fn link_statuses(&self, page: &mut Page) {
+        let mut left = STATUS_LINKS;
+        let mut more: u64 = 0;
+        for (word, seen) in &self.statuses {
+            if matches!(word >> 8, 0x61 | 0x6C) {
+                continue;
+            }
+            if left > 0 {
+                left -= 1;
+                page.link_status(*word, seen.count, seen.first, seen.next);
+            } else {
+                more = more.saturating_add(1);
+            }
+        }
+        page.link_no_more(more);
     }
-    Ok(())
 }
 
 /// Adds one to the count of a key.

@@ -1,12 +1,15 @@
 //! Data as fields of JSON: digits, and the objects in them.
 ghost use Rattle.std.specs.Prelude.{◌≡◌, not, true};
-ghost use Rattle.trace_explain.specs.JsonTrees.{AreFields, IsField, IsTreeField, PutsFields, PutsText, list_begin, list_end, object_begin, primitive_end, value_field, value_name};
+ghost use Rattle.trace_explain.specs.JsonTrees.{AreFields, AreNames, IsField, IsTreeField, IsWords, PutsFields, PutsText, list_begin, list_end, object_begin, primitive_end, value_field, value_name, words_field};
 ghost use Rattle.trace_explain.specs.Sheets.{Adds};
 
+use crate::describe::format;
 use crate::describe::mask::{Mask, Shown};
-use crate::write::layout::Side;
+use crate::describe::names::Place;
+use crate::write::layout::{Medium, Side};
+use crate::write::row::push_letters;
 use crate::write::sheet::Sheet;
-use tlv_core::{Objects, Tag};
+use tlv_core::{Obj, Objects, Tag};
 
 /// Adds the data of an end as a field, as far as they are shown: digits, or `null` if some are
 /// hidden. Objects in them, without hidden values, are another.
@@ -63,13 +66,23 @@ fn push_tree(sheet: &mut Sheet, may_be_objects: bool, bytes: &[u8], mask: &Mask)
         return;
     }
     match Objects::over(bytes) {
-        Ok(objects) => push_objects(sheet, objects, mask),
+        Ok(objects) => {
+            let mut words = sheet.empty();
+            push_objects(sheet, objects, mask, Place::TOP, &mut words);
+        }
         Err(_) => {}
     }
 }
 
-/// Adds objects as a field; nothing without any.
-fn push_objects(sheet: &mut Sheet, objects: Objects<'_>, mask: &Mask)
+/// Adds objects at this place as a field; nothing without any. The words of each are made in
+/// `words`.
+fn push_objects(
+    sheet: &mut Sheet,
+    objects: Objects<'_>,
+    mask: &Mask,
+    place: Place,
+    words: &mut Sheet,
+)
     ensures { PutsFields mask.now.tags.items objects.entry.bytes objects.entry.level true
         sheet.old sheet.new }
 {
@@ -81,14 +94,58 @@ fn push_objects(sheet: &mut Sheet, objects: Objects<'_>, mask: &Mask)
         if mask.has(tag) {
             sheet.push_str(",\"value\":null,\"masked\":true}");
         } else if let Some(children) = object.children() {
-            push_objects(sheet, children, mask);
+            push_names(sheet, mask, place, &object, words);
+            push_objects(sheet, children, mask, place.within(tag), words);
             sheet.push_str("}");
         } else {
+            push_names(sheet, mask, place, &object, words);
             push_primitive(sheet, object.value());
         }
         first = false;
     }
     sheet.push_str(list_end(first));
+}
+
+/// Adds the name of an object and its value in words as fields, if it has any. The words are made
+/// in `words`.
+fn push_names(sheet: &mut Sheet, mask: &Mask, place: Place, object: &Obj<'_>, words: &mut Sheet)
+    ensures { PutsText AreNames sheet.old sheet.new }
+{
+    let value = object.value();
+    let row = mask.names.tag(object.tag(), place, value.len());
+    words.clear();
+    if let Some(row) = row {
+        words.push_str(mask.names.name(row));
+    }
+    push_words(sheet, ",\"name\":\"", words);
+    words.clear();
+    if let Some(row) = row {
+        format::push_words(words, &mask.names, row, value);
+    }
+    push_words(sheet, ",\"words\":\"", words);
+}
+
+/// Adds words as a field with this start. If memory ran out for them, it has for the sheet.
+fn push_words(sheet: &mut Sheet, start: &str, words: &Sheet)
+    ensures { PutsText (IsWords start.now) sheet.old sheet.new }
+{
+    if words.is_cut() {
+        sheet.cut();
+    } else {
+        push_letters_field(sheet, start, words.as_str().as_bytes());
+    }
+}
+
+/// Adds a text as a field with this start; nothing if it is empty.
+fn push_letters_field(sheet: &mut Sheet, start: &str, text: &[u8])
+    ensures { Adds sheet.old (words_field start.now text.now) sheet.new }
+{
+    if text.is_empty() {
+        return;
+    }
+    sheet.push_str(start);
+    push_letters(sheet, Medium::Json, "", text);
+    sheet.push_str("\"");
 }
 
 /// Adds the value of an object and its end.

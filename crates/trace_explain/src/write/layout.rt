@@ -65,6 +65,8 @@ pub enum Topic {
     Reset,
     /// A command of several TPDUs.
     Command,
+    /// Blocks of T=1 that belong to no whole command with its response.
+    Blocks,
 }
 
 /// The name of a box in links.

@@ -5,6 +5,7 @@ ghost use Rattle.trace_explain.specs.Words.{has_own, is_own};
 
 use crate::write::layout::{Anchor, Kind, Layout, Medium, Side, Topic};
 use crate::write::row::ROW_INDENT;
+use crate::write::script::SCRIPT;
 use crate::write::sheet::Sheet;
 use crate::write::style::STYLE;
 use crate::write::words::{Form, Piece, push_pieces};
@@ -12,6 +13,12 @@ use std::alloc::Global;
 
 /// The most columns of a line of text.
 const COLUMNS: usize = 100;
+
+/// The number of the first TPDU of a page that is in a part of its own.
+const FIRST_PART: u64 = 2_001;
+
+/// About how many TPDUs a part has: it ends with a command.
+const PART_SIZE: u64 = 1_000;
 
 /// Words to which parts are added: for a summary the last block alone. Once memory ran out, nothing
 /// is added. A call that adds the lines clears them.
@@ -31,6 +38,8 @@ pub struct Page {
     pub text: Sheet,
     /// Where the text of the next piece begins.
     begins: usize,
+    /// From which TPDU on a page begins the next part.
+    next_part: u64,
     /// The text of the next part: the title of a box, or the lines of a row or a note.
     pub lines: Sheet,
 }
@@ -47,6 +56,7 @@ impl Page {
             pieces: Vec::new(alloc),
             text: Sheet::new(alloc, layout),
             begins: 0,
+            next_part: FIRST_PART,
             lines: Sheet::new(alloc, layout),
         }
     }
@@ -106,6 +116,25 @@ impl Page {
         if matches!(self.layout.medium, Medium::Html) {
             self.text.push_str(STYLE);
             self.add(Form::Style);
+            self.text.push_str(SCRIPT);
+            self.add(Form::Script);
+        }
+    }
+
+    /// Begins a part of a page with the TPDU of this number, if the one before is full. A browser
+    /// lays out a part when it is opened.
+    pub fn begin_part(&mut self, number: u64) {
+        if self.prints() && number >= self.next_part {
+            self.end_part();
+            self.add(Form::Part(number));
+            self.next_part = number.saturating_add(PART_SIZE);
+        }
+    }
+
+    /// Ends the part of a page, if there is one.
+    fn end_part(&mut self) {
+        if self.next_part > FIRST_PART {
+            self.add(Form::PartEnd);
         }
     }
 
@@ -297,6 +326,7 @@ impl Page {
 
     /// Opens the last block, which is always written. A page shows it first.
     pub fn open_block(&mut self) {
+        self.end_part();
         self.layout.is_summary = false;
         self.add(Form::Block);
     }
@@ -318,15 +348,34 @@ impl Page {
         self.end_links(number, all);
     }
 
-    /// Adds links to the first of `all` TPDUs with a status other than `9000`, `61XX` and `6CXX`.
-    /// Each is a number and a status. Text has no links.
-    pub fn link_statuses(&mut self, tpdus: &[(u64, u16)], all: u64) {
-        self.begin_links("statuses other than 9000, 61XX and 6CXX:", tpdus.is_empty());
-        for (number, word) in tpdus {
-            write!(self.text, "#{number} {word:04X}");
-            self.add(Form::Link(Anchor::Tpdu(*number)));
+    /// Adds links to the first of `all` TPDUs with this status, and to the next one, by their
+    /// numbers. Text has no links.
+    pub fn link_status(&mut self, word: u16, all: u64, first: u64, next: Option<u64>) {
+        let warning = if matches!(word >> 8, 0x62 | 0x63) { " a warning" } else { "" };
+        let times = if all == 1 { "time" } else { "times" };
+        write!(self.text, "{word:04X}{warning}, {all} {times}:");
+        self.add(Form::Links);
+        self.link_tpdu("first", first);
+        if let Some(number) = next {
+            self.link_tpdu("next", number);
         }
-        self.end_links(tpdus.len() as u64, all);
+        self.add(Form::More);
+    }
+
+    /// Adds a link with this word to the TPDU with this number.
+    fn link_tpdu(&mut self, word: &str, number: u64) {
+        write!(self.text, "{word} (#{number})");
+        self.add(Form::Link(Anchor::Tpdu(number)));
+    }
+
+    /// Adds how many statuses have no link, if any.
+    pub fn link_no_more(&mut self, statuses: u64) {
+        if statuses > 0 {
+            let word = if statuses == 1 { "status" } else { "statuses" };
+            write!(self.text, "{statuses} more {word}");
+            self.add(Form::Links);
+            self.add(Form::More);
+        }
     }
 
     /// Adds the start of a paragraph of links, unless it has none.

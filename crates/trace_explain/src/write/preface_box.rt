@@ -1,11 +1,15 @@
 //! The boxes of the parts before a dialogue: answers to reset and PPS exchanges.
 
+use crate::describe::block_words::{push_blocks, push_row};
 use crate::describe::mask::Mask;
+use crate::follow::block_row::BlockRows;
 use crate::follow::opening::{Role, Stage};
 use crate::follow::preface::Preface;
 use crate::write::answer::tell_answer;
+use crate::write::layout::{Anchor, Kind, Side, Topic};
 use crate::write::page::Page;
 use crate::write::pps::tell_pps;
+use crate::write::sheet::Sheet;
 
 /// Adds the box of the part that ends before a character of this role, if any.
 pub fn tell_before(role: Role, preface: &Preface, mask: &Mask, page: &mut Page) {
@@ -23,11 +27,48 @@ pub fn tell_after(role: Role, preface: &Preface, mask: &Mask, page: &mut Page) {
     }
 }
 
+/// Adds the box of blocks that belong to no whole command with its response, if there are any. A
+/// mask that hides anything hides what they carry.
+fn tell_blocks(mask: &Mask, preface: &Preface, page: &mut Page) {
+    let Some(blocks) = &preface.blocks else {
+        return;
+    };
+    if blocks.is_empty() {
+        return;
+    }
+    page.open(Kind::CutOff, Anchor::None, Topic::Blocks, blocks.line);
+    push_blocks(&mut page.lines, &blocks.rows);
+    if let Some(part) = blocks.part() {
+        push_row(&mut page.lines, part);
+    }
+    page.row(Side::Nobody, "blocks");
+    let (command, answer) = blocks.unanswered();
+    push_carried(&mut page.lines, command, mask);
+    page.row(Side::Terminal, "command");
+    push_carried(&mut page.lines, answer, mask);
+    page.row(Side::Card, "answer");
+    page.close();
+}
+
+/// Adds the blocks of a command that is no TPDU as a note.
+pub fn tell_dropped(blocks: BlockRows, page: &mut Page) {
+    push_blocks(&mut page.lines, &blocks);
+    page.note(Topic::Note);
+}
+
+/// Adds what blocks carry, if anything.
+fn push_carried(text: &mut Sheet, bytes: &[u8], mask: &Mask) {
+    if !bytes.is_empty() {
+        mask.push_unknown(text, bytes);
+    }
+}
+
 /// Adds the box of the part that is in progress in this stage, if any.
 pub fn tell_part(stage: Stage, preface: &Preface, mask: &Mask, page: &mut Page) {
     match stage {
         Stage::Answer => tell_answer(mask, preface, page),
         Stage::Request | Stage::Asked | Stage::Response => tell_pps(mask, preface, page),
+        Stage::Blocks => tell_blocks(mask, preface, page),
         Stage::Ready | Stage::Astray | Stage::Begun => {}
     }
 }

@@ -37,6 +37,11 @@ impl Sheet {
         }
     }
 
+    /// Another text without anything, for words that are added later.
+    pub fn empty(&self) -> Sheet {
+        Sheet::new(self.alloc, self.layout)
+    }
+
     /// The layout.
     pub fn layout(&self) -> Layout
         ensures { result ≡ self.now.layout }

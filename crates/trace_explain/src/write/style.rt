@@ -19,16 +19,22 @@ section .m { margin: 0; padding: .1rem 0; background: none; display: flex; text-
 section .m::before, section .m::after { display: none; }
 section .m b { width: 7rem; flex: none; }
 section p { margin: .3rem 0 0; overflow-wrap: anywhere; }
-a { color: var(--to); }
-.ends { order: -1; position: sticky; top: 0; display: flex; justify-content: space-between;
-  padding: .35rem 1.6rem; background: var(--page); border-bottom: 1px solid var(--line);
-  font-weight: 600; }
+a { color: var(--to); white-space: nowrap; }
+.tools { display: flex; gap: .5rem; margin: 0 0 .5rem; order: -1; }
+.tools input { flex: 1; min-width: 0; font: inherit; padding: .2rem .5rem; }
+.tools button { font: inherit; padding: .2rem .8rem; }
+.ends { order: -1; position: sticky; top: 0; z-index: 1; display: flex;
+  justify-content: space-between; padding: .35rem 1.6rem; background: var(--page);
+  border-bottom: 1px solid var(--line); font-weight: 600; }
 .ends :first-child { color: var(--to); }
 .ends :last-child { color: var(--from); }
 details { margin: .35rem 0; background: var(--box); border: 1px solid var(--line);
   border-radius: .4rem; break-inside: avoid; scroll-margin-top: 2.5rem;
   content-visibility: auto; contain-intrinsic-size: auto 2.3rem; }
 details[open] { padding-bottom: .6rem; contain-intrinsic-size: auto 11rem; }
+details.part { background: none; border: 0; content-visibility: visible; }
+details.part:not([open]) > summary { background: var(--box); border: 1px solid var(--line);
+  border-radius: .4rem; }
 details.cut { border-style: dashed; }
 details.error { border-color: var(--bad); }
 details.error summary, summary .failed { color: var(--bad); }
@@ -61,6 +67,7 @@ summary small { color: var(--soft); font-weight: 400; }
 pre.note { margin: .4rem 0; padding: 0 .8rem; color: var(--soft);
   font: 13px/1.4 ui-monospace, monospace; white-space: pre-wrap; overflow-wrap: anywhere; }
 @media print { body { background: none; } .ends { position: static; }
+  .tools { display: none; }
   details { content-visibility: visible; }
   details::details-content { content-visibility: visible; } }
 ";
@@ -76,9 +83,9 @@ pub const STYLE_BEGIN: &str = "\
 <style>
 ";
 
-/// The page from the end of its style to its first box or note.
-pub const STYLE_END: &str = "\
-</style>
+/// The page from the end of its script to its first box or note.
+pub const HEAD_END: &str = "\
+</script>
 </head>
 <body>
 <main>

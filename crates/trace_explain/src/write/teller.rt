@@ -1,16 +1,18 @@
 //! Writes an explanation: the boxes of TPDUs in turn, notes between them, and the counts.
-ghost use Rattle.std.specs.Prelude.{◌≡◌, ◌∷◌, ◌++◌, List, [], false, not, IfOk, OnOk};
+ghost use Rattle.std.specs.Prelude.{◌≡◌, ◌∷◌, ◌++◌, List, [], false, not, true, IfOk, OnOk};
 ghost use Rattle.std.specs.String.{string_bytes};
 ghost use Rattle.trace_explain.specs.Account.{AddsBox, AddsBoxes, HasBox, StaysWritten, account_of};
 ghost use Rattle.trace_explain.specs.Boxes.{HasAsker};
-ghost use Rattle.trace_explain.specs.Explained.{Hears};
+ghost use Rattle.trace_explain.specs.Explained.{CarriesAll, Hears};
 ghost use Rattle.trace_explain.specs.Noted.{Event, HasNoted, Reset, ended_by};
-ghost use Rattle.trace_explain.specs.Openings.{is_dialogue, opening_of, opens, role_of, unopened};
+ghost use Rattle.trace_explain.specs.Openings.{is_block, is_dialogue, opening_of, opens, reports_with, role_of, unopened};
+ghost use Rattle.trace_explain.specs.Overheard.{answered, exchanged, overheard_by};
 ghost use Rattle.trace_explain.specs.Reports.{Report, loose, no_report, report_of};
 
 use crate::describe::clock::Clock;
 use crate::describe::complaint::Complaint;
 use crate::describe::mask::Mask;
+use crate::follow::blocks::Blocks;
 use crate::follow::command::Command;
 use crate::follow::links::Links;
 use crate::follow::listener::{Listener, ListenerFault};
@@ -27,7 +29,7 @@ use crate::write::kept::{Keeping, Kept};
 use crate::write::layout::{Layout, Topic};
 use crate::write::notes::{Excerpt, tell_bytes, tell_note};
 use crate::write::output::Output;
-use crate::write::preface_box::{tell_after, tell_before, tell_part};
+use crate::write::preface_box::{tell_after, tell_before, tell_dropped, tell_part};
 use crate::write::tpdu_box::tell_box;
 use std::alloc::{AllocError, Global};
 use std::mem;
@@ -213,6 +215,112 @@ impl Teller {
         }
     }
 
+    /// Hears a byte of a block, which has this role, and writes the command that gets its
+    /// response with it. Returns `AllocError` if memory ran out: drop the teller.
+    pub fn hear_block(
+        &mut self,
+        preface: &mut Preface,
+        listener: &mut Listener,
+        role: Role,
+        byte: u8,
+    ) -> Result<(), AllocError>
+        requires block { is_block role ≡ true }
+        ensures opened { OnOk result
+            (opening_of preface.new ≡ opens (opening_of preface.old) role byte) }
+        ensures heard { (events : List Event) (before : List Report) →
+            HasNoted events before listener.old → OnOk result (CarriesAll
+            (reports_with role (opening_of preface.new).blocks) events before listener.new
+            self.old self.new) }
+    {
+        self.is_led = true;
+        self.clock.count();
+        if preface.blocks.is_none() {
+            self.tell_part(preface);
+        }
+        preface.take(role, byte, self.line)?;
+        match &mut preface.blocks {
+            Some(blocks) => self.tell_blocks(blocks, listener),
+            None => self.output.outcome(),
+        }
+    }
+
+    /// Counts the block that ended, and writes the command that gets its response.
+    fn tell_blocks(
+        &mut self,
+        blocks: &mut Blocks,
+        listener: &mut Listener,
+    ) -> Result<(), AllocError>
+        ensures same { overheard_by blocks.new ≡ overheard_by blocks.old }
+        ensures heard { (events : List Event) (before : List Report) →
+            HasNoted events before listener.old → OnOk result (CarriesAll
+            (answered (overheard_by blocks.old)) events before listener.new self.old self.new) }
+    {
+        self.begin_blocks(blocks);
+        if !blocks.is_answered() {
+            return self.output.outcome();
+        }
+        self.tell_carried(blocks, listener)?;
+        self.output.outcome()
+    }
+
+    /// Notes where a command at T=1 begins, and counts the block that ended.
+    fn begin_blocks(&mut self, blocks: &mut Blocks)
+        ensures stays { StaysWritten self.old self.new }
+        ensures same { overheard_by blocks.new ≡ overheard_by blocks.old }
+    {
+        if blocks.begins() {
+            blocks.line = self.line;
+            self.begin_if(true);
+        }
+        if let Some(row) = blocks.newest {
+            self.counts.take_block(row);
+        }
+    }
+
+    /// Writes a command that these blocks carried, with its response.
+    fn tell_carried(
+        &mut self,
+        blocks: &mut Blocks,
+        listener: &mut Listener,
+    ) -> Result<(), AllocError>
+        ensures same { overheard_by blocks.new ≡ overheard_by blocks.old }
+        ensures heard { (events : List Event) (before : List Report) →
+            HasNoted events before listener.old → OnOk result (CarriesAll
+            (exchanged (overheard_by blocks.old).is_loose (overheard_by blocks.old).command
+            (overheard_by blocks.old).gathered.bytes) events before listener.new
+            self.old self.new) }
+    {
+        match tpdu_of_pair(self.alloc, blocks.command(), blocks.gathered()) {
+            Ok(mut tpdu) => {
+                tpdu.is_loose = blocks.is_loose;
+                tpdu.blocks = blocks.take_rows();
+                self.tell_exchange(&tpdu, listener)
+            }
+            Err(PairFault::OutOfMemory) => Err(AllocError),
+            Err(why) => self.tell_refused(why, blocks),
+        }
+    }
+
+    /// Writes a TPDU that blocks carried, after the one at T=0 that is in progress, if any.
+    fn tell_exchange(&mut self, tpdu: &Tpdu, listener: &mut Listener) -> Result<(), AllocError>
+        ensures { (events : List Event) (before : List Report) →
+            HasNoted events before listener.old → OnOk result (CarriesAll
+            (report_of tpdu.now ∷ []) events before listener.new self.old self.new) }
+    {
+        self.cut_off(listener)?;
+        self.tell_one(tpdu)
+    }
+
+    /// Writes what blocks carried that is no TPDU for this reason, and the blocks.
+    fn tell_refused(&mut self, why: PairFault, blocks: &mut Blocks) -> Result<(), AllocError>
+        ensures same { overheard_by blocks.new ≡ overheard_by blocks.old }
+        ensures stays { OnOk result (StaysWritten self.old self.new) }
+    {
+        self.tell_bad(why, blocks.command(), Some(blocks.gathered()))?;
+        tell_dropped(blocks.take_rows(), &mut self.output.page);
+        Ok(())
+    }
+
     /// Notes that a TPDU begins in the line, if so.
     pub fn begin_if(&mut self, begins: bool)
         ensures { StaysWritten self.old self.new }
@@ -336,6 +444,11 @@ impl Teller {
     fn tell_part(&mut self, preface: &Preface)
         ensures { StaysWritten self.old self.new }
     {
+        if let Some(blocks) = &preface.blocks
+            && let Some(part) = blocks.part()
+        {
+            self.counts.take_block(part);
+        }
         let stage = preface.stage;
         tell_part(stage, preface, &self.mask, &mut self.output.page);
     }
@@ -368,7 +481,9 @@ impl Teller {
     }
 
     /// Notes that bytes precede which are no pair.
-    fn lose_some(&mut self) {
+    fn lose_some(&mut self)
+        ensures { StaysWritten self.old self.new }
+    {
         tell_end(&mut self.command, &mut self.output.page);
         self.is_loose = true;
         self.story.lose_some();
@@ -452,7 +567,9 @@ impl Teller {
         why: PairFault,
         command: &[u8],
         answer: Option<&[u8]>,
-    ) -> Result<(), AllocError> {
+    ) -> Result<(), AllocError>
+        ensures { OnOk result (StaysWritten self.old self.new) }
+    {
         self.lose_some();
         self.counts.complain(self.began)?;
         self.first_bad = Some(self.first_bad.unwrap_or((self.began, why)));

@@ -5,6 +5,7 @@ ghost use Rattle.trace_explain.specs.Sheets.{Adds, Puts, PutsLines};
 ghost use Rattle.trace_explain.specs.Reports.{report_of};
 ghost use Rattle.trace_explain.specs.Written.{hidden};
 
+use crate::describe::block_words::push_blocks;
 use crate::describe::clock::Clock;
 use crate::describe::mask::{Mask, Origin, Shown};
 use crate::describe::meaning::{is_well, push_meaning};
@@ -58,6 +59,8 @@ pub fn tell_box(
     output.row(Side::Nobody, "time");
     output.page.lines.push_str(dropped(links.drops_before));
     output.row(Side::Nobody, "before");
+    push_blocks(&mut output.page.lines, &tpdu.blocks);
+    output.row(Side::Nobody, "blocks");
     push_header(&mut output.sheet, is_hidden, tpdu.header.as_slice());
     phrases::push_procedure(&mut output.page.lines, outline.tally);
     output.row(Side::Card, "procedure");

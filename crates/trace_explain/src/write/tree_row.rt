@@ -1,12 +1,14 @@
 //! The lines of a list of objects, as a tree.
 ghost use Rattle.std.specs.Prelude.{◌≡◌, ◌<◌, ◌∷◌};
-ghost use Rattle.trace_explain.specs.Sheets.{Adds, PutsAny, PutsValue};
+ghost use Rattle.trace_explain.specs.Sheets.{Adds, PutsAny, PutsRemark, PutsValue};
 ghost use Rattle.trace_explain.specs.Trees.{AreTree, IsTree, indent, object, value_width};
 
+use crate::describe::format::push_named;
 use crate::describe::mask::Mask;
-use crate::write::ascii::{cut, is_text, push_content, push_lines};
+use crate::describe::names::Place;
+use crate::write::ascii::{are_printable, cut, is_text, push_content, push_lines};
 use crate::write::sheet::Sheet;
-use tlv_core::{Objects, Tag};
+use tlv_core::{Obj, Objects, Tag};
 
 /// The number of bytes of a value in a line. With a tag of three bytes at level 16 they fill it.
 const VALUE_BYTES: usize = 24;
@@ -15,7 +17,8 @@ const VALUE_BYTES: usize = 24;
 const VALUE_TEXT: usize = 15;
 
 /// Adds a line, or more for a long value, for each object of data that may be objects and are some.
-/// Each level is two spaces further in; hidden values are `**`. Returns whether there are any.
+/// Each level is two spaces further in; hidden values are `**`. The name of an object that is not
+/// hidden follows its digits. Returns whether there are any objects.
 pub fn push_tree(lines: &mut Sheet, may_be_objects: bool, bytes: &[u8], mask: &Mask) -> bool
     ensures { PutsAny (IsTree mask.now.tags.items may_be_objects bytes.now) result
         lines.old lines.new }
@@ -24,13 +27,23 @@ pub fn push_tree(lines: &mut Sheet, may_be_objects: bool, bytes: &[u8], mask: &M
         return false;
     }
     match Objects::over(bytes) {
-        Ok(objects) => push_objects(lines, objects, mask),
+        Ok(objects) => {
+            let mut words = lines.empty();
+            push_objects(lines, objects, mask, Place::TOP, &mut words)
+        }
         Err(_) => false,
     }
 }
 
-/// Adds the lines of objects. Returns whether there are any.
-fn push_objects(lines: &mut Sheet, objects: Objects<'_>, mask: &Mask) -> bool
+/// Adds the lines of objects at this place. Returns whether there are any. The words of each are
+/// made in `words`.
+fn push_objects(
+    lines: &mut Sheet,
+    objects: Objects<'_>,
+    mask: &Mask,
+    place: Place,
+    words: &mut Sheet,
+) -> bool
     ensures { PutsAny (AreTree mask.now.tags.items objects.entry.bytes objects.entry.level) result
         lines.old lines.new }
 {
@@ -43,9 +56,12 @@ fn push_objects(lines: &mut Sheet, objects: Objects<'_>, mask: &Mask) -> bool
         if mask.has(tag) {
             lines.push_str(" **");
         } else if let Some(children) = object.children() {
-            push_objects(lines, children, mask);
+            name(words, mask, place, &object);
+            push_remark(lines, words);
+            push_objects(lines, children, mask, place.within(tag), words);
         } else {
-            push_value(lines, level, object.value());
+            name(words, mask, place, &object);
+            push_value(lines, level, object.value(), words);
         }
         some = true;
     }
@@ -68,12 +84,49 @@ fn indent(level: u8) -> usize
     usize::from(level.saturating_sub(1)) * 2
 }
 
+/// Makes the words for an object: its name, and its value if that has any in words.
+fn name(words: &mut Sheet, mask: &Mask, place: Place, object: &Obj<'_>) {
+    words.clear();
+    let value = object.value();
+    if let Some(row) = mask.names.tag(object.tag(), place, value.len()) {
+        push_named(words, &mask.names, row, value);
+    }
+}
+
+/// Adds the words for an object after its digits, unless there are none or a letter is not
+/// printable. If memory ran out for them, it has for the lines.
+fn push_remark(lines: &mut Sheet, words: &Sheet)
+    ensures { PutsRemark lines.old lines.new }
+{
+    if words.is_cut() {
+        lines.cut();
+    } else {
+        push_words(lines, words.as_str());
+    }
+}
+
+/// Adds words after two spaces, if there are any and all letters are printable.
+#[tactic(auto, using(crate::proofs::TreeLemmas::some_remark, crate::proofs::TreeLemmas::no_remark))]
+fn push_words(lines: &mut Sheet, words: &str)
+    ensures { PutsRemark lines.old lines.new }
+{
+    if words.is_empty() {
+        return;
+    }
+    if are_printable(words.as_bytes()) {
+        lines.push_str("  ");
+        lines.push_str(words);
+    }
+}
+
 /// Adds the value of an object after its tag, in several lines if it is long. `-` if it is empty.
-fn push_value(lines: &mut Sheet, level: u8, value: &[u8])
+/// The words for the object are in the first line.
+fn push_value(lines: &mut Sheet, level: u8, value: &[u8], words: &Sheet)
     ensures { PutsValue level value.now lines.old lines.new }
 {
     if value.is_empty() {
         lines.push_str(" -");
+        push_remark(lines, words);
         return;
     }
     let is_text = is_text(value);
@@ -81,6 +134,7 @@ fn push_value(lines: &mut Sheet, level: u8, value: &[u8])
     let (line, rest) = cut(value, width);
     lines.push_str(" ");
     push_content(lines, is_text, line);
+    push_remark(lines, words);
     push_lines(lines, indent(level) + 5, width, is_text, rest);
 }
 

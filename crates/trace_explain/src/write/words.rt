@@ -2,7 +2,7 @@
 //! looks like a box of a TPDU, or like a row of one.
 ghost use Rattle.std.specs.Prelude.{◌≡◌, true};
 ghost use Rattle.trace_explain.specs.Sheets.{Adds, Joins};
-ghost use Rattle.trace_explain.specs.Words.{field_before, gap, has_own, json_piece, link_text, marked, piece_text, topic_text};
+ghost use Rattle.trace_explain.specs.Words.{field_before, gap, has_own, json_piece, link_text, marked, part_begin, piece_text, topic_text};
 
 use crate::write::ascii::cut;
 use crate::write::html::{push_box, push_box_end, push_name};
@@ -10,9 +10,9 @@ use crate::write::layout::{Anchor, Kind, Medium, Side, Topic};
 use crate::write::row::{push_letters, push_some_row};
 use crate::write::sheet::Sheet;
 use crate::write::shown::push_line;
-use crate::write::style::{STYLE_BEGIN, STYLE_END};
+use crate::write::style::{HEAD_END, STYLE_BEGIN};
 
-/// What a piece is. Text has neither a style nor links. Only JSON has fields and signs.
+/// What a piece is. Text has neither a style nor parts nor links. Only JSON has fields and signs.
 #[derive(Clone, Copy)]
 pub enum Form {
     /// The start of a box that is no TPDU's: its kind, name, topic, and the line where it begins.
@@ -49,6 +49,12 @@ pub enum Form {
     BlockEnd,
     /// The start of a page, with its style.
     Style,
+    /// The script of a page, and the rest of its head.
+    Script,
+    /// The start of a part of a page, with the number of its first TPDU.
+    Part(u64),
+    /// The end of a part.
+    PartEnd,
     /// The start of a paragraph of links.
     Links,
     /// A link to a box.
@@ -110,7 +116,10 @@ fn push_piece(sheet: &mut Sheet, form: Form, text: &[u8])
         (Medium::Html, Form::BlockEnd) => {
             sheet.push_str("</section>\n</main>\n</body>\n</html>\n");
         }
-        (Medium::Html, Form::Style) => push_marked(sheet, STYLE_BEGIN, text, STYLE_END),
+        (Medium::Html, Form::Style) => push_marked(sheet, STYLE_BEGIN, text, "</style>\n"),
+        (Medium::Html, Form::Script) => push_marked(sheet, "<script>\n", text, HEAD_END),
+        (Medium::Html, Form::Part(number)) => push_part(sheet, number),
+        (Medium::Html, Form::PartEnd) => sheet.push_str("</details>\n"),
         (Medium::Html, Form::Links) => push_marked(sheet, "<p>", text, ""),
         (Medium::Html, Form::Link(anchor)) => push_link(sheet, anchor, text),
         (Medium::Html, Form::More) => push_marked(sheet, "", text, "</p>\n"),
@@ -185,7 +194,17 @@ fn topic_text(medium: Medium, topic: Topic) -> &'static str
         (_, Topic::Note) => "note",
         (_, Topic::Reset) => "reset",
         (_, Topic::Command) => "command",
+        (_, Topic::Blocks) => "blocks",
     }
+}
+
+/// Adds the start of a part of a page.
+fn push_part(sheet: &mut Sheet, number: u64)
+    ensures { Adds sheet.old (part_begin number) sheet.new }
+{
+    sheet.push_str("<details class=\"part\"><summary>from #");
+    sheet.push_number(number);
+    sheet.push_str("</summary>\n");
 }
 
 /// Adds text of a page between two pieces of markup.

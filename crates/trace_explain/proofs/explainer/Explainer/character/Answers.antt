@@ -1,33 +1,51 @@
 use Rattle.std.proofs.Common.{◌≡◌, ◌∙◌, ◌==◌, ◌&&◌, [], ◌∷◌, Bool, false, not, ap, length, subst, sym, if◌then◌else◌, inl, inr, refl, List}
 use Rattle.trace_explain.specs.declared.follow.listener.Listener.{Listener}
 use Rattle.trace_explain.specs.Noted.{Event, HasNoted, Passed, Reset}
-use Rattle.trace_explain.specs.Openings.{begins_answer, is_loose, opening_of}
+use Rattle.trace_explain.specs.Openings.{begins_answer, is_block, is_loose, opening_of}
 use Rattle.trace_explain.specs.Reports.{report_of}
 use Rattle.trace_explain.proofs.AccountLemmas.{boxes_both}
+use Rattle.trace_explain.proofs.CarriedLemmas.{block_takes, none_opens, one_passes}
 use Rattle.trace_explain.proofs.ExplainedLemmas.{explains_nothing, over_behind}
 use Rattle.trace_explain.proofs.NotedLemmas.{both_hold}
 use Rattle.trace_explain.proofs.explainer.Explainer.character.Goals as goal
+
+pub returns-then-is_block-clause-takes : goal.returns-then-is_block-clause-takes
+returns-then-is_block-clause-takes c = λ events before h.
+    let hears = c.in_ok-hear_block.ensures in
+    let o = opening_of c.args.self.now.preface in
+    let block = sym c.is_block.ensures ∙ c.if-is_block.true in
+    let carries = hears.heard events before h.0 in (
+      _,
+      inl (block_takes o c.args.from c.args.byte _ _ c.role_of-role.ensures block hears.opened, cc),
+      record {
+        reports = carries.reports;
+        explained = (carries.noted, h.1);
+        boxes = carries.boxes;
+      },
+    )
 
 pub returns-then-opens-clause-takes : goal.returns-then-opens-clause-takes
 returns-then-opens-clause-takes c = λ events before h.
     let opened = c.in_ok-opens.ensures in
     let is = opened.dialogue ∙ ap not c.if-opens.true in
-    let loose = is_loose (opening_of c.args.self.now.preface).stage in
-    let es : Bool → List Event =
-    λ v. if v then Passed (c.args.from, c.args.byte) loose ∷ [] else [] in
-    ([], inl (sym (ap es is), cc), explains_nothing events before _ h opened.boxes)
+    let o = opening_of c.args.self.now.preface in
+    let no = sym (ap is_block c.role_of-role.ensures) ∙ sym c.is_block.ensures
+    ∙ c.if-is_block.false in (
+      [],
+      inl (none_opens o c.args.from c.args.byte is no, cc),
+      explains_nothing events before _ h opened.boxes,
+    )
 
 pub returns-then-continues-clause-takes : goal.returns-then-continues-clause-takes
 returns-then-continues-clause-takes c = λ events before h.
     let opened = c.in_ok-opens.ensures in
     let is = opened.dialogue ∙ ap not c.if-opens.false in
-    let loose = is_loose (opening_of c.args.self.now.preface).stage in
-    let es : Bool → List Event =
-    λ v. if v then Passed (c.args.from, c.args.byte) loose ∷ [] else [] in
+    let o = opening_of c.args.self.now.preface in
+    let loose = is_loose o.stage in
     let (reports, noted, boxes) = rw (c.if-continues.true, c.is_loose-is_loose.ensures) at
     (c.in_ok-continues.ensures events before h.0) in (
       Passed (c.args.from, c.args.byte) loose ∷ [],
-      inl (sym (ap es is), cc),
+      inl (one_passes o c.args.from c.args.byte is, cc),
       record {
         reports = reports;
         explained = (noted, h.1);

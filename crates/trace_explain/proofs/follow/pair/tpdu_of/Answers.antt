@@ -1,0 +1,13 @@
+use Rattle.std.proofs.Common.{◌≡◌, ◌++◌, ℕ, ◌+◌, ◌-◌, ◌<◌, ◌≤◌, length, Bool, true, false, nat_lt, ◌==◌, arith, Some}
+use Rattle.std.proofs.lemmas.Result.{IfOk-weaker}
+use Rattle.trace_explain.specs.Pairs.{command_in, with_p3}
+use Rattle.trace_explain.proofs.LogLemmas.{command_by}
+use Rattle.trace_explain.proofs.follow.pair.tpdu_of.Goals as goal
+
+pub returns-clause-reports : goal.returns-clause-reports
+returns-clause-reports c = IfOk-weaker c.with_p3.result _ _ (λ t (x, is, r). (
+  x,
+  command_by c.args.command.now _ _ x c.if-command-lt4.false c.if-command-eq4.false
+      c.split_at.ensures.front c.split_at-2.ensures.back is,
+  r,
+)) c.with_p3.ensures.reports

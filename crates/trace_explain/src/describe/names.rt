@@ -1,0 +1,290 @@
+//! The names of tags, application identifiers and bits, from the rows of tables.
+
+use crate::describe::format::{is_format, separate};
+use crate::read::forms::FormsFault;
+use crate::tables::{AIDS, BITS, TAGS};
+use crate::write::ascii::are_printable;
+use crate::write::sheet::Sheet;
+use std::alloc::{AllocError, Global};
+use tlv_core::Tag;
+
+/// The number of lists of tags, one for each value of the last bits of a tag.
+const LISTS: u64 = 64;
+
+/// The tags of the templates around an object, as numbers whose digits are theirs: that of the
+/// innermost, and that behind the next one's. Both are 0 without a template.
+#[derive(Clone, Copy)]
+pub struct Place(u64, u64);
+
+impl Place {
+    /// The place of an object without a template.
+    pub const TOP: Place = Place(0, 0);
+
+    /// The place of the objects in a template with this tag.
+    pub fn within(self, tag: Tag) -> Place {
+        Place(joined(0, tag.bytes()), joined(self.0, tag.bytes()))
+    }
+
+    /// Whether a word of a row stands for it.
+    fn is(self, word: &str) -> bool {
+        match word {
+            "*" => true,
+            "." => self.0 == 0,
+            _ => u64::from_str_radix(word, 16).is_ok_and(|it| it == self.0 || it == self.1),
+        }
+    }
+}
+
+/// The digits of a number, and then those of bytes.
+pub fn joined(number: u64, bytes: &[u8]) -> u64 {
+    let mut number = number;
+    for &byte in bytes {
+        number = number.wrapping_mul(256) | u64::from(byte);
+    }
+    number
+}
+
+/// Words of a row, by their place in the text of all tables.
+#[derive(Clone, Copy)]
+struct Words(usize, usize);
+
+/// A row of a tag.
+#[derive(Clone, Copy)]
+pub struct TagRow {
+    tag: u64,
+    places: Words,
+    /// The least and the greatest size of its value.
+    sizes: (usize, usize),
+    format: Words,
+    name: Words,
+}
+
+/// A row of bits: their set, the place of their byte, their mask and value, and the words for them.
+#[derive(Clone, Copy)]
+struct BitRow(u64, usize, u8, u8, Words);
+
+/// All tables.
+#[derive(Drop)]
+pub struct Names {
+    /// Their text. It begins with the rows of a file, which have this size.
+    text: String,
+    own: usize,
+    tags: Vec<Vec<TagRow>>,
+    /// The digits and the name of each application identifier.
+    aids: Vec<(Words, Words)>,
+    bits: Vec<BitRow>,
+}
+
+impl Names {
+    /// No names.
+    pub fn none(alloc: Global) -> Names {
+        Names {
+            text: String::new(alloc),
+            own: 0,
+            tags: Vec::new(alloc),
+            aids: Vec::new(alloc),
+            bits: Vec::new(alloc),
+        }
+    }
+
+    /// Reads the rows of `own`, which come first, and those of the program. Empty lines and those
+    /// that begin with `#` don't count.
+    ///
+    /// # Errors
+    ///
+    /// - `Name`: a line of `own` is no row.
+    /// - `OutOfMemory`: memory ran out.
+    pub fn of(alloc: Global, own: &str) -> Result<Names, FormsFault> {
+        let mut names = Names::none(alloc);
+        let mut text = String::from_str(alloc, own)?;
+        for table in [TAGS, AIDS, BITS] {
+            text.push_str("\n")?;
+            text.push_str(table)?;
+        }
+        for _ in 0..LISTS {
+            names.tags.push(Vec::new(alloc)).map_err(AllocError::from)?;
+        }
+        let mut begin: usize = 0;
+        for (place, line) in text.as_str().split('\n').enumerate() {
+            let end = begin.saturating_add(line.len());
+            begin = end.saturating_add(1);
+            let is_row = !line.is_empty() && !line.starts_with('#');
+            if is_row && !names.take(line, end)? {
+                return Err(FormsFault::Name(place.saturating_add(1)));
+            }
+        }
+        names.text = text;
+        names.own = own.len();
+        Ok(names)
+    }
+
+    /// Reads the same rows again.
+    pub fn copied(&self, alloc: Global) -> Result<Names, FormsFault> {
+        Names::of(alloc, self.text.as_str().get(..self.own).unwrap_or(""))
+    }
+
+    /// Takes a row that ends at this place of the text. Returns whether it is one.
+    fn take(&mut self, line: &str, end: usize) -> Result<bool, AllocError> {
+        match line.split_once(' ') {
+            Some(("tag", row)) => match tag_row(row, end) {
+                Some(row) => match self.tags.get_mut(list_of(row.tag)) {
+                    Some(rows) => taken(rows, Some(row)),
+                    None => Ok(false),
+                },
+                None => Ok(false),
+            },
+            Some(("aid", row)) => taken(&mut self.aids, aid_row(row, end)),
+            Some(("bit", row)) => taken(&mut self.bits, bit_row(row, end)),
+            _ => Ok(false),
+        }
+    }
+
+    /// The rows of all tables.
+    pub fn text(&self) -> &str {
+        self.text.as_str()
+    }
+
+    /// The row of an object at this place, with a value of this size.
+    pub fn tag(&self, tag: Tag, place: Place, size: usize) -> Option<TagRow> {
+        let tag = joined(0, tag.bytes());
+        for row in self.tags.get(list_of(tag))? {
+            let is_of_size = row.sizes.0 <= size && size <= row.sizes.1;
+            if row.tag == tag && is_of_size && self.places(*row, place) {
+                return Some(*row);
+            }
+        }
+        None
+    }
+
+    /// Whether a row is for this place.
+    fn places(&self, row: TagRow, place: Place) -> bool {
+        self.words(row.places).split(',').any(|word| place.is(word))
+    }
+
+    /// The name of a row.
+    pub fn name(&self, row: TagRow) -> &str {
+        self.words(row.name)
+    }
+
+    /// The format of a row.
+    pub fn format(&self, row: TagRow) -> &str {
+        self.words(row.format)
+    }
+
+    /// Words of a row.
+    fn words(&self, words: Words) -> &str {
+        self.text.as_str().get(words.0..words.1).unwrap_or("")
+    }
+
+    /// The name of the longest application identifier that begins the one with these digits.
+    pub fn aid(&self, digits: &str) -> Option<&str> {
+        let mut best = ("", None);
+        for (aid, name) in &self.aids {
+            let aid = self.words(*aid);
+            if best.0.len() < aid.len() && digits.starts_with(aid) {
+                best = (aid, Some(self.words(*name)));
+            }
+        }
+        best.1
+    }
+
+    /// Adds the words for the bits of a value, with commas between, after a separator.
+    pub fn push_bits(&self, text: &mut Sheet, set: &str, value: &[u8], separator: &str) {
+        let mut separator = separator;
+        let set = joined(0, set.as_bytes());
+        for BitRow(other, place, mask, bits, words) in &self.bits {
+            let byte = value.get(*place).copied();
+            if *other == set && byte.is_some_and(|byte| byte & *mask == *bits) {
+                separate(text, separator);
+                text.push_str(self.words(*words));
+                separator = ", ";
+            }
+        }
+    }
+}
+
+/// Takes a row, if it is one.
+fn taken<T: Drop>(rows: &mut Vec<T>, row: Option<T>) -> Result<bool, AllocError> {
+    let Some(row) = row else {
+        return Ok(false);
+    };
+    rows.push(row)?;
+    Ok(true)
+}
+
+/// The place of the list with a tag.
+fn list_of(tag: u64) -> usize {
+    usize::try_from(tag % LISTS).unwrap_or(0)
+}
+
+/// The words before this end. `None` if they are not printable ASCII.
+fn words_before(end: usize, words: &str) -> Option<Words> {
+    let is_well = !words.is_empty() && are_printable(words.as_bytes());
+    is_well.then_some(Words(end.checked_sub(words.len())?, end))
+}
+
+/// Cuts off the first word before this end. Returns the word, its place, and the rest.
+fn cut_word(row: &str, end: usize) -> Option<(&str, Words, &str)> {
+    let (word, rest) = row.split_once(' ')?;
+    let end = end.checked_sub(rest.len())?.checked_sub(1)?;
+    Some((word, words_before(end, word)?, rest))
+}
+
+/// Reads the row of a tag.
+fn tag_row(row: &str, end: usize) -> Option<TagRow> {
+    let (tag, _, row) = cut_word(row, end)?;
+    let (words, places, row) = cut_word(row, end)?;
+    let (sizes, _, row) = cut_word(row, end)?;
+    let (word, format, name) = cut_word(row, end)?;
+    let is_place = |word| matches!(word, "*" | ".") || u64::from_str_radix(word, 16).is_ok();
+    let is_well = words.split(',').all(is_place) && is_format(word);
+    is_well.then_some(TagRow {
+        tag: tag_of(tag)?,
+        places,
+        sizes: sizes_of(sizes)?,
+        format,
+        name: words_before(end, name)?,
+    })
+}
+
+/// Reads a tag as a number.
+fn tag_of(digits: &str) -> Option<u64> {
+    let number = u64::from_str_radix(digits, 16).ok()?;
+    let size = digits.len() / 2;
+    let bytes = number.to_be_bytes();
+    let (_, read) = Tag::read(bytes.get(8usize.checked_sub(size)?..)?).ok()?;
+    (read == size).then_some(number)
+}
+
+/// Reads sizes, as `3` or `1-8`; `*` are all.
+fn sizes_of(sizes: &str) -> Option<(usize, usize)> {
+    if sizes == "*" {
+        return Some((0, usize::MAX));
+    }
+    let (least, most) = sizes.split_once('-').unwrap_or((sizes, sizes));
+    Some((least.parse().ok()?, most.parse().ok()?))
+}
+
+/// Reads the row of an application identifier of 5 to 16 bytes.
+fn aid_row(row: &str, end: usize) -> Option<(Words, Words)> {
+    let (digits, aid, name) = cut_word(row, end)?;
+    let is_digit = |letter: &u8| matches!(letter, b'0'..=b'9' | b'A'..=b'F');
+    let is_well = (10..=32).contains(&digits.len()) && digits.as_bytes().iter().all(is_digit);
+    is_well.then_some((aid, words_before(end, name)?))
+}
+
+/// Reads a row of bits.
+fn bit_row(row: &str, end: usize) -> Option<BitRow> {
+    let (set, row) = row.split_once(' ')?;
+    let (place, row) = row.split_once(' ')?;
+    let (bits, words) = row.split_once(' ')?;
+    let (mask, value) = bits.split_once('=').unwrap_or((bits, bits));
+    let place: usize = place.parse().ok()?;
+    Some(BitRow(
+        joined(0, set.as_bytes()),
+        place.checked_sub(1)?,
+        u8::from_str_radix(mask, 16).ok()?,
+        u8::from_str_radix(value, 16).ok()?,
+        words_before(end, words)?,
+    ))
+}

@@ -184,12 +184,15 @@ module _ {C : Type 0} (a : Ghosts C) where
       more old new 1 (0 + some old.kept) (omega (arith, e))
       (taken old.kept old reply new sent keeping takes)
   called (Extends multiple None) old new sent keeping (waits, is) =
-      stayed old new sent keeping (ap (λ p. p.end) is) (ap (λ p. p.kept) is)
+      more old new (some old.kept) (0 + some old.kept) (omega arith)
+      (stayed old new sent keeping (ap (λ p. p.end) is) (ap (λ p. p.kept) is))
   called (Extends multiple (Some reply)) old new sent keeping (waits, request, is) =
-      stayed old new sent keeping (ap (λ p. p.end) is) (ap (λ p. p.kept) is)
+      more old new (some old.kept) (0 + some old.kept) (omega arith)
+      (stayed old new sent keeping (ap (λ p. p.end) is) (ap (λ p. p.kept) is))
   called (Fails reason reply) old new sent keeping (asked_is, kept_is, goes) =
-      went (λ c. card_damaged reason c) old new reply sent keeping goes
-      (kept_at_most old.asked old.kept new.kept kept_is)
+      more old new (some old.kept) (0 + some old.kept) (omega arith)
+      (went (λ c. card_damaged reason c) old new reply sent keeping goes
+      (kept_at_most old.asked old.kept new.kept kept_is))
   called Resets old new sent keeping is = (
     None,
     [],

@@ -282,7 +282,8 @@ fn a_block_waits_for_its_response(rt: HostRuntime) {
     assert!(&rt; answers(&rt, alloc, &mut card, (0x92, &[]), Some((0x92, &[]))));
     assert!(&rt; !card.awaits() && card.command().is_none());
     assert!(&rt; answers(&rt, alloc, &mut card, (0x40, &rest), None));
-    card.with_applet(|applet| give(&mut applet.end, &[], ok)).expect(&rt, "a command");
+    card.with_applet(|applet| give(&mut applet.end, &[], ok))
+        .expect(&rt, "a command");
     let reply = card.again().expect(&rt, "a response");
     let bytes = write(alloc, card.block(reply)).expect(&rt, "memory");
     // IFSD is 1 now.

@@ -1,5 +1,4 @@
-use Rattle.std.proofs.Common.{rules, ◌≡◌, refl, ap}
-use Rattle.std.specs.Fn.{FnOnceReturnsAtMut}
+use Rattle.std.proofs.Common.{◌≡◌, refl, ap}
 use Rattle.t1_core.specs.Doing.{EndOf}
 use Rattle.t1_core.proofs.card.BlockCard.with_applet.Goals as goal
 

@@ -73,9 +73,16 @@ is_open (ready.Receives h p3 cut) = true
 is_open (ready.Sends h p3 cut from status ending) = false
 is_open (ready.Leaves ending) = false
 
+-- no TPDU has reached the card
+abbrev pub is_free : Ready → Bool
+is_free ready.Nothing = true
+is_free (ready.Receives h p3 cut) = false
+is_free (ready.Sends h p3 cut from status ending) = false
+is_free (ready.Leaves ending) = false
+
 -- a command is dropped, and with it what was given for it
 abbrev pub taken_back : CardOf GivenState → CardOf GivenState
-taken_back c = if is_open c.ready then record c { app = after_drop c.app } else c
+taken_back c = if is_free c.ready then record c { app = after_drop c.app } else c
 
 -- What is wanted before the end's next character.
 abbrev pub IsWanted : EndOf (CardOf GivenState) → Wanted → Type 0

@@ -46,6 +46,8 @@ class Case:
     baud: int = 9600
     # in milliseconds
     slack: int = 5000
+    program: str = "serial_card"
+    objects: str = APP
 
 
 def table(folder, text):
@@ -59,9 +61,9 @@ def run(case):
     """Plays a case. A wrong result is an error."""
     line = Line()
     with tempfile.TemporaryDirectory() as folder:
-        path = table(folder, f"atr {case.answer}\n{APP}")
+        path = table(folder, f"atr {case.answer}\n{case.objects}")
         options = case.options if case.echo else ["--no-echo", *case.options]
-        program = Program("serial_card", ["--slack", case.slack, *options, line.name, path])
+        program = Program(case.program, ["--slack", case.slack, *options, line.name, path])
         other = Other(line, case.echo, case.inverse, case.heaps)
         played = ""
         try:

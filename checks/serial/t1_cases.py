@@ -296,6 +296,16 @@ def own_part():
                                    "<", "40:6D00", ">", "00:00A404000000", "<", "00:6700")
 
 
+def own_application():
+    """The application of tests/standin/own_card.c, which asks for more time once at T=1."""
+    asks = talk(">", "40:80CA000000", "<", "C3:03", ">", "82", "<", "C3:03", ">", "E3:03",
+                "<", "40:419000")
+    yield "T=1", QUICK, talk(">", "00:80DA00000141", "<", "00:9000") + asks + talk(
+        ">", "20:80DA0000", "<", "90", ">", "40:0142", "<", "00:9000",
+        ">", "00:80CA000000", "<", "40:429000")
+    yield "T=0", "3B00", "> 80DA000001 < DA > 41 < 9000 > 80CA000001 < CA419000 "
+
+
 def at_card():
     """A card with a terminal that these tests play."""
     whole = OPEN + SELECTS + GETS
@@ -309,6 +319,9 @@ def at_card():
     for title, dialogue in own_part():
         yield card_cases.Case(f"T=1: a card, {title}", f"< {QUICK} {OPEN}{dialogue}", QUICK,
                               echo=False, slack=300)
+    for title, answer, dialogue in own_application():
+        yield card_cases.Case(f"{title}: a card of an application", f"< {answer} {dialogue}",
+                              answer, echo=False, slack=300, program="own_card", objects="")
     yield card_cases.Case("T=1: a card, a block that stops after its first byte",
                           f"< {SLOW} {OPEN}> 00 {R0}{SELECTS}", SLOW, echo=False, slack=300)
     lines = (BOOK / "fine.talk").read_text(encoding="utf-8").splitlines()

@@ -280,10 +280,13 @@ static const char *talk_t0(const struct socket *socket, uint8_t byte)
  * again. */
 static const char *answer_block(const struct socket *socket)
 {
+    gt_card *card = &socket->table->card;
     uint8_t bytes[GT_BLOCK_LIMIT];
     size_t n = 0;
-    const int32_t code =
-        gt_card_t1_send_bytes(&socket->table->card, bytes, sizeof bytes, &n);
+    int32_t code;
+    do
+        code = gt_card_t1_send_bytes(card, bytes, sizeof bytes, &n);
+    while (table_answers(card, code));
     if (code == GT_OK)
         return line_send_all(socket->line, bytes, n);
     return code == GT_DONE || code == GT_MEMORY ? NULL : gt_text(code);

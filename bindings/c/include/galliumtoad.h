@@ -544,7 +544,8 @@ typedef struct gt_atr {
  * - gt_card_      new; app and object; finish; take and turn, send_bytes and receive_bytes, tpdu
  *                 or apdu; or t1_begin, then t1_receive_bytes, t1_missed or t1_damaged, and
  *                 t1_send_bytes; .. plan, selected, app_at, entry_at, reset; free. A card of your
- *                 own has `own` in place of new to finish; command, direction, respond; .. settled
+ *                 own has `own` in place of new to finish; command, direction, respond, more_time;
+ *                 .. settled
  * - gt_session_   start, with a card; listen, to call heard; select, get, put or send; .. answer,
  *                 heard, idle, plan, selected, app_at, entry_at, reset; end, which gives the card
  *                 back, or free
@@ -584,8 +585,8 @@ typedef struct gt_atr {
  *                 it is taken or dropped; of a command, until it is carried out or dropped; and of
  *                 a response, until it is dropped. The next command drops a response. S(ABORT),
  *                 S(RESYNCH) and gt_card_reset drop all three. Of your own: a response, until all
- *                 of it is sent or the next command drops it; a TPDU or command that waits as a
- *                 whole, until it is carried out. gt_card_reset drops both
+ *                 of it is sent or the next command drops it. A TPDU or command that waits as a
+ *                 whole or at T=1, until it is carried out or dropped. gt_card_reset drops both
  * - a session     those of its card; the last answer and, if somebody listens, its characters,
  *                 until the next operation is carried out, or gt_session_end */
 typedef struct gt_exchange { bool live; void *held; } gt_exchange;
@@ -686,6 +687,7 @@ int32_t galliumtoad_card_own(gt_card *c, const uint8_t *directions, size_t n);
 int32_t galliumtoad_card_command(gt_card *c, gt_command *command);
 int32_t galliumtoad_card_direction(gt_card *c, bool to_card);
 int32_t galliumtoad_card_respond(gt_card *c, const uint8_t *data, size_t n, uint16_t status);
+int32_t galliumtoad_card_more_time(gt_card *c, uint8_t multiple);
 int32_t galliumtoad_card_settled(gt_card *c);
 int32_t galliumtoad_card_plan(gt_card *c, const char *steps, size_t n, uint16_t cut);
 int32_t galliumtoad_card_selected(gt_card *c, uint8_t *aid, size_t room, size_t *n);
@@ -1626,15 +1628,18 @@ GT_MUST_CHECK int32_t gt_card_t1_begin(gt_card *c) {
 }
 
 /* Copies the block to send now to `bytes`, and sets `n` to its length, 4 to GT_BLOCK_LIMIT. It
- * stays the same block until one of the next two calls returns GT_SENDS or GT_MEMORY.
+ * stays the same block until one of the next two calls returns GT_SENDS or GT_MEMORY, or
+ * gt_card_more_time GT_OK.
  *
  * - GT_OK.
  * - GT_DONE: there is no block, because the terminal sent none or memory ran out at its last one.
+ * - GT_COMMAND, GT_HEADER: it waits, at a card of your own alone. See there.
  * - GT_STATE: the card does not speak T=1.
  * - GT_MEMORY: call again.
  * - GT_BUFFER: `room` is less than the block. `n` is its length.
  *
- * `bytes` changes only with GT_OK, `n` with GT_OK and GT_BUFFER. The card never changes. */
+ * `bytes` changes only with GT_OK, `n` with GT_OK and GT_BUFFER. A card of data objects never
+ * changes. */
 GT_MUST_CHECK int32_t gt_card_t1_send_bytes(gt_card *c, uint8_t *bytes, size_t room, size_t *n) {
     uint8_t none = 0;
     if (!c || (!bytes && room) || !n) return GT_NULL;
@@ -1649,7 +1654,8 @@ GT_MUST_CHECK int32_t gt_card_t1_send_bytes(gt_card *c, uint8_t *bytes, size_t r
  * - GT_SENDS: the block is whole, valid or not, and `gt_card_t1_send_bytes` has the answer.
  * - GT_STATE: the card does not speak T=1. Nothing changes.
  * - GT_MEMORY: the block is dropped, no command is carried out, and there is no answer. `taken` is
- *   set. The terminal asks again. */
+ *   set. The terminal asks again. A card of your own keeps the block: gt_card_t1_send_bytes returns
+ *   this code. */
 GT_MUST_CHECK int32_t gt_card_t1_receive_bytes(gt_card *c, const uint8_t *bytes, size_t n,
                                                size_t *taken) {
     if (!c || (!bytes && n) || !taken) return GT_NULL;
@@ -1751,19 +1757,29 @@ GT_FUNCTION void gt_card_free(gt_card *c) {
  * You write what a command does; the card does the rest. It carries your commands over T=0 by
  * characters and buffers, as whole TPDUs and as whole commands, each at most once. Make it with
  * `gt_card_own`. These calls above work on it: gt_card_take, _turn, _send_bytes, _receive_bytes,
- * _tpdu, _apdu, _plan, _reset and _free. The others return GT_STATE, also those for T=1, and
+ * _tpdu, _apdu, _plan, _reset and _free, and all of T=1. The others return GT_STATE, also
  * gt_session_start.
  *
- * gt_card_turn, gt_card_send_bytes, gt_card_tpdu and gt_card_apdu return GT_COMMAND if a command
- * waits for its response. Then nothing changes, except `n` of gt_card_send_bytes and the bytes that
- * it counts. A TPDU or command that came whole is copied, and waits. The order:
+ * gt_card_turn, gt_card_send_bytes, gt_card_tpdu, gt_card_apdu and gt_card_t1_send_bytes return
+ * GT_COMMAND if a command waits for its response. Then nothing changes, except `n` of
+ * gt_card_send_bytes and the bytes that it counts. A TPDU, a command or a block that came whole is
+ * copied, and waits. The order:
  *
  *   the card returned   then call                          and then
  *   GT_HEADER           gt_card_command for the header     gt_card_direction; the same call again
  *   GT_COMMAND          gt_card_command for the command    gt_card_respond; the same call again
  *
+ * At T=1 gt_card_more_time may come in place of gt_card_respond. The same call again then has
+ * S(WTX request).
+ *
  * GT_HEADER is only for a card without directions. GT_COMMAND may follow it. The same call again is
  * gt_card_tpdu or gt_card_apdu with NULL and 0 in place of the bytes.
+ *
+ * At T=1 any block of the terminal drops a command that waits, and what was answered for it, except
+ * S(IFS request) and the response to S(WTX request) while that is in progress. After the response
+ * gt_card_t1_send_bytes returns GT_HEADER or GT_COMMAND again. A command that was dropped before
+ * the answer may come again in another block: you get it once more, and gt_card_settled is 0 if it
+ * had a response, which did not go out.
  *
  * No command waits in these cases, and the card answers alone:
  *
@@ -1791,7 +1807,9 @@ GT_FUNCTION void gt_card_free(gt_card *c) {
  * - gt_card_command: nothing waits: GT_STATE.
  * - gt_card_direction: no header waits: GT_STATE.
  * - gt_card_respond: no command waits, as before the first one, after the response to it, and after
- *   a reset: GT_STATE. Another response than one may give: GT_ARGUMENT.
+ *   a reset: GT_STATE. At T=1 also before gt_card_t1_send_bytes returns GT_COMMAND, and after the
+ *   next block, as S(ABORT) or S(RESYNCH). Another response than one may give: GT_ARGUMENT.
+ * - gt_card_more_time: no command waits at T=1, or it has its response: GT_STATE.
  * - gt_card_take and gt_card_receive_bytes, while one waits: GT_NOT_LISTENING.
  * - gt_card_tpdu and gt_card_apdu with bytes, while one waits; or without bytes, while none of that
  *   call waits: GT_STATE, and with nothing that waits GT_NO_TPDU and GT_TOO_SHORT. While one of
@@ -1853,6 +1871,19 @@ GT_MUST_CHECK int32_t gt_card_respond(gt_card *c, const uint8_t *data, size_t n,
                                       uint16_t status) {
     if (!c || (!data && n)) return GT_NULL;
     return galliumtoad_card_respond(c, gt_bytes_(data), n, status);
+}
+
+/* Asks the terminal for more time for the command that waits at T=1: gt_card_t1_send_bytes has the
+ * S(WTX request). After the response to it that call returns GT_COMMAND again, or GT_HEADER.
+ *
+ * `multiple`, 1 to 255, is how many times BWT the terminal waits for the next block.
+ *
+ * - GT_OK: the command waits on. gt_card_respond returns GT_STATE until then.
+ * - GT_STATE: no command waits at T=1, it has its response, or the card is not of your own.
+ * - GT_ARGUMENT: `multiple` is 0. The command still waits. */
+GT_MUST_CHECK int32_t gt_card_more_time(gt_card *c, uint8_t multiple) {
+    if (!c) return GT_NULL;
+    return galliumtoad_card_more_time(c, multiple);
 }
 
 /* Returns whether the last command that got a response has settled. Compare with == 1.

@@ -234,6 +234,7 @@ class Card {
     GT_CODE direction(bool to_card) GT_OVER(gt_card_direction(&held, to_card))
     GT_CODE respond(Bytes data, uint16_t status)
     GT_OVER(gt_card_respond(&held, GT_SPAN(data), status))
+    GT_CODE more_time(uint8_t multiple) GT_OVER(gt_card_more_time(&held, multiple))
     GT_CODE settled(bool &is) GT_OVER(whether(gt_card_settled(&held), is))
 };
 

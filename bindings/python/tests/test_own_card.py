@@ -1,11 +1,13 @@
 """Tests a card of an application of your own, by each way to its line. Answers are by ISO/IEC
 7816-3 and 7816-4 and the rules of the card."""
 
+import itertools
 import threading
 from functools import partial
 
 import pytest
 from galliumtoad import (
+    T1,
     Application,
     CallError,
     Command,
@@ -181,6 +183,29 @@ def test_by_commands():
             assert (found.value.name, log(card)) == (name, [])
 
 
+def at_t1(card):
+    """A terminal's end over a line at T=1, on which each second block to the card is cut off."""
+    card.begin_t1()
+    count = itertools.count()
+    return T1(lambda data, waits: card.block(data[next(count) % 2 :]) if data else b"")
+
+
+def test_at_t1():
+    """The same over T=1, where bytes that are no command have an answer too."""
+    none = [("0060000000", b"\x6d\x00", []), ("001000", b"\x67\x00", [])]
+    with own() as card, at_t1(card) as end:
+        for sent, answer, seen in COMMANDS + none:
+            assert (end(bytes.fromhex(sent)), log(card)) == (answer, seen), sent
+        for call in (card.begin_t1, card.send_bytes, partial(card.apdu, bytes(5))):
+            with pytest.raises(CallError) as found:
+                call()
+            assert (found.value.name, log(card)) == ("GT_STATE", [])
+        card.reset()
+        assert log(card) == [("reset",)]
+        with pytest.raises(CallError):
+            card.block(b"")
+
+
 def test_by_all_ways_in_turn():
     """What one way leaves is there for the next."""
     with own() as card:
@@ -285,8 +310,13 @@ def by_room(room):
     return carry
 
 
+def by_blocks(card, command):
+    with at_t1(card) as end:
+        end(command)
+
+
 WAYS = {"characters": by_room(1), "buffers": by_room(1024), "TPDUs": OwnCard.tpdu,
-        "commands": OwnCard.apdu}
+        "commands": OwnCard.apdu, "blocks": by_blocks}
 
 
 def is_as_after_a_reset(card):
@@ -355,8 +385,9 @@ def test_a_refused_call_changes_nothing():
 def test_a_closed_card():
     card = own()
     card.close()
-    by_bytes = [partial(it, bytes(5)) for it in (card.receive_bytes, card.tpdu, card.apdu)]
-    for call in (*by_bytes, partial(card.plan, ""), card.send_bytes, card.reset):
+    calls = (card.receive_bytes, card.tpdu, card.apdu, card.block)
+    by_bytes = [partial(it, bytes(5)) for it in calls]
+    for call in (*by_bytes, partial(card.plan, ""), card.send_bytes, card.begin_t1, card.reset):
         with pytest.raises(CallError) as found:
             call()
         assert found.value.name == "GT_EMPTY"

@@ -2,10 +2,12 @@
 
 use crate::card::Card;
 use crate::error::{done, told, Error};
+use crate::own_card::Application;
 use crate::raw;
 use crate::t1::Received;
 
-/// A card's end of a line at T=1. It answers each block of a terminal with one block, and carries
+/// A card's end of a line at T=1, of data objects or of an application of your own
+/// ([`OwnCard`](crate::OwnCard)). It answers each block of a terminal with one block, and carries
 /// out each command as [`Card::apdu`]. The response to other bytes than a short command is `6700`,
 /// and to an invalid INS `6D00` (profile). The caller keeps the times of the line, which are in
 /// [`Atr`](crate::Atr).
@@ -33,22 +35,23 @@ use crate::t1::Received;
 /// # Ok::<(), Error>(())
 /// ```
 #[derive(Debug)]
-pub struct CardT1(Card);
+pub struct CardT1<A = ()>(Card<A>);
 
-impl CardT1 {
+impl<A: Application> CardT1<A> {
     /// Resets the card, and begins T=1. Data objects and plans stay; T=1 uses no plans.
     ///
     /// # Errors
     ///
     /// None today.
-    pub fn new(card: Card) -> Result<CardT1, Error> {
+    pub fn new(card: Card<A>) -> Result<CardT1<A>, Error> {
         let mut end = CardT1(card);
         end.reset()?;
         Ok(end)
     }
 
     /// Takes bytes of the terminal up to the end of its block. A command is carried out with the
-    /// last byte of its last block.
+    /// last byte of its last block, or at a card of your own by
+    /// [`block_into`](CardT1::block_into).
     ///
     /// # Errors
     ///
@@ -95,15 +98,16 @@ impl CardT1 {
     ///
     /// # Errors
     ///
-    /// After both nothing has changed.
+    /// After both nothing has changed. Those of an application of your own are in
+    /// [`OwnCard`](crate::OwnCard): [`reset`](CardT1::reset) then begins T=1 again.
     ///
     /// - [`Error::Memory`]: memory ran out.
     /// - [`Error::Buffer`]: `room` is too short.
-    pub fn block_into(&self, room: &mut [u8]) -> Result<Option<usize>, Error> {
-        let (at, n) = (self.0 .0.at(), room.len());
+    pub fn block_into(&mut self, room: &mut [u8]) -> Result<Option<usize>, Error> {
+        let n = room.len();
         let mut count = 0;
         // SAFETY: a card's handle; `room` with its length and `count` are apart.
-        let code = told(unsafe {
+        let code = self.0.run(|at| unsafe {
             raw::galliumtoad_card_t1_send_bytes(at, room.as_mut_ptr(), n, &mut count)
         })?;
         Ok((code != raw::DONE).then_some(count))
@@ -121,9 +125,9 @@ impl CardT1 {
         done(unsafe { raw::galliumtoad_card_t1_begin(self.0 .0.at()) })
     }
 
-    /// Returns the card, to look at its objects and what is selected.
+    /// Returns the card, to look at its objects and what is selected, or at its application.
     #[must_use]
-    pub fn card(&self) -> &Card {
+    pub fn card(&self) -> &Card<A> {
         &self.0
     }
 
@@ -132,7 +136,7 @@ impl CardT1 {
     /// # Errors
     ///
     /// None today.
-    pub fn into_card(mut self) -> Result<Card, Error> {
+    pub fn into_card(mut self) -> Result<Card<A>, Error> {
         self.0.reset()?;
         Ok(self.0)
     }

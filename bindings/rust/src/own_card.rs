@@ -73,10 +73,11 @@ pub trait Application {
 }
 
 /// A card of an [`Application`] of your own: you write what a command does. It goes over T=0, by
-/// characters and buffers, as whole TPDUs and as whole commands. A command is carried out at most
-/// once, by [`turn`](Card::turn), [`send_bytes`](Card::send_bytes), [`tpdu`](Card::tpdu) or
-/// [`apdu`](Card::apdu). The card itself answers GET RESPONSE, the same header after `6CXX`, and
-/// INS `6X` and `9X`.
+/// characters and buffers, as whole TPDUs and as whole commands, and over T=1 in a
+/// [`CardT1`](crate::CardT1). A command is carried out at most once, by [`turn`](Card::turn),
+/// [`send_bytes`](Card::send_bytes), [`tpdu`](Card::tpdu), [`apdu`](Card::apdu) or
+/// [`CardT1::block_into`](crate::CardT1::block_into). The card itself answers GET RESPONSE, the
+/// same header after `6CXX`, and INS `6X` and `9X`.
 ///
 /// A panic of the application, or an error after it was called, resets the card and the
 /// application: [`Error::Argument`] for a status or a length that no application may return, and
@@ -171,11 +172,15 @@ impl<A: Application> Card<A> {
         let resets = Resets(self);
         while let raw::HEADER | raw::COMMAND = code {
             resets.0.ask(code == raw::HEADER)?;
-            code = told(call(resets.0 .0.at()))?;
+            code = match told(call(resets.0 .0.at())) {
+                // at T=1, with too short a room: the block stays
+                Err(Error::Buffer) => raw::BUFFER,
+                code => code?,
+            };
         }
         resets.0.settle();
         forget(resets);
-        Ok(code)
+        told(code)
     }
 
     /// Asks the application about the header or the command that waits.

@@ -23,7 +23,7 @@ fn block(pcb: u8, info: &[u8]) -> Vec<u8> {
 }
 
 /// The card's next block is this one.
-fn sends(end: &CardT1, wanted: &[u8]) {
+fn sends(end: &mut CardT1, wanted: &[u8]) {
     let mut room = [0xEE; BLOCK_LIMIT];
     let count = end.block_into(&mut room).expect("memory").expect("a block");
     assert_eq!(room[..count], *wanted);
@@ -47,16 +47,16 @@ fn commands_and_their_responses() {
     assert_eq!(end.block_into(&mut room), Ok(None));
     assert_eq!(room, [0xEE; BLOCK_LIMIT]);
     takes(&mut end, block(0x20, &SELECT[..6]));
-    sends(&end, &block(0x90, b""));
+    sends(&mut end, &block(0x90, b""));
     takes(&mut end, block(0x40, &SELECT[6..]));
-    sends(&end, &block(0x00, NAME));
+    sends(&mut end, &block(0x00, NAME));
     assert_eq!(end.card().selected(), Some(AID.to_vec()));
     takes(&mut end, block(0xC1, b"\x05"));
-    sends(&end, &block(0xE1, b"\x05"));
+    sends(&mut end, &block(0xE1, b"\x05"));
     takes(&mut end, block(0x00, GET));
-    sends(&end, &block(0x60, b"\x5F\x20\x03JO"));
+    sends(&mut end, &block(0x60, b"\x5F\x20\x03JO"));
     takes(&mut end, block(0x80, b""));
-    sends(&end, &block(0x00, b"E\x90\x00"));
+    sends(&mut end, &block(0x00, b"E\x90\x00"));
 }
 
 #[test]
@@ -79,9 +79,9 @@ fn a_block_that_stops() {
             .is_whole
     );
     end.missed().expect("a card at T=1");
-    sends(&end, &block(0x82, b""));
+    sends(&mut end, &block(0x82, b""));
     takes(&mut end, block(0x00, SELECT));
-    sends(&end, &block(0x00, NAME));
+    sends(&mut end, &block(0x00, NAME));
 }
 
 #[test]
@@ -91,7 +91,7 @@ fn resets() {
     end.reset().expect("a card");
     assert_eq!(end.card().selected(), None);
     takes(&mut end, block(0x00, GET));
-    sends(&end, &block(0x00, b"\x69\x85"));
+    sends(&mut end, &block(0x00, b"\x69\x85"));
     takes(&mut end, block(0x40, SELECT));
     let mut card = end.into_card().expect("a card");
     assert_eq!(card.selected(), None);
@@ -99,5 +99,5 @@ fn resets() {
     // a reset drops a part of a TPDU
     let mut end = CardT1::new(card).expect("a card");
     takes(&mut end, block(0x00, SELECT));
-    sends(&end, &block(0x00, NAME));
+    sends(&mut end, &block(0x00, NAME));
 }

@@ -1,7 +1,10 @@
 //! Tests a card of an application of your own, by each way to its line. Answers are by ISO/IEC
 //! 7816-3 and 7816-4 and the rules of the card.
 
-use galliumtoad::{Application, Command, Error, Exchange, OwnCard, Response, Status, Stop, Turn};
+use galliumtoad::{
+    Application, CardT1, Command, Edc, Error, Exchange, OwnCard, Response, Status, Stop, T1Limits,
+    Turn, BLOCK_LIMIT, T1,
+};
 use std::cell::{Cell, RefCell};
 use std::panic::{catch_unwind, set_hook, take_hook, AssertUnwindSafe};
 
@@ -352,6 +355,89 @@ fn by_commands() {
     assert_eq!(card.apdu(b""), Err(Error::TooShort));
     assert_eq!(card.tpdu(b""), Err(Error::NoTpdu));
     assert_eq!(steps(&card), []);
+}
+
+/// Carries a command over a line at T=1, on which each third block to the card is lost.
+fn over_t1(card: &mut CardT1<Probe>, terminal: &mut T1, command: &[u8]) -> Vec<u8> {
+    let mut room = [0; BLOCK_LIMIT];
+    let mut count = 0;
+    terminal.begin(command).expect("memory");
+    while let Some(block) = terminal.block_into(&mut room).expect("an end") {
+        count += 1;
+        if count % 3 == 0 || !card.receive(&room[..block.count]).expect("bytes").is_whole {
+            card.missed().expect("a card");
+        }
+        assert_eq!(card.block_into(&mut room[..3]), Err(Error::Buffer));
+        let n = card.block_into(&mut room).expect("a card").expect("a block");
+        assert!(terminal.receive(&room[..n]).expect("memory").is_whole);
+    }
+    let n = terminal.response_into(&mut room).expect("a response");
+    room[..n].to_vec()
+}
+
+/// The rules of whole commands, over T=1.
+#[test]
+fn at_t1() {
+    let mut card = CardT1::new(own()).expect("a card");
+    let mut terminal = T1::new(Edc::Lrc, 32, T1Limits::default()).expect("memory");
+    let _ = steps(card.card());
+    let read = [0x00, 0xB0, 0x00, 0x05];
+    let warns = [0x80, 0xB2, 0x00, 0x05];
+    let select = [0x00, 0xA4, 0x00, 0x10];
+    let long = [0x00, 0xB0, 0x02, 0x58];
+    rows(
+        |command| (over_t1(&mut card, &mut terminal, command), steps(card.card())),
+        &[
+            (b"\x00\xB0\x00\x05\x00", 0, 5, 0x9000, done(read, b"", 256)),
+            (b"\x80\xB2\x00\x05\x03", 0, 3, 0x6102, done(warns, b"", 3)),
+            (b"\x00\xC0\x00\x00\x00", 3, 5, 0x6283, vec![]),
+            (b"\x00\xC0\x00\x00\x01", 0, 0, 0x6985, vec![]),
+            (b"\x00\xB0\x00\x05", 0, 0, 0x6105, done(read, b"", 256)),
+            (
+                b"\x00\xA4\x00\x10\x03ABC\x00",
+                0,
+                16,
+                0x9000,
+                done(select, b"ABC", 0),
+            ),
+            (b"\x00\xB0\x00\x05\x01A", 0, 0, 0x6700, vec![]),
+            (b"\x00\x60\x00\x00", 0, 0, 0x6D00, vec![]),
+            (b"\x00\x10\x00", 0, 0, 0x6700, vec![]),
+            (
+                b"\x00\xB0\x02\x58\x00",
+                0,
+                256,
+                0x6100,
+                done(long, b"", 256),
+            ),
+        ],
+    );
+    let mut card = card.into_card().expect("a card");
+    assert_eq!(steps(&card), [Reset]);
+    assert_eq!(talked(&mut card, b"\x00\xC0\x00\x00\x01"), b"\x69\x85");
+}
+
+/// A panic of the application at T=1 resets the card, which begins T=1 again with `reset`.
+#[test]
+fn a_panic_at_t1() {
+    let mut card = CardT1::new(own()).expect("a card");
+    let mut terminal = T1::new(Edc::Lrc, 32, T1Limits::default()).expect("memory");
+    let read = b"\x00\xB0\x00\x05\x00";
+    for fails in [Fails::Header, Fails::Command, Fails::Settling] {
+        card.card().application().fails.set(fails);
+        let _ = steps(card.card());
+        let talks = AssertUnwindSafe(|| over_t1(&mut card, &mut terminal, read));
+        catch_unwind(talks).expect_err("a panic");
+        assert_eq!(steps(card.card()).last(), Some(&Reset));
+        card.card().application().fails.set(Fails::Nowhere);
+        assert_eq!(card.missed(), Err(Error::State));
+        assert_eq!(card.reset(), Ok(()));
+        assert_eq!(terminal.reset(), Ok(()));
+        let _ = steps(card.card());
+        let answer = over_t1(&mut card, &mut terminal, read);
+        assert_eq!(answer, [&bytes(5)[..], b"\x90\x00"].concat());
+        assert_eq!(steps(card.card()), done([0, 0xB0, 0, 5], b"", 256));
+    }
 }
 
 /// By characters, TPDUs and commands in turn, what one leaves is there for the next.

@@ -15,6 +15,7 @@ pub mod HeldTerminalKind
 pub mod HeldWalks
 pub mod Listing
 pub mod OwnLemmas
+pub mod OwnT1Lemmas
 pub mod OwnWholeLemmas
 pub mod PlanLemmas
 pub mod PointerValues

@@ -14,9 +14,10 @@ use Rattle.object_card.specs.CardMeaning.{Does}
 use Rattle.object_card.specs.CardView.{CardView}
 use Rattle.object_card.specs.Builder.{TakesApplication, RefusesApplication, TakesObject, RefusesObject, with_application, with_last_entry, new_card}
 use Rattle.card_c.specs.declared.card_side.CardSide.{CardSide}
-use Rattle.card_c.specs.declared.card_side.CardSide.TheVariants.{Building, Standing, AtT1}
+use Rattle.card_c.specs.declared.card_side.CardSide.TheVariants.{Building, Standing, AtT1, Own, OwnAtT1}
 use Rattle.card_c.specs.Codes.{gt_ok, gt_sends, gt_state, gt_memory, gt_argument, builder_code, line_code}
 use Rattle.card_c.specs.OwnCalls.{OwnTakes, OwnTurns, OwnResets}
+use Rattle.card_c.specs.OwnT1.{own_at_t0}
 use Rattle.card_c.specs.TagNumbers.{IsNumbered}
 
 -- A card without applications, if the handle was empty and memory did not run out.
@@ -132,4 +133,5 @@ ResetsEnd end plans code new =
 abbrev pub Resets : CardSide → ℤ → CardSide → Type 0
 Resets (Standing end plans) code new = ResetsEnd end plans code new
 Resets (AtT1 at) code new = ResetsEnd at.end.card at.plans code new
+Resets (OwnAtT1 at) code new = OwnResets (Own (own_at_t0 at)) code new
 Resets side code new = OwnResets side code new

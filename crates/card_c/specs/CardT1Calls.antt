@@ -14,10 +14,12 @@ use Rattle.object_card.specs.CardMeaning.{Does}
 use Rattle.object_card.specs.CardView.{CardView}
 use Rattle.t1_terminal.specs.CardCommand.{DoesAt}
 use Rattle.card_c.specs.declared.card_side.CardSide.{CardSide}
-use Rattle.card_c.specs.declared.card_side.CardSide.TheVariants.{Standing, AtT1}
+use Rattle.card_c.specs.declared.card_side.CardSide.TheVariants.{Standing, AtT1, Own, OwnAtT1}
 use Rattle.card_c.specs.declared.card_side.CardT1Side.{CardT1Side}
+use Rattle.card_c.specs.declared.own_side.OwnT1Side.{OwnT1Side}
 use Rattle.card_c.specs.Codes.{gt_ok, gt_sends, gt_done, gt_state, gt_memory}
 use Rattle.card_c.specs.Copying.{IsCopied}
+use Rattle.card_c.specs.OwnT1.{is_idle, own_at_t0, own_begun}
 
 -- the card above the end: its states, and what a command does to them
 abbrev pub applet : Ghosts (EndOf CardView)
@@ -41,19 +43,25 @@ abbrev pub BeginsT1 : CardSide → ℤ → CardSide → Type 0
 BeginsT1 (Standing end plans) code new =
     ((rests end.stage ≡ false) × (code ≡ gt_state) × (new ≡ Standing end plans))
     ⊎ ((rests end.stage ≡ true) × (code ≡ gt_ok) × (new ≡ AtT1 (begun end plans)))
+BeginsT1 (Own own) code new = ((is_idle own ≡ false) × (code ≡ gt_state) × (new ≡ Own own))
+    ⊎ ((is_idle own ≡ true) × (code ≡ gt_ok) × (new ≡ OwnAtT1 (own_begun own)))
 BeginsT1 side code new = (code ≡ gt_state) × (new ≡ side)
 
 -- a card at T=1 speaks T=0 again
 abbrev pub at_t0 : CardSide → CardSide
 at_t0 (AtT1 at) = Standing at.end.card at.plans
+at_t0 (OwnAtT1 at) = Own (own_at_t0 at)
 at_t0 side = side
 
--- A call on a card at T=1 does this. On any other it writes nothing, and nothing changes.
-abbrev pub OnLine : (CardT1Side → ℤ → CardT1Side → Type 0) → Type 0 → CardSide → ℤ → CardSide
-    → Type 0
-OnLine Calls Untold (AtT1 at) code new =
+-- A call on a card at T=1 does this: on one of data objects, and on one of an own application. On
+-- any other it writes nothing, and nothing changes.
+abbrev pub OnLine : (CardT1Side → ℤ → CardT1Side → Type 0) → (OwnT1Side → ℤ → OwnT1Side → Type 0)
+    → Type 0 → CardSide → ℤ → CardSide → Type 0
+OnLine Calls OwnCalls Untold (AtT1 at) code new =
     (next : CardT1Side) × (new ≡ AtT1 next) × Calls at code next
-OnLine Calls Untold side code new = (code ≡ gt_state) × (new ≡ side) × Untold
+OnLine Calls OwnCalls Untold (OwnAtT1 at) code new =
+    (next : OwnT1Side) × (new ≡ OwnAtT1 next) × OwnCalls at code next
+OnLine Calls OwnCalls Untold side code new = (code ≡ gt_state) × (new ≡ side) × Untold
 
 -- The block of the reply is written. Before the terminal's first block, and after memory ran out,
 -- no block is.

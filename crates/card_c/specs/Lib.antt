@@ -12,6 +12,7 @@ pub mod Handles
 pub mod HeardCalls
 pub mod HeldOwned
 pub mod OwnCalls
+pub mod OwnT1
 pub mod OwnWhole
 pub mod PlanCalls
 pub mod PlanLetters

@@ -14,6 +14,8 @@ use Rattle.t0_core.specs.CardTaking.{IsTaken}
 use Rattle.t0_core.specs.History.{Event, Passed, Reset}
 use Rattle.t0_core.specs.Plan.{Course, Cursor, advanced, plan_kept}
 use Rattle.t0_core.specs.TpduBytes.{Asked, asked_in}
+use Rattle.t1_core.specs.Patience.{PatientOf}
+use Rattle.command_card.specs.declared.given_applet.GivenApplet.{GivenApplet}
 use Rattle.command_card.specs.declared.given.Directions.{Directions}
 use Rattle.command_card.specs.declared.given.Directions.TheVariants as way
 use Rattle.command_card.specs.declared.own.Wanted.{Wanted}
@@ -26,9 +28,10 @@ use Rattle.command_card.specs.State.{CardState}
 use Rattle.command_card.specs.View.{CardOf, MayReceive, MaySend, after_reset, prepared_in, standing_in}
 use Rattle.command_card.specs.Wanted.{IsWanted, is_open, wanted_by, wanted_for}
 use Rattle.card_c.specs.declared.card_side.CardSide.{CardSide}
-use Rattle.card_c.specs.declared.card_side.CardSide.TheVariants.{Own}
+use Rattle.card_c.specs.declared.card_side.CardSide.TheVariants.{Own, OwnAtT1}
 use Rattle.card_c.specs.declared.command_record.CommandRecord.{CommandRecord}
 use Rattle.card_c.specs.declared.own_side.OwnSide.{OwnSide}
+use Rattle.card_c.specs.declared.own_side.OwnT1Side.{OwnT1Side}
 use Rattle.card_c.specs.declared.own_side.Whole.{Whole}
 use Rattle.card_c.specs.declared.own_side.Whole.TheVariants as whole
 use Rattle.card_c.specs.Codes.{gt_ok, gt_sends, gt_command, gt_header, gt_state, gt_memory, gt_argument, line_code}
@@ -48,6 +51,16 @@ own_card = record {
   MaySend = MaySend takes_data;
   prepared = λ card. prepared_in (λ s. s) settled card;
 }
+
+-- the card at T=1, as it was at T=0, and another in its place
+abbrev pub own_end : OwnT1Side → EndOf OwnCard
+own_end at = at.end.end.card.end
+
+abbrev pub lent : EndOf OwnCard → PatientOf GivenApplet → PatientOf GivenApplet
+lent end p = record p { end = record p.end { card = record { end = end } } }
+
+abbrev pub with_own : EndOf OwnCard → OwnT1Side → OwnT1Side
+with_own end at = record at { end = lent end at.end }
 
 -- these events led to the end, from a card in this state
 abbrev pub OwnLed : CardState GivenState → List Event → EndOf OwnCard → Type 0
@@ -152,19 +165,19 @@ OwnReceives bytes before n side code new = (code ≡ gt_state) × (new ≡ side)
 
 -- The card is reset. What waits is dropped, and so is a response that did not settle; the plans
 -- stay.
-abbrev pub OwnResetsOne : OwnSide → ℤ → OwnSide → Type 0
-OwnResetsOne own code new = (code ≡ gt_ok) × (new.plans ≡ own.plans)
+abbrev pub OwnResetsOne : EndOf OwnCard → Cursor → ℤ → OwnSide → Type 0
+OwnResetsOne end plans code new = (code ≡ gt_ok) × (new.plans ≡ plans)
     × (new.whole ≡ whole.Nothing) × (new.asked.items ≡ [])
-    × (own_card.standing new.end.card
-    ≡ own_card.after_reset (own_card.standing own.end.card))
+    × (own_card.standing new.end.card ≡ own_card.after_reset (own_card.standing end.card))
     × (new.end.stage ≡ Taking_header [])
-    × ((first : CardState GivenState) (events : List Event) → OwnLed first events own.end
+    × ((first : CardState GivenState) (events : List Event) → OwnLed first events end
     → OwnLed first (events ++ Reset ∷ []) new.end)
     × OwnLed (own_card.standing new.end.card) [] new.end
     × OwnLedUnder (own_card.standing new.end.card) [] [] new.end
 
 abbrev pub OwnResets : CardSide → ℤ → CardSide → Type 0
-OwnResets (Own own) code new = (next : OwnSide) × (new ≡ Own next) × OwnResetsOne own code next
+OwnResets (Own own) code new = (next : OwnSide) × (new ≡ Own next)
+    × OwnResetsOne own.end own.plans code next
 OwnResets side code new = (code ≡ gt_state) × (new ≡ side)
 
 -- no plans, no response, and the events since its making: none
@@ -209,6 +222,10 @@ IsWantedIn whole.Command bytes end w = IsWantedFor end.card bytes w
 abbrev pub IsOwnWanted : OwnSide → Wanted → Type 0
 IsOwnWanted own w = IsWantedIn own.whole own.asked.items own.end w
 
+-- The same at T=1: the command that the sending call returned for.
+abbrev pub IsWantedAtT1 : OwnT1Side → Wanted → Type 0
+IsWantedAtT1 at w = IsWantedFor (own_end at).card at.asked.items w
+
 -- header, Le and data as C sees them
 pub record IsRecord (h : Header) (bytes : List ℕ) (le : ℕ) (r : CommandRecord) : Type 0 where
   pub cla : r.cla ≡ h.cla
@@ -227,6 +244,8 @@ TellsWanted (wanted.Response c) old new code = (code ≡ gt_ok)
 
 abbrev pub TellsCommand : CommandRecord → CommandRecord → CardSide → ℤ → Type 0
 TellsCommand old new (Own own) code = (w : Wanted) × IsOwnWanted own w × TellsWanted w old new code
+TellsCommand old new (OwnAtT1 at) code =
+    (w : Wanted) × IsWantedAtT1 at w × TellsWanted w old new code
 TellsCommand old new side code = (code ≡ gt_state) × (new ≡ old)
 
 -- the end is at the same place of its TPDU, over this card
@@ -243,9 +262,17 @@ DecidesOne (wanted.Direction h) to_card end code new =
 DecidesOne wanted.Nothing to_card end code new = (code ≡ gt_state) × (new ≡ end)
 DecidesOne (wanted.Response c) to_card end code new = (code ≡ gt_state) × (new ≡ end)
 
+abbrev pub DecidesAt : Whole → List ℕ → Bool → EndOf OwnCard → ℤ → EndOf OwnCard → Type 0
+DecidesAt whole asked to_card end code new =
+    (w : Wanted) × IsWantedIn whole asked end w × DecidesOne w to_card end code new
+
 abbrev pub Decides : Bool → CardSide → ℤ → CardSide → Type 0
-Decides to_card (Own own) code new = (w : Wanted) × IsOwnWanted own w × (end : EndOf OwnCard)
-    × (new ≡ Own (record own { end = end })) × DecidesOne w to_card own.end code end
+Decides to_card (Own own) code new = (end : EndOf OwnCard)
+    × (new ≡ Own (record own { end = end }))
+    × DecidesAt own.whole own.asked.items to_card own.end code end
+Decides to_card (OwnAtT1 at) code new = (end : EndOf OwnCard)
+    × (new ≡ OwnAtT1 (with_own end at))
+    × DecidesAt whole.Command at.asked.items to_card (own_end at) code end
 Decides to_card side code new = (code ≡ gt_state) × (new ≡ side)
 
 -- a status word with this number, which an application may give
@@ -273,12 +300,21 @@ RespondsOne (wanted.Response c) bytes number end code new = GivesOne bytes numbe
 RespondsOne wanted.Nothing bytes number end code new = (code ≡ gt_state) × (new ≡ end)
 RespondsOne (wanted.Direction h) bytes number end code new = (code ≡ gt_state) × (new ≡ end)
 
+abbrev pub RespondsAt : Whole → List ℕ → List ℕ → ℕ → EndOf OwnCard → ℤ → EndOf OwnCard → Type 0
+RespondsAt whole asked bytes number end code new =
+    (w : Wanted) × IsWantedIn whole asked end w × RespondsOne w bytes number end code new
+
 abbrev pub RespondsOwn : List ℕ → ℕ → CardSide → ℤ → CardSide → Type 0
-RespondsOwn bytes number (Own own) code new = (w : Wanted) × IsOwnWanted own w
-    × (end : EndOf OwnCard) × (new ≡ Own (record own { end = end }))
-    × RespondsOne w bytes number own.end code end
+RespondsOwn bytes number (Own own) code new = (end : EndOf OwnCard)
+    × (new ≡ Own (record own { end = end }))
+    × RespondsAt own.whole own.asked.items bytes number own.end code end
+RespondsOwn bytes number (OwnAtT1 at) code new = (end : EndOf OwnCard)
+    × (new ≡ OwnAtT1 (with_own end at))
+    × RespondsAt whole.Command at.asked.items bytes number (own_end at) code end
 RespondsOwn bytes number side code new = (code ≡ gt_state) × (new ≡ side)
 
 abbrev pub TellsSettled : CardSide → ℤ → Type 0
 TellsSettled (Own own) code = code ≡ (if own.end.card.app.settled then pos 1 else pos 0)
+TellsSettled (OwnAtT1 at) code =
+    code ≡ (if (own_end at).card.app.settled then pos 1 else pos 0)
 TellsSettled side code = code ≡ gt_state

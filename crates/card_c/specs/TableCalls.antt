@@ -4,7 +4,7 @@ use Rattle.std.specs.Option.{option_map}
 use Rattle.object_card.specs.Tables.{Entry}
 use Rattle.object_card.specs.State.{CardState, entry_at}
 use Rattle.card_c.specs.declared.card_side.CardSide.{CardSide}
-use Rattle.card_c.specs.declared.card_side.CardSide.TheVariants.{Building, Standing, Joined, AtT1, Own}
+use Rattle.card_c.specs.declared.card_side.CardSide.TheVariants.{Building, Standing, Joined, AtT1, Own, OwnAtT1}
 use Rattle.card_c.specs.Codes.{gt_state, gt_not_found}
 use Rattle.card_c.specs.Copying.{IsCopied}
 use Rattle.card_c.specs.TagNumbers.{IsNumbered}
@@ -16,6 +16,7 @@ state_in (Standing end plans) = Some end.card.state
 state_in (AtT1 at) = Some at.end.card.card.state
 state_in (Joined session) = Some session.session.state
 state_in (Own own) = None
+state_in (OwnAtT1 at) = None
 
 -- these bytes, if there are any, and if they fit
 abbrev pub TellsBytes : Option (List ℕ) → List ℕ → ℕ → ℤ → List ℕ → ℕ → Type 0

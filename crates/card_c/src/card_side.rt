@@ -1,12 +1,12 @@
 //! What the handle of a card or a session holds.
-use crate::own_side::OwnSide;
+use crate::own_side::{OwnSide, OwnT1Side};
 use crate::session_side::SessionSide;
 use object_card::{CardBuilder, ObjectCard};
 use t0_core::{CardEnd, PlanQueue};
 use t1_core::{Receiver, Reply};
 use t1_terminal::DataApplet;
 
-/// A card in one of five states.
+/// A card in one of six states.
 #[derive(Drop)]
 pub enum CardSide {
     /// It is being built.
@@ -17,8 +17,10 @@ pub enum CardSide {
     Joined(SessionSide),
     /// It speaks T=1, until its next reset.
     AtT1(CardT1Side),
-    /// It is one of an own application.
+    /// It is one of an own application, at T=0.
     Own(OwnSide),
+    /// It is one of an own application, at T=1 until its next reset.
+    OwnAtT1(OwnT1Side),
 }
 
 /// A card at T=1, until its next reset.

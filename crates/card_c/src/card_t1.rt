@@ -2,16 +2,20 @@
 ghost use Rattle.std.specs.Prelude.{◌≡◌, ⊤, if◌then◌else◌};
 ghost use Rattle.t1_core.specs.declared.pcb.BlockReason.TheVariants as reason;
 ghost use Rattle.card_c.specs.Handles.{held_by, OnHandle, OnHandleOr};
+ghost use Rattle.card_c.specs.declared.card_side.CardSide.TheVariants.{Standing};
 ghost use Rattle.card_c.specs.CardT1Calls.{BeginsT1, HearsBytes, Misses, OnLine, SendsReply, at_t0};
+ghost use Rattle.card_c.specs.OwnT1.{HearsOwn, MissesOwn, SendsOwn};
 
 use crate::card_side::{CardSide, CardT1Side};
 use crate::code;
 use crate::copied::copied;
 use crate::handle::{Handle, on, with};
 use crate::held_card::CardHandle;
-use object_card::CardBuilder;
+use crate::own_t1::{back_at_t0, begin_own, misses_own, receive_own, send_own};
+use object_card::{CardBuilder, ObjectCard};
 use std::alloc::Global;
 use std::mem;
+use t0_core::{CardEnd, PlanQueue};
 use t1_core::spelling::write;
 use t1_core::{BlockCard, Receiver};
 use t1_terminal::DataApplet;
@@ -29,10 +33,19 @@ fn begin(alloc: Global, side: &mut CardSide) -> i32
 {
     // An empty builder takes no memory. It fills the place until the function writes it.
     let before = mem::replace(side, CardSide::Building(CardBuilder::new(alloc)));
-    let CardSide::Standing(end, plans) = before else {
-        *side = before;
-        return code::STATE;
-    };
+    match before {
+        CardSide::Standing(end, plans) => begin_data(alloc, side, end, plans),
+        CardSide::Own(own) => begin_own(alloc, side, own),
+        other => {
+            *side = other;
+            code::STATE
+        }
+    }
+}
+
+fn begin_data(alloc: Global, side: &mut CardSide, end: CardEnd<ObjectCard>, plans: PlanQueue) -> i32
+    ensures { BeginsT1 (Standing end plans) result side.new }
+{
     if !end.is_at_rest() {
         *side = CardSide::Standing(end, plans);
         return code::STATE;
@@ -51,16 +64,23 @@ fn begin(alloc: Global, side: &mut CardSide) -> i32
 pub(crate) fn leave(alloc: Global, side: &mut CardSide)
     ensures { side.new ≡ at_t0 side.old }
 {
-    let before = mem::replace(side, CardSide::Building(CardBuilder::new(alloc)));
-    let CardSide::AtT1(at) = before else {
-        *side = before;
-        return;
-    };
-    let CardT1Side { end, plans, .. } = at;
-    *side = CardSide::Standing(end.into_applet().into_end(), plans);
+    *side = back(mem::replace(side, CardSide::Building(CardBuilder::new(alloc))));
 }
 
-/// Writes the next block to `bytes`, and its length to `count`. The card is unchanged.
+fn back(side: CardSide) -> CardSide
+    ensures { result ≡ at_t0 side }
+{
+    match side {
+        CardSide::AtT1(at) => {
+            let CardT1Side { end, plans, .. } = at;
+            CardSide::Standing(end.into_applet().into_end(), plans)
+        }
+        CardSide::OwnAtT1(at) => CardSide::Own(back_at_t0(at)),
+        other => other,
+    }
+}
+
+/// Writes the next block to `bytes`, and its length to `count`.
 #[unsafe(no_mangle)]
 pub extern "C" fn galliumtoad_card_t1_send_bytes(
     alloc: Global,
@@ -70,19 +90,29 @@ pub extern "C" fn galliumtoad_card_t1_send_bytes(
 ) -> i32
     ensures { OnHandleOr ((bytes.new ≡ bytes.old) × (count.new ≡ count.old))
         (OnLine (SendsReply bytes.old count.old bytes.new count.new)
+        (SendsOwn bytes.old count.old bytes.new count.new)
         ((bytes.new ≡ bytes.old) × (count.new ≡ count.old)))
         (held_by card.old) result (held_by card.new) }
 {
-    on!(alloc, card, side => send(alloc, &side, bytes, count))
+    on!(alloc, card, side => send(alloc, &mut side, bytes, count))
 }
 
-fn send(alloc: Global, side: &CardSide, bytes: &mut [u8], count: &mut usize) -> i32
+fn send(alloc: Global, side: &mut CardSide, bytes: &mut [u8], count: &mut usize) -> i32
     ensures { OnLine (SendsReply bytes.old count.old bytes.new count.new)
-        ((bytes.new ≡ bytes.old) × (count.new ≡ count.old)) side.now result side.now }
+        (SendsOwn bytes.old count.old bytes.new count.new)
+        ((bytes.new ≡ bytes.old) × (count.new ≡ count.old)) side.old result side.new }
 {
-    let CardSide::AtT1(at) = side else {
-        return code::STATE;
-    };
+    match side {
+        CardSide::AtT1(at) => send_data(alloc, at, bytes, count),
+        CardSide::OwnAtT1(at) => send_own(alloc, at, bytes, count),
+        CardSide::Building(_) | CardSide::Standing(..) => code::STATE,
+        CardSide::Joined(_) | CardSide::Own(_) => code::STATE,
+    }
+}
+
+fn send_data(alloc: Global, at: &CardT1Side, bytes: &mut [u8], count: &mut usize) -> i32
+    ensures { SendsReply bytes.old count.old bytes.new count.new at.now result at.now }
+{
     let Some(reply) = at.reply else {
         return code::DONE;
     };
@@ -101,19 +131,27 @@ pub extern "C" fn galliumtoad_card_t1_receive_bytes(
     count: &mut usize,
 ) -> i32
     ensures { OnHandleOr (count.new ≡ count.old)
-        (OnLine (HearsBytes bytes.now count.new) (count.new ≡ count.old))
-        (held_by card.old) result (held_by card.new) }
+        (OnLine (HearsBytes bytes.now count.new) (HearsOwn bytes.now count.new)
+        (count.new ≡ count.old)) (held_by card.old) result (held_by card.new) }
 {
     on!(alloc, card, side => receive(&mut side, bytes, count))
 }
 
 fn receive(side: &mut CardSide, bytes: &[u8], count: &mut usize) -> i32
-    ensures { OnLine (HearsBytes bytes.now count.new) (count.new ≡ count.old)
-        side.old result side.new }
+    ensures { OnLine (HearsBytes bytes.now count.new) (HearsOwn bytes.now count.new)
+        (count.new ≡ count.old) side.old result side.new }
 {
-    let CardSide::AtT1(at) = side else {
-        return code::STATE;
-    };
+    match side {
+        CardSide::AtT1(at) => receive_data(at, bytes, count),
+        CardSide::OwnAtT1(at) => receive_own(at, bytes, count),
+        CardSide::Building(_) | CardSide::Standing(..) => code::STATE,
+        CardSide::Joined(_) | CardSide::Own(_) => code::STATE,
+    }
+}
+
+fn receive_data(at: &mut CardT1Side, bytes: &[u8], count: &mut usize) -> i32
+    ensures { HearsBytes bytes.now count.new at.old result at.new }
+{
     *count = at.block.take_bytes(bytes);
     if !at.block.is_whole() {
         return code::OK;
@@ -136,8 +174,8 @@ fn receive(side: &mut CardSide, bytes: &[u8], count: &mut usize) -> i32
 /// error than the EDC.
 #[unsafe(no_mangle)]
 pub extern "C" fn galliumtoad_card_t1_missed(alloc: Global, card: &mut CardHandle) -> i32
-    ensures { OnHandle (OnLine (Misses reason.Other) ⊤) (held_by card.old) result
-        (held_by card.new) }
+    ensures { OnHandle (OnLine (Misses reason.Other) (MissesOwn reason.Other) ⊤)
+        (held_by card.old) result (held_by card.new) }
 {
     with(alloc, card, |side| misses(side, false))
 }
@@ -146,18 +184,27 @@ pub extern "C" fn galliumtoad_card_t1_missed(alloc: Global, card: &mut CardHandl
 /// block because of that.
 #[unsafe(no_mangle)]
 pub extern "C" fn galliumtoad_card_t1_damaged(alloc: Global, card: &mut CardHandle) -> i32
-    ensures { OnHandle (OnLine (Misses reason.Edc) ⊤) (held_by card.old) result (held_by card.new) }
+    ensures { OnHandle (OnLine (Misses reason.Edc) (MissesOwn reason.Edc) ⊤)
+        (held_by card.old) result (held_by card.new) }
 {
     with(alloc, card, |side| misses(side, true))
 }
 
 fn misses(side: &mut CardSide, is_damaged: bool) -> i32
-    ensures { OnLine (Misses (if is_damaged then reason.Edc else reason.Other)) ⊤ side.old result
-        side.new }
+    ensures { OnLine (Misses (if is_damaged then reason.Edc else reason.Other))
+        (MissesOwn (if is_damaged then reason.Edc else reason.Other)) ⊤ side.old result side.new }
 {
-    let CardSide::AtT1(at) = side else {
-        return code::STATE;
-    };
+    match side {
+        CardSide::AtT1(at) => misses_data(at, is_damaged),
+        CardSide::OwnAtT1(at) => misses_own(at, is_damaged),
+        CardSide::Building(_) | CardSide::Standing(..) => code::STATE,
+        CardSide::Joined(_) | CardSide::Own(_) => code::STATE,
+    }
+}
+
+fn misses_data(at: &mut CardT1Side, is_damaged: bool) -> i32
+    ensures { Misses (if is_damaged then reason.Edc else reason.Other) at.old result at.new }
+{
     let answer = if is_damaged {
         at.end.damaged()
     } else {

@@ -49,6 +49,7 @@ mod objects;
 mod own;
 mod own_calls;
 mod own_side;
+mod own_t1;
 mod own_whole;
 mod plan_letters;
 mod plans;

@@ -179,7 +179,7 @@ pub(crate) fn reset_own(side: &mut CardSide) -> i32
 }
 
 fn reset_one(own: &mut OwnSide) -> i32
-    ensures { OwnResetsOne own.old result own.new }
+    ensures { OwnResetsOne own.old.end own.old.plans result own.new }
 {
     own.drop_whole();
     own.end.reset();

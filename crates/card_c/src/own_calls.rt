@@ -1,14 +1,15 @@
 //! The exports that make a card of an own application, and give it responses.
 ghost use Rattle.std.specs.Prelude.{◌≡◌, ◌≤◌, ⊤, length};
 ghost use Rattle.card_c.specs.Handles.{held_by, OnHandle, OnLook};
-ghost use Rattle.card_c.specs.OwnCalls.{BeginsOwn, Decides, GivesOne, IsRecord, RespondsOwn, TellsCommand, TellsSettled, IsDirections};
+ghost use Rattle.card_c.specs.OwnCalls.{BeginsOwn, Decides, DecidesAt, GivesOne, IsRecord, RespondsAt, RespondsOwn, TellsCommand, TellsSettled, TellsWanted, IsDirections};
 
 use crate::card_side::CardSide;
 use crate::code;
 use crate::command_record::CommandRecord;
 use crate::handle::{Handle, on, with};
 use crate::held_card::CardHandle;
-use crate::own_side::OwnSide;
+use crate::own_side::{OwnSide, Whole};
+use crate::own_t1::wanted_at_t1;
 use crate::own_whole::wanted_in;
 use apdu_core::{Header, Status};
 use command_card::{CommandCard, Directions, GiveFault, Given, Wanted, decide, give};
@@ -70,10 +71,18 @@ pub extern "C" fn galliumtoad_card_command(
 fn tell_command(side: &CardSide, command: &mut CommandRecord) -> i32
     ensures { TellsCommand command.old command.new side.now result }
 {
-    let CardSide::Own(own) = side else {
-        return code::STATE;
-    };
-    match wanted_in(&own.end, own.whole, &own.asked) {
+    match side {
+        CardSide::Own(own) => tell_wanted(wanted_in(&own.end, own.whole, &own.asked), command),
+        CardSide::OwnAtT1(at) => tell_wanted(wanted_at_t1(at), command),
+        CardSide::Building(_) | CardSide::Standing(..) => code::STATE,
+        CardSide::Joined(_) | CardSide::AtT1(_) => code::STATE,
+    }
+}
+
+fn tell_wanted(wanted: Wanted<'_>, command: &mut CommandRecord) -> i32
+    ensures { TellsWanted wanted.entry command.old command.new result }
+{
+    match wanted {
         Wanted::Nothing => return code::STATE,
         Wanted::Direction(header) => *command = record_of(header, &[], 0),
         Wanted::Response(waits) => {
@@ -116,16 +125,29 @@ pub extern "C" fn galliumtoad_card_direction(
 fn direction(side: &mut CardSide, to_card: bool) -> i32
     ensures { Decides to_card side.old result side.new }
 {
-    let CardSide::Own(own) = side else {
-        return code::STATE;
-    };
-    if !matches!(
-        wanted_in(&own.end, own.whole, &own.asked),
-        Wanted::Direction(_)
-    ) {
+    match side {
+        CardSide::Own(own) => decide_at(&mut own.end, own.whole, &own.asked, to_card),
+        CardSide::OwnAtT1(at) => {
+            let asked = &at.asked;
+            at.end.with_applet(|applet| decide_at(&mut applet.end, Whole::Command, asked, to_card))
+        }
+        CardSide::Building(_) | CardSide::Standing(..) => code::STATE,
+        CardSide::Joined(_) | CardSide::AtT1(_) => code::STATE,
+    }
+}
+
+fn decide_at(
+    end: &mut CardEnd<CommandCard<Given>>,
+    whole: Whole,
+    asked: &Vec<u8>,
+    to_card: bool,
+) -> i32
+    ensures { DecidesAt whole asked.now.items to_card end.old result end.new }
+{
+    if !matches!(wanted_in(end, whole, asked), Wanted::Direction(_)) {
         return code::STATE;
     }
-    if decide(&mut own.end, to_card) {
+    if decide(end, to_card) {
         code::OK
     } else {
         code::STATE
@@ -149,13 +171,32 @@ pub extern "C" fn galliumtoad_card_respond(
 fn respond(side: &mut CardSide, bytes: &[u8], status: u16) -> i32
     ensures { RespondsOwn bytes.now status side.old result side.new }
 {
-    let CardSide::Own(own) = side else {
+    match side {
+        CardSide::Own(own) => respond_at(&mut own.end, own.whole, &own.asked, bytes, status),
+        CardSide::OwnAtT1(at) => {
+            let asked = &at.asked;
+            at.end.with_applet(|applet| {
+                respond_at(&mut applet.end, Whole::Command, asked, bytes, status)
+            })
+        }
+        CardSide::Building(_) | CardSide::Standing(..) => code::STATE,
+        CardSide::Joined(_) | CardSide::AtT1(_) => code::STATE,
+    }
+}
+
+fn respond_at(
+    end: &mut CardEnd<CommandCard<Given>>,
+    whole: Whole,
+    asked: &Vec<u8>,
+    bytes: &[u8],
+    status: u16,
+) -> i32
+    ensures { RespondsAt whole asked.now.items bytes.now status end.old result end.new }
+{
+    let Wanted::Response(_) = wanted_in(end, whole, asked) else {
         return code::STATE;
     };
-    let Wanted::Response(_) = wanted_in(&own.end, own.whole, &own.asked) else {
-        return code::STATE;
-    };
-    give_to(&mut own.end, bytes, status)
+    give_to(end, bytes, status)
 }
 
 /// Gives the response to the command in progress, and returns the code.
@@ -186,8 +227,12 @@ pub extern "C" fn galliumtoad_card_settled(alloc: Global, card: &mut CardHandle)
 fn settled(side: &CardSide) -> i32
     ensures { TellsSettled side.now result }
 {
-    let CardSide::Own(own) = side else {
-        return code::STATE;
-    };
-    i32::from(own.end.card().application().has_settled())
+    match side {
+        CardSide::Own(own) => i32::from(own.end.card().application().has_settled()),
+        CardSide::OwnAtT1(at) => {
+            i32::from(at.end.applet().end.card().application().has_settled())
+        }
+        CardSide::Building(_) | CardSide::Standing(..) => code::STATE,
+        CardSide::Joined(_) | CardSide::AtT1(_) => code::STATE,
+    }
 }

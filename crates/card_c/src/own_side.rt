@@ -3,9 +3,10 @@ ghost use Rattle.std.specs.Prelude.{◌≡◌, []};
 ghost use Rattle.card_c.specs.declared.own_side.Whole.TheVariants as whole;
 ghost use Rattle.card_c.specs.OwnCalls.{IsFresh};
 
-use command_card::{CommandCard, Directions, Given};
+use command_card::{CommandCard, Directions, Given, GivenApplet};
 use std::alloc::Global;
 use t0_core::{CardEnd, PlanQueue};
+use t1_core::{PatientCard, Receiver, Reply};
 
 /// What waits for the application as a whole.
 #[derive(Clone, Copy, Debug, PartialEq, Eq)]
@@ -26,6 +27,20 @@ pub struct OwnSide {
     /// What waits as a whole, and its bytes.
     pub whole: Whole,
     pub asked: Vec<u8>,
+}
+
+/// A card of an own application at T=1, until its next reset.
+#[derive(Drop)]
+pub struct OwnT1Side {
+    pub end: PatientCard<GivenApplet>,
+    /// The received bytes of the terminal's block.
+    pub block: Receiver,
+    /// The answer to its last block. `None` before the first, and while a command waits.
+    pub reply: Option<Reply>,
+    /// The command that waits, once the sending call has said so.
+    pub asked: Vec<u8>,
+    /// The plans that the card follows at T=0 after its next reset.
+    pub plans: PlanQueue,
 }
 
 impl OwnSide {

@@ -31,7 +31,8 @@ fn queue_at_card(alloc: Global, side: &mut CardSide, steps: &[u8], cut: u16) -> 
     match side {
         CardSide::Standing(_, plans) => queue_plan(alloc, plans, steps, cut),
         CardSide::Own(own) => queue_plan(alloc, &mut own.plans, steps, cut),
-        CardSide::Building(_) | CardSide::Joined(_) | CardSide::AtT1(_) => code::STATE,
+        CardSide::Building(_) | CardSide::Joined(_) | CardSide::AtT1(_) | CardSide::OwnAtT1(_) =>
+            code::STATE,
     }
 }
 

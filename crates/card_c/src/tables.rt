@@ -32,7 +32,7 @@ fn selected(side: &CardSide, aid: &mut [u8], len: &mut usize) -> i32
     ensures { TellsAid (λ state. state.selected) aid.old len.old aid.new len.new side.now result }
 {
     match side {
-        CardSide::Building(_) | CardSide::Own(_) => code::STATE,
+        CardSide::Building(_) | CardSide::Own(_) | CardSide::OwnAtT1(_) => code::STATE,
         CardSide::Standing(end, _) => tell(end.card().selected(), aid, len),
         CardSide::AtT1(at) => tell(at.end.applet().card().selected(), aid, len),
         CardSide::Joined(joined) => tell(joined.session.card().selected(), aid, len),
@@ -59,7 +59,7 @@ fn app_at(side: &CardSide, place: usize, aid: &mut [u8], len: &mut usize) -> i32
     ensures { TellsAid (aid_at place) aid.old len.old aid.new len.new side.now result }
 {
     match side {
-        CardSide::Building(_) | CardSide::Own(_) => code::STATE,
+        CardSide::Building(_) | CardSide::Own(_) | CardSide::OwnAtT1(_) => code::STATE,
         CardSide::Standing(end, _) => tell(end.card().app_at(place), aid, len),
         CardSide::AtT1(at) => tell(at.end.applet().card().app_at(place), aid, len),
         CardSide::Joined(joined) => tell(joined.session.card().app_at(place), aid, len),
@@ -108,7 +108,7 @@ fn entry_in(
         tag.new locked.new value.new len.new side.now result }
 {
     match side {
-        CardSide::Building(_) | CardSide::Own(_) => code::STATE,
+        CardSide::Building(_) | CardSide::Own(_) | CardSide::OwnAtT1(_) => code::STATE,
         CardSide::Standing(end, _) => tell_entry(end.card(), app, place, tag, locked, value, len),
         CardSide::AtT1(at) => {
             tell_entry(at.end.applet().card(), app, place, tag, locked, value, len)

@@ -19,6 +19,7 @@ use Rattle.command_card.specs.Carrying.{Did, Makes, asking, taking}
 use Rattle.command_card.specs.State.{CardState, Hand, For_repeat, Outcome, announcing, fetch_left, handed, is_fetch, pending_for, refusing, same_header}
 use Rattle.command_card.specs.Meaning.{Answers, Brings, CarriesAsked, CarriesTaken, Does, DoesBy, Kind, kind_in, kind_of, Invalid, Unfetched, Takes, Asks, Hands}
 use Rattle.command_card.specs.View.{left_of, state_of, state_after, buffer_of, ask_of, prepared_of, IsReady, IsEnded, Prepares, MayReceive, MaySend, WaitsFor}
+use Rattle.command_card.specs.Wanted.{is_free}
 use Rattle.command_card.proofs.HandLemmas.{count_some}
 
 pub kind_by : (v w : Bool) (p q : Option Hand) (f g t u : Bool) → v ≡ w → p ≡ q → f ≡ g → t ≡ u
@@ -30,6 +31,12 @@ pub made_is : {T : Type 0} (o : Option T) (P : Type 0) (parts value : T) → Som
     → o ≡ Some value → value ≡ parts
 made_is o P parts value made is =
     let Q = λ (x : Option _). SomeIff x P parts in (subst Q is made).1
+
+pub is_nothing : (r : Ready) → is_free r ≡ true → r ≡ ready.Nothing
+is_nothing ready.Nothing is = refl
+is_nothing (ready.Receives h p3 cut) is = absurd (cc)
+is_nothing (ready.Sends h p3 cut from status ending) is = absurd (cc)
+is_nothing (ready.Leaves ending) is = absurd (cc)
 
 pub refusal_is : (v : Verdict) (status : StatusWord) → v ≡ Refuse status → IsRefusal v
 refusal_is v status is = subst IsRefusal (sym is) tt

@@ -15,7 +15,7 @@ use Rattle.command_card.specs.declared.ready.Ready.{Ready}
 use Rattle.command_card.specs.declared.ready.Ready.TheVariants as ready
 use Rattle.command_card.specs.Carrying.{asking, taking}
 use Rattle.command_card.specs.AtT1.{Responds}
-use Rattle.command_card.specs.Given.{GivenState, Gives, takes_data, without_answer}
+use Rattle.command_card.specs.Given.{GivenState, Gives, after_drop, takes_data, without_answer}
 use Rattle.command_card.specs.Meaning.{Kind, Invalid, Hands, Unfetched, Takes, Asks, kind_in}
 use Rattle.command_card.specs.State.{CardState, is_fetch}
 use Rattle.command_card.specs.View.{CardOf, standing_in}
@@ -72,6 +72,17 @@ is_open ready.Nothing = true
 is_open (ready.Receives h p3 cut) = true
 is_open (ready.Sends h p3 cut from status ending) = false
 is_open (ready.Leaves ending) = false
+
+-- no TPDU has reached the card
+abbrev pub is_free : Ready → Bool
+is_free ready.Nothing = true
+is_free (ready.Receives h p3 cut) = false
+is_free (ready.Sends h p3 cut from status ending) = false
+is_free (ready.Leaves ending) = false
+
+-- a command is dropped, and with it what was given for it
+abbrev pub taken_back : CardOf GivenState → CardOf GivenState
+taken_back c = if is_free c.ready then record c { app = after_drop c.app } else c
 
 -- What is wanted before the end's next character.
 abbrev pub IsWanted : EndOf (CardOf GivenState) → Wanted → Type 0

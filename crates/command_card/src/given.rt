@@ -180,7 +180,7 @@ impl Given {
     }
 
     /// Drops the response, and what was answered about one header.
-    fn drop_response(&mut self)
+    pub(crate) fn drop_response(&mut self)
         ensures { self.new ≡ after_drop self.old }
     {
         wipe(&mut self.bytes);

@@ -2,35 +2,22 @@
 ghost use Rattle.std.specs.Prelude.{◌≡◌, ◌+◌, ◌≤◌, [], ◌++◌, length, vec_capacity};
 ghost use Rattle.t1_core.specs.CardSide.{no_requests};
 
-use crate::answer::{wipe, word};
+use crate::answer::word;
 use crate::applet::{COMMAND_LIMIT, RESPONSE_ROOM, write};
 use crate::card::CommandCard;
 use crate::given::Given;
 use crate::own::{Wanted, forget, respond_to, wanted_by_command};
 use apdu_core::{ApduFault, Command};
-use std::alloc::{AllocError, Global};
+use std::alloc::AllocError;
 use t0_core::CardEnd;
 use t1_core::{Applet, Requests};
 
 /// A card of given responses above its end of a line at T=1. It carries out no command without its
-/// response, and keeps it. Give the end the same block again once the response is there.
+/// response: a `t1_core::PatientCard` keeps the block until then.
 #[derive(Drop)]
 pub struct GivenApplet {
+    /// The card as it was at T=0, where no TPDU may be in progress.
     pub end: CardEnd<CommandCard<Given>>,
-    /// The command that waits, if one does.
-    pub asked: Vec<u8>,
-}
-
-impl GivenApplet {
-    /// Makes the card at T=1 of one at T=0.
-    pub fn new(alloc: Global, end: CardEnd<CommandCard<Given>>) -> GivenApplet
-        ensures { (result.end ≡ end) × (result.asked.items ≡ []) }
-    {
-        GivenApplet {
-            end,
-            asked: Vec::new(alloc),
-        }
-    }
 }
 
 /// Appends bytes, for which there is room.
@@ -75,13 +62,11 @@ impl Applet for GivenApplet {
         command: &[u8],
         response: &mut Vec<u8>,
     ) -> Result<Requests, AllocError> {
-        wipe(&mut self.asked);
         response.clear();
         response.reserve(RESPONSE_ROOM)?;
         match Command::read(command) {
             Ok(read) => {
                 if !matches!(wanted_by_command(&self.end, &read), Wanted::Nothing) {
-                    self.asked.extend_from_slice(command)?;
                     return Err(AllocError);
                 }
                 respond_to(&mut self.end, read.header(), read.data(), read.le())?;
@@ -98,7 +83,6 @@ impl Applet for GivenApplet {
 
     #[tactic(auto, using(crate::proofs::AppletLemmas::too_long_does))]
     fn too_long(&mut self, response: &mut Vec<u8>) -> Result<Requests, AllocError> {
-        wipe(&mut self.asked);
         response.clear();
         response.reserve(RESPONSE_ROOM)?;
         write(&[], word(0x67, 0x00), response);

@@ -9,7 +9,7 @@ ghost use Rattle.command_card.specs.Carrying.{IsOwn};
 ghost use Rattle.command_card.specs.Given.{Gives, settled, takes_data, with_answer};
 ghost use Rattle.command_card.specs.AtT1.{Responds, may_bring};
 ghost use Rattle.command_card.specs.View.{WaitsFor, standing_in, state_of, prepared_in};
-ghost use Rattle.command_card.specs.Wanted.{IsWanted, RespondsAs, is_open, is_known, need_in, wanted_by, wanted_for, wanted_with};
+ghost use Rattle.command_card.specs.Wanted.{IsWanted, RespondsAs, is_free, is_open, is_known, need_in, taken_back, wanted_by, wanted_for, wanted_with};
 
 use crate::answer::{pending_for, wipe, word};
 use crate::applet::{RESPONSE_ROOM, hand_out, write};
@@ -63,6 +63,13 @@ fn is_open(ready: &Ready) -> bool
     ensures { result ≡ is_open ready.now }
 {
     matches!(ready, Ready::Nothing | Ready::Receives { .. })
+}
+
+/// Whether no TPDU has reached the card.
+fn is_free(ready: &Ready) -> bool
+    ensures { result ≡ is_free ready.now }
+{
+    matches!(ready, Ready::Nothing)
 }
 
 /// Whether the way of the next data is known.
@@ -152,6 +159,18 @@ impl CommandCard<Given> {
         }
         self.application.decide(to_card);
         true
+    }
+
+    /// Takes back the response to a whole command that is dropped, and what was answered about
+    /// its header. During a TPDU nothing changes.
+    pub fn take_back(&mut self)
+        ensures prepared { prepared_in (λ s. s) settled self.new
+            ≡ prepared_in (λ s. s) settled self.old }
+        ensures done { self.new ≡ taken_back self.old }
+    {
+        if is_free(&self.ready) {
+            self.application.drop_response();
+        }
     }
 
     /// Carries out a whole command, which settles. The card keeps its response until `forget`.
@@ -381,6 +400,14 @@ pub fn decide(end: &mut CardEnd<CommandCard<Given>>, to_card: bool) -> bool
     } }
 {
     end.with_card(|card| card.decide(to_card))
+}
+
+/// Takes back what was given for a command that is dropped (`CommandCard::take_back`).
+pub fn take_back(end: &mut CardEnd<CommandCard<Given>>)
+    ensures stage { end.new.stage ≡ end.old.stage }
+    ensures done { end.new.card ≡ taken_back end.old.card }
+{
+    end.with_card(|card| card.take_back())
 }
 
 /// Carries out a whole command at an end at rest (`CommandCard::respond`).

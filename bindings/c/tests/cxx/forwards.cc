@@ -182,6 +182,7 @@ static void of_own_card() {
     HANDS(c.direction(true), "card_direction", P(c.handle()), 1);
     HANDS(c.direction(false), "card_direction", P(c.handle()), 0);
     HANDS(c.respond(in, 0x63C2), "card_respond", P(c.handle()), IN, 0x63C2);
+    HANDS(c.more_time(7), "card_more_time", P(c.handle()), 7);
     ASKS(c.settled(is), is, "card_settled", P(c.handle()));
 }
 

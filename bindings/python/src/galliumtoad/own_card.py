@@ -46,9 +46,9 @@ class Application(ABC):
 
 class OwnCard(Lasting):
     """A card of an `Application` of your own: you write what a command does. It goes over T=0, by
-    characters, as whole TPDUs and as whole commands. A command is carried out at most once, by
-    `send_bytes`, `tpdu` or `apdu`. The card itself answers GET RESPONSE, the same header after
-    6CXX, and INS 6X and 9X.
+    characters, as whole TPDUs and as whole commands, and over T=1. A command is carried out at most
+    once, by `send_bytes`, `tpdu`, `apdu` or `block`. The card itself answers GET RESPONSE, the same
+    header after 6CXX, and INS 6X and 9X.
 
     An exception in the application resets the card and the application, and is raised again. So
     does `CallError`, GT_ARGUMENT, for a status or data that no application may return.
@@ -114,6 +114,20 @@ class OwnCard(Lasting):
         Errors, besides those of the application, after which nothing has changed: as of `Card`.
         """
         return self._whole(lib.gt_card_apdu, command)
+
+    def begin_t1(self) -> None:
+        """Lets the card speak T=1 until the next `reset`. It raises `CallError`, GT_STATE, if the
+        card does already, or if a TPDU is in progress."""
+        self._call("t1_begin")
+
+    def block(self, came: Bytes) -> bytes:
+        """Takes a block of a terminal at T=1, and returns the card's. A block that is not whole is
+        reported as one that stopped: with b"" for one that was lost the card asks for it."""
+        if self._call("t1_receive_bytes", *readable(came), ffi.new("size_t *")) != lib.GT_SENDS:
+            self._call("t1_missed")
+        sent, count = writable(room := lib.GT_BLOCK_LIMIT)
+        self._run(lambda *_: lib.gt_card_t1_send_bytes(self._handle, sent, room, count))
+        return copied(sent, count)
 
     def plan(self, steps: str, cut: int = 256) -> None:
         """Adds a plan for one more of the TPDUs to come, as that of `Card`."""

@@ -9,6 +9,8 @@ use command_card::{
 use std::alloc::Global;
 use std::process::Abort;
 use t0_core::{CardEnd, Gather, Plan, Plans, Turn, WholeTpdu};
+use t1_core::spelling::write;
+use t1_core::{Control, PatientCard, Receiver, Reply};
 
 type End = CardEnd<CommandCard<Given>>;
 
@@ -231,25 +233,81 @@ fn block(alloc: Global, rt: &impl Abort, pcb: u8, field: &[u8]) -> Vec<u8> {
     bytes
 }
 
+/// Whether the card answers this block with that one, each a PCB and a field, or does not answer.
+fn answers(
+    rt: &impl Abort,
+    alloc: Global,
+    card: &mut PatientCard<GivenApplet>,
+    sent: (u8, &[u8]),
+    wanted: Option<(u8, &[u8])>,
+) -> bool {
+    let mut receiver = Receiver::new();
+    receiver.take_bytes(&block(alloc, rt, sent.0, sent.1));
+    match (card.take(&mut receiver), wanted) {
+        (Some(reply), Some((pcb, field))) => {
+            let bytes = write(alloc, card.block(reply)).expect(rt, "memory");
+            bytes.as_slice() == block(alloc, rt, pcb, field).as_slice()
+        }
+        (None, None) => true,
+        (Some(_), None) | (None, Some(_)) => false,
+    }
+}
+
 #[test]
 fn a_block_waits_for_its_response(rt: HostRuntime) {
     let alloc = rt.alloc();
-    let mut card = t1_core::BlockCard::new(alloc, GivenApplet::new(alloc, end(alloc)));
+    let mut card = PatientCard::new(alloc, GivenApplet { end: end(alloc) });
     let ok = Status::new(0x90, 0).expect(&rt, "status");
-    let command = [0, 0x10, 0, 0, 1, 7];
-    let sent = block(alloc, &rt, 0, &command);
-    // Twice, as when the terminal repeats its block before the response.
-    for _ in 0..2 {
-        assert!(&rt; card.take_bytes(&sent).is_err());
-        assert!(&rt; card.applet().asked.as_slice() == &command[..]);
-    }
-    // A new end takes the same block as its first one.
-    let mut applet = card.into_applet();
-    assert!(&rt; give(&mut applet.end, &[], ok) == Ok(()));
-    let mut card = t1_core::BlockCard::new(alloc, applet);
-    let reply = card.take_bytes(&sent).expect(&rt, "memory");
-    assert!(&rt; card.applet().asked.is_empty());
-    let bytes = t1_core::spelling::write(alloc, card.block(reply)).expect(&rt, "memory");
-    assert!(&rt; bytes.as_slice() == block(alloc, &rt, 0, &[0x90, 0]).as_slice());
+    // PUT of one byte in two blocks.
+    let front = [0, 0x10, 0];
+    let rest = [0, 1, 7];
+    assert!(&rt; card.ask_time(1).is_none() && card.command().is_none());
+    assert!(&rt; answers(&rt, alloc, &mut card, (0x20, &front), Some((0x90, &[]))));
+    assert!(&rt; answers(&rt, alloc, &mut card, (0x40, &rest), None));
+    assert!(&rt; card.awaits() && card.again().is_none());
+    let Some((first, last)) = card.command() else {
+        unreachable!()
+    };
+    assert!(&rt; first == &front[..] && last == &rest[..]);
+    // S(WTX request), which only its response ends.
+    let request = card.ask_time(3);
+    assert!(&rt; request == Some(Reply::Request(Control::Wtx(3))));
+    assert!(&rt; card.ask_time(3).is_none() && !card.awaits());
+    let asks: Option<(u8, &[u8])> = Some((0xC3, &[3]));
+    assert!(&rt; answers(&rt, alloc, &mut card, (0x92, &[]), asks));
+    assert!(&rt; answers(&rt, alloc, &mut card, (0xE3, &[4]), asks));
+    assert!(&rt; answers(&rt, alloc, &mut card, (0xC1, &[1]), Some((0xE1, &[1]))));
+    assert!(&rt; answers(&rt, alloc, &mut card, (0xE3, &[3]), None));
+    // R drops the block, which then comes again.
+    assert!(&rt; answers(&rt, alloc, &mut card, (0x92, &[]), Some((0x92, &[]))));
+    assert!(&rt; !card.awaits() && card.command().is_none());
+    assert!(&rt; answers(&rt, alloc, &mut card, (0x40, &rest), None));
+    card.with_applet(|applet| give(&mut applet.end, &[], ok))
+        .expect(&rt, "a command");
+    let reply = card.again().expect(&rt, "a response");
+    let bytes = write(alloc, card.block(reply)).expect(&rt, "memory");
+    // IFSD is 1 now.
+    assert!(&rt; bytes.as_slice() == block(alloc, &rt, 0x20, &[0x90]).as_slice());
     assert!(&rt; card.applet().end.card().application().has_settled());
+}
+
+/// S(ABORT), S(RESYNCH) and a reset end the command that waits, and its request.
+#[test]
+fn a_command_that_waits_is_dropped(rt: HostRuntime) {
+    let alloc = rt.alloc();
+    for pcb in [0xC0u8, 0xC2, 0] {
+        for asks in [false, true] {
+            let mut card = PatientCard::new(alloc, GivenApplet { end: end(alloc) });
+            let get = [0, 0x20, 0, 3, 2];
+            assert!(&rt; answers(&rt, alloc, &mut card, (0, &get), None));
+            assert!(&rt; !asks || card.ask_time(255).is_some());
+            if pcb == 0 {
+                card.reset();
+            } else {
+                assert!(&rt; answers(&rt, alloc, &mut card, (pcb, &[]), Some((pcb + 0x20, &[]))));
+            }
+            assert!(&rt; !card.awaits() && card.ask_time(1).is_none());
+            assert!(&rt; answers(&rt, alloc, &mut card, (0xE3, &[255]), Some((0x82, &[]))));
+        }
+    }
 }

@@ -1,0 +1,14 @@
+use Rattle.std.proofs.Common.{refl, subst, sym, ℤ}
+use Rattle.card_c.specs.declared.card_side.CardSide.{CardSide}
+use Rattle.card_c.specs.declared.card_side.CardSide.TheVariants.{OwnAtT1}
+use Rattle.card_c.specs.OwnT1.{AsksTime}
+use Rattle.card_c.proofs.CodeLemmas.{as_it_is}
+use Rattle.card_c.proofs.own_t1.more_time.Goals as goal
+
+pub returns : goal.returns
+returns c =
+    let code = c.ask_time.result in let next = c.ask_time.new.at in
+    subst (λ (z : ℤ). AsksTime c.args.multiple c.args.side.now z (OwnAtT1 next))
+    (sym (as_it_is code c.ask_time.type_inv))
+    (subst (λ (s : CardSide). AsksTime c.args.multiple s code (OwnAtT1 next)) (sym c.in-OwnAtT1.is)
+    (next, refl, c.ask_time.ensures))

@@ -1,0 +1,231 @@
+//! A card of an own application at T=1.
+ghost use Rattle.std.specs.Prelude.{◌≡◌, [], OnOk, OnErr, if◌then◌else◌};
+ghost use Rattle.t1_core.specs.declared.pcb.BlockReason.TheVariants as reason;
+ghost use Rattle.t1_core.specs.Patience.{command_in};
+ghost use Rattle.card_c.specs.CardT1Calls.{BeginsT1};
+ghost use Rattle.card_c.specs.Handles.{held_by, OnHandle};
+ghost use Rattle.card_c.specs.declared.card_side.CardSide.TheVariants.{Own};
+ghost use Rattle.card_c.specs.OwnCalls.{IsWantedAtT1};
+ghost use Rattle.card_c.specs.OwnT1.{AsksTime, AsksTimeOne, DropsGiven, HasCommand, HearsOwn, HearsOwnBlock, MissesOwn, SendsOwn, SendsWaiting, TakesAgain, is_idle, own_at_t0};
+
+use crate::card_side::CardSide;
+use crate::code;
+use crate::copied::copied;
+use crate::handle::{Handle, with};
+use crate::held_card::CardHandle;
+use crate::own_side::{OwnSide, OwnT1Side, Whole};
+use crate::own_whole::wanted_in;
+use command_card::{GivenApplet, Wanted, take_back};
+use std::alloc::{AllocError, Global};
+use t1_core::spelling::write;
+use t1_core::{PatientCard, Receiver};
+
+/// Lets the card speak T=1, if nothing is in progress.
+pub(crate) fn begin_own(alloc: Global, side: &mut CardSide, own: OwnSide) -> i32
+    ensures { BeginsT1 (Own own) result side.new }
+{
+    if !is_idle(&own) {
+        *side = CardSide::Own(own);
+        return code::STATE;
+    }
+    let OwnSide {
+        end,
+        plans,
+        asked,
+        ..
+    } = own;
+    *side = CardSide::OwnAtT1(OwnT1Side {
+        end: PatientCard::new(alloc, GivenApplet { end }),
+        block: Receiver::new(),
+        reply: None,
+        asked,
+        plans,
+    });
+    code::OK
+}
+
+/// Whether nothing is in progress, and nothing waits as a whole.
+fn is_idle(own: &OwnSide) -> bool
+    ensures { result ≡ is_idle own.now }
+{
+    own.end.is_at_rest() && matches!(own.whole, Whole::Nothing)
+}
+
+/// The card at T=0: what waits is dropped.
+pub(crate) fn back_at_t0(at: OwnT1Side) -> OwnSide
+    ensures { result ≡ own_at_t0 at }
+{
+    let OwnT1Side {
+        end,
+        asked,
+        plans,
+        ..
+    } = at;
+    let GivenApplet { end } = end.into_applet();
+    OwnSide {
+        end,
+        plans,
+        whole: Whole::Nothing,
+        asked,
+    }
+}
+
+/// Writes the next block and its length, or returns what waits.
+#[inline(never)]
+pub(crate) fn send_own(
+    alloc: Global,
+    at: &mut OwnT1Side,
+    bytes: &mut [u8],
+    count: &mut usize,
+) -> i32
+    ensures { SendsOwn bytes.old count.old bytes.new count.new at.old result at.new }
+{
+    take_again(at);
+    let Some(reply) = at.reply else {
+        return wait_code(at);
+    };
+    match write(alloc, at.end.block(reply)) {
+        Ok(from) => copied(&from, bytes, count),
+        Err(_) => code::MEMORY,
+    }
+}
+
+/// Gives the end the block that waits again, if one does.
+fn take_again(at: &mut OwnT1Side)
+    ensures { TakesAgain at.old at.new }
+{
+    if at.end.awaits() {
+        forget(&mut at.asked);
+        at.reply = at.end.again();
+    }
+}
+
+/// Returns what waits, and keeps the command for the caller.
+fn wait_code(at: &mut OwnT1Side) -> i32
+    ensures { SendsWaiting at.old result at.new }
+{
+    if !at.end.awaits() {
+        return code::DONE;
+    }
+    if copy_command(&at.end, &mut at.asked).is_err() {
+        return code::MEMORY;
+    }
+    match wanted_at_t1(at) {
+        Wanted::Nothing => code::MEMORY,
+        Wanted::Direction(_) => code::HEADER,
+        Wanted::Response(_) => code::COMMAND,
+    }
+}
+
+/// What is wanted of the caller: for the command that the sending call returned for.
+pub(crate) fn wanted_at_t1<'a>(at: &'a OwnT1Side) -> Wanted<'a>
+    ensures { IsWantedAtT1 at.now result }
+{
+    wanted_in(&at.end.applet().end, Whole::Command, &at.asked)
+}
+
+/// Copies the command that waits, or nothing.
+fn copy_command(end: &PatientCard<GivenApplet>, asked: &mut Vec<u8>) -> Result<(), AllocError>
+    ensures copied { OnOk result (HasCommand (command_in end.now) asked.new.items) }
+    ensures failed { OnErr result (asked.new.items ≡ []) }
+{
+    forget(asked);
+    let Some((front, field)) = end.command() else {
+        return Ok(());
+    };
+    if asked.extend_from_slice(front).is_err() || asked.extend_from_slice(field).is_err() {
+        forget(asked);
+        return Err(AllocError);
+    }
+    Ok(())
+}
+
+/// Wipes the command that was shown to the caller.
+fn forget(asked: &mut Vec<u8>)
+    ensures { asked.new.items ≡ [] }
+{
+    asked.fill(0);
+    asked.clear();
+}
+
+/// Takes bytes of the terminal up to the end of its block.
+#[inline(never)]
+pub(crate) fn receive_own(at: &mut OwnT1Side, bytes: &[u8], count: &mut usize) -> i32
+    ensures { HearsOwn bytes.now count.new at.old result at.new }
+{
+    *count = at.block.take_bytes(bytes);
+    if !at.block.is_whole() {
+        return code::OK;
+    }
+    hear(at);
+    code::SENDS
+}
+
+/// Takes the whole block of the terminal.
+fn hear(at: &mut OwnT1Side)
+    ensures { HearsOwnBlock at.old at.new }
+{
+    drop_given(at);
+    at.reply = at.end.take(&mut at.block);
+}
+
+/// Takes back what was given for the command that waits: a block of the terminal drops it.
+fn drop_given(at: &mut OwnT1Side)
+    ensures { DropsGiven at.old at.new }
+{
+    forget(&mut at.asked);
+    at.end.with_applet(|applet| take_back(&mut applet.end));
+}
+
+/// Reports that no valid block of the terminal arrived.
+pub(crate) fn misses_own(at: &mut OwnT1Side, is_damaged: bool) -> i32
+    ensures { MissesOwn (if is_damaged then reason.Edc else reason.Other) at.old result at.new }
+{
+    drop_given(at);
+    let answer = if is_damaged {
+        at.end.damaged()
+    } else {
+        at.end.invalid()
+    };
+    at.reply = Some(answer);
+    at.block.clear();
+    code::SENDS
+}
+
+/// Asks the terminal for more time, if a command waits at T=1.
+#[unsafe(no_mangle)]
+pub extern "C" fn galliumtoad_card_more_time(
+    alloc: Global,
+    card: &mut CardHandle,
+    multiple: u8,
+) -> i32
+    ensures { OnHandle (AsksTime multiple) (held_by card.old) result (held_by card.new) }
+{
+    with(alloc, card, |side| more_time(side, multiple))
+}
+
+fn more_time(side: &mut CardSide, multiple: u8) -> i32
+    ensures { AsksTime multiple side.old result side.new }
+{
+    let CardSide::OwnAtT1(at) = side else {
+        return code::STATE;
+    };
+    ask_time(at, multiple)
+}
+
+fn ask_time(at: &mut OwnT1Side, multiple: u8) -> i32
+    ensures { AsksTimeOne multiple at.old result at.new }
+{
+    let Wanted::Response(_) = wanted_at_t1(at) else {
+        return code::STATE;
+    };
+    if multiple == 0 {
+        return code::ARGUMENT;
+    }
+    let Some(reply) = at.end.ask_time(multiple) else {
+        return code::STATE;
+    };
+    forget(&mut at.asked);
+    at.reply = Some(reply);
+    code::OK
+}

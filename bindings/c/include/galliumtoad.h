@@ -564,8 +564,8 @@ typedef struct gt_atr {
  *                 gt_exchange of SELECT or GET DATA; 4,240,928 with all that a card can hold. At
  *                 T=1 a command adds at most 770, the bytes of the value that it stores, and twice
  *                 those of the longest command since gt_card_t1_begin, which counts as 261 at most
- * - gt_t1         368, and the bytes of its command, and up to three times those of the response;
- *                 while a block is sent, its bytes too, at most 258
+ * - gt_t1         368, and the bytes of its longest command since gt_t1_reset, and up to three times
+ *                 those of the response; while a block is sent, its bytes too, at most 258
  * - a session     26,689 with that small card, for a select, a put of 3 bytes and a get; 43,067 for
  *                 a put and a get of 8,192 bytes. If somebody listens, 26,945 and 116,792
  * - plans         at most 192 for each of the most plans that waited at once since none did; and

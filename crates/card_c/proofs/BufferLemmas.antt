@@ -2,6 +2,7 @@
 use Rattle.std.proofs.Common.{◌≡◌, ◌<◌, ◌≤◌, ◌+◌, ◌++◌, ℕ, List, [], ◌∷◌, length, take, drop, set, refl, sym, subst, ap, ◌∙◌, arith, length-append}
 use Rattle.std.proofs.lemmas.List.{take_more_set, drop-set-lt, drop-drop, take_at, drop_at, length-take-le}
 use Rattle.t0_core.specs.Plan.{Cursor, plan_kept}
+use Rattle.t0_core.specs.declared.tpdu_card.TpduCard.{Ghosts}
 use Rattle.t0_core.specs.CardSide.{EndOf}
 use Rattle.t0_core.specs.CardSending.{IsHandedOut}
 use Rattle.t0_core.specs.Buffers.{Steps, HandsOut}
@@ -29,31 +30,31 @@ module _ {State : Type 0} (Step : State → ℕ → State → Type 0) where
         ∙ ap (λ bs. drop 1 bs) handed.behind ∙ drop-drop 1 at before;
   }
 
+  -- a run is written
+  pub run_handed_by : (old s next : State) (before after new run : List ℕ) (at : ℕ)
+      → at + length run ≤ length after → length after ≡ length before
+      → new ≡ take at after ++ run ++ drop (at + length run) after
+      → HandsOut Step old before after at s → Steps Step s run next
+      → HandsOut Step old before new (at + length run) next
+  run_handed_by old s next before after new run at below same is handed steps =
+      let n = length run in
+      let front = take at after ++ run in
+      let len : length front ≡ at + n = length-append (take at after) run
+      ∙ ap (λ k. k + n) (length-take-le at after (omega (arith, below))) in
+      record {
+        fits = omega (arith, below, same);
+        steps = subst (λ bs. Steps Step old bs next)
+            (sym (ap (λ bs. take (at + n) bs) is ∙ take_at front (drop (at + n) after) (at + n)
+            len)) (steps_on (take at after) run old s next handed.steps steps);
+        behind = ap (λ bs. drop (at + n) bs) is
+            ∙ drop_at front (drop (at + n) after) (at + n) len ∙ sym (drop-drop n at after)
+            ∙ ap (λ bs. drop n bs) handed.behind ∙ drop-drop n at before;
+      }
+
 pub one_handed : (old s next : Driven) (before after : List ℕ) (at b : ℕ) → at < length after
     → length after ≡ length before → HandsOut HandsOutOne old before after at s
     → HandsOutOne s b next → HandsOut HandsOutOne old before (set after at b) (at + 1) next
 one_handed = one_handed_by HandsOutOne
-
--- a run is written
-pub run_handed : (old s next : Driven) (before after new run : List ℕ) (at : ℕ)
-    → at + length run ≤ length after → length after ≡ length before
-    → new ≡ take at after ++ run ++ drop (at + length run) after
-    → HandsOut HandsOutOne old before after at s → Steps HandsOutOne s run next
-    → HandsOut HandsOutOne old before new (at + length run) next
-run_handed old s next before after new run at below same is handed steps =
-    let n = length run in
-    let front = take at after ++ run in
-    let len : length front ≡ at + n = length-append (take at after) run
-    ∙ ap (λ k. k + n) (length-take-le at after (omega (arith, below))) in
-    record {
-      fits = omega (arith, below, same);
-      steps = subst (λ bs. Steps HandsOutOne old bs next)
-          (sym (ap (λ bs. take (at + n) bs) is ∙ take_at front (drop (at + n) after) (at + n)
-          len)) (steps_on HandsOutOne (take at after) run old s next handed.steps steps);
-      behind = ap (λ bs. drop (at + n) bs) is
-          ∙ drop_at front (drop (at + n) after) (at + n) len ∙ sym (drop-drop n at after)
-          ∙ ap (λ bs. drop n bs) handed.behind ∙ drop-drop n at before;
-    }
 
 -- each step is also one that says less, of what the state is part of
 pub steps_as : {S T : Type 0} (Step : S → ℕ → S → Type 0) (Less : T → ℕ → T → Type 0) (f : S → T)
@@ -62,6 +63,26 @@ pub steps_as : {S T : Type 0} (Step : S → ℕ → S → Type 0) (Less : T → 
 steps_as Step Less f less [] s last same = ap f same
 steps_as Step Less f less (b ∷ bs) s last (next, step, steps) =
     (f next, less s next b step, steps_as Step Less f less bs next last steps)
+
+-- a card's data are written
+pub data_handed_by : {C : Type 0} (card : Ghosts C)
+    (One : EndOf C × Cursor → ℕ → EndOf C × Cursor → Type 0)
+    → ((plans : Cursor) (s t : EndOf C) (b : ℕ) → IsHandedOut card s b t
+    → One (s, plans) b (t, plans))
+    → (plans : Cursor) (old : EndOf C × Cursor) (end next : EndOf C)
+    (before after new : List ℕ) (at count : ℕ) → length after ≡ length before
+    → HandsOut One old before after at (end, plans)
+    → (run : List ℕ) × (length run ≡ count) × (at + count ≤ length after)
+    × (new ≡ take at after ++ run ++ drop (at + count) after)
+    × Steps (IsHandedOut card) end run next
+    → HandsOut One old before new (at + count) (next, plans)
+data_handed_by card One driven plans old end next before after new at count same handed
+    (run, len, below, is, steps) =
+    subst (λ n. HandsOut One old before new (at + n) (next, plans)) len
+    (run_handed_by One old (end, plans) (next, plans) before after new run at
+    (omega (arith, len, below)) same
+    (subst (λ n. new ≡ take at after ++ run ++ drop (at + n) after) (sym len) is) handed
+    (steps_as (IsHandedOut card) One (λ e. (e, plans)) (driven plans) run end next steps))
 
 -- a data character takes no plan
 pub driven : (plans : Cursor) (s t : EndOf CardView) (b : ℕ) → IsHandedOut object_card s b t
@@ -74,7 +95,7 @@ driven plans s t b is = (
       (is.led_under first came taken (plan_kept plans) led (last is.begun)),
 )
 
--- a card's data are written
+-- the data of a card of data objects are written
 pub data_handed : (plans : Cursor) (old : Driven) (end next : EndOf CardView)
     (before after new : List ℕ) (at count : ℕ) → length after ≡ length before
     → HandsOut HandsOutOne old before after at (end, plans)
@@ -82,9 +103,4 @@ pub data_handed : (plans : Cursor) (old : Driven) (end next : EndOf CardView)
     × (new ≡ take at after ++ run ++ drop (at + count) after)
     × Steps (IsHandedOut object_card) end run next
     → HandsOut HandsOutOne old before new (at + count) (next, plans)
-data_handed plans old end next before after new at count same handed (run, len, below, is, steps) =
-    subst (λ n. HandsOut HandsOutOne old before new (at + n) (next, plans)) len
-    (run_handed old (end, plans) (next, plans) before after new run at (omega (arith, len, below))
-    same (subst (λ n. new ≡ take at after ++ run ++ drop (at + n) after) (sym len) is) handed
-    (steps_as (IsHandedOut object_card) HandsOutOne (λ e. (e, plans)) (driven plans) run end next
-    steps))
+data_handed = data_handed_by object_card HandsOutOne driven

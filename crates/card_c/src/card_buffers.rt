@@ -67,7 +67,7 @@ fn hand_out(end: &mut CardEnd<ObjectCard>, plans: &mut PlanQueue, bytes: &mut [u
 
 /// Writes the data that the card sends next from `at` on, in one run, as far as there is room.
 /// Returns their number.
-fn hand_run<C: TpduCard>(end: &mut CardEnd<C>, bytes: &mut [u8], at: usize) -> usize
+pub(crate) fn hand_run<C: TpduCard>(end: &mut CardEnd<C>, bytes: &mut [u8], at: usize) -> usize
     requires { at ≤ length bytes.old }
     ensures { (run : List ℕ) × (length run ≡ result) × (at + result ≤ length bytes.old)
         × (bytes.new ≡ take at bytes.old ++ run ++ drop (at + result) bytes.old)

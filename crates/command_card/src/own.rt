@@ -289,6 +289,9 @@ fn wanted_by<'a>(card: &CommandCard<Given>, header: Header, p3: u8, bytes: &'a [
         return Wanted::Nothing;
     }
     let is_given = card.application.has_response();
+    if is_given && is_known(card.application.directions()) {
+        return Wanted::Nothing;
+    }
     match card.need(header, p3) {
         Need::Nothing => Wanted::Nothing,
         Need::Direction => Wanted::Direction(header),

@@ -32,3 +32,12 @@ zeros_behind room new run size at n len within is zeros =
     ap (λ bs. drop (at + n) bs) is ∙ drop_at front (drop (at + n) room) (at + n) all
     ∙ sym (drop-drop n at room) ∙ ap (drop n) zeros ∙ drop-replicate n _ 0
     ∙ ap (λ k. replicate k 0) fewer
+
+-- further behind
+pub zeros_further : (room : List ℕ) (size at to : ℕ) → at ≤ to
+    → drop at room ≡ replicate (size - at) 0 → drop to room ≡ replicate (size - to) 0
+zeros_further room size at to later zeros =
+    let on : to ≡ at + (to - at) = omega (arith, later) in
+    let fewer : size - at - (to - at) ≡ size - to = omega (arith, later) in
+    ap (λ k. drop k room) on ∙ sym (drop-drop (to - at) at room) ∙ ap (drop (to - at)) zeros
+    ∙ drop-replicate (to - at) _ 0 ∙ ap (λ k. replicate k 0) fewer

@@ -4,6 +4,10 @@ ghost use Rattle.t1_core.specs.BlockBytes.{is_whole, received};
 
 use std::marker::Model;
 
+/// `clear` overwrites at least 16 bytes. A fixed number needs no call of `memset`, and most blocks
+/// are shorter.
+const SHORT: usize = 16;
+
 /// The result of one byte.
 #[derive(Clone, Copy, Debug, PartialEq, Eq)]
 pub enum Received {
@@ -59,7 +63,11 @@ impl Receiver {
     pub fn clear(&mut self)
         ensures { self.new ≡ [] }
     {
-        wipe(&mut self.block, self.len);
+        if self.len <= SHORT {
+            wipe(&mut self.block, SHORT);
+        } else {
+            wipe(&mut self.block, self.len);
+        }
         self.len = 0;
     }
 
@@ -143,6 +151,7 @@ impl Receiver {
 }
 
 /// Overwrites the first `len` bytes with zeros.
+#[inline(always)]
 fn wipe(bytes: &mut [u8], len: usize)
     requires { len ≤ length bytes.old }
     ensures { bytes.new ≡ replicate len 0 ++ drop len bytes.old }

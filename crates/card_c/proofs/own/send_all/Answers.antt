@@ -1,12 +1,26 @@
-use Rattle.std.proofs.Common.{◌<◌, length, arith}
-use Rattle.card_c.specs.OwnCalls.{OwnHandsOutOne}
-use Rattle.card_c.proofs.BufferLemmas.{one_handed_by}
+use Rattle.std.proofs.Common.{◌<◌, ◌+◌, length, arith}
+use Rattle.card_c.specs.OwnCalls.{OwnHandsOutOne, own_card}
+use Rattle.card_c.proofs.BufferLemmas.{data_handed_by, one_handed_by}
+use Rattle.card_c.proofs.OwnLemmas.{own_driven}
 use Rattle.card_c.proofs.own.send_all.Goals as goal
 
-pub loop-at-preserved : goal.loop-at-preserved
-loop-at-preserved c =
-    let below : c.loop-at.at < length c.loop-at.bytes =
-    omega (arith, c.loop-at-test.true, c.loop-at.auto.bytes) in
-    one_handed_by OwnHandsOutOne (c.args.end.now, c.args.plans.now) (c.loop-at.end, c.loop-at.plans)
-    (c.next_of.new.end, c.next_of.new.plans) c.args.bytes.now c.loop-at.bytes c.loop-at.at
-    c.in-Some.byte below c.loop-at.auto.bytes c.loop-at.invariant c.in-Some.ensures
+pub send-preserved-then-run-eq0 : goal.send-preserved-then-run-eq0
+send-preserved-then-run-eq0 c =
+    let run = c.hand_run-run in
+    let at = c.send.at + run.result in
+    let below : at < length run.new.bytes =
+    omega (arith, c.if-run-eq0.true, c.send-test.true, run.auto.bytes) in
+    one_handed_by OwnHandsOutOne (c.args.end.now, c.args.plans.now) (run.new.end, c.send.plans)
+    (c.next_other.new.end, c.next_other.new.plans) c.args.bytes.now run.new.bytes at
+    c.in-Some.byte below (omega (arith, run.auto.bytes, c.send.auto.bytes))
+    (data_handed_by own_card OwnHandsOutOne own_driven c.send.plans
+    (c.args.end.now, c.args.plans.now) c.send.end run.new.end c.args.bytes.now c.send.bytes
+    run.new.bytes c.send.at run.result c.send.auto.bytes c.send.invariant run.ensures)
+    c.in-Some.ensures
+
+pub send-preserved : goal.send-preserved
+send-preserved c =
+    let run = c.hand_run-run in
+    data_handed_by own_card OwnHandsOutOne own_driven c.send.plans
+    (c.args.end.now, c.args.plans.now) c.send.end run.new.end c.args.bytes.now c.send.bytes
+    run.new.bytes c.send.at run.result c.send.auto.bytes c.send.invariant run.ensures

@@ -19,7 +19,7 @@ use object_card::DataCard;
 use object_card::laws::only_a_put_changes_entries;
 
 /// The pairs so far settle the next command of an exchange. Take any whole exchange of the same
-/// command, with as much wanted, that begins with these pairs and goes on. If its data fit the
+/// command, with as much wanted, that begins with these pairs and has more. If its data fit the
 /// room, both have the same next command.
 pub fn the_next_command_is_settled()
     ensures { (c : Command) (wanted : Wanted) (came rest : List Pair) (p : Pair)

@@ -250,7 +250,8 @@ fn tag_row(row: &str, end: usize) -> Option<TagRow> {
 /// Whether a word is hexadecimal digits in capitals, two for each byte.
 fn is_hex(word: &str) -> bool {
     let is_digit = |letter: &u8| matches!(letter, b'0'..=b'9' | b'A'..=b'F');
-    word.len() % 2 == 0 && word.as_bytes().iter().all(is_digit)
+    let is_of_bytes = !word.is_empty() && word.len() % 2 == 0;
+    is_of_bytes && word.as_bytes().iter().all(is_digit)
 }
 
 /// Reads a tag as a number.

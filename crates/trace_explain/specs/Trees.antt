@@ -18,8 +18,8 @@ abbrev pub value_width : Bool → ℕ
 value_width true = 15
 value_width false = 24
 
--- The remark on an object follows its digits: these words, which are printable, so that no line ends
--- in them; or nothing.
+-- The remark on an object follows its digits: words, which are printable, so that no line ends in
+-- them; or nothing.
 abbrev pub remark : List ℕ → List ℕ
 remark [] = []
 remark (b ∷ words) = codes "  " ++ b ∷ words
@@ -50,7 +50,8 @@ pub data AreTree : List (List ℕ) → List ℕ → ℕ → List (List ℕ) → 
   primitive : {tags : List (List ℕ)} {bytes : List ℕ} {level : ℕ} {lines : List (List ℕ)}
       (padding tag size value rest says words : List ℕ) (below others : List (List ℕ))
       → Begins bytes padding tag size value rest level → (Contains tags tag → ⊥)
-      → is_constructed tag ≡ false → are_printable says ≡ true → IsValue level value says words below
+      → is_constructed tag ≡ false → are_printable says ≡ true
+      → IsValue level value says words below
       → lines ≡ listed level tag words below others
       → AreTree tags rest level others → AreTree tags bytes level lines
   template : {tags : List (List ℕ)} {bytes : List ℕ} {level : ℕ} {lines : List (List ℕ)}

@@ -1,4 +1,4 @@
-//! The tables of the folder `names/`, which `checks/explain/name_tables.py --write` copies here.
+//! The tables of the folder `names/`. `checks/explain/name_tables.py --write` copies them.
 
 /// The table `names/tags.txt`.
 pub const TAGS: &str = "\

@@ -236,7 +236,7 @@ fn tag_row(row: &str, end: usize) -> Option<TagRow> {
     let (words, places, row) = cut_word(row, end)?;
     let (sizes, _, row) = cut_word(row, end)?;
     let (word, format, name) = cut_word(row, end)?;
-    let is_place = |word| matches!(word, "*" | ".") || u64::from_str_radix(word, 16).is_ok();
+    let is_place = |word| matches!(word, "*" | ".") || is_hex(word);
     let is_well = words.split(',').all(is_place) && is_format(word);
     is_well.then_some(TagRow {
         tag: tag_of(tag)?,
@@ -247,8 +247,18 @@ fn tag_row(row: &str, end: usize) -> Option<TagRow> {
     })
 }
 
+/// Whether a word is hexadecimal digits in capitals, two for each byte.
+fn is_hex(word: &str) -> bool {
+    let is_digit = |letter: &u8| matches!(letter, b'0'..=b'9' | b'A'..=b'F');
+    let is_of_bytes = !word.is_empty() && word.len() % 2 == 0;
+    is_of_bytes && word.as_bytes().iter().all(is_digit)
+}
+
 /// Reads a tag as a number.
 fn tag_of(digits: &str) -> Option<u64> {
+    if !is_hex(digits) {
+        return None;
+    }
     let number = u64::from_str_radix(digits, 16).ok()?;
     let size = digits.len() / 2;
     let bytes = number.to_be_bytes();
@@ -268,8 +278,7 @@ fn sizes_of(sizes: &str) -> Option<(usize, usize)> {
 /// Reads the row of an application identifier of 5 to 16 bytes.
 fn aid_row(row: &str, end: usize) -> Option<(Words, Words)> {
     let (digits, aid, name) = cut_word(row, end)?;
-    let is_digit = |letter: &u8| matches!(letter, b'0'..=b'9' | b'A'..=b'F');
-    let is_well = (10..=32).contains(&digits.len()) && digits.as_bytes().iter().all(is_digit);
+    let is_well = (10..=32).contains(&digits.len()) && is_hex(digits);
     is_well.then_some((aid, words_before(end, name)?))
 }
 

@@ -93,8 +93,8 @@ fn name(words: &mut Sheet, mask: &Mask, place: Place, object: &Obj<'_>) {
     }
 }
 
-/// Adds the words for an object after its digits, unless there are none or a letter is not
-/// printable. If memory ran out for them, it has for the lines.
+/// Adds the words for an object after its digits, if there are any and all letters are printable.
+/// If memory ran out for them, it has for the lines.
 fn push_remark(lines: &mut Sheet, words: &Sheet)
     ensures { PutsRemark lines.old lines.new }
 {

@@ -1,7 +1,7 @@
 //! Tests objects, and the tables of a card, by the rules of BER-TLV and of the card.
 
 use galliumtoad::{encode, find, ObjectsError};
-use galliumtoad::{CardBuilder, Error, Objects, Reason, Session};
+use galliumtoad::{CardBuilder, Error, Objects, Operation, Reason, Session};
 use std::error::Error as _;
 
 const AID: [u8; 7] = [0xA0, 0x00, 0x00, 0x00, 0x03, 0x10, 0x10];
@@ -191,4 +191,17 @@ fn a_builder_refuses_and_stays() {
     let name = (0x5F20, b"JOE".to_vec(), false);
     assert_eq!(entries, [name, (0x50, b"VISA".to_vec(), true)]);
     assert_eq!(card.selected(), None);
+}
+
+#[test]
+fn a_session_that_nobody_listens_to() {
+    let card = builder().finish().expect("a card");
+    let mut session = Session::start(card).expect("a session");
+    assert_eq!(session.heard(), Err(Error::State));
+    session.listen().expect("somebody listens");
+    assert_eq!(session.heard(), Ok(Vec::new()));
+    assert_eq!(session.is_idle(), Ok(true));
+    assert_eq!(session.plan("x", 256), Err(Error::Argument));
+    assert_eq!(session.plan("", 257), Err(Error::Argument));
+    assert_eq!(session.run(Operation::Send(&[0x00])), Err(Error::TooShort));
 }

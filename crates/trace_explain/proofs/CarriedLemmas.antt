@@ -151,6 +151,19 @@ pub answered_one : (o mid : Overheard) → mid ≡ o → o.is_answered ≡ true
 answered_one o mid same is =
     ap (λ (x : Overheard). exchanged x.is_loose x.command x.gathered.bytes) same ∙ rw is refl
 
+-- A byte of a block reports what is answered with it.
+pub reports_some : (r : Role) (o : Overheard) → is_block r ≡ true
+    → answered o ≡ reports_with r (Some o)
+reports_some (role.Block from) o block = refl
+reports_some role.Dialogue o block = absurd (let bad : false ≡ true = block in cc)
+reports_some (role.Ts turned) o block = absurd (let bad : false ≡ true = block in cc)
+reports_some role.Answer o block = absurd (let bad : false ≡ true = block in cc)
+reports_some role.RequestPpss o block = absurd (let bad : false ≡ true = block in cc)
+reports_some role.Request o block = absurd (let bad : false ≡ true = block in cc)
+reports_some role.ResponsePpss o block = absurd (let bad : false ≡ true = block in cc)
+reports_some role.Response o block = absurd (let bad : false ≡ true = block in cc)
+reports_some role.Stray o block = absurd (let bad : false ≡ true = block in cc)
+
 -- No other character is one of a block.
 pub none_with : (r : Role) (o : Option Overheard) → is_block r ≡ false → reports_with r o ≡ []
 none_with (role.Block from) o other = absurd (let bad : true ≡ false = other in cc)

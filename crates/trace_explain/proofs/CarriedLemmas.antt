@@ -1,5 +1,5 @@
 -- Commands at T=1 that are reported.
-use Rattle.std.proofs.Common.{◌≡◌, ◌<◌, ℕ, ◌+◌, List, [], ◌∷◌, ◌++◌, ◌∙◌, ap, refl, sym, subst, lit<, append-nil, append_assoc, length, Bool, true, false, Option, Some, None, OnOk, Result, arith, ◌==◌, if◌then◌else◌}
+use Rattle.std.proofs.Common.{◌≡◌, ◌<◌, ℕ, ◌+◌, List, [], ◌∷◌, ◌++◌, ◌∙◌, ap, refl, sym, subst, lit<, append-nil, append_assoc, length, Bool, true, false, Option, Some, None, OnOk, Result, Ok, Err, arith, ◌==◌, if◌then◌else◌}
 use Rattle.std.proofs.lemmas.List.{length-drop}
 use Rattle.t0_core.specs.declared.end.End.{End}
 use Rattle.t0_core.specs.DialogueLaws.{all_more, flat_map_last}
@@ -18,11 +18,11 @@ use Rattle.trace_explain.specs.Explained.{CarriesAll}
 use Rattle.trace_explain.specs.Lines.{block_events, dialogue_events}
 use Rattle.trace_explain.specs.Noted.{Carried, Event, HasNoted, IsNoted, Part, Passed, Reset, are_loose, ended_by, events_in}
 use Rattle.trace_explain.specs.Openings.{Opening, is_block, is_dialogue, is_loose, opens, reports_with, role_of}
-use Rattle.trace_explain.specs.Overheard.{Overheard, exchanged}
-use Rattle.trace_explain.specs.Pairs.{IsBadPair, IsPair, beside, command_in, data_in, moved_of, status_in, way_of}
+use Rattle.trace_explain.specs.Overheard.{Overheard, answered, exchanged}
+use Rattle.trace_explain.specs.Pairs.{IsBadPair, IsPair, beside, command_in, data_in, is_refusal, moved_of, status_in, way_of}
 use Rattle.trace_explain.specs.Reports.{Report, ReportsFront, no_report, report_of, uncounted}
 use Rattle.trace_explain.proofs.AccountLemmas.{boxes_both}
-use Rattle.trace_explain.proofs.ExplainedLemmas.{front_of_none, none_on_line, on_ok_too}
+use Rattle.trace_explain.proofs.ExplainedLemmas.{front_of_none, none_on_line}
 use Rattle.trace_explain.proofs.NotedLemmas.{noted_between, reports_both, size_of}
 
 front_is_fresh : (t : Report) (loose : Bool) (front : Front) → ReportsFront t loose front
@@ -77,6 +77,12 @@ pub carries_as : {events : List Event} {reports before : List Report} {l : Liste
 carries_as so h =
     record { reports = h.reports; noted = h.noted; boxes = so h.reports h.boxes }
 
+pub carries_is : {all others : List Report} {events : List Event} {before : List Report}
+    {l : Listener} {old new : Teller} → all ≡ others → CarriesAll all events before l old new
+    → CarriesAll others events before l old new
+carries_is {events = events} {before = before} {l = l} {old = old} {new = new} is h =
+    let P : List Report → Type 0 = λ ts. CarriesAll ts events before l old new in subst P is h
+
 pub carries_none : (events : List Event) (before : List Report) (l : Listener) {old new : Teller}
     → HasNoted events before l → AddsBoxes [] old new → CarriesAll [] events before l old new
 carries_none events before l noted boxes = record {
@@ -103,7 +109,7 @@ exchanged_by : (loose : Bool) (command answer : List ℕ) → command_in command
 exchanged_by loose command answer none = rw none refl
 
 pub exchanged_none : (why : PairFault) (loose : Bool) (command answer : List ℕ)
-    → IsBadPair why command answer → (why ≡ bad.OutOfMemory → ⊥)
+    → IsBadPair why command answer → is_refusal why ≡ true
     → exchanged loose command answer ≡ []
 exchanged_none bad.Short loose command answer h other =
     exchanged_by loose command answer (grind (arith))
@@ -112,27 +118,51 @@ exchanged_none bad.Extended loose command answer h other =
 exchanged_none bad.Length loose command answer (four, short, none) other =
     exchanged_by loose command answer none
 exchanged_none bad.NoStatus loose command answer ((c, is), none) other = rw (is, none) refl
-exchanged_none bad.OutOfMemory loose command answer h other = absurd (other refl)
+exchanged_none bad.OutOfMemory loose command answer h other =
+    absurd (let bad : false ≡ true = other in cc)
 
 -- A command with its response was reported, or is no TPDU.
 pub carries_pair : {T E : Type 0} (r : Result T E) (loose : Bool) (command answer : List ℕ)
-    (t : Tpdu) (events : List Event) (before : List Report) {l : Listener} {old new : Teller}
+    (t : Tpdu) (events : List Event) (before : List Report) (l : Listener) (old new : Teller)
     → IsPair command answer t
     → OnOk r (CarriesAll (record (report_of t) { is_loose = loose } ∷ []) events before l old new)
     → OnOk r (CarriesAll (exchanged loose command answer) events before l old new)
-carries_pair r loose command answer t events before {l} {old} {new} is h =
+carries_pair r loose command answer t events before l old new is h =
     let P : List Report → Type 0 = λ ts. OnOk r (CarriesAll ts events before l old new) in
     subst P (sym (exchanged_is loose command answer t is)) h
 
 pub carries_refused : {T E : Type 0} (r : Result T E) (why : PairFault) (loose : Bool)
-    (command answer : List ℕ) (events : List Event) (before : List Report) {l : Listener}
-    {old new : Teller} → IsBadPair why command answer → (why ≡ bad.OutOfMemory → ⊥)
+    (command answer : List ℕ) (events : List Event) (before : List Report) (l : Listener)
+    (old new : Teller) → IsBadPair why command answer → OnOk r (is_refusal why ≡ true)
     → HasNoted events before l → OnOk r (AddsBoxes [] old new)
     → OnOk r (CarriesAll (exchanged loose command answer) events before l old new)
-carries_refused r why loose command answer events before {l} {old} {new} is other noted h =
-    let P : List Report → Type 0 = λ ts. OnOk r (CarriesAll ts events before l old new) in
-    subst P (sym (exchanged_none why loose command answer is other))
-    (on_ok_too r _ _ h (λ boxes. carries_none events before l noted boxes))
+carries_refused (Ok x) why loose command answer events before l old new is refusal noted boxes =
+    carries_is (sym (exchanged_none why loose command answer is refusal))
+    (carries_none events before l noted boxes)
+carries_refused (Err e) why loose command answer events before l old new is refusal noted boxes =
+    tt
+
+-- The commands that get their response with a byte.
+pub answered_none : (o : Overheard) → o.is_answered ≡ false → answered o ≡ []
+answered_none o none = rw none refl
+
+pub answered_one : (o mid : Overheard) → mid ≡ o → o.is_answered ≡ true
+    → exchanged mid.is_loose mid.command mid.gathered.bytes ≡ answered o
+answered_one o mid same is =
+    ap (λ (x : Overheard). exchanged x.is_loose x.command x.gathered.bytes) same ∙ rw is refl
+
+-- A byte of a block reports what is answered with it.
+pub reports_some : (r : Role) (o : Overheard) → is_block r ≡ true
+    → answered o ≡ reports_with r (Some o)
+reports_some (role.Block from) o block = refl
+reports_some role.Dialogue o block = absurd (let bad : false ≡ true = block in cc)
+reports_some (role.Ts turned) o block = absurd (let bad : false ≡ true = block in cc)
+reports_some role.Answer o block = absurd (let bad : false ≡ true = block in cc)
+reports_some role.RequestPpss o block = absurd (let bad : false ≡ true = block in cc)
+reports_some role.Request o block = absurd (let bad : false ≡ true = block in cc)
+reports_some role.ResponsePpss o block = absurd (let bad : false ≡ true = block in cc)
+reports_some role.Response o block = absurd (let bad : false ≡ true = block in cc)
+reports_some role.Stray o block = absurd (let bad : false ≡ true = block in cc)
 
 -- No other character is one of a block.
 pub none_with : (r : Role) (o : Option Overheard) → is_block r ≡ false → reports_with r o ≡ []

@@ -79,6 +79,11 @@ IsPair command answer t = (c : Command) × (command_in command ≡ Some c)
     × ReportsPair c (data_in answer) (status_in answer) t
     × (are_status (status_in answer) ≡ true)
 
+-- The pair is no TPDU, whatever memory there is.
+abbrev pub is_refusal : PairFault → Bool
+is_refusal bad.OutOfMemory = false
+is_refusal other = true
+
 -- Why a command is not a short one.
 abbrev pub IsBadCommand : PairFault → List ℕ → Type 0
 IsBadCommand bad.Short command = length command < 4

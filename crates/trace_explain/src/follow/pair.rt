@@ -1,6 +1,6 @@
 //! A command and its answer as one TPDU (ISO/IEC 7816-4, 5.1; ISO/IEC 7816-3, 12).
 ghost use Rattle.std.specs.Prelude.{◌≡◌, [], ◌∷◌, ◌++◌, Some, IfOk, IfErr};
-ghost use Rattle.trace_explain.specs.Pairs.{Command, IsBadCommand, IsBadPair, IsBadRest, IsCommand, IsPair, ReportsPair, beside, command_in, moved_of, way_of, with_p3};
+ghost use Rattle.trace_explain.specs.Pairs.{Command, IsBadCommand, IsBadPair, IsBadRest, IsCommand, IsPair, ReportsPair, beside, command_in, is_refusal, moved_of, way_of, with_p3};
 
 use crate::follow::block_row::BlockRows;
 use crate::follow::tally::Tally;
@@ -29,6 +29,15 @@ pub enum PairFault {
     /// Memory ran out.
     #[error("out of memory")]
     OutOfMemory,
+}
+
+impl PairFault {
+    /// Whether they are no TPDU, whatever memory there is.
+    pub fn is_refusal(self) -> bool
+        ensures { result ≡ is_refusal self }
+    {
+        !matches!(self, PairFault::OutOfMemory)
+    }
 }
 
 impl From<AllocError> for PairFault {

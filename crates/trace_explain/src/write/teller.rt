@@ -7,6 +7,7 @@ ghost use Rattle.trace_explain.specs.Explained.{CarriesAll, Hears};
 ghost use Rattle.trace_explain.specs.Noted.{Event, HasNoted, Reset, ended_by};
 ghost use Rattle.trace_explain.specs.Openings.{is_block, is_dialogue, opening_of, opens, reports_with, role_of, unopened};
 ghost use Rattle.trace_explain.specs.Overheard.{answered, exchanged, overheard_by};
+ghost use Rattle.trace_explain.specs.Pairs.{is_refusal};
 ghost use Rattle.trace_explain.specs.Reports.{Report, loose, no_report, report_of};
 
 use crate::describe::clock::Clock;
@@ -232,15 +233,22 @@ impl Teller {
             (reports_with role (opening_of preface.new).blocks) events before listener.new
             self.old self.new) }
     {
-        self.is_led = true;
-        self.clock.count();
-        if preface.blocks.is_none() {
-            self.tell_part(preface);
-        }
+        self.lead_to_blocks(preface);
         preface.take(role, byte, self.line)?;
         match &mut preface.blocks {
             Some(blocks) => self.tell_blocks(blocks, listener),
             None => self.output.outcome(),
+        }
+    }
+
+    /// Notes the time, and writes what ends before the first block.
+    fn lead_to_blocks(&mut self, preface: &Preface)
+        ensures { StaysWritten self.old self.new }
+    {
+        self.is_led = true;
+        self.clock.count();
+        if preface.blocks.is_none() {
+            self.tell_part(preface);
         }
     }
 
@@ -296,7 +304,6 @@ impl Teller {
                 tpdu.blocks = blocks.take_rows();
                 self.tell_exchange(&tpdu, listener)
             }
-            Err(PairFault::OutOfMemory) => Err(AllocError),
             Err(why) => self.tell_refused(why, blocks),
         }
     }
@@ -315,7 +322,11 @@ impl Teller {
     fn tell_refused(&mut self, why: PairFault, blocks: &mut Blocks) -> Result<(), AllocError>
         ensures same { overheard_by blocks.new ≡ overheard_by blocks.old }
         ensures stays { OnOk result (StaysWritten self.old self.new) }
+        ensures refusal { OnOk result (is_refusal why ≡ true) }
     {
+        if !why.is_refusal() {
+            return Err(AllocError);
+        }
         self.tell_bad(why, blocks.command(), Some(blocks.gathered()))?;
         tell_dropped(blocks.take_rows(), &mut self.output.page);
         Ok(())

@@ -1,0 +1,36 @@
+use Rattle.std.proofs.Common.{◌≡◌, List, ℕ, refl, subst}
+use Rattle.trace_explain.specs.Pairs.{IsBadPair, IsPair}
+use Rattle.trace_explain.proofs.AccountLemmas.{boxes_from, boxes_stay}
+use Rattle.trace_explain.proofs.CarriedLemmas.{carries_pair, carries_refused}
+use Rattle.trace_explain.proofs.ExplainedLemmas.{on_ok_too}
+use Rattle.trace_explain.proofs.write.teller.Teller.tell_carried.Goals as goal
+
+pub returns-in-Ok : goal.returns-in-Ok
+returns-in-Ok c =
+    let P : List ℕ → Type 0 = λ x. IsPair x c.args.blocks.now.gathered.bytes c.in-Ok.tpdu in
+    let Q : List ℕ → Type 0 = λ x. IsPair c.command.result.now x c.in-Ok.tpdu in
+    record {
+      same = c.take_rows.ensures;
+      heard = λ events before h. carries_pair c.tell_exchange.result c.args.blocks.now.is_loose
+          c.args.blocks.now.command.items c.args.blocks.now.gathered.bytes c.in-Ok.tpdu
+          events before c.tell_exchange.new.listener c.args.self.now c.tell_exchange.new.self
+          (subst P c.command.ensures (subst Q c.gathered.ensures c.in-Ok.ensures.reports))
+          (c.tell_exchange.ensures events before h);
+    }
+
+pub returns-in-Err : goal.returns-in-Err
+returns-in-Err c =
+    let why = c.in-Err.why in
+    let P : List ℕ → Type 0 = λ x. IsBadPair why x c.args.blocks.now.gathered.bytes in
+    let Q : List ℕ → Type 0 = λ x. IsBadPair why c.command.result.now x in
+    record {
+      same = c.tell_refused.ensures.same;
+      heard = λ events before h. carries_refused c.tell_refused.result why
+          c.args.blocks.now.is_loose c.args.blocks.now.command.items
+          c.args.blocks.now.gathered.bytes events before c.args.listener.now c.args.self.now
+          c.tell_refused.new.self
+          (subst P c.command.ensures (subst Q c.gathered.ensures c.in-Err.ensures.refused))
+          c.tell_refused.ensures.refusal h
+          (on_ok_too c.tell_refused.result _ _ c.tell_refused.ensures.stays
+          (λ s. boxes_from s boxes_stay));
+    }

@@ -12,8 +12,8 @@ use crate::follow::opening::{
 use crate::read::digits::push;
 use atr_core::Convention;
 use std::alloc::{AllocError, Global};
-use t1_core::Edc;
 use t0_core::End;
+use t1_core::Edc;
 
 /// The characters since the trace began or the card was reset, up to the dialogue.
 #[derive(Drop)]

@@ -498,7 +498,7 @@ typedef struct gt_atr_t1 {
 } gt_atr_t1;
 
 /* What an answer to reset says, by its characters. For a missing one the standard's default holds
- * (ISO/IEC 7816-3, 8.2 and 8.3). A reserved code gives 0. */
+ * (ISO/IEC 7816-3, 8.2, 8.3, 10.2 for WI, and clause 11 for T=1). A reserved code gives 0. */
 typedef struct gt_atr {
     size_t length;              /* the number of its bytes, TS and TCK included: 2 to
                                  * GT_ATR_LIMIT */
@@ -1610,8 +1610,8 @@ GT_MUST_CHECK int32_t gt_card_apdu(gt_card *c, const uint8_t *apdu, size_t n,
  *
  * The caller keeps the times of the card's answer to reset: `gt_atr.t1`. Blocks have NAD 00 and an
  * LRC, and fields of at most 32 bytes until S(IFS request). The end answers each other request of a
- * terminal, and sends no request. The response to other bytes than a short command is 6700, and to
- * an invalid INS 6D00 (profile).
+ * terminal, and sends no request but S(WTX) by gt_card_more_time. The response to other bytes than
+ * a short command is 6700, and to an invalid INS 6D00 (profile).
  *
  * The card speaks T=1 up to gt_card_reset. Until then gt_card_plan, gt_session_start and the other
  * calls that send or receive return GT_STATE. Those that show its content work as before.
@@ -1673,8 +1673,8 @@ GT_MUST_CHECK int32_t gt_card_t1_missed(gt_card *c) {
 }
 
 /* Reports that a character of the terminal's block had a wrong parity: as `gt_card_t1_missed`, but
- * the R-block says so. The other bytes of the block still come: before this call, drop all until
- * none comes for CWT.
+ * the R-block says so. After gt_card_more_time the answer to either is S(WTX request) again. The
+ * other bytes of the block still come: before this call, drop all until none comes for CWT.
  *
  * - GT_SENDS: `gt_card_t1_send_bytes` has the answer.
  * - GT_STATE: the card does not speak T=1. Nothing changes. */

@@ -171,7 +171,7 @@ fn receive_data(at: &mut CardT1Side, bytes: &[u8], count: &mut usize) -> i32
 }
 
 /// Reports that the terminal's block stopped. The answer asks for the block because of another
-/// error than the EDC.
+/// error than the EDC, or is S(WTX request) again.
 #[unsafe(no_mangle)]
 pub extern "C" fn galliumtoad_card_t1_missed(alloc: Global, card: &mut CardHandle) -> i32
     ensures { OnHandle (OnLine (Misses reason.Other) (MissesOwn reason.Other) ⊤)
@@ -181,7 +181,7 @@ pub extern "C" fn galliumtoad_card_t1_missed(alloc: Global, card: &mut CardHandl
 }
 
 /// Reports that a character of the terminal's block had a wrong parity. The answer asks for the
-/// block because of that.
+/// block because of that, or is S(WTX request) again.
 #[unsafe(no_mangle)]
 pub extern "C" fn galliumtoad_card_t1_damaged(alloc: Global, card: &mut CardHandle) -> i32
     ensures { OnHandle (OnLine (Misses reason.Edc) (MissesOwn reason.Edc) ⊤)

@@ -54,19 +54,33 @@ pub fn main_status<D: Files, R: Read, W: Write, F: Write>(
         return list(&asked.mask.names, output, faults);
     }
     let Some(paths) = asked.compared else {
-        let (head, reading) = match begin(alloc, &asked, files, input, faults) {
-            Ok(begun) => begun,
-            Err(fault) => return refused(fault, faults),
-        };
-        let (layout, mask, resumes) = (asked.layout, asked.mask, asked.resumes);
-        let mut trace = head.as_slice().chain(input);
-        let outcome = explain(alloc, layout, mask, resumes, reading, &mut trace, output);
-        return status(&outcome, faults);
+        return explained(alloc, asked, files, input, output, faults);
     };
     match diff_files(alloc, asked, files, paths, output) {
         Ok(alike) => u8::from(!alike),
         Err(fault) => print_fault(&fault, faults),
     }
+}
+
+/// Explains the trace of `input`. Returns the exit status.
+fn explained<D: Files, R: Read, W: Write, F: Write>(
+    alloc: Global,
+    asked: Request<'_>,
+    files: &D,
+    input: &mut R,
+    output: &mut W,
+    faults: &mut F,
+) -> u8
+    ensures status { result ≤ 2 }
+{
+    let (head, reading) = match begin(alloc, &asked, files, input, faults) {
+        Ok(begun) => begun,
+        Err(fault) => return refused(fault, faults),
+    };
+    let (layout, mask, resumes) = (asked.layout, asked.mask, asked.resumes);
+    let mut trace = head.as_slice().chain(input);
+    let outcome = explain(alloc, layout, mask, resumes, reading, &mut trace, output);
+    status(&outcome, faults)
 }
 
 /// Returns the bytes that were read to find the form of a trace, and how its lines are read. Writes

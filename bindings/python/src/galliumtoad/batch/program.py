@@ -57,7 +57,7 @@ def parsed(words: Optional[list[str]]) -> argparse.Namespace:
 
 
 def finished(journals: list[Journal], path: Optional[str]) -> int:
-    """Prints the rows that await a decision, and the sum. Returns the exit status."""
+    """Prints undecided rows and the sum, writes the report. Returns 0 if all are done, else 1."""
     _, counts, all_of = report.joined(journals)
     undecided = [it for journal in journals for it in journal.undecided().items()]
     for row, it in undecided:

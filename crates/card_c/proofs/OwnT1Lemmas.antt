@@ -17,9 +17,11 @@ pub missed : (why told : BlockReason) (mid joined : OwnT1Side) (answer result : 
     → (joined ≡ record mid { end = joined.end }) × Misses why mid.end answer joined.end
 missed why told mid joined answer result end at_is answer_is why_is misses =
     subst (λ (j : OwnT1Side). (j ≡ record mid { end = j.end }) × Misses why mid.end answer j.end)
-    (sym at_is)
-    (refl, subst (λ r. Misses why mid.end r end) (sym answer_is)
-    (subst (λ w. Misses w mid.end result end) (sym why_is) misses))
+    (sym at_is) (
+      refl,
+      subst (λ r. Misses why mid.end r end) (sym answer_is)
+          (subst (λ w. Misses w mid.end result end) (sym why_is) misses),
+    )
 
 pub replied : (mid joined : OwnT1Side) (answer : Reply) (block : List ℕ)
     → joined ≡ record mid { end = joined.end } → block ≡ []

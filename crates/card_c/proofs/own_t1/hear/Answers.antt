@@ -7,7 +7,11 @@ use Rattle.card_c.proofs.own_t1.hear.Goals as goal
 pub returns : goal.returns
 returns c =
     let mid = c.drop_given.new.at in
-    let (end, is_end, mid_is, empty) = c.drop_given.ensures in
-    (mid, c.drop_given.ensures, c.take-at.ensures.emptied, refl,
-    subst (λ b. Hears own_applet b mid.end c.take-at.result c.take-at.new.self)
-    (ap (λ (a : OwnT1Side). a.block) mid_is) c.take-at.ensures.hears)
+    let (end, is_end, mid_is, empty) = c.drop_given.ensures in (
+      mid,
+      c.drop_given.ensures,
+      c.take-at.ensures.emptied,
+      refl,
+      subst (λ b. Hears own_applet b mid.end c.take-at.result c.take-at.new.self)
+          (ap (λ (a : OwnT1Side). a.block) mid_is) c.take-at.ensures.hears,
+    )

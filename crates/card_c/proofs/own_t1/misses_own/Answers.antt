@@ -20,6 +20,11 @@ returns c =
       | else-is_damaged w ↦ missed why reason.Other mid joined answer w.invalid-answer.result
           w.invalid-answer.new.self w.at-is w.answer-is
           (ap (λ v. if v then reason.Edc else reason.Other) w.if-is_damaged.false) w.invalid-answer.ensures
-    ] in
-    (mid, c.drop_given.ensures, answer, refl,
-    replied mid joined answer c.clear.new.self joined_is c.clear.ensures, misses)
+    ] in (
+      mid,
+      c.drop_given.ensures,
+      answer,
+      refl,
+      replied mid joined answer c.clear.new.self joined_is c.clear.ensures,
+      misses,
+    )

@@ -10,24 +10,33 @@ pub returns-in_default : goal.returns-in_default
 returns-in_default c =
     let mid = c.take_again.new.at in let code = c.wait_code.result in
     let new = c.wait_code.new.at in let room = c.args.bytes.now in let n = c.args.count.now in
-    let told : ℤ = to_z w32 (of_z w32 code) in
-    (mid, c.take_again.ensures,
-    subst (λ (o : Option Reply). SendsOwnOf o room n room n mid told new)
-    (sym (no_reply mid.reply (λ r is. c.in_default.not-Some r is)))
-    (refl, refl, subst (λ (z : ℤ). SendsWaiting mid z new)
-    (sym (as_it_is code c.wait_code.type_inv)) c.wait_code.ensures))
+    let told : ℤ = to_z w32 (of_z w32 code) in (
+      mid,
+      c.take_again.ensures,
+      subst (λ (o : Option Reply). SendsOwnOf o room n room n mid told new)
+          (sym (no_reply mid.reply (λ r is. c.in_default.not-Some r is))) (
+            refl,
+            refl,
+            subst (λ (z : ℤ). SendsWaiting mid z new)
+                (sym (as_it_is code c.wait_code.type_inv)) c.wait_code.ensures,
+          ),
+    )
 
 pub returns-in-Ok : goal.returns-in-Ok
 returns-in-Ok c =
     let mid = c.take_again.new.at in let room = c.args.bytes.now in let n = c.args.count.now in
-    let told : ℤ = to_z w32 (of_z w32 c.copied.result) in
-    (mid, c.take_again.ensures,
-    subst (λ (o : Option Reply). SendsOwnOf o room n c.copied.new.to c.copied.new.len mid told mid)
-    (sym c.in-Some.is) (refl, inr (search rules, search rules)))
+    let told : ℤ = to_z w32 (of_z w32 c.copied.result) in (
+      mid,
+      c.take_again.ensures,
+      subst (λ (o : Option Reply). SendsOwnOf o room n c.copied.new.to c.copied.new.len mid told mid)
+          (sym c.in-Some.is) (refl, inr (search rules, search rules)),
+    )
 
 pub returns-in-Err : goal.returns-in-Err
 returns-in-Err c =
-    let mid = c.take_again.new.at in let room = c.args.bytes.now in let n = c.args.count.now in
-    (mid, c.take_again.ensures,
-    subst (λ (o : Option Reply). SendsOwnOf o room n room n mid gt_memory mid) (sym c.in-Some.is)
-    (refl, inl (refl, refl, refl)))
+    let mid = c.take_again.new.at in let room = c.args.bytes.now in let n = c.args.count.now in (
+      mid,
+      c.take_again.ensures,
+      subst (λ (o : Option Reply). SendsOwnOf o room n room n mid gt_memory mid) (sym c.in-Some.is)
+          (refl, inl (refl, refl, refl)),
+    )

@@ -70,7 +70,9 @@ class OwnCard(Lasting):
         super().__init__("card", ("own", ffi.NULL))
 
     def reset(self) -> None:
-        """Drops what is in progress or waits, and resets the application."""
+        """Resets the card, at any time, and then the application. The card drops the TPDU, command
+        or block in progress, and a response that waits. It listens for a header at T=0, also after
+        `begin_t1`. Plans that wait stay."""
         with self._alone():
             self._reset()
 

@@ -84,30 +84,29 @@ fn tell_wanted(wanted: Wanted<'_>, command: &mut CommandRecord) -> i32
 {
     match wanted {
         Wanted::Nothing => return code::STATE,
-        Wanted::Direction(header) => *command = record_of(header, &[], 0),
+        Wanted::Direction(header) => write_record(command, header, &[], 0),
         Wanted::Response(waits) => {
-            *command = record_of(waits.header(), waits.data(), waits.le().unwrap_or(0));
+            let le = waits.le().unwrap_or(0);
+            write_record(command, waits.header(), waits.data(), le);
         }
     }
     code::OK
 }
 
-/// A command as C sees it, with at most 255 bytes of data.
-fn record_of(header: Header, bytes: &[u8], le: u16) -> CommandRecord
-    ensures { length bytes.now ≤ 255 → IsRecord header bytes.now le result }
+/// Writes a command as C sees it, with at most 255 bytes of data. The data go right to their place,
+/// so that no copy stays on the stack.
+fn write_record(command: &mut CommandRecord, header: Header, bytes: &[u8], le: u16)
+    ensures { length bytes.now ≤ 255 → IsRecord header bytes.now le command.new }
 {
     let count = bytes.len().min(255);
-    let mut data = [0; 255];
-    data[..count].copy_from_slice(&bytes[..count]);
-    CommandRecord {
-        cla: header.cla,
-        ins: header.ins,
-        p1: header.p1,
-        p2: header.p2,
-        le,
-        size: count as u8,
-        data,
-    }
+    command.cla = header.cla;
+    command.ins = header.ins;
+    command.p1 = header.p1;
+    command.p2 = header.p2;
+    command.le = le;
+    command.size = count as u8;
+    command.data.fill(0);
+    command.data[..count].copy_from_slice(&bytes[..count]);
 }
 
 /// Answers which way the data of the header that waits go.

@@ -51,7 +51,9 @@ pub no_value : (level : ℕ) (value : List ℕ) (a b c : Sheet) → length value
 no_value level [] a b c none h (says, plain, m) =
     let words : List ℕ = codes " -" ++ remark says in
     let all : Adds a words c = adds_both (codes " -") (remark says) a b c h m in
-    (says, words, [], plain, (refl, refl), adds_as words (words ++ []) a c (sym (append-nil words)) all)
+    let more : Adds a (words ++ []) c =
+    adds_as words (words ++ []) a c (sym (append-nil words)) all in
+    (says, words, [], plain, (refl, refl), more)
 no_value level (x ∷ value) a b c none h m = absurd (omega (arith, none))
 
 -- words after two spaces

@@ -25,24 +25,23 @@ listing-preserved-in-Some-children t c =
     let g = c.in-Some.ensures.steps in
     past_template c.args.mask.now.tags.items c.args.objects c.listing.objects c.next.new.self
     c.in-Some-children.children c.args.sheet.now c.listing.sheet c.push_object.new.sheet
-    c.push_names.new.sheet c.push_objects.new.sheet c.push_str-in-Some-children.new.self c.listing.first g.0.0
-    c.in-Some.object.tag c.in-Some.object.size c.in-Some.object.value c.tag-tag.result
-    c.in-Some.object.level c.listing.invariant g.0.1 g.2 c.tag-tag.ensures g.1
+    c.push_names.new.sheet c.push_objects.new.sheet c.push_str-in-Some-children.new.self
+    c.listing.first g.0.0 c.in-Some.object.tag c.in-Some.object.size c.in-Some.object.value
+    c.tag-tag.result c.in-Some.object.level c.listing.invariant g.0.1 g.2 c.tag-tag.ensures g.1
     (λ h. let e = c.has.ensures.1 h in absurd (cc (e, c.if-has.false)))
     (constructed c.in-Some.object.tag
     (λ no. let e = c.in-Some-children.ensures.primitive.1 no in absurd (cc)))
     c.push_object.ensures c.push_names.ensures c.in-Some-children.ensures.list.0
-    c.push_objects.ensures
-    c.push_str-in-Some-children.ensures
+    c.push_objects.ensures c.push_str-in-Some-children.ensures
 
 pub listing-preserved : goal.listing-preserved
 listing-preserved t c =
     let g = c.in-Some.ensures.steps in
     past_primitive c.args.mask.now.tags.items c.args.objects c.listing.objects c.next.new.self
-    c.args.sheet.now c.listing.sheet c.push_object.new.sheet c.push_names-in_default-children.new.sheet
-    c.push_primitive.new.sheet
-    c.listing.first g.0.0 c.in-Some.object.tag c.in-Some.object.size c.in-Some.object.value
-    c.tag-tag.result c.value.result.now c.listing.invariant g.0.1 g.2 c.tag-tag.ensures
+    c.args.sheet.now c.listing.sheet c.push_object.new.sheet
+    c.push_names-in_default-children.new.sheet c.push_primitive.new.sheet c.listing.first g.0.0
+    c.in-Some.object.tag c.in-Some.object.size c.in-Some.object.value c.tag-tag.result
+    c.value.result.now c.listing.invariant g.0.1 g.2 c.tag-tag.ensures
     c.value.ensures (λ h. let e = c.has.ensures.1 h in absurd (cc (e, c.if-has.false)))
     (c.in_default-children.ensures.primitive.0 refl) c.push_object.ensures
     c.push_names-in_default-children.ensures c.push_primitive.ensures

@@ -25,14 +25,16 @@ listing-preserved-in-Some-children t c =
     let g = c.in-Some.ensures.steps in
     past_template c.args.mask.now.tags.items c.args.objects c.listing.objects c.next.new.self
     c.in-Some-children.children c.args.lines.now c.listing.lines c.push_object.new.lines
-    c.push_remark.new.lines c.push_objects.new.lines c.listing.some c.push_objects.result g.0.0 c.in-Some.object.tag
-    c.in-Some.object.size c.in-Some.object.value c.tag-tag.result c.level-level.result
+    c.push_remark.new.lines c.push_objects.new.lines c.listing.some c.push_objects.result g.0.0
+    c.in-Some.object.tag c.in-Some.object.size c.in-Some.object.value c.tag-tag.result
+    c.level-level.result
     c.in-Some.object.level c.listing.invariant g.0.1 g.2 c.tag-tag.ensures
     (c.level-level.ensures ∙ g.1) g.1
     (λ h. let e = c.has.ensures.1 h in absurd (cc (e, c.if-has.false)))
     (constructed c.in-Some.object.tag
     (λ no. let e = c.in-Some-children.ensures.primitive.1 no in absurd (cc)))
-    c.push_object.ensures c.push_remark.ensures c.in-Some-children.ensures.list.0 c.push_objects.ensures
+    c.push_object.ensures c.push_remark.ensures c.in-Some-children.ensures.list.0
+    c.push_objects.ensures
 
 pub listing-preserved : goal.listing-preserved
 listing-preserved t c =

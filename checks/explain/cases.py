@@ -143,7 +143,8 @@ class Case:
         if err != self.error:
             return f"{self.name}: on standard error {err!r}, and not {self.error!r}"
         lines = out.splitlines()
-        if self.part not in ("page", "parts", "json") and not {"--summary", "--diff"} & set(self.words):
+        is_text = self.part not in ("page", "parts", "json")
+        if is_text and not {"--summary", "--diff"} & set(self.words):
             lines, block = without_block(lines)
             for wanted, line in zip_longest(block_of(lines, self.time), block):
                 if wanted != line:
@@ -156,7 +157,6 @@ class Case:
                 return f"{self.name}: {line!r}, and not {wanted!r}"
         if len(said) != len(self.wanted):
             return f"{self.name}: {len(said)} lines, and not {len(self.wanted)}"
-        is_text = self.part not in ("page", "parts", "json")
         lines = map(without_words, out.splitlines() if is_text else [])
         wide = [it for it in lines if len(it) > 100]
         return f"{self.name}: more than 100 columns: {wide[0]!r}" if wide else ""

@@ -8,7 +8,10 @@ from pathlib import Path
 CRATE = Path(__file__).resolve().parents[2] / "crates/trace_explain"
 TABLES = ("tags", "aids", "bits")
 HELD = CRATE / "src/tables.rt"
-HEAD = "//! The tables of the folder `names/`. `checks/explain/name_tables.py --write` copies them.\n"
+HEAD = (
+    "//! The tables of the folder `names/`. "
+    "`checks/explain/name_tables.py --write` copies them.\n"
+)
 
 
 def literal(name):

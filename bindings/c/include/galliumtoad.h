@@ -560,14 +560,14 @@ typedef struct gt_atr {
  *                 with the longest data so far; the old copy stays until the new one is made
  * - by commands   an exchange and a terminal take room for the response and the data once more. A
  *                 terminal keeps both
- * - a card        10,299 with one application and one object of 3 bytes, and 26,962 together with a
- *                 gt_exchange of SELECT or GET DATA; 4,240,928 with all that a card can hold. At
+ * - a card        10,571 with one application and one object of 3 bytes, and 27,234 together with a
+ *                 gt_exchange of SELECT or GET DATA; 4,241,200 with all that a card can hold. At
  *                 T=1 a command adds at most 770, the bytes of the value that it stores, and twice
  *                 those of the longest command since gt_card_t1_begin, which counts as 261 at most
- * - gt_t1         368, and the bytes of its longest command since gt_t1_reset, and up to three times
+ * - gt_t1         368, the bytes of its longest command since gt_t1_reset, and up to three times
  *                 those of the response; while a block is sent, its bytes too, at most 258
- * - a session     26,689 with that small card, for a select, a put of 3 bytes and a get; 43,067 for
- *                 a put and a get of 8,192 bytes. If somebody listens, 26,945 and 116,792
+ * - a session     26,961 with that small card, for a select, a put of 3 bytes and a get; 43,339 for
+ *                 a put and a get of 8,192 bytes. If somebody listens, 27,217 and 117,064
  * - plans         at most 192 for each of the most plans that waited at once since none did; and
  *                 one for each letter, until the next plan is taken
  *

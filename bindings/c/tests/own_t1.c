@@ -60,7 +60,7 @@ static void sends(int pcb, const uint8_t *field, size_t n) {
         CHECK(block[0], 0);
         CHECK(block[1], pcb);
         CHECK(block[2], n);
-        if (failed == 0) CHECK_BYTES(block + 3, field, n);
+        if (failed == 0 && n > 0) CHECK_BYTES(block + 3, field, n);
         for (i = 0; i < block_n; i++) sum ^= block[i];
         CHECK(sum, 0);
     } while (failed == 0 && any(8) == 0);

@@ -80,9 +80,9 @@ impl<A: Application> CardT1<A> {
     }
 
     /// Reports that a character of the terminal's block had a wrong parity: as
-    /// [`missed`](CardT1::missed), but the R-block says so. While more time is asked for, the answer
-    /// to either is S(WTX request) again. The other bytes of the block still come: before this
-    /// call, drop all until none comes for CWT.
+    /// [`missed`](CardT1::missed), but the R-block says so. While more time is asked for, the
+    /// answer to either is S(WTX request) again. The other bytes of the block still come: before
+    /// this call, drop all until none comes for CWT.
     ///
     /// # Errors
     ///

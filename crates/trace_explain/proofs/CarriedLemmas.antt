@@ -151,7 +151,7 @@ pub answered_one : (o mid : Overheard) → mid ≡ o → o.is_answered ≡ true
 answered_one o mid same is =
     ap (λ (x : Overheard). exchanged x.is_loose x.command x.gathered.bytes) same ∙ rw is refl
 
--- A byte of a block reports what is answered with it.
+-- A byte of a block reports the command that gets its response with it.
 pub reports_some : (r : Role) (o : Overheard) → is_block r ≡ true
     → answered o ≡ reports_with r (Some o)
 reports_some (role.Block from) o block = refl

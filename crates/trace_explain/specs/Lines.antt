@@ -127,8 +127,8 @@ after_character at from b = record {
   reading = at.reading;
 }
 
--- The events of a character of blocks: the reports of the commands that get their response with it. The
--- listener at T=0 is reset before each.
+-- The events of a character of blocks: the reports of the commands that get their response with
+-- it. The listener at T=0 is reset before each.
 abbrev pub block_events : List Report → List Event
 block_events [] = []
 block_events (t ∷ reports) = Reset ∷ Carried t ∷ block_events reports

@@ -113,8 +113,8 @@ abbrev pub ended_by : Report → List Report
 ended_by t = if length t.header == 0 then [] else as_ended t ∷ []
 
 -- These events are whole dialogues, with a report of each; resets, with a report of what each cut
--- off; commands at T=1, with theirs; and a front of one more dialogue, where the tap is. The current
--- report is of that front.
+-- off; commands at T=1, with theirs; and a front of one more dialogue, where the tap is. The
+-- current report is of that front.
 pub record HasNoted (events : List Event) (reports : List Report) (l : Listener) : Type 0 where
   pub parts : List Part
   pub last : List Event

@@ -125,8 +125,8 @@ abbrev pub protocol_after : List ℕ → List ℕ → ℕ
 protocol_after answer (ppss ∷ pps0 ∷ response) = pps0 % 16
 protocol_after answer other = protocol_of answer
 
--- Bit 1 of the first TC for T=1, if one of these TDs is before it: blocks have CRC (11.4). The first
--- TD is at this place.
+-- Bit 1 of the first TC for T=1, if one of these TDs is before it: blocks have CRC (11.4). The
+-- first TD is at this place.
 abbrev pub crc_from : (tds : ℕ) → List ℕ → ℕ → Bool
 crc_from zero answer place = false
 crc_from (suc tds) answer place =

@@ -18,8 +18,8 @@ use Rattle.trace_explain.specs.Noted.{are_status}
 use Rattle.trace_explain.specs.Pairs.{Command, beside, command_in, data_in, moved_of, status_in, way_of}
 use Rattle.trace_explain.specs.Reports.{Report, uncounted}
 
--- The tap, the newest command or response, and the whole command that waited for its response before
--- this byte, or no bytes. Whether its response is whole with this byte, and its header is loose, as
+-- The tap, the newest command or response, and the whole command that waited for its response
+-- before this byte, or no bytes. Whether its response is whole with this byte, and its header is loose, as
 -- in a trace that begins among blocks. Who sends the next byte.
 pub record Overheard : Type 0 where
   pub ear : Ear

@@ -92,8 +92,8 @@ class Simulator(contextlib.ExitStack):
         self.sign = sign
 
     def carry_out(self, data: bytes) -> bytes:
-        """Carries out a whole TPDU or command, as the `level` says. A card answers bytes that are no
-        command with 6D00 or 6700. Bytes that are no TPDU raise `TransportError`."""
+        """Carries out a whole TPDU or command, as the `level` says. A card answers bytes that are
+        no command with 6D00 or 6700. Bytes that are no TPDU raise `TransportError`."""
         try:
             return self.card.tpdu(data) if self.level is Level.TPDU else self.card.apdu(data)
         except OutOfMemory:

@@ -25,8 +25,8 @@ struct Seen {
     next: Option<u64>,
 }
 
-/// The counts of blocks in JSON: all, those that came again, damaged ones, and those that are in part
-/// or follow a gap.
+/// The counts of blocks in JSON: all, those that came again, damaged ones, and those that are in
+/// part or follow a gap.
 static BLOCK_WORDS: [&str; 4] = ["all", "again", "damaged", "gaps"];
 
 /// The counts of TPDUs, commands, statuses and protocol errors.

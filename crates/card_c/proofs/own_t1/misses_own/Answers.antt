@@ -16,10 +16,12 @@ returns c =
     × Misses why mid.end answer joined.end = elim c.if-is_damaged.branch [
       | then-is_damaged w ↦ missed why reason.Edc mid joined answer w.damaged-answer.result
           w.damaged-answer.new.self w.at-is w.answer-is
-          (ap (λ v. if v then reason.Edc else reason.Other) w.if-is_damaged.true) w.damaged-answer.ensures
+          (ap (λ v. if v then reason.Edc else reason.Other) w.if-is_damaged.true)
+          w.damaged-answer.ensures
       | else-is_damaged w ↦ missed why reason.Other mid joined answer w.invalid-answer.result
           w.invalid-answer.new.self w.at-is w.answer-is
-          (ap (λ v. if v then reason.Edc else reason.Other) w.if-is_damaged.false) w.invalid-answer.ensures
+          (ap (λ v. if v then reason.Edc else reason.Other) w.if-is_damaged.false)
+          w.invalid-answer.ensures
     ] in (
       mid,
       c.drop_given.ensures,

@@ -28,8 +28,8 @@ returns-in-Ok c =
     let told : ℤ = to_z w32 (of_z w32 c.copied.result) in (
       mid,
       c.take_again.ensures,
-      subst (λ (o : Option Reply). SendsOwnOf o room n c.copied.new.to c.copied.new.len mid told mid)
-          (sym c.in-Some.is) (refl, inr (search rules, search rules)),
+      subst (λ (o : Option Reply).
+          SendsOwnOf o room n c.copied.new.to c.copied.new.len mid told mid) (sym c.in-Some.is) (refl, inr (search rules, search rules)),
     )
 
 pub returns-in-Err : goal.returns-in-Err

@@ -64,7 +64,17 @@ fn begin_data(alloc: Global, side: &mut CardSide, end: CardEnd<ObjectCard>, plan
 pub(crate) fn leave(alloc: Global, side: &mut CardSide)
     ensures { side.new ≡ at_t0 side.old }
 {
-    *side = back(mem::replace(side, CardSide::Building(CardBuilder::new(alloc))));
+    // A card at T=0 stays in its place: a move would leave a copy of its bytes on the stack.
+    match side {
+        CardSide::AtT1(_) | CardSide::OwnAtT1(_) => {
+            *side = back(mem::replace(
+                side,
+                CardSide::Building(CardBuilder::new(alloc)),
+            ));
+        }
+        CardSide::Building(_) | CardSide::Standing(..) => {}
+        CardSide::Joined(_) | CardSide::Own(_) => {}
+    }
 }
 
 fn back(side: CardSide) -> CardSide

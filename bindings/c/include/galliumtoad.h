@@ -1130,8 +1130,10 @@ GT_MUST_CHECK int32_t gt_terminal_select(gt_terminal *t, const uint8_t *aid, siz
     return galliumtoad_terminal_select(t, gt_bytes_(aid), n);
 }
 
-/* Starts the reading of a data object. The answer's data are its tag, length and value. Results as
- * above, except GT_ARGUMENT: GET DATA can't name the tag (see `gt_card_object`). */
+/* Starts the reading of a data object of the selected application, and drops the last answer. With
+ * 9000 the data should be its tag, length and value: `gt_is_object` tells, since some cards send
+ * the value alone. Results as above, except GT_ARGUMENT: GET DATA can't name the tag (see
+ * `gt_card_object`). */
 GT_MUST_CHECK int32_t gt_terminal_get(gt_terminal *t, uint32_t tag) {
     if (!t) return GT_NULL;
     return galliumtoad_terminal_get(t, tag);

@@ -50,7 +50,9 @@ impl<A: Application> Card<A> {
     ///
     /// # Errors
     ///
-    /// None today.
+    /// None today at a card of data objects. At one of your own those of
+    /// [`OwnCard`](crate::OwnCard): card and application are then reset, and the front of
+    /// `room` may have changed.
     #[inline]
     pub fn send_bytes(&mut self, room: &mut [u8]) -> Result<Sent, Error> {
         let mut count = 0;

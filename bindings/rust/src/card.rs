@@ -191,7 +191,8 @@ impl<A: Application> Card<A> {
     ///
     /// # Errors
     ///
-    /// None today.
+    /// None today at a card of data objects. At one of your own those of
+    /// [`OwnCard`](crate::OwnCard): card and application are then reset.
     #[inline]
     pub fn turn(&mut self) -> Result<Turn, Error> {
         let mut byte = 0;

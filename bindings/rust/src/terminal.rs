@@ -5,7 +5,8 @@ use crate::exchange::{DataSent, RESPONSE_LIMIT};
 use crate::raw::{self, Handle};
 use core::fmt;
 
-/// What a terminal does with a card of data objects. `Debug` leaves out what goes to the card.
+/// What a terminal does with a card. `Debug` shows an identifier and a tag, but of a value or a
+/// command only how many bytes it has.
 #[derive(Clone, Copy, PartialEq, Eq, Hash)]
 #[non_exhaustive]
 pub enum Operation<'a> {

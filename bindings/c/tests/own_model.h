@@ -135,8 +135,12 @@ static inline void model_tpdu(const sent *s, size_t cut) {
 
 static inline void model_command(const sent *s) {
     if (s->header[1] == 0xC0) {
-        if (waits.kind == FETCH) hand_out(s->le, 256);
-        else refuse(0x6985);
+        if (waits.kind == FETCH) {
+            fetched++;
+            hand_out(s->le, 256);
+        } else {
+            refuse(0x6985);
+        }
     } else if (command_is_wrong(s)) {
         refuse(0x6700);
     } else {

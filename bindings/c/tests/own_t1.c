@@ -282,7 +282,7 @@ int main(void) {
     int i;
     CHECK(gt_card_more_time(&card, 1), GT_EMPTY);
     for (i = 0; i < SESSIONS && failed == 0; i++) session();
-    CHECK(asked > SESSIONS && fetched > SESSIONS / 100, 1);
+    CHECK(asked > SESSIONS / 2 && fetched > SESSIONS / 100, 1);
     CHECK(dropped > SESSIONS / 100 && abandoned > SESSIONS / 100, 1);
     CHECK(extended > SESSIONS / 100 && again > SESSIONS / 100, 1);
     return check_result("own_t1");

@@ -42,21 +42,34 @@ pub fn main_status<D: Files, R: Read, W: Write, F: Write>(
         Ok(names) => names,
         Err(fault) => return print_fault(&fault, faults),
     };
-    let mut asked = match parsed(alloc, words, names.as_slice()) {
-        Ok(request) => request,
-        Err(error) => return answered(&error, output, faults),
-    };
-    asked.mask.names = match tables(alloc, asked.names, files) {
+    match parsed(alloc, words, names.as_slice()) {
+        Ok(asked) => carry_out(alloc, asked, files, input, output, faults),
+        Err(error) => answered(&error, output, faults),
+    }
+}
+
+/// Does what the command line asks for. Returns the exit status.
+fn carry_out<D: Files, R: Read, W: Write, F: Write>(
+    alloc: Global,
+    asked: Request<'_>,
+    files: &D,
+    input: &mut R,
+    output: &mut W,
+    faults: &mut F,
+) -> u8
+    ensures status { result ≤ 2 }
+{
+    let names = match tables(alloc, asked.names, files) {
         Ok(names) => names,
         Err(fault) => return print_fault(&fault, faults),
     };
     if asked.lists_names {
-        return list(&asked.mask.names, output, faults);
+        return list(&names, output, faults);
     }
     let Some(paths) = asked.compared else {
-        return explained(alloc, asked, files, input, output, faults);
+        return explained(alloc, asked, names, files, input, output, faults);
     };
-    match diff_files(alloc, asked, files, paths, output) {
+    match diff_files(alloc, asked, names, files, paths, output) {
         Ok(alike) => u8::from(!alike),
         Err(fault) => print_fault(&fault, faults),
     }
@@ -66,6 +79,7 @@ pub fn main_status<D: Files, R: Read, W: Write, F: Write>(
 fn explained<D: Files, R: Read, W: Write, F: Write>(
     alloc: Global,
     asked: Request<'_>,
+    names: Names,
     files: &D,
     input: &mut R,
     output: &mut W,
@@ -77,7 +91,8 @@ fn explained<D: Files, R: Read, W: Write, F: Write>(
         Ok(begun) => begun,
         Err(fault) => return refused(fault, faults),
     };
-    let (layout, mask, resumes) = (asked.layout, asked.mask, asked.resumes);
+    let (layout, resumes) = (asked.layout, asked.resumes);
+    let mask = asked.mask.with(names);
     let mut trace = head.as_slice().chain(input);
     let outcome = explain(alloc, layout, mask, resumes, reading, &mut trace, output);
     status(&outcome, faults)
@@ -184,6 +199,7 @@ fn list<W: Write, F: Write>(names: &Names, output: &mut W, faults: &mut F) -> u8
 fn diff_files<D: Files, W: Write>(
     alloc: Global,
     asked: Request<'_>,
+    names: Names,
     files: &D,
     paths: (&str, &str),
     output: &mut W,
@@ -196,8 +212,8 @@ fn diff_files<D: Files, W: Write>(
         reading(alloc, &options, files)?,
         reading(alloc, &options, files)?,
     );
-    let readers = (&mut a, &mut b);
-    diff(alloc, asked.mask, asked.resumes, readings, readers, output)
+    let (mask, readers) = (asked.mask.with(names), (&mut a, &mut b));
+    diff(alloc, mask, asked.resumes, readings, readers, output)
 }
 
 /// The status for an error of the parser. Help goes to `output`, and a refusal to `faults`.

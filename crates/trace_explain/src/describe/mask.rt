@@ -199,6 +199,15 @@ impl Mask {
         })
     }
 
+    /// The mask with these names.
+    pub fn with(self, names: Names) -> Mask {
+        Mask {
+            hides: self.hides,
+            tags: self.tags,
+            names,
+        }
+    }
+
     /// Whether it hides anything. If so it hides all bytes of unknown meaning, such as notes and
     /// unexpected bytes. Then no line after an unexpected byte is taken for a header.
     pub fn hides(&self) -> bool

@@ -67,10 +67,7 @@ pub(crate) fn leave(alloc: Global, side: &mut CardSide)
     // A card at T=0 stays in its place: a move would leave a copy of its bytes on the stack.
     match side {
         CardSide::AtT1(_) | CardSide::OwnAtT1(_) => {
-            *side = back(mem::replace(
-                side,
-                CardSide::Building(CardBuilder::new(alloc)),
-            ));
+            *side = back(mem::replace(side, CardSide::Building(CardBuilder::new(alloc))));
         }
         CardSide::Building(_) | CardSide::Standing(..) => {}
         CardSide::Joined(_) | CardSide::Own(_) => {}

@@ -351,7 +351,11 @@ impl Page {
     /// Adds links to the first of `all` TPDUs with this status, and to the next one, by their
     /// numbers. Text has no links.
     pub fn link_status(&mut self, word: u16, all: u64, first: u64, next: Option<u64>) {
-        let warning = if matches!(word >> 8, 0x62 | 0x63) { " a warning" } else { "" };
+        let warning = if matches!(word >> 8, 0x62 | 0x63) {
+            " a warning"
+        } else {
+            ""
+        };
         let times = if all == 1 { "time" } else { "times" };
         write!(self.text, "{word:04X}{warning}, {all} {times}:");
         self.add(Form::Links);

@@ -172,15 +172,18 @@ impl<A: Application> Card<A> {
         let resets = Resets(self);
         while let raw::HEADER | raw::COMMAND = code {
             resets.0.ask(code == raw::HEADER)?;
-            code = match told(call(resets.0 .0.at())) {
+            let next = told(call(resets.0 .0.at()));
+            if let Err(Error::Buffer) = next {
                 // at T=1, with too short a room: the block stays
-                Err(Error::Buffer) => raw::BUFFER,
-                code => code?,
-            };
+                resets.0.settle();
+                forget(resets);
+                return next;
+            }
+            code = next?;
         }
         resets.0.settle();
         forget(resets);
-        told(code)
+        Ok(code)
     }
 
     /// Asks the application about the header or the command that waits.

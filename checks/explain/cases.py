@@ -441,7 +441,8 @@ def link_cases():
         ]
         wanted = [f"{twice}(#{count + 1})</a></p>", *once, *more]
         told = "6A80: 2\n" + "\n".join(f"6A{0x80 + it:02X}: 1" for it in range(1, count))
-        block = page_block(count + 1, "", told, 0, *wanted)
+        block = [line for row in page_block(count + 1, "", told, 0, *wanted)
+                 for line in row.splitlines()]
         words = ["--html", "--summary"]
         yield Case(f"{count} statuses", lines_of(given), block, words, part="page")
 

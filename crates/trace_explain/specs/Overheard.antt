@@ -19,8 +19,8 @@ use Rattle.trace_explain.specs.Pairs.{Command, beside, command_in, data_in, move
 use Rattle.trace_explain.specs.Reports.{Report, uncounted}
 
 -- The tap, the newest command or response, and the whole command that waited for its response
--- before this byte, or no bytes. Whether its response is whole with this byte, and its header is loose, as
--- in a trace that begins among blocks. Who sends the next byte.
+-- before this byte, or no bytes. Whether its response is whole with this byte, and its header is
+-- loose, as in a trace that begins among blocks. Who sends the next byte.
 pub record Overheard : Type 0 where
   pub ear : Ear
   pub gathered : Gathered

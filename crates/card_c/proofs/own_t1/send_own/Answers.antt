@@ -29,7 +29,8 @@ returns-in-Ok c =
       mid,
       c.take_again.ensures,
       subst (λ (o : Option Reply).
-          SendsOwnOf o room n c.copied.new.to c.copied.new.len mid told mid) (sym c.in-Some.is) (refl, inr (search rules, search rules)),
+          SendsOwnOf o room n c.copied.new.to c.copied.new.len mid told mid)
+          (sym c.in-Some.is) (refl, inr (search rules, search rules)),
     )
 
 pub returns-in-Err : goal.returns-in-Err

@@ -129,13 +129,13 @@ def test_the_package_stays_small():
     """Its files, without tests, examples, the batch, the simulation and the look of pages."""
     files = [*TOP.glob("*.py"), *TOP.glob("src/galliumtoad/*.py")]
     files = [it for it in files if it.name not in (*SIMULATION, "pages.py")]
-    assert 300 < sum(len(code(it)) for it in files) <= 605
+    assert 300 < sum(len(code(it)) for it in files) <= 615
 
 
 def test_the_simulation_stays_small():
     """Its modules, and each of their functions."""
     files = [TOP / "src" / "galliumtoad" / it for it in SIMULATION]
-    assert 800 < sum(len(it.read_text().splitlines()) for it in files) <= 1160
+    assert 800 < sum(len(it.read_text().splitlines()) for it in files) <= 1162
     short_functions(files)
 
 

@@ -172,18 +172,15 @@ impl<A: Application> Card<A> {
         let resets = Resets(self);
         while let raw::HEADER | raw::COMMAND = code {
             resets.0.ask(code == raw::HEADER)?;
-            let next = told(call(resets.0 .0.at()));
-            if let Err(Error::Buffer) = next {
+            code = match told(call(resets.0 .0.at())) {
                 // at T=1, with too short a room: the block stays
-                resets.0.settle();
-                forget(resets);
-                return next;
-            }
-            code = next?;
+                Err(Error::Buffer) => raw::BUFFER,
+                code => code?,
+            };
         }
         resets.0.settle();
         forget(resets);
-        Ok(code)
+        told(code)
     }
 
     /// Asks the application about the header or the command that waits.

@@ -14,6 +14,7 @@ pub mod HeldT1Kind
 pub mod HeldTerminalKind
 pub mod HeldWalks
 pub mod Listing
+pub mod NullLemmas
 pub mod OwnLemmas
 pub mod OwnT1Lemmas
 pub mod OwnWholeLemmas

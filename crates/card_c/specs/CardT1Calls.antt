@@ -1,5 +1,5 @@
 -- What the calls on a card at T=1 do to it. A refusal changes nothing.
-use Rattle.std.specs.Prelude.{◌≡◌, ◌⊎◌, ℕ, ℤ, ◌<◌, true, false, List, [], ◌++◌, take, length, Option, Some, None}
+use Rattle.std.specs.Prelude.{◌≡◌, ◌⊎◌, ℕ, ℤ, ◌<◌, Bool, true, false, List, [], ◌++◌, take, length, Option, Some, None}
 use Rattle.t0_core.specs.CardSide.{EndOf}
 use Rattle.t0_core.specs.CardTpdu.{rests}
 use Rattle.t0_core.specs.Plan.{Cursor}
@@ -39,13 +39,20 @@ begun end plans = record {
   plans = plans;
 }
 
+abbrev pub at_t1 : CardSide → CardSide
+at_t1 (Standing end plans) = AtT1 (begun end plans)
+at_t1 (Own own) = OwnAtT1 (own_begun own)
+at_t1 side = side
+
+-- a card at T=0, with nothing in progress
+abbrev pub may_begin : CardSide → Bool
+may_begin (Standing end plans) = rests end.stage
+may_begin (Own own) = is_idle own
+may_begin side = false
+
 abbrev pub BeginsT1 : CardSide → ℤ → CardSide → Type 0
-BeginsT1 (Standing end plans) code new =
-    ((rests end.stage ≡ false) × (code ≡ gt_state) × (new ≡ Standing end plans))
-    ⊎ ((rests end.stage ≡ true) × (code ≡ gt_ok) × (new ≡ AtT1 (begun end plans)))
-BeginsT1 (Own own) code new = ((is_idle own ≡ false) × (code ≡ gt_state) × (new ≡ Own own))
-    ⊎ ((is_idle own ≡ true) × (code ≡ gt_ok) × (new ≡ OwnAtT1 (own_begun own)))
-BeginsT1 side code new = (code ≡ gt_state) × (new ≡ side)
+BeginsT1 side code new = ((may_begin side ≡ false) × (code ≡ gt_state) × (new ≡ side))
+    ⊎ ((may_begin side ≡ true) × (code ≡ gt_ok) × (new ≡ at_t1 side))
 
 -- a card at T=1 speaks T=0 again
 abbrev pub at_t0 : CardSide → CardSide

@@ -1,5 +1,5 @@
 -- What the calls on a card of an own application do to it. A refusal changes nothing.
-use Rattle.std.specs.Prelude.{◌≡◌, ◌≢◌, ◌⊎◌, ⊤, ◌<◌, ◌≤◌, ◌/◌, ◌%◌, ℕ, ℤ, pos, List, [], ◌∷◌, ◌++◌, length, drop, take, replicate, Bool, true, false, Option, Some, None, MatchOption, unwrap_or, if◌then◌else◌}
+use Rattle.std.specs.Prelude.{◌≡◌, ◌≢◌, ◌⊎◌, ⊤, ◌<◌, ◌≤◌, ◌/◌, ◌%◌, ℕ, ℤ, pos, List, [], ◌∷◌, ◌++◌, length, drop, take, replicate, Bool, true, false, Option, Some, None, MatchOption, unwrap_or, slice_set, if◌then◌else◌}
 use Rattle.apdu_core.specs.declared.header.Header.{Header}
 use Rattle.apdu_core.specs.CommandBytes.{Command, IsCommand, command_bytes}
 use Rattle.apdu_core.specs.StatusWord.{IsStatusWord, StatusWord}
@@ -9,9 +9,12 @@ use Rattle.t0_core.specs.declared.line_fault.LineFault.TheVariants.{NotListening
 use Rattle.t0_core.specs.declared.tpdu_card.TpduCard.{Ghosts}
 use Rattle.t0_core.specs.Buffers.{HandsOut, Steps}
 use Rattle.t0_core.specs.CardHistory.{Leads, LeadsUnder, IsTakenLast}
-use Rattle.t0_core.specs.CardSide.{EndOf, Taking_header, listens, takes_plan}
+use Rattle.t0_core.specs.CardSide.{EndOf, StandsAt, Taking_header, listens, takes_plan}
 use Rattle.t0_core.specs.CardTaking.{IsTaken}
+use Rattle.t0_core.specs.Dialogue.{Dialogue}
+use Rattle.t0_core.specs.Front.{Front, GoesThrough}
 use Rattle.t0_core.specs.History.{Event, Passed, Reset}
+use Rattle.t0_core.specs.Meaning.{tpdu_of}
 use Rattle.t0_core.specs.Plan.{Course, Cursor, advanced, plan_kept}
 use Rattle.t0_core.specs.TpduBytes.{Asked, asked_in}
 use Rattle.t1_core.specs.Patience.{PatientOf}
@@ -116,9 +119,51 @@ OwnTurnsOne before byte own code new = (w : Wanted) × IsWanted own.end w
     × OwnHandsOut own.end own.plans byte new.end new.plans))
     (λ waits. (code ≡ waits) × (new ≡ own) × (byte ≡ before))
 
+-- This character changes no TPDU. Whatever dialogue the end comes to from its front, with any
+-- number of these characters first the line comes to a dialogue of the same TPDU.
+abbrev pub StaysInStep : EndOf OwnCard → ℕ → Type 0
+StaysInStep end byte = (cut n : ℕ) (front : Front) (cs : List Character) (d : Dialogue)
+    → StandsAt own_card.Does (own_card.standing end.card) (own_card.prepared end.card) end.stage
+    cut front
+    → GoesThrough front cs d
+    → (e : Dialogue) × GoesThrough front (replicate n (Card, byte) ++ cs) e
+    × (tpdu_of e ≡ tpdu_of d)
+
+abbrev pub is_response : Wanted → Bool
+is_response (wanted.Response c) = true
+is_response wanted.Nothing = false
+is_response (wanted.Direction h) = false
+
+-- The pause ends. If a command waits, a NULL goes out, and the end is as it was.
+abbrev pub GivesNull : OwnSide → Bool → OwnSide → Type 0
+GivesNull own gives new = (new ≡ record own { whole = whole.Nothing })
+    × ((w : Wanted) × IsWanted own.end w × (gives ≡ is_response w))
+    × (gives ≡ true → StaysInStep own.end 0x60)
+
+abbrev pub SendsNull : ℕ → ℕ → OwnSide → ℤ → OwnSide → Type 0
+SendsNull before byte own code new =
+    (GivesNull own true new × (byte ≡ 0x60) × (code ≡ gt_sends))
+    ⊎ (GivesNull own false new × (byte ≡ before) × (code ≡ gt_state))
+
+-- The NULL is written alone, if there is room for it.
+abbrev pub SendsNullIn : List ℕ → List ℕ → ℕ → OwnSide → ℤ → OwnSide → Type 0
+SendsNullIn room room' n own code new =
+    ((room ≡ []) × (room' ≡ room) × (n ≡ 0) × (new ≡ own) × (code ≡ gt_sends))
+    ⊎ ((room ≢ []) × GivesNull own true new × (room' ≡ slice_set room 0 0x60) × (n ≡ 1)
+    × (code ≡ gt_sends))
+    ⊎ ((room ≢ []) × GivesNull own false new × (room' ≡ room) × (n ≡ 0) × (code ≡ gt_state))
+
+-- A call that sends does this if nothing waits as a whole, and before it a NULL that was asked for.
+abbrev pub Pausing : (OwnSide → ℤ → OwnSide → Type 0) → (OwnSide → ℤ → OwnSide → Type 0) → Type 0
+    → OwnSide → ℤ → OwnSide → Type 0
+Pausing Sends Calls Untold own code new = ((own.whole ≡ whole.Nothing) × Calls own code new)
+    ⊎ ((own.whole ≡ whole.Null) × Sends own code new)
+    ⊎ ((own.whole ≢ whole.Nothing) × (own.whole ≢ whole.Null) × (code ≡ gt_state) × (new ≡ own)
+    × Untold)
+
 abbrev pub OwnTurns : ℕ → ℕ → CardSide → ℤ → CardSide → Type 0
 OwnTurns before byte (Own own) code new = (next : OwnSide) × (new ≡ Own next)
-    × Freely (OwnTurnsOne before byte) (byte ≡ before) own code next
+    × Pausing (SendsNull before byte) (OwnTurnsOne before byte) (byte ≡ before) own code next
 OwnTurns before byte side code new = (code ≡ gt_state) × (new ≡ side) × (byte ≡ before)
 
 abbrev pub OwnDriven : Type 0
@@ -147,7 +192,8 @@ OwnSendsOne room room' n own code new =
 
 abbrev pub OwnSends : List ℕ → ℕ → List ℕ → ℕ → CardSide → ℤ → CardSide → Type 0
 OwnSends room before room' n (Own own) code new = (next : OwnSide) × (new ≡ Own next)
-    × Freely (OwnSendsOne room room' n) ((room' ≡ room) × (n ≡ before)) own code next
+    × Pausing (SendsNullIn room room' n) (OwnSendsOne room room' n)
+    ((room' ≡ room) × (n ≡ before)) own code next
 OwnSends room before room' n side code new =
     (code ≡ gt_state) × (new ≡ side) × (room' ≡ room) × (n ≡ before)
 
@@ -215,6 +261,7 @@ IsWantedFor card bytes w =
 
 abbrev pub IsWantedIn : Whole → List ℕ → EndOf OwnCard → Wanted → Type 0
 IsWantedIn whole.Nothing bytes end w = IsWanted end w
+IsWantedIn whole.Null bytes end w = w ≡ wanted.Nothing
 IsWantedIn whole.Tpdu bytes end w = w ≡ wanted_at end.card (asked_in bytes)
 IsWantedIn whole.Command bytes end w = IsWantedFor end.card bytes w
 

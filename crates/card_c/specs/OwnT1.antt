@@ -1,5 +1,5 @@
 -- What the calls on a card of an own application at T=1 do to it. A refusal changes nothing.
-use Rattle.std.specs.Prelude.{◌≡◌, ◌⊎◌, ℕ, ℤ, ◌<◌, zero, suc, ◌&&◌, Bool, true, false, List, [], ◌++◌, take, length, Option, Some, None, MatchOption}
+use Rattle.std.specs.Prelude.{◌≡◌, ◌⊎◌, ⊤, ℕ, ℤ, ◌<◌, zero, suc, ◌&&◌, Bool, true, false, List, [], ◌++◌, take, length, Option, Some, None, MatchOption}
 use Rattle.t0_core.specs.CardSide.{EndOf}
 use Rattle.t0_core.specs.CardTpdu.{rests}
 use Rattle.t0_core.specs.Plan.{Cursor}
@@ -17,16 +17,16 @@ use Rattle.command_card.specs.AtT1.{DoesBytes}
 use Rattle.command_card.specs.Given.{GivenState}
 use Rattle.command_card.specs.State.{CardState}
 use Rattle.command_card.specs.View.{standing_in}
-use Rattle.command_card.specs.Wanted.{RespondsAs, taken_back}
+use Rattle.command_card.specs.Wanted.{IsWanted, RespondsAs, taken_back}
 use Rattle.card_c.specs.declared.card_side.CardSide.{CardSide}
-use Rattle.card_c.specs.declared.card_side.CardSide.TheVariants.{OwnAtT1}
+use Rattle.card_c.specs.declared.card_side.CardSide.TheVariants.{Own, OwnAtT1}
 use Rattle.card_c.specs.declared.own_side.OwnSide.{OwnSide}
 use Rattle.card_c.specs.declared.own_side.OwnT1Side.{OwnT1Side}
 use Rattle.card_c.specs.declared.own_side.Whole.{Whole}
 use Rattle.card_c.specs.declared.own_side.Whole.TheVariants as whole
 use Rattle.card_c.specs.Codes.{gt_ok, gt_sends, gt_done, gt_state, gt_memory, gt_argument}
 use Rattle.card_c.specs.Copying.{IsCopied}
-use Rattle.card_c.specs.OwnCalls.{IsEndWith, IsWantedAtT1, OwnCard, lent, own_end, wait_code}
+use Rattle.card_c.specs.OwnCalls.{Freely, IsEndWith, IsWantedAtT1, OwnCard, lent, own_end, wait_code}
 
 -- the card above the end: each command gets the response that was given for it
 abbrev pub own_applet : Ghosts GivenApplet
@@ -40,6 +40,7 @@ own_applet = record {
 -- nothing waits as a whole
 abbrev pub is_nothing : Whole → Bool
 is_nothing whole.Nothing = true
+is_nothing whole.Null = false
 is_nothing whole.Tpdu = false
 is_nothing whole.Command = false
 
@@ -130,6 +131,18 @@ MissesOwn why old code new = (mid : OwnT1Side) × DropsGiven old mid × (reply :
     × (new ≡ record mid { end = new.end; block = []; reply = Some reply })
     × patience.Misses why mid.end reply new.end
 
+-- The card at T=0 sends a NULL next, if a command waits by characters.
+abbrev pub PausesFor : Wanted → ℕ → OwnSide → ℤ → OwnSide → Type 0
+PausesFor (wanted.Response c) zero old code new = (code ≡ gt_argument) × (new ≡ old)
+PausesFor (wanted.Response c) (suc n) old code new =
+    (code ≡ gt_ok) × (new ≡ record old { whole = whole.Null })
+PausesFor wanted.Nothing n old code new = (code ≡ gt_state) × (new ≡ old)
+PausesFor (wanted.Direction h) n old code new = (code ≡ gt_state) × (new ≡ old)
+
+abbrev pub PausesOne : ℕ → OwnSide → ℤ → OwnSide → Type 0
+PausesOne multiple old code new =
+    (w : Wanted) × IsWanted old.end w × PausesFor w multiple old code new
+
 -- The card asks for more time, if the sending call has returned for a command, which has no
 -- response yet.
 abbrev pub AsksTimeFor : Wanted → ℕ → OwnT1Side → ℤ → OwnT1Side → Type 0
@@ -149,4 +162,6 @@ AsksTimeOne multiple old code new =
 abbrev pub AsksTime : ℕ → CardSide → ℤ → CardSide → Type 0
 AsksTime multiple (OwnAtT1 at) code new =
     (next : OwnT1Side) × (new ≡ OwnAtT1 next) × AsksTimeOne multiple at code next
+AsksTime multiple (Own own) code new =
+    (next : OwnSide) × (new ≡ Own next) × Freely (PausesOne multiple) ⊤ own code next
 AsksTime multiple side code new = (code ≡ gt_state) × (new ≡ side)

@@ -1,9 +1,8 @@
 //! The exports of a card at T=1.
-ghost use Rattle.std.specs.Prelude.{◌≡◌, ⊤, if◌then◌else◌};
+ghost use Rattle.std.specs.Prelude.{◌≡◌, ⊤, true, if◌then◌else◌};
 ghost use Rattle.t1_core.specs.declared.pcb.BlockReason.TheVariants as reason;
 ghost use Rattle.card_c.specs.Handles.{held_by, OnHandle, OnHandleOr};
-ghost use Rattle.card_c.specs.declared.card_side.CardSide.TheVariants.{Standing};
-ghost use Rattle.card_c.specs.CardT1Calls.{BeginsT1, HearsBytes, Misses, OnLine, SendsReply, at_t0};
+ghost use Rattle.card_c.specs.CardT1Calls.{BeginsT1, HearsBytes, Misses, OnLine, SendsReply, at_t0, at_t1, may_begin};
 ghost use Rattle.card_c.specs.OwnT1.{HearsOwn, MissesOwn, SendsOwn};
 
 use crate::card_side::{CardSide, CardT1Side};
@@ -11,11 +10,10 @@ use crate::code;
 use crate::copied::copied;
 use crate::handle::{Handle, on, with};
 use crate::held_card::CardHandle;
-use crate::own_t1::{back_at_t0, begin_own, misses_own, receive_own, send_own};
-use object_card::{CardBuilder, ObjectCard};
+use crate::own_t1::{back_at_t0, is_idle, misses_own, own_begun, receive_own, send_own};
+use object_card::CardBuilder;
 use std::alloc::Global;
 use std::mem;
-use t0_core::{CardEnd, PlanQueue};
 use t1_core::spelling::write;
 use t1_core::{BlockCard, Receiver};
 use t1_terminal::DataApplet;
@@ -31,32 +29,44 @@ pub extern "C" fn galliumtoad_card_t1_begin(alloc: Global, card: &mut CardHandle
 fn begin(alloc: Global, side: &mut CardSide) -> i32
     ensures { BeginsT1 side.old result side.new }
 {
+    // A card that is refused stays in its place: a move leaves a copy of its bytes on the stack.
+    if !may_begin(side) {
+        return code::STATE;
+    }
     // An empty builder takes no memory. It fills the place until the function writes it.
-    let before = mem::replace(side, CardSide::Building(CardBuilder::new(alloc)));
-    match before {
-        CardSide::Standing(end, plans) => begin_data(alloc, side, end, plans),
-        CardSide::Own(own) => begin_own(alloc, side, own),
-        other => {
-            *side = other;
-            code::STATE
-        }
+    *side = begun(
+        alloc,
+        mem::replace(side, CardSide::Building(CardBuilder::new(alloc))),
+    );
+    code::OK
+}
+
+/// Whether the card speaks T=0, and nothing is in progress.
+fn may_begin(side: &CardSide) -> bool
+    ensures { result ≡ may_begin side.now }
+{
+    match side {
+        CardSide::Standing(end, _) => end.is_at_rest(),
+        CardSide::Own(own) => is_idle(own),
+        CardSide::Building(_) | CardSide::Joined(_) => false,
+        CardSide::AtT1(_) | CardSide::OwnAtT1(_) => false,
     }
 }
 
-fn begin_data(alloc: Global, side: &mut CardSide, end: CardEnd<ObjectCard>, plans: PlanQueue) -> i32
-    ensures { BeginsT1 (Standing end plans) result side.new }
+fn begun(alloc: Global, side: CardSide) -> CardSide
+    requires { may_begin side ≡ true }
+    ensures { result ≡ at_t1 side }
 {
-    if !end.is_at_rest() {
-        *side = CardSide::Standing(end, plans);
-        return code::STATE;
+    match side {
+        CardSide::Standing(end, plans) => CardSide::AtT1(CardT1Side {
+            end: BlockCard::new(alloc, DataApplet::new(alloc, end)),
+            block: Receiver::new(),
+            reply: None,
+            plans,
+        }),
+        CardSide::Own(own) => CardSide::OwnAtT1(own_begun(alloc, own)),
+        other => other,
     }
-    *side = CardSide::AtT1(CardT1Side {
-        end: BlockCard::new(alloc, DataApplet::new(alloc, end)),
-        block: Receiver::new(),
-        reply: None,
-        plans,
-    });
-    code::OK
 }
 
 /// Lets a card at T=1 speak T=0 again: the block and the answer are dropped, the rest stays. Any

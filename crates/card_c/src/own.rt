@@ -1,7 +1,7 @@
 //! The exports of a card of an own application, and what the calls by characters do to it.
 ghost use Rattle.std.specs.Prelude.{◌≡◌, ⊤, true, MatchOption};
 ghost use Rattle.t0_core.specs.CardSide.{listens};
-ghost use Rattle.card_c.specs.OwnCalls.{Freely, OwnSendsOne, OwnTakesOne, OwnTakes, OwnTurnsOne, OwnTurns, OwnHandsOut, OwnHandsOutAll, OwnSends, OwnReceives, OwnReceivesAll, OwnResets, OwnResetsOne};
+ghost use Rattle.card_c.specs.OwnCalls.{Freely, OwnSendsOne, OwnTakesOne, OwnTakes, OwnTurnsOne, OwnTurns, OwnHandsOut, OwnHandsOutAll, OwnSends, OwnSendsOne, GivesNull, Pausing, SendsNull, SendsNullIn, is_response, OwnReceives, OwnReceivesAll, OwnResets, OwnResetsOne};
 
 use crate::card_buffers::hand_run;
 use crate::card_side::CardSide;
@@ -9,6 +9,9 @@ use crate::code;
 use crate::own_side::{OwnSide, Whole};
 use command_card::{CommandCard, Given, Wanted, wanted_next};
 use t0_core::{CardEnd, LineFault, PlanQueue, Turn};
+
+/// The procedure byte that asks the terminal to wait (ISO/IEC 7816-3, 10.3.3).
+const NULL: u8 = 0x60;
 
 /// Takes a character of the terminal, if the card is one of an own application.
 #[inline(never)]
@@ -51,13 +54,40 @@ pub(crate) fn turn_own(side: &mut CardSide, byte: &mut u8) -> i32
 }
 
 fn turn_one(own: &mut OwnSide, byte: &mut u8) -> i32
-    ensures { Freely (OwnTurnsOne byte.old byte.new) (byte.new ≡ byte.old)
-        own.old result own.new }
+    ensures { Pausing (SendsNull byte.old byte.new) (OwnTurnsOne byte.old byte.new)
+        (byte.new ≡ byte.old) own.old result own.new }
 {
-    if !matches!(own.whole, Whole::Nothing) {
-        return code::STATE;
+    match own.whole {
+        Whole::Nothing => turn_free(own, byte),
+        Whole::Null => turn_null(own, byte),
+        Whole::Tpdu | Whole::Command => code::STATE,
     }
-    turn_free(own, byte)
+}
+
+fn turn_null(own: &mut OwnSide, byte: &mut u8) -> i32
+    ensures { SendsNull byte.old byte.new own.old result own.new }
+{
+    if gives_null(own) {
+        *byte = NULL;
+        code::SENDS
+    } else {
+        code::STATE
+    }
+}
+
+/// Ends the pause. Returns whether a NULL goes out: the command still waits, as nothing but a reset
+/// changes the end in a pause.
+fn gives_null(own: &mut OwnSide) -> bool
+    ensures { GivesNull own.old result own.new }
+{
+    own.whole = Whole::Nothing;
+    is_response(wanted_next(&own.end))
+}
+
+fn is_response(wanted: Wanted<'_>) -> bool
+    ensures { result ≡ is_response wanted.entry }
+{
+    matches!(wanted, Wanted::Response(_))
 }
 
 fn turn_free(own: &mut OwnSide, byte: &mut u8) -> i32
@@ -116,13 +146,31 @@ pub(crate) fn send_own(side: &mut CardSide, bytes: &mut [u8], count: &mut usize)
 }
 
 fn send_one(own: &mut OwnSide, bytes: &mut [u8], count: &mut usize) -> i32
-    ensures { Freely (OwnSendsOne bytes.old bytes.new count.new)
+    ensures { Pausing (SendsNullIn bytes.old bytes.new count.new)
+        (OwnSendsOne bytes.old bytes.new count.new)
         ((bytes.new ≡ bytes.old) × (count.new ≡ count.old)) own.old result own.new }
 {
-    if !matches!(own.whole, Whole::Nothing) {
+    match own.whole {
+        Whole::Nothing => send_all(&mut own.end, &mut own.plans, bytes, count),
+        Whole::Null => send_null(own, bytes, count),
+        Whole::Tpdu | Whole::Command => code::STATE,
+    }
+}
+
+/// Writes a NULL, alone, if there is room for it.
+fn send_null(own: &mut OwnSide, bytes: &mut [u8], count: &mut usize) -> i32
+    ensures { SendsNullIn bytes.old bytes.new count.new own.old result own.new }
+{
+    *count = 0;
+    if bytes.is_empty() {
+        return code::SENDS;
+    }
+    if !gives_null(own) {
         return code::STATE;
     }
-    send_all(&mut own.end, &mut own.plans, bytes, count)
+    bytes[0] = NULL;
+    *count = 1;
+    code::SENDS
 }
 
 /// Writes characters until the array is full, something waits, or the card listens.

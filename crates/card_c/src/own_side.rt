@@ -13,6 +13,8 @@ use t1_core::{PatientCard, Receiver, Reply};
 pub enum Whole {
     /// Nothing: the card goes by characters.
     Nothing,
+    /// Nothing, and by characters the card sends a NULL next.
+    Null,
     /// A TPDU.
     Tpdu,
     /// A command.

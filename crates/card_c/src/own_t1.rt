@@ -1,12 +1,10 @@
 //! A card of an own application at T=1.
-ghost use Rattle.std.specs.Prelude.{◌≡◌, [], OnOk, OnErr, if◌then◌else◌};
+ghost use Rattle.std.specs.Prelude.{◌≡◌, ⊤, [], OnOk, OnErr, if◌then◌else◌};
 ghost use Rattle.t1_core.specs.declared.pcb.BlockReason.TheVariants as reason;
 ghost use Rattle.t1_core.specs.Patience.{command_in};
-ghost use Rattle.card_c.specs.CardT1Calls.{BeginsT1};
 ghost use Rattle.card_c.specs.Handles.{held_by, OnHandle};
-ghost use Rattle.card_c.specs.declared.card_side.CardSide.TheVariants.{Own};
-ghost use Rattle.card_c.specs.OwnCalls.{IsWantedAtT1};
-ghost use Rattle.card_c.specs.OwnT1.{AsksTime, AsksTimeOne, DropsGiven, HasCommand, HearsOwn, HearsOwnBlock, MissesOwn, SendsOwn, SendsWaiting, TakesAgain, is_idle, own_at_t0};
+ghost use Rattle.card_c.specs.OwnCalls.{Freely, IsWantedAtT1};
+ghost use Rattle.card_c.specs.OwnT1.{AsksTime, AsksTimeOne, DropsGiven, HasCommand, HearsOwn, HearsOwnBlock, MissesOwn, PausesOne, SendsOwn, SendsWaiting, TakesAgain, is_idle, own_at_t0, own_begun};
 
 use crate::card_side::CardSide;
 use crate::code;
@@ -15,37 +13,32 @@ use crate::handle::{Handle, with};
 use crate::held_card::CardHandle;
 use crate::own_side::{OwnSide, OwnT1Side, Whole};
 use crate::own_whole::wanted_in;
-use command_card::{GivenApplet, Wanted, take_back};
+use command_card::{GivenApplet, Wanted, take_back, wanted_next};
 use std::alloc::{AllocError, Global};
 use t1_core::spelling::write;
 use t1_core::{PatientCard, Receiver};
 
-/// Lets the card speak T=1, if nothing is in progress.
-pub(crate) fn begin_own(alloc: Global, side: &mut CardSide, own: OwnSide) -> i32
-    ensures { BeginsT1 (Own own) result side.new }
+/// The card as it begins to speak T=1.
+pub(crate) fn own_begun(alloc: Global, own: OwnSide) -> OwnT1Side
+    ensures { result ≡ own_begun own }
 {
-    if !is_idle(&own) {
-        *side = CardSide::Own(own);
-        return code::STATE;
-    }
     let OwnSide {
         end,
         plans,
         asked,
         ..
     } = own;
-    *side = CardSide::OwnAtT1(OwnT1Side {
+    OwnT1Side {
         end: PatientCard::new(alloc, GivenApplet { end }),
         block: Receiver::new(),
         reply: None,
         asked,
         plans,
-    });
-    code::OK
+    }
 }
 
 /// Whether nothing is in progress, and nothing waits as a whole.
-fn is_idle(own: &OwnSide) -> bool
+pub(crate) fn is_idle(own: &OwnSide) -> bool
     ensures { result ≡ is_idle own.now }
 {
     own.end.is_at_rest() && matches!(own.whole, Whole::Nothing)
@@ -192,7 +185,7 @@ pub(crate) fn misses_own(at: &mut OwnT1Side, is_damaged: bool) -> i32
     code::SENDS
 }
 
-/// Asks the terminal for more time, if a command waits at T=1.
+/// Asks the terminal for more time, if a command waits by characters or at T=1.
 #[unsafe(no_mangle)]
 pub extern "C" fn galliumtoad_card_more_time(
     alloc: Global,
@@ -207,10 +200,35 @@ pub extern "C" fn galliumtoad_card_more_time(
 fn more_time(side: &mut CardSide, multiple: u8) -> i32
     ensures { AsksTime multiple side.old result side.new }
 {
-    let CardSide::OwnAtT1(at) = side else {
+    match side {
+        CardSide::Own(own) => pause(own, multiple),
+        CardSide::OwnAtT1(at) => ask_time(at, multiple),
+        CardSide::Building(_) | CardSide::Standing(..) => code::STATE,
+        CardSide::Joined(_) | CardSide::AtT1(_) => code::STATE,
+    }
+}
+
+/// Lets the card at T=0 send a NULL next.
+fn pause(own: &mut OwnSide, multiple: u8) -> i32
+    ensures { Freely (PausesOne multiple) ⊤ own.old result own.new }
+{
+    if !matches!(own.whole, Whole::Nothing) {
+        return code::STATE;
+    }
+    pause_free(own, multiple)
+}
+
+fn pause_free(own: &mut OwnSide, multiple: u8) -> i32
+    ensures { PausesOne multiple own.old result own.new }
+{
+    let Wanted::Response(_) = wanted_next(&own.end) else {
         return code::STATE;
     };
-    ask_time(at, multiple)
+    if multiple == 0 {
+        return code::ARGUMENT;
+    }
+    own.whole = Whole::Null;
+    code::OK
 }
 
 fn ask_time(at: &mut OwnT1Side, multiple: u8) -> i32

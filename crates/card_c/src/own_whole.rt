@@ -38,6 +38,7 @@ pub(crate) fn wanted_in<'a>(
 {
     match whole {
         Whole::Nothing => wanted_next(end),
+        Whole::Null => Wanted::Nothing,
         Whole::Tpdu => match WholeTpdu::read(asked) {
             Some(tpdu) => wanted_by_tpdu(end, &tpdu),
             None => Wanted::Nothing,
@@ -81,7 +82,7 @@ fn tpdu_one(
             begin(own, Whole::Tpdu, tpdu, went)
         }
         Whole::Tpdu => tpdu_again(alloc, own, tpdu, answer, len),
-        Whole::Command => code::STATE,
+        Whole::Command | Whole::Null => code::STATE,
     }
 }
 
@@ -163,7 +164,7 @@ fn command_one(own: &mut OwnSide, apdu: &[u8], response: &mut [u8], len: &mut us
             begin(own, Whole::Command, apdu, went)
         }
         Whole::Command => command_again(own, apdu, response, len),
-        Whole::Tpdu => code::STATE,
+        Whole::Tpdu | Whole::Null => code::STATE,
     }
 }
 

@@ -266,6 +266,7 @@ line_stops_in : {front : Out} {reading : Reading} {all : List (List ℕ)} {line 
     → HasReceived front reading all line left old → lines_from line left ≡ given ∷ others
     → Stops f given old new → StopsIn (HasLeft front new) reading all f
 line_stops_in fault.NoCharacters given others new of come ends stops = absurd of
+line_stops_in (fault.NoForm m note) given others new of come ends stops = absurd of
 line_stops_in f given others new of come ends stops =
     stops_at f (line_of f) given others new come ends stops
 
@@ -384,6 +385,8 @@ pub ended_stops : {P : List Report → Report → Type 0} (Q : List Report → R
     → IsExplained P reading all at → StopsIn Q reading all f
 ended_stops Q {at = at} fault.NoCharacters ended explained =
     (explained.events, at, explained.says, ended)
+ended_stops Q {at = at} (fault.NoForm line note) ended explained =
+    (explained.events, at, explained.says, ended)
 ended_stops Q (fault.Resumed m c) ended explained = tt
 ended_stops Q (fault.BadPairs n m why) ended explained = tt
 ended_stops Q (fault.Skipped line place) ended explained = tt
@@ -418,4 +421,5 @@ pub stops_as : (P Q : List Report → Report → Type 0) (reading : Reading) (al
     (f : ExplainFault) → ((reports : List Report) (t : Report) → P reports t → Q reports t)
     → StopsIn P reading all f → StopsIn Q reading all f
 stops_as P Q reading all fault.NoCharacters so h = h
+stops_as P Q reading all (fault.NoForm line note) so h = h
 stops_as P Q reading all f so h = stops_in_line_as P Q reading all f (line_of f) so h

@@ -25,7 +25,7 @@ use Rattle.trace_explain.specs.Sheets.{Adds, IsRow, Puts}
 use Rattle.trace_explain.specs.Reports.{IsOfCommand, Report, is_doubtful}
 use Rattle.trace_explain.specs.Trees.{IsTree}
 use Rattle.trace_explain.specs.Words.{IsWords}
-use Rattle.trace_explain.specs.Written.{AreDigits, box_end, header_row, hidden, lines_text, row, some_row, status_row, title_text}
+use Rattle.trace_explain.specs.Written.{AreDigits, bar_text, beside_text, box_end, header_row, hidden, line_text, lines_text, row, some_row, status_row, title_text}
 
 -- the end that sends data this way
 abbrev pub side_of : Direction → Side
@@ -102,10 +102,32 @@ abbrev pub IsAnswer
 IsAnswer mask is_loose way header bytes m text = (length bytes ≡ 0 → text ≡ no_data m way)
     × (0 < length bytes → IsData mask is_loose (Some FromCard) header bytes m text)
 
--- the title: the number, words, and the line where the TPDU begins
-abbrev pub IsTitle : ℕ → ℕ → List ℕ → Medium → List ℕ → Type 0
-IsTitle number line status m text = (kind : Kind) × (words : List ℕ)
-    × (text ≡ title_text m kind number words status line)
+-- the title: the number, and words
+abbrev pub IsTitle : ℕ → List ℕ → Medium → List ℕ → Type 0
+IsTitle number status m text = (kind : Kind) × (words : List ℕ)
+    × (text ≡ title_text m kind number words status)
+
+-- this or nothing
+abbrev pub MayBe : (Medium → List ℕ) → Medium → List ℕ → Type 0
+MayBe it m text = text ≢ [] → text ≡ it m
+
+-- data in the title, as far as they are shown, or nothing
+abbrev pub PutsBeside : Shown → List (List ℕ) → List ℕ → Sheet → Sheet → Type 0
+PutsBeside shown tags bytes old new = (lines : List (List ℕ))
+    × ShowsData shown tags true bytes lines
+    × Puts (MayBe (λ m. beside_text m (lines_text lines))) old new
+
+-- the card's data in the title, as the mask shows them, or nothing
+abbrev pub IsBeside
+    : Mask → Bool → Option Direction → List ℕ → List ℕ → Medium → List ℕ → Type 0
+IsBeside mask is_loose way header moved m text = text ≢ [] → (way ≡ Some FromCard)
+    × (shown : Shown) × IsShown mask is_loose FromCard header moved shown
+    × (lines : List (List ℕ)) × ShowsData shown mask.tags.items true moved lines
+    × (text ≡ beside_text m (lines_text lines))
+
+-- a bar for the time, with the share of the card, or nothing
+abbrev pub IsBar : Medium → List ℕ → Type 0
+IsBar m text = text ≢ [] → (all card : ℕ) × (text ≡ bar_text m all card)
 
 -- the row of a status, with words after it
 abbrev pub IsStatus : Side → List ℕ → Medium → List ℕ → Type 0
@@ -157,8 +179,12 @@ InOrder (Is ∷ others) m text =
 -- hides a doubtful header.
 abbrev pub IsBox : Mask → ℕ → ℕ → Report → Medium → List ℕ → Type 0
 IsBox mask number line t = InOrder
-    (IsTitle number line t.status
+    (IsTitle number t.status
+    ∷ IsBeside mask t.is_loose t.way t.header t.moved
+    ∷ IsBar
+    ∷ (λ m text. text ≡ line_text m line)
     ∷ IsFields
+    ∷ IsRow side.Nobody (codes "file")
     ∷ IsRow side.Nobody (codes "time")
     ∷ IsRow side.Nobody (codes "before")
     ∷ IsRow side.Nobody (codes "blocks")

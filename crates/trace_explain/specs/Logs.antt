@@ -177,13 +177,25 @@ both at bytes = record {
 abbrev pub noted : LogAt → Step
 noted at = record { gives = Note ∷ []; at = at }
 
+abbrev pub switched : LogAt → Open → Step
+switched at next = record { gives = Note ∷ []; at = record at { pending = next } }
+
 abbrev pub Takes : ReadsAs → LogAt → Step → Type 0
 Takes (Found form (saying.Sends from) m) at step = step ≡ started at from m
 Takes (Found form saying.Both m) at step = step ≡ both at (all_of m)
+Takes (Found form saying.Off m) at step = step ≡ switched at going.Off
 Takes (Found form saying.Reset m) at step = step ≡ resets at
 Takes (Found form saying.Atr m) at step = step ≡ behind (resets at).gives (noted (resets at).at)
 Takes BadRow at step = ⊥
 Takes other at step = step ≡ noted at
+
+-- The same between a row `off` and a row `on`, where lines of bytes are notes.
+abbrev pub TakesOff : ReadsAs → LogAt → Step → Type 0
+TakesOff (Found form saying.On m) at step = step ≡ switched at going.Nothing
+TakesOff (Found form saying.Reset m) at step = step ≡ resets at
+TakesOff (Found form saying.Atr m) at step =
+    step ≡ behind (resets at).gives (noted (resets at).at)
+TakesOff other at step = step ≡ noted at
 
 -- What the next line adds if bytes are pending: more of them, or they have ended before.
 abbrev pub TakesRest : Option (Saying × Marked) → End → Rows → LogAt → List ℕ → Step → Type 0
@@ -207,6 +219,7 @@ dumped_in rows left line = within_dump left (rest_in rows left line)
 
 abbrev pub TakesIn : Rows → Open → LogAt → List ℕ → Step → Type 0
 TakesIn rows going.Nothing at line step = Takes (read_log rows line) at step
+TakesIn rows going.Off at line step = TakesOff (read_log rows line) at step
 TakesIn rows (going.Line from) at line step =
     TakesRest (rest_in rows 0 line) from rows at line step
 TakesIn rows (going.Dump from left) at line step = (m : Marked)
@@ -248,8 +261,13 @@ IsBadFirst bad.Hex found = found ≡ BadRow
 IsBadFirst bad.OutOfMemory found = Unit {0}
 IsBadFirst other found = ⊥
 
+abbrev pub IsNoMemory : LineFault → Type 0
+IsNoMemory bad.OutOfMemory = Unit {0}
+IsNoMemory other = ⊥
+
 abbrev pub IsBadIn : Rows → Open → List ℕ → LineFault → List ℕ → Type 0
 IsBadIn rows going.Nothing bytes why line = IsBadFirst why (read_log rows line)
+IsBadIn rows going.Off bytes why line = IsNoMemory why
 IsBadIn rows (going.Line from) bytes why line =
     IsBadRest why from bytes (rest_in rows 0 line) (read_log rows line)
 IsBadIn rows (going.Dump from left) bytes why line =
@@ -258,6 +276,7 @@ IsBadIn rows (going.Dump from left) bytes why line =
 -- What the end of a log adds.
 abbrev pub ended_in : Open → LogAt → List EntryOf
 ended_in going.Nothing at = unanswered at.command
+ended_in going.Off at = unanswered at.command
 ended_in (going.Line from) at = (closed at from).gives ++ unanswered (closed at from).at.command
 ended_in (going.Dump from count) at = Part from at.bytes ∷ unanswered at.command
 

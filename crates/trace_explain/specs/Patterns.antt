@@ -114,16 +114,21 @@ abbrev pub column : List ℕ → ℕ
 column [] = 0
 column (b ∷ line) = if (b == 32) && begins_space line then 0 else 1 + column line
 
+abbrev pub dump : List ℕ → ℕ
+dump line = column (take (min (length line) 48) line)
+
 -- A field at the beginning of a line, up to its stop or the end, and what follows it.
 abbrev pub field : Stop → List ℕ → List ℕ
 field stop.End line = line
 field (stop.Before byte) line = take (place_of byte line) line
 field stop.Column line = take (column line) line
+field stop.Dump line = take (dump line) line
 
 abbrev pub behind_field : Stop → List ℕ → List ℕ
 behind_field stop.End line = []
 behind_field (stop.Before byte) line = drop (place_of byte line) line
 behind_field stop.Column line = drop (column line) line
+behind_field stop.Dump line = drop (dump line) line
 
 -- A row of a dump: 16 bytes, or all if fewer are left, with a space behind each.
 abbrev pub row : ℕ → ℕ

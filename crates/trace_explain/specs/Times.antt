@@ -71,14 +71,25 @@ abbrev pub is_zoned : List ℕ → Bool
 is_zoned [] = false
 is_zoned (b ∷ rest) = is_digit b && are_of_zone rest
 
-abbrev pub dated_len : List ℕ → ℕ
-dated_len time = if is_zoned (take (place_of 32 time) time) then 11 + place_of 32 time else 0
+-- The same of syslog: `Nov 28 12:`.
+abbrev pub is_small : ℕ → Bool
+is_small b = nat_le 97 b && nat_le b 122
+
+abbrev pub is_month : List ℕ → Bool
+is_month (a ∷ b ∷ c ∷ d ∷ e ∷ f ∷ g ∷ h ∷ i ∷ j ∷ rest) = nat_le 65 a && nat_le a 90 && is_small b
+    && is_small c && (d == 32) && ((e == 32) || is_digit e) && is_digit f && (g == 32)
+    && is_digit h && is_digit i && (j == 58)
+is_month other = false
+
+abbrev pub dated_len : ℕ → List ℕ → ℕ
+dated_len date time = if is_zoned (take (place_of 32 time) time) then date + place_of 32 time else 0
 
 abbrev pub time_len : List ℕ → ℕ
 time_len [] = 0
 time_len (b ∷ rest) = if b == 91 then bracket_len rest
     else if b == 43 then shift_len rest
-    else if is_date (b ∷ rest) then dated_len (drop 11 (b ∷ rest)) else stamp_len (b ∷ rest)
+    else if is_date (b ∷ rest) then dated_len 11 (drop 11 (b ∷ rest))
+    else if is_month (b ∷ rest) then dated_len 7 (drop 7 (b ∷ rest)) else stamp_len (b ∷ rest)
 
 -- Labels of Python's `logging` between a time and the rest: `- WORD - `, or two words.
 abbrev pub begins_dash : List ℕ → Bool
@@ -94,9 +105,25 @@ is_labelled line = begins_dash line && begins_dash (behind_word line)
 abbrev pub behind_next : List ℕ → List ℕ
 behind_next line = if is_labelled line then behind_word line else line
 
+-- The host and program of syslog: `host program[123]: `.
+abbrev pub ends_tag : List ℕ → Bool
+ends_tag (a ∷ b ∷ c ∷ line) = (a == 93) && (b == 58) && (c == 32)
+ends_tag other = false
+
+abbrev pub tag_in : List ℕ → List ℕ
+tag_in line = behind_spaces (drop (place_of 32 line) line)
+
+abbrev pub behind_tag_in : List ℕ → List ℕ → List ℕ
+behind_tag_in line tag =
+    if nat_lt (place_of 93 tag) (place_of 32 tag) && ends_tag (drop (place_of 93 tag) tag)
+    then behind_spaces (drop (place_of 93 tag + 2) tag) else line
+
+abbrev pub behind_tag : List ℕ → List ℕ
+behind_tag line = behind_tag_in line (tag_in line)
+
 abbrev pub behind_label : List ℕ → List ℕ
 behind_label line =
-    if is_labelled line then drop 2 (behind_next (behind_word line)) else line
+    if is_labelled line then drop 2 (behind_next (behind_word line)) else behind_tag line
 
 -- A line without the byte order mark of UTF-8 before it.
 abbrev pub behind_mark : List ℕ → List ℕ

@@ -85,6 +85,7 @@ StopsInLine IsShown reading all f (Some number) = (reached : IsReached reading a
 abbrev pub StopsIn
     : (List Report → Report → Type 0) → Reading → List (List ℕ) → ExplainFault → Type 0
 StopsIn IsShown reading all fault.NoCharacters = SayNoCharacters reading all
+StopsIn IsShown reading all (fault.NoForm line note) = SayNoCharacters reading all
 StopsIn IsShown reading all f = StopsInLine IsShown reading all f (line_of f)
 
 -- If the fault is that of a trace that is too long, the trace exceeds the limit.
@@ -103,6 +104,7 @@ IsOfEnd (fault.Resumed complaints first) has_characters = Unit {0}
 IsOfEnd (fault.BadPairs complaints line why) has_characters = Unit {0}
 IsOfEnd (fault.Skipped line place) has_characters = Unit {0}
 IsOfEnd (fault.NothingWhole line note) has_characters = Unit {0}
+IsOfEnd (fault.NoForm line note) has_characters = has_characters ≡ false
 IsOfEnd fault.NoCharacters has_characters = has_characters ≡ false
 IsOfEnd other has_characters = ⊥
 
@@ -154,4 +156,5 @@ IsOfLines fault.Closed = ⊥
 IsOfLines fault.InputTooLong = ⊥
 IsOfLines (fault.NothingWhole line note) = ⊥
 IsOfLines fault.NoCharacters = ⊥
+IsOfLines (fault.NoForm line note) = ⊥
 IsOfLines other = Unit {0}

@@ -8,16 +8,16 @@ use Rattle.trace_explain.specs.declared.write.layout.Medium.TheVariants.{Text, H
 use Rattle.trace_explain.specs.declared.write.layout.Topic.{Topic}
 use Rattle.trace_explain.specs.declared.write.layout.Topic.TheVariants as topic
 use Rattle.trace_explain.specs.declared.write.words.Form.{Form}
-use Rattle.trace_explain.specs.declared.write.words.Form.TheVariants.{Box, BoxEnd, Row, Number, Null, True, Map, Count, Note, List as Begin, Comma, ListEnd, LineEnd, Command, Block, BlockEnd, Style, Script, Part, PartEnd, Links, Link, More}
+use Rattle.trace_explain.specs.declared.write.words.Form.TheVariants.{Box, BoxEnd, Row, Number, Null, True, Map, Count, Note, List as Begin, Comma, ListEnd, LineEnd, Command, Block, BlockEnd, Head, Style, Script, Heading, Most, Part, PartEnd, Links, Link, More}
 use Rattle.trace_explain.specs.Written.{box_begin, box_end, letters, line_text, name_of, newline, some_row}
 
 -- labels of rows and fields in boxes that are no TPDUs
 abbrev pub own_labels : List (List ℕ)
-own_labels = codes "TPDUs" ∷ codes "answer" ∷ codes "blocks" ∷ codes "characters" ∷ codes "cla"
-    ∷ codes "command"
+own_labels = codes "TPDUs" ∷ codes "answer" ∷ codes "atr_faults" ∷ codes "blocks"
+    ∷ codes "characters" ∷ codes "cla" ∷ codes "command"
     ∷ codes "commands" ∷ codes "convention" ∷ codes "cut_off" ∷ codes "errors" ∷ codes "expected"
-    ∷ codes "fault" ∷ codes "guard time" ∷ codes "hint" ∷ codes "historical" ∷ codes "ins"
-    ∷ codes "instruction" ∷ codes "masked" ∷ codes "number" ∷ codes "p1" ∷ codes "p2"
+    ∷ codes "fault" ∷ codes "file" ∷ codes "guard time" ∷ codes "hint" ∷ codes "historical"
+    ∷ codes "ins" ∷ codes "instruction" ∷ codes "masked" ∷ codes "number" ∷ codes "p1" ∷ codes "p2"
     ∷ codes "place" ∷ codes "protocol" ∷ codes "protocols" ∷ codes "rate" ∷ codes "read"
     ∷ codes "received" ∷ codes "request" ∷ codes "response" ∷ codes "sent" ∷ codes "status"
     ∷ codes "status_text" ∷ codes "statuses" ∷ codes "text" ∷ codes "time" ∷ codes "time_us"
@@ -39,14 +39,17 @@ has_own (True label) = is_own label.now
 has_own (Map label) = is_own label.now
 has_own form = true
 
--- the start of a page, before its style and after its script
-abbrev pub style_begin : List ℕ
-style_begin = codes "<!DOCTYPE html>\n<html lang=\"en\">\n<head>\n<meta charset=\"utf-8\">\n"
+-- the start of a page: before its title, after its script, and after its heading
+abbrev pub head : List ℕ
+head = codes "<!DOCTYPE html>\n<html lang=\"en\">\n<head>\n<meta charset=\"utf-8\">\n"
     ++ codes "<meta name=\"viewport\" content=\"width=device-width, initial-scale=1\">\n"
-    ++ codes "<title>A trace, explained</title>\n<style>\n"
+    ++ codes "<title>"
 
 abbrev pub head_end : List ℕ
-head_end = codes "</script>\n</head>\n<body>\n<main>\n<h1>A trace, explained</h1>\n"
+head_end = codes "</script>\n</head>\n<body>\n<main>\n"
+
+abbrev pub heading_end : List ℕ
+heading_end = codes "</h1>\n"
     ++ codes "<div class=\"ends\"><span>Terminal</span><span>Card</span></div><div>\n"
 
 -- text of a page between two pieces of markup
@@ -95,6 +98,10 @@ json_piece Block text = codes "{\"type\":\"summary\""
 json_piece BlockEnd text = codes "}\n"
 json_piece form text = []
 
+-- the longest time of a TPDU, to which bars are scaled
+abbrev pub most_text : ℕ → List ℕ
+most_text micros = codes "<style>main { --most: " ++ decimal micros ++ codes "; }</style>\n"
+
 abbrev pub part_begin : ℕ → List ℕ
 part_begin number = codes "<details class=\"part\"><summary>from #" ++ decimal number
     ++ codes "</summary>\n"
@@ -113,8 +120,11 @@ piece_text Text form text = []
 piece_text Html Note text = marked (codes "<pre class=\"note\">") text (codes "</pre>\n")
 piece_text Html Block text = codes "</div><section><h2>summary</h2>\n"
 piece_text Html BlockEnd text = codes "</section>\n</main>\n</body>\n</html>\n"
-piece_text Html Style text = marked style_begin text (codes "</style>\n")
-piece_text Html Script text = marked (codes "<script>\n") text head_end
+piece_text Html Head text = marked head text (codes "</title>\n<style>\n")
+piece_text Html Style text = marked [] text (codes "</style>\n<script>\n")
+piece_text Html Script text = marked [] text head_end
+piece_text Html Heading text = marked (codes "<h1>") text heading_end
+piece_text Html (Most micros) text = most_text micros
 piece_text Html (Part number) text = part_begin number
 piece_text Html PartEnd text = codes "</details>\n"
 piece_text Html Links text = marked (codes "<p>") text []

@@ -104,10 +104,19 @@ abbrev pub mark_text : Medium → Kind → List ℕ → List ℕ
 mark_text Html kind status = whole_mark kind status
 mark_text m kind status = []
 
-abbrev pub title_text : Medium → Kind → ℕ → List ℕ → List ℕ → ℕ → List ℕ
-title_text m kind number words status line = box_begin m kind (anchor.Tpdu number)
+abbrev pub title_text : Medium → Kind → ℕ → List ℕ → List ℕ → List ℕ
+title_text m kind number words status = box_begin m kind (anchor.Tpdu number)
     ++ number_text m number ++ letters m (codes "    ") words ++ mark_text m kind status
-    ++ line_text m line
+
+-- on a page the data may be beside it, in one line, and a bar for the time
+abbrev pub beside_text : Medium → List ℕ → List ℕ
+beside_text Html lines = codes " <span>" ++ letters Html [] (drop 1 lines) ++ codes "</span>"
+beside_text m lines = []
+
+abbrev pub bar_text : Medium → ℕ → ℕ → List ℕ
+bar_text Html all card = codes " <i style=\"--all:" ++ decimal all ++ codes ";--card:"
+    ++ decimal card ++ codes "\"></i>"
+bar_text m all card = []
 
 -- A row begins with the sign of its end, and a label, which takes eleven columns of a text. In
 -- JSON it is a field.

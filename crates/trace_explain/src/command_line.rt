@@ -15,18 +15,33 @@ use t0_core::Direction;
 pub struct Request<'a> {
     /// The layout of the explanation.
     pub layout: Layout,
+    /// The title of a page, if it is not that of the program.
+    pub title: Option<&'a str>,
     /// What is hidden.
     pub mask: Mask,
     /// Whether it continues after an unexpected byte.
     pub resumes: bool,
     /// How the lines of each trace are read.
     pub options: Options<'a>,
+    /// The paths of the trace's files, in turn; none for standard input.
+    pub paths: Vec<&'a str>,
     /// The paths of two traces, A and B, if two are compared.
     pub compared: Option<(&'a str, &'a str)>,
     /// The path of a file with names.
     pub names: Option<&'a str>,
     /// Whether it lists the names in place of an explanation.
     pub lists_names: bool,
+}
+
+impl<'a> Request<'a> {
+    /// The path of the trace's file, `-` for standard input. `None` if it has several files.
+    pub fn path(&self) -> Option<&'a str> {
+        match self.paths.as_slice() {
+            [] => Some("-"),
+            [path] => Some(*path),
+            _ => None,
+        }
+    }
 }
 
 /// Parses the command line. Its first word is the program's name. `forms` are the names of forms.
@@ -53,6 +68,8 @@ pub fn parsed<'a>(
         is_summary: matches.get_flag("summary"),
         joins: matches.get_flag("commands"),
     };
+    let mut paths = Vec::new(alloc);
+    paths.extend_from_slice(matches.get_strs("FILE").unwrap_or(&[]))?;
     let form = forms
         .iter()
         .find(|name| matches.get_str("form") == Some(**name));
@@ -68,11 +85,13 @@ pub fn parsed<'a>(
             is_of_blocks: matches.get_str("protocol").is_some(),
         },
         layout,
+        title: matches.get_str("title"),
         resumes: matches.get_flag("resume"),
         compared: match matches.get_strs("diff") {
             Some([a, b]) => Some((*a, *b)),
             _ => None,
         },
+        paths,
         names: matches.get_str("names-file"),
         lists_names: matches.get_flag("list-names"),
     })
@@ -89,7 +108,7 @@ fn mask(alloc: Global, matches: &ArgMatches<'_>) -> Result<Mask, Error> {
         Err(TagsFault::Form) => {
             let text = format!(in alloc;
                 "invalid value '{tags}' for '--mask [<TAGS>]': not tags of one to three bytes \
-                 with commas between them"
+                 with commas between them (a file precedes `--mask`)"
             )?;
             Err(invalid(alloc, text.as_str())?)
         }
@@ -122,6 +141,8 @@ fn invalid(alloc: Global, text: &str) -> Result<Error, AllocError> {
 /// The program with its options. `--form` takes the names in `forms`.
 fn command<'a>(alloc: Global, forms: &'a [&'a str]) -> Result<Command<'a>, AllocError> {
     let mut options = Vec::new(alloc);
+    let files = Arg::new(alloc, "FILE").action(ArgAction::Append);
+    options.push(files.num_args(0..).help(help::FILE))?;
     for row in &OPTIONS {
         options.push(option(alloc, row, forms)?)?;
     }
@@ -145,20 +166,22 @@ enum Takes {
     File,
     Instructions,
     Protocol,
+    Title,
 }
 
 /// What `--protocol` takes.
 static PROTOCOLS: [&str; 1] = ["t1"];
 
 /// The options, in the order of the help.
-static OPTIONS: [Row; 17] = [
+static OPTIONS: [Row; 18] = [
     Row(
         "diff",
         help::DIFF,
         Takes::Paths,
-        &["html", "json", "commands", "summary"],
+        &["json", "commands", "summary", "FILE"],
     ),
     Row("html", help::HTML, Takes::Nothing, &["json"]),
+    Row("title", help::TITLE, Takes::Title, &[]),
     Row("json", help::JSON, Takes::Nothing, &[]),
     Row("commands", help::COMMANDS, Takes::Nothing, &[]),
     Row("mask", help::MASK, Takes::Tags, &[]),
@@ -224,6 +247,10 @@ fn taking<'a>(takes: Takes, option: Arg<'a>, forms: &'a [&'a str]) -> Result<Arg
                 .value_parser(PROTOCOLS.as_slice()),
         ),
         Takes::File => Ok(option.action(ArgAction::Set).value_name("FILE")),
+        Takes::Title => option
+            .action(ArgAction::Set)
+            .value_name("TEXT")
+            .requires_arg("html"),
         Takes::Instructions => option
             .action(ArgAction::Set)
             .value_name("INS")

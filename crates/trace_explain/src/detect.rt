@@ -94,7 +94,9 @@ fn read_by(
     let mut text = Vec::new(alloc);
     let mut left = head;
     let mask = Mask::none(alloc);
-    let outcome = explain(alloc, LAYOUT, mask, false, reading, &mut left, &mut text);
+    let outcome = explain(
+        alloc, LAYOUT, "", mask, false, reading, &mut left, &mut text,
+    );
     Ok(if outcome.is_ok() { count } else { 0 })
 }
 
@@ -105,7 +107,7 @@ fn lines_read(alloc: Global, rows: &Rows, head: &[u8]) -> Result<usize, AllocErr
         let (_, text) = cut_time(line.strip_suffix(b"\r").unwrap_or(line));
         if !matches!(
             read_rows(alloc, rows.first.as_slice(), 0, text)?,
-            Found::Other | Found::Unread | Found::Row(_, Saying::Note, _)
+            Found::Other | Found::Unread | Found::Row(_, Saying::Note | Saying::On | Saying::Off, _)
         ) {
             count = count.saturating_add(1);
         }

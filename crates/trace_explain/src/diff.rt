@@ -5,22 +5,17 @@ use crate::describe::mask::Mask;
 use crate::explain::{CHUNK, TRACE_LIMIT, explain_chunk, explain_last};
 use crate::explain_fault::ExplainFault;
 use crate::explainer::Explainer;
+use crate::follow::tpdu::Tpdu;
 use crate::read::forms::FormsFault;
 use crate::read::reading::Reading;
 use crate::write::kept::Kept;
-use crate::write::layout::{Layout, Medium};
+use crate::write::layout::Layout;
+use crate::write::output::Output;
 use crate::write::sheet::Sheet;
 use crate::write::sink::Sink;
 use std::alloc::{AllocError, Global};
 use std::io::{Read, Write};
 use thiserror::Error;
-
-/// The layout of the TPDUs that differ.
-const LAYOUT: Layout = Layout {
-    medium: Medium::Text,
-    is_summary: false,
-    joins: false,
-};
 
 /// Why two traces can't be compared.
 #[derive(Debug, Drop, Error)]
@@ -70,7 +65,8 @@ struct Trace<'r, R: Read> {
 
 /// Compares two traces, and writes the first TPDU that differs, and in what. If one trace ends
 /// before the other, it writes the next TPDU of the other. If they are alike, it writes their
-/// number of TPDUs. Returns whether they are alike, even if nobody reads the output any more.
+/// number of TPDUs. A page has this title. Returns whether they are alike, even if nobody reads
+/// the output any more.
 ///
 /// It ignores procedure bytes and what is between TPDUs. It compares cut TPDUs as far as received.
 ///
@@ -81,6 +77,8 @@ struct Trace<'r, R: Read> {
 /// - `OutOfMemory`: memory ran out outside of a line. Nothing is written.
 pub fn diff<R: Read, S: Read, W: Write>(
     alloc: Global,
+    layout: Layout,
+    title: &str,
     mask: Mask,
     resumes: bool,
     readings: (Reading, Reading),
@@ -90,34 +88,56 @@ pub fn diff<R: Read, S: Read, W: Write>(
     let (reader_a, reader_b) = readers;
     let other = mask.copied(alloc)?;
     let (reading_a, reading_b) = readings;
-    let mut a = Trace::new(alloc, "A", other, resumes, reading_a, reader_a);
-    let mut b = Trace::new(alloc, "B", mask, resumes, reading_b, reader_b);
-    let mut text = Sheet::new(alloc, LAYOUT);
-    let alike = compare(&mut a, &mut b, &mut text)?;
-    text.is_whole()?;
-    match writer.put(text.as_str().as_bytes()) {
+    let mut a = Trace::new(alloc, "A", layout, other, resumes, reading_a, reader_a);
+    let mut b = Trace::new(alloc, "B", layout, mask, resumes, reading_b, reader_b);
+    let mut output = Output::new(alloc, layout);
+    output.page.begin(title);
+    let mut words = Sheet::new(alloc, layout);
+    let alike = compare(&mut a, &mut b, &mut words, &mut output)?;
+    if output.page.is_html() {
+        output.page.open_block();
+        output.page.line_row("TPDUs", words.as_str());
+        output.page.close_block();
+        words.clear();
+    }
+    output.outcome()?;
+    words.push_str(output.sheet.as_str());
+    words.is_whole()?;
+    match writer.put(words.as_str().as_bytes()) {
         Ok(()) | Err(ExplainFault::Closed) => Ok(alike),
         Err(_) => Err(DiffFault::Write),
     }
 }
 
-/// Compares TPDUs up to the first that differs.
+/// Compares TPDUs up to the first that differs. Adds in what it differs to `words`, and both sides
+/// to the output.
 fn compare<R: Read, S: Read>(
     a: &mut Trace<'_, R>,
     b: &mut Trace<'_, S>,
-    out: &mut Sheet,
+    words: &mut Sheet,
+    output: &mut Output,
 ) -> Result<bool, DiffFault> {
     for number in 1..u64::MAX {
         let before = number - 1;
         let unit = if before == 1 { "TPDU" } else { "TPDUs" };
         let unlike = match (a.front()?, b.front()?) {
             (None, None) => {
-                writeln!(out, "alike: {before} {unit}");
+                writeln!(words, "alike: {before} {unit}");
                 return Ok(true);
             }
-            (Some(kept), None) => push_only(out, ("B", "A"), (before, unit), kept),
-            (None, Some(kept)) => push_only(out, ("A", "B"), (before, unit), kept),
-            (Some(one), Some(other)) => differ(out, number, one, other),
+            (Some(kept), None) => {
+                writeln!(words, "B ends after {before} {unit}, and A goes on:");
+                push_side(output, "", "A:\n", kept)
+            }
+            (None, Some(kept)) => {
+                writeln!(words, "A ends after {before} {unit}, and B goes on:");
+                push_side(output, "", "B:\n", kept)
+            }
+            (Some(one), Some(other)) if differ(words, number, &one.tpdu, &other.tpdu) => {
+                push_side(output, "A:\n", "A:\n", one);
+                push_side(output, "B:\n", "B:\n", other)
+            }
+            (Some(_), Some(_)) => false,
         };
         if unlike {
             return Ok(false);
@@ -128,17 +148,27 @@ fn compare<R: Read, S: Read>(
     Ok(true)
 }
 
-/// Reports that this trace has no more TPDUs, and the next of the other. Returns true: they differ.
-fn push_only(out: &mut Sheet, names: (&str, &str), before: (u64, &str), next: &Kept) -> bool {
-    let ((one, more), (count, unit)) = (names, before);
-    writeln!(out, "{one} ends after {count} {unit}, and {more} goes on:");
-    out.push_str(next.text.as_str());
+/// Adds a TPDU of one trace, after the name of that. On a page its box is open, and has no name in
+/// links. Returns true: the traces differ.
+fn push_side(output: &mut Output, in_text: &str, on_page: &str, kept: &Kept) -> bool {
+    let text = kept.text.as_str();
+    if !output.page.is_html() {
+        output.sheet.push_str(in_text);
+        output.sheet.push_str(text);
+        return true;
+    }
+    output.page.note_line(on_page);
+    output.join();
+    let (begin, named) = text.split_once(" id=\"").unwrap_or((text, ""));
+    let (_, rest) = named.split_once("><summary>").unwrap_or(("", ""));
+    output.sheet.push_str(begin);
+    output.sheet.push_str(" open><summary>");
+    output.sheet.push_str(rest);
     true
 }
 
-/// Whether two TPDUs differ. Reports them, and in what they differ.
-fn differ(out: &mut Sheet, number: u64, a: &Kept, b: &Kept) -> bool {
-    let (one, other) = (&a.tpdu, &b.tpdu);
+/// Whether two TPDUs differ. Reports in what they differ.
+fn differ(words: &mut Sheet, number: u64, one: &Tpdu, other: &Tpdu) -> bool {
     let moved = one.way == other.way && one.moved == other.moved && one.answer == other.answer;
     let parts = [
         ("header", one.header == other.header),
@@ -150,14 +180,14 @@ fn differ(out: &mut Sheet, number: u64, a: &Kept, b: &Kept) -> bool {
     for (name, is_same) in parts {
         if !is_same {
             if sign.is_empty() {
-                write!(out, "TPDU {number} differs:");
+                write!(words, "TPDU {number} differs:");
             }
-            write!(out, "{sign} {name}");
+            write!(words, "{sign} {name}");
             sign = ",";
         }
     }
     if !sign.is_empty() {
-        write!(out, "\nA:\n{}B:\n{}", a.text, b.text);
+        words.push_str("\n");
     }
     !sign.is_empty()
 }
@@ -167,12 +197,13 @@ impl<'r, R: Read> Trace<'r, R> {
     fn new(
         alloc: Global,
         name: &'static str,
+        layout: Layout,
         mask: Mask,
         resumes: bool,
         reading: Reading,
         reader: &'r mut R,
     ) -> Trace<'r, R> {
-        let mut explainer = Explainer::new(alloc, LAYOUT, mask, resumes, reading);
+        let mut explainer = Explainer::new(alloc, layout, "", mask, resumes, reading);
         explainer.teller.keeping.is_on = true;
         Trace {
             name,

@@ -38,6 +38,7 @@ pub const CHUNK: usize = 16_384;
 pub fn explain<R: Read, W: Sink>(
     alloc: Global,
     layout: Layout,
+    title: &str,
     mask: Mask,
     resumes: bool,
     reading: Reading,
@@ -55,7 +56,7 @@ pub fn explain<R: Read, W: Sink>(
     ensures limited { IfSome (R.remaining reader.old) (λ bytes. KeepsLimit bytes result) }
     ensures fails { IfErr result (IsOfSink W.fails) }
 {
-    let mut explainer = Explainer::new(alloc, layout, mask, resumes, reading);
+    let mut explainer = Explainer::new(alloc, layout, title, mask, resumes, reading);
     let outcome = explain_chunks(alloc, &mut explainer, reader, writer);
     explainer.end()?;
     write_output(&mut explainer.teller.output.sheet, writer)?;

@@ -66,7 +66,15 @@ pub enum ExplainFault {
         line: u64,
         note: Excerpt,
     },
-    /// The trace has ended, and no line has a character of either end.
+    /// The trace has ended, and no line has a character of either end. This is the first line with
+    /// bytes.
+    #[error("line {line}: no form reads this line with bytes; try `--form`, `--tpdu` or \
+        `--form-file`: {note}")]
+    NoForm {
+        line: u64,
+        note: Excerpt,
+    },
+    /// The trace has ended, and no line has a character of either end, or bytes.
     #[error("no characters heard")]
     NoCharacters,
     /// The reader failed. The lines that ended before were explained.
@@ -87,6 +95,23 @@ pub enum ExplainFault {
 }
 
 impl ExplainFault {
+    /// Returns the line of the trace that it names, if any.
+    pub fn line(&mut self) -> Option<&mut u64> {
+        match self {
+            ExplainFault::BadLine { line, .. }
+            | ExplainFault::NoTurn { line, .. }
+            | ExplainFault::LineTooLong { line }
+            | ExplainFault::Skipped { line, .. }
+            | ExplainFault::BadPairs { line, .. }
+            | ExplainFault::NothingWhole { line, .. }
+            | ExplainFault::NoForm { line, .. } => Some(line),
+            ExplainFault::NoDialogue(first) | ExplainFault::Resumed { first, .. } => {
+                Some(&mut first.line)
+            }
+            _ => None,
+        }
+    }
+
     /// Returns the fault for an error of the writer.
     pub fn of_writing(error: &io::Error) -> ExplainFault
         ensures kind { IsOfWriting result }

@@ -48,11 +48,13 @@ pub struct Explainer {
 }
 
 impl Explainer {
-    /// Starts before the first line. If it resumes, it continues after an unexpected character.
+    /// Starts before the first line. A page has this title. If it resumes, it continues after an
+    /// unexpected character.
     #[tactic(auto, using(crate::proofs::AccountLemmas::none_written))]
     pub fn new(
         alloc: Global,
         layout: Layout,
+        title: &str,
         mask: Mask,
         resumes: bool,
         reading: Reading,
@@ -74,7 +76,7 @@ impl Explainer {
             preface: Preface::new(alloc, is_of_blocks),
             listener: Listener::new(alloc),
             log: Log::new(alloc),
-            teller: Teller::new(alloc, layout, mask),
+            teller: Teller::new(alloc, layout, title, mask),
         }
     }
 
@@ -108,8 +110,8 @@ impl Explainer {
     {
         self.line = self.line.saturating_add(1);
         let (time, rest) = cut_time(line);
-        self.teller
-            .pass(self.line, self.reading.counted(time, rest))?;
+        let counted = self.reading.counted(time, rest);
+        self.teller.pass(self.line, &self.reading.files, counted)?;
         if self.reading.of_tpdus {
             return self.log_line(line);
         }
@@ -364,7 +366,7 @@ impl Explainer {
     /// - `BadPairs`: commands or answers of a log are not those of a TPDU.
     /// - `Resumed`: it continued after unexpected characters.
     /// - `Skipped`: it passed over what follows an invalid answer to reset.
-    /// - `NoCharacters`: no line has a character of either end.
+    /// - `NoCharacters`, `NoForm`: no line has a character of either end.
     /// - `NothingWhole`: they have a note, and no whole TPDU, answer to reset or PPS.
     pub fn outcome(&self) -> Result<(), ExplainFault>
         ensures has_characters { OnOk result (self.now.has_characters ≡ true) }
@@ -381,7 +383,10 @@ impl Explainer {
         match (self.resuming.first, self.resuming.first_unsent) {
             (Some(first), _) => Err(ExplainFault::Resumed { complaints, first }),
             (None, Some((line, place))) => Err(ExplainFault::Skipped { line, place }),
-            (None, None) if !self.has_characters => Err(ExplainFault::NoCharacters),
+            (None, None) if !self.has_characters => Err(match self.teller.first_bytes {
+                Some((line, note)) => ExplainFault::NoForm { line, note },
+                None => ExplainFault::NoCharacters,
+            }),
             (None, None) => match self.teller.first_note {
                 Some((line, note)) if !self.teller.has_whole() => {
                     Err(ExplainFault::NothingWhole { line, note })

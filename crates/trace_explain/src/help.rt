@@ -8,10 +8,14 @@ pub const PROGRAM: &str =
 /// The version.
 pub const VERSION: &str = "0.3.0";
 
-// The help of each option.
+// The help of each argument and option.
+pub const FILE: &str = "Reads these files as one trace; `-` is standard input";
+
 pub const DIFF: &str = "Compares the traces of two files, and shows the first TPDU that differs";
 
 pub const HTML: &str = "Writes one page of HTML, which needs no other file, in place of text";
+
+pub const TITLE: &str = "Sets the title of the page";
 
 pub const JSON: &str = "Writes one object of JSON in each line, in place of text";
 
@@ -21,7 +25,7 @@ pub const MASK: &str = "Shows `**` for reference data, and for objects with tags
 
 pub const RESUME: &str = "Continues after an unexpected byte";
 
-pub const FORM: &str = "Sets the form of the lines, in place of the first ones";
+pub const FORM: &str = "Sets the form of the lines; not with `--form-file` or `--unsigned`";
 
 pub const FORM_FILE: &str = "Reads lines by the first form in this file";
 
@@ -33,9 +37,10 @@ pub const SWAP: &str = "Takes each sign for that of the other end, if TX is the 
 
 pub const UNSIGNED: &str = "Reads lines without signs: the dialogue shows who sent each character";
 
-pub const TO_CARD: &str = "Lists instructions whose data go to the card, as `5A,F0`";
+pub const TO_CARD: &str =
+    "Lists instructions whose data go to the card, as `5A,F0`; needs `--unsigned`";
 
-pub const FROM_CARD: &str = "Lists instructions whose data come from the card";
+pub const FROM_CARD: &str = "Lists instructions whose data come from the card; needs `--unsigned`";
 
 pub const SUMMARY: &str = "Writes the last block alone, which contains the counts";
 
@@ -45,7 +50,7 @@ pub const TPDU: &str = "Reads a log of whole TPDUs or APDUs, as programs of PC/S
 
 /// What the program reads and prints.
 pub const TRACE: &str = "\
-The trace is on standard input, in lines as `card_trace play` prints them:
+The trace is on standard input or in the files, in lines as `card_trace play` prints them:
 
   > HEX    characters of the terminal
   < HEX    characters of the card, or `<` alone for none
@@ -57,13 +62,18 @@ and `<` the lines may have other signs: `>>` and `<<`, `->` and `<-`, `=>` and `
 `TX:` and `RX:`, `Tx:` and `Rx:`, `T:` and `C:`, `IFD` and `ICC`, `IFD:` and `ICC:`, or `TX -` and
 `RX -`. All lines have the form of the first sign. `--form` sets it before, by the terminal's sign,
 or by the names `angle`, `angles`, `arrow`, `double` and `QXDM`. The other forms are logs of whole
-TPDUs or APDUs. Without an option about lines, the program tries each form on at most 64 lines. It
-takes the one that reads most of them without a fault, and names a log's form on standard error.
+TPDUs or APDUs, and exclude `--resume`; with `--tpdu` a form of signs has whole ones, too. Without
+an option about lines, the program tries each form on at most 64 lines. It takes the one that reads
+most of them without a fault, and names a log's form on standard error.
+
+Several files are one trace. Its boxes then have a row `file`, and a fault begins as `FILE line 12`,
+with the number of the line in that file. The program reads all of them before it explains.
 
 A time may precede a sign or `reset`, with a space after it. It is the time of day, as
-`12:34:56.789`, perhaps behind a date as `2026-11-27`; seconds, as `[0.001234]`; the time since the
-line before, as `+0.5 ms`, `us` or `s`; or a count of microseconds. A TPDU shows the time of the
-line in which it begins, and how much later that is than for the last TPDU.
+`12:34:56.789`, perhaps behind a date as `2026-11-27` or `Nov 27`; seconds, as `[0.001234]`; the
+time since the line before, as `+0.5 ms`, `us` or `s`; or a count of microseconds. A host and a
+program may follow, as `host program[123]: ` in a syslog. A TPDU shows the time of the line in which
+it begins, and how much later that is than for the last TPDU.
 
 Every other line is a note, and is shown after `| `. A note within a TPDU is shown before it. But a
 line that begins with a sign and can't be read is a fault. So are digits alone, with no space before
@@ -153,7 +163,7 @@ Example:
 pub const NO_UTF_8: &str = "\
 error: invalid UTF-8 was detected in one or more arguments
 
-Usage: trace_explain [OPTIONS]
+Usage: trace_explain [OPTIONS] [FILE]...
 
 For more information, try '--help'.
 ";

@@ -9,6 +9,7 @@ use crate::diff::{DiffFault, diff};
 use crate::explain::explain;
 use crate::explain_fault::ExplainFault;
 use crate::help;
+use crate::read::files::{FileFault, FileList, joined};
 use crate::read::forms::{FORMS, Forms, FormsFault};
 use crate::read::reading::{Options, Reading};
 use clap::Error;
@@ -75,7 +76,7 @@ fn carry_out<D: Files, R: Read, W: Write, F: Write>(
     }
 }
 
-/// Explains the trace of `input`. Returns the exit status.
+/// Explains the trace of the files, or of `input`. Returns the exit status.
 fn explained<D: Files, R: Read, W: Write, F: Write>(
     alloc: Global,
     asked: Request<'_>,
@@ -87,15 +88,76 @@ fn explained<D: Files, R: Read, W: Write, F: Write>(
 ) -> u8
     ensures status { result ≤ 2 }
 {
-    let (head, reading) = match begin(alloc, &asked, files, input, faults) {
+    let none = FileList::none(alloc);
+    match asked.path() {
+        Some("-") => explained_by(alloc, asked, names, files, none, input, output, faults),
+        Some(path) => match File::open(files, path) {
+            Ok(mut file) => {
+                explained_by(alloc, asked, names, files, none, &mut file, output, faults)
+            }
+            Err(_) => print_fault(&FileFault::Open(path), faults),
+        },
+        None => match joined(alloc, asked.paths.as_slice(), files, input) {
+            Ok((list, text)) => {
+                let mut input = text.as_slice();
+                explained_by(alloc, asked, names, files, list, &mut input, output, faults)
+            }
+            Err(fault) => print_fault(&fault, faults),
+        },
+    }
+}
+
+/// Explains a trace of these files. Returns the exit status.
+fn explained_by<D: Files, R: Read, W: Write, F: Write>(
+    alloc: Global,
+    asked: Request<'_>,
+    names: Names,
+    files: &D,
+    list: FileList,
+    input: &mut R,
+    output: &mut W,
+    faults: &mut F,
+) -> u8
+    ensures status { result ≤ 2 }
+{
+    let (head, mut reading) = match begin(alloc, &asked, files, input, faults) {
         Ok(begun) => begun,
         Err(fault) => return refused(fault, faults),
     };
+    if reading.files.extend(&list, u64::MAX).is_err() {
+        return print_fault(&ExplainFault::OutOfMemory, faults);
+    }
+    let path = asked.path().filter(|path| *path != "-");
     let (layout, resumes) = (asked.layout, asked.resumes);
+    let title = asked.title.unwrap_or("A trace, explained");
     let mask = asked.mask.with(names);
-    let mut trace = head.as_slice().chain(input);
-    let outcome = explain(alloc, layout, mask, resumes, reading, &mut trace, output);
+    let mut whole = head.as_slice().chain(input);
+    let mut outcome = explain(
+        alloc, layout, title, mask, resumes, reading, &mut whole, output,
+    );
+    print_place(&mut outcome, path, &list, faults);
     status(&outcome, faults)
+}
+
+/// Writes the file of a fault before it, and makes its line one of this file. `path` is that of a
+/// trace of one file.
+fn print_place<F: Write>(
+    outcome: &mut Result<(), ExplainFault>,
+    path: Option<&str>,
+    list: &FileList,
+    faults: &mut F,
+) {
+    if let Err(fault) = outcome {
+        if let Some(line) = fault.line() {
+            let (name, number) = list.at(*line);
+            *line = number;
+            if let Some(name) = name {
+                let _ = write!(faults, "{name} ");
+            }
+        } else if let (ExplainFault::Read, Some(path)) = (fault, path) {
+            let _ = write!(faults, "{path}: ");
+        }
+    }
 }
 
 /// Returns the bytes that were read to find the form of a trace, and how its lines are read. Writes
@@ -212,8 +274,18 @@ fn diff_files<D: Files, W: Write>(
         reading(alloc, &options, files)?,
         reading(alloc, &options, files)?,
     );
+    let title = asked.title.unwrap_or("Two traces, compared");
     let (mask, readers) = (asked.mask.with(names), (&mut a, &mut b));
-    diff(alloc, mask, asked.resumes, readings, readers, output)
+    diff(
+        alloc,
+        asked.layout,
+        title,
+        mask,
+        asked.resumes,
+        readings,
+        readers,
+        output,
+    )
 }
 
 /// The status for an error of the parser. Help goes to `output`, and a refusal to `faults`.

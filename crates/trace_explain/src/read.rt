@@ -1,6 +1,7 @@
 //! Reads one line: of a trace characters, a reset or a note; of a log a command or an answer.
 pub mod digits;
 pub mod entry;
+pub mod files;
 pub mod form_row;
 pub mod forms;
 pub mod log;

@@ -52,6 +52,8 @@ pub struct Clock {
     whole: Option<u64>,
     /// Whether a TPDU began in the last line.
     has_begun: bool,
+    /// How much of the time since the last TPDU began is the card's, if known.
+    card: Option<u64>,
 }
 
 impl Clock {
@@ -66,6 +68,7 @@ impl Clock {
             counted: None,
             whole: Some(0),
             has_begun: false,
+            card: None,
         }
     }
 
@@ -81,13 +84,18 @@ impl Clock {
         Ok(())
     }
 
-    /// Notes that the last line has characters: no effect without a time, or once it has a TPDU.
-    pub fn count(&mut self) {
+    /// Notes that the last line has characters, the card's or not: no effect without a time, or
+    /// once it has a TPDU. The time since the line before is of the end that sent the first one.
+    pub fn count(&mut self, is_card: bool) {
         if self.text.is_empty() || self.has_begun {
             return;
         }
+        let step = span(self.counted, self.now);
         if self.counted.is_some() {
-            self.whole = sum(self.whole, span(self.counted, self.now));
+            self.whole = sum(self.whole, step);
+        }
+        if is_card {
+            self.card = sum(self.card, step);
         }
         self.counted = self.now;
     }
@@ -95,6 +103,7 @@ impl Clock {
     /// Notes that a TPDU begins in the last line. How much later a second one began is unknown.
     pub fn begin(&mut self) {
         self.since = None;
+        self.card = (!self.has_begun).then_some(0);
         if self.has_begun {
             return;
         }
@@ -132,6 +141,16 @@ impl Clock {
     pub fn whole_us(&self) -> Option<u64> {
         self.counted?;
         Some(self.whole? / 1_000)
+    }
+
+    /// The time from the line in which the last TPDU began to the last line of characters, and how
+    /// much of it is the card's, in microseconds; 0 if unknown.
+    pub fn took_us(&self) -> (u64, u64) {
+        let began = self.began.filter(|_| !self.shown.is_empty());
+        match (span(began, self.counted), self.card) {
+            (Some(all), Some(card)) => (all / 1_000, card.min(all) / 1_000),
+            _ => (0, 0),
+        }
     }
 
     /// Adds the time from the first line of characters with a time to the last, or that it is
@@ -218,7 +237,9 @@ impl Measure {
 
 /// Returns a time of day without the date before it and the zone behind it; another time as it is.
 fn of_day(time: &[u8]) -> &[u8] {
-    let [_, _, _, _, b'-', _, _, _, _, _, _, time @ ..] = time else {
+    let ([_, _, _, _, b'-', _, _, _, _, _, _, time @ ..] | [_, _, _, b' ', _, _, b' ', time @ ..]) =
+        time
+    else {
         return time;
     };
     time.split(|byte| matches!(byte, b'Z' | b'+' | b'-'))
@@ -245,8 +266,8 @@ fn sum(one: Option<u64>, other: Option<u64>) -> Option<u64> {
     one?.checked_add(other?)
 }
 
-/// Adds a duration.
-fn push_duration(text: &mut Sheet, nanos: u64) {
+/// Adds a duration in nanoseconds.
+pub fn push_duration(text: &mut Sheet, nanos: u64) {
     let micros = nanos / 1_000;
     if nanos < SECOND {
         write!(text, "{}.{:03} ms", micros / 1_000, micros % 1_000);

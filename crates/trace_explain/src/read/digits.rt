@@ -31,7 +31,7 @@ pub fn spelled(alloc: Global, is_short: bool, digits: &[u8]) -> Result<Vec<u8>, 
     ensures says { IfOk result (λ bytes. spelled is_short digits.now ≡ Some bytes.items) }
     ensures refused { IfErr result (λ why. IsBadField why (spelled is_short digits.now)) }
 {
-    let mut bytes = Vec::new(alloc);
+    let mut bytes = Vec::with_capacity(alloc, digits.len() / 2)?;
     let mut spot = Spot::Between;
     for &digit in digits {
         if let Spot::Within(high) = spot {
@@ -87,6 +87,22 @@ pub fn byte_of(high: u8, low: u8) -> Option<u8>
     ensures { result ≡ byte_of (hex_digit_value high) (hex_digit_value low) }
 {
     Some(value_of(high)? * 16 + value_of(low)?)
+}
+
+/// Whether a line has four bytes in a row: two digits each, with spaces, colons, commas or `0x`
+/// between them.
+pub fn has_bytes(line: &[u8]) -> bool {
+    let mut digits: usize = 0;
+    for &byte in line {
+        digits = match byte {
+            b' ' | b':' | b',' if digits % 2 == 0 => digits,
+            b'x' if digits % 2 == 1 => digits.saturating_sub(1),
+            _ if value_of(byte).is_none() => 0,
+            _ if digits == 7 => return true,
+            _ => digits.saturating_add(1),
+        };
+    }
+    false
 }
 
 /// Whether a line begins with a hexadecimal digit, and contains these and spaces alone.

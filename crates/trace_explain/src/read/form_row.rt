@@ -24,6 +24,10 @@ pub enum Saying {
     Perhaps,
     /// Something else.
     Note,
+    /// The same. Bytes count again from here on.
+    On,
+    /// The same. Bytes don't count from here on.
+    Off,
 }
 
 impl Saying {

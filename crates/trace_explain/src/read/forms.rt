@@ -104,6 +104,13 @@ command: {any} DBG: PCSC_data: {bytes}
 answer: {any} DBG: response: sw={status} datalen={count}
 rest: {time}{any} DBG: dump: [all zero]{zeros}
 rest: {time}{any} DBG: dump: {bytes}
+form pcsc-spy: commands
+on: {prefix}SCardTransmit{any}
+off: {prefix}=> {any}
+command: {prefix}i 0000 {dump}{any}{more}
+answer: {prefix}o 0000 {dump}{any}{more}
+rest: {prefix}i {skip 1}0 {dump}{any}{more}
+rest: {prefix}o {skip 1}0 {dump}{any}{more}
 form simtrace2: commands
 both: TPDU: {bytes}
 atr: Parsed ATR: {bytes}
@@ -291,6 +298,8 @@ fn saying_of(kind: &str) -> Option<Saying> {
         b"rest" => Saying::Rest,
         b"perhaps" => Saying::Perhaps,
         b"note" => Saying::Note,
+        b"on" => Saying::On,
+        b"off" => Saying::Off,
         _ => return None,
     })
 }
@@ -339,6 +348,7 @@ fn part_of(name: &[u8], stop: Stop) -> Option<Part> {
         b"status" => Part::Status(stop),
         b"count" => Part::Count(stop),
         b"column" => Part::Bytes(Stop::Column),
+        b"dump" => Part::Bytes(Stop::Dump),
         b"colour" => Part::Any(Stop::End),
         b"row" => Part::Row,
         b"zeros" => Part::Zeros,

@@ -4,7 +4,7 @@ ghost use Rattle.trace_explain.specs.Noted.{are_status};
 ghost use Rattle.trace_explain.specs.Pairs.{status_in};
 ghost use Rattle.trace_explain.specs.Patterns.{all_of, marked_by};
 ghost use Rattle.trace_explain.specs.declared.read.log.Open.TheVariants.{Nothing};
-ghost use Rattle.trace_explain.specs.Logs.{IsBadIn, IsTooMuch, IsTwofold, Step, Takes, TakesLogLine, Took, answered, at_first, begun, behind, both, closed, command_len, continued, ended, entry_of, given_up, left_of, log_at, noted, opens, read_log, rest_in, resets, started};
+ghost use Rattle.trace_explain.specs.Logs.{IsBadIn, IsTooMuch, IsNoMemory, IsTwofold, Step, Takes, TakesLogLine, TakesOff, Took, answered, at_first, begun, behind, both, closed, command_len, continued, ended, entry_of, given_up, left_of, log_at, noted, opens, read_log, rest_in, resets, started, switched};
 
 use crate::follow::tpdu::are_status;
 use crate::instructions::instruction;
@@ -32,6 +32,8 @@ pub enum Open {
     Line(End),
     /// A dump of this end's bytes, with the number of bytes left.
     Dump(End, usize),
+    /// Nothing, and lines of bytes are notes.
+    Off,
 }
 
 /// A log: what may continue, and the last command if it has no answer yet.
@@ -88,6 +90,7 @@ impl Log {
     {
         match self.pending {
             Open::Nothing => self.take_line(rows, line, entries),
+            Open::Off => self.take_off(rows, line, entries),
             Open::Line(from) => {
                 let Some((says, marks)) = read_rest(self.alloc, rows, 0, line)? else {
                     return self.take_behind(from, rows, line, entries);
@@ -178,14 +181,48 @@ impl Log {
         let (_, text) = cut_time(line);
         let found = read_rows(self.alloc, rows.first.as_slice(), 0, text)?;
         match found {
+            Found::Row(_, Saying::Off, _) => Ok(self.switch(Open::Off, entries)?),
             Found::Row(_, Saying::Sends(from), marks) => Ok(self.take_first(from, marks, entries)?),
             Found::Row(_, Saying::Both, marks) => Ok(self.take_both(marks, entries)?),
             Found::Row(_, Saying::Reset, _) => Ok(self.reset(entries)?),
             Found::Row(_, Saying::Atr, _) => Ok(self.take_atr(entries)?),
             Found::Unread => Err(LineFault::Hex),
-            Found::Other | Found::Row(_, Saying::Rest | Saying::Perhaps | Saying::Note, _) => {
+            Found::Other
+            | Found::Row(_, Saying::Rest | Saying::Perhaps | Saying::Note | Saying::On, _) => {
                 Ok(self.note(entries)?)
             }
+        }
+    }
+
+    /// Takes a line between a row `off` and a row `on`.
+    fn take_off(
+        &mut self,
+        rows: &Rows,
+        line: &[u8],
+        entries: &mut Vec<Entry>,
+    ) -> Result<(), LineFault>
+        ensures takes { OnOk result ((step : Step)
+            × TakesOff (read_log rows.now line.now) (log_at self.old) step
+            × Took step entries.old.items entries.new.items self.new) }
+        ensures refused { IfErr result IsNoMemory }
+    {
+        let (_, text) = cut_time(line);
+        match read_rows(self.alloc, rows.first.as_slice(), 0, text)? {
+            Found::Row(_, Saying::On, _) => Ok(self.switch(Open::Nothing, entries)?),
+            Found::Row(_, Saying::Reset, _) => Ok(self.reset(entries)?),
+            Found::Row(_, Saying::Atr, _) => Ok(self.take_atr(entries)?),
+            Found::Other
+            | Found::Unread
+            | Found::Row(
+                _,
+                Saying::Sends(_)
+                | Saying::Both
+                | Saying::Rest
+                | Saying::Perhaps
+                | Saying::Note
+                | Saying::Off,
+                _,
+            ) => Ok(self.note(entries)?),
         }
     }
 
@@ -246,6 +283,15 @@ impl Log {
         push(entries, Entry::Note)
     }
 
+    /// Takes a note, from which on bytes count or not.
+    fn switch(&mut self, next: Open, entries: &mut Vec<Entry>) -> Result<(), AllocError>
+        ensures { OnOk result (Took (switched (log_at self.old) next) entries.old.items
+            entries.new.items self.new) }
+    {
+        self.pending = next;
+        push(entries, Entry::Note)
+    }
+
     /// Takes bytes of a command or an answer. They are the last ones if it is not open.
     fn take_bytes(
         &mut self,
@@ -262,7 +308,7 @@ impl Log {
         self.pending = next;
         match next {
             Open::Nothing => self.close(from, entries),
-            Open::Line(_) | Open::Dump(..) => Ok(()),
+            Open::Line(_) | Open::Dump(..) | Open::Off => Ok(()),
         }
     }
 
@@ -332,7 +378,7 @@ impl Log {
             ≡ map entry_of entries.old.items ++ ended (log_at self.old)) }
     {
         match self.pending {
-            Open::Nothing => {}
+            Open::Nothing | Open::Off => {}
             Open::Line(from) => self.close(from, entries)?,
             Open::Dump(from, _) => {
                 let bytes = self.cut();

@@ -1,6 +1,6 @@
 //! Patterns of lines: what each part marks in a line, and what follows it.
 ghost use Rattle.std.specs.Prelude.{◌≡◌, ◌≤◌, Some, None, IfOk, IfErr, OnOk, length, replicate};
-ghost use Rattle.trace_explain.specs.Patterns.{IsBadField, all_of, begun, behind, behind_field, behind_prefix, behind_row, column, ends_word, field, has_gap, is_of_prefix, marked, marked_by, marks_in, number_in, row, row_in, unmarked, with_bytes};
+ghost use Rattle.trace_explain.specs.Patterns.{IsBadField, all_of, begun, behind, behind_field, behind_prefix, behind_row, column, dump, ends_word, field, has_gap, is_of_prefix, marked, marked_by, marks_in, number_in, row, row_in, unmarked, with_bytes};
 
 use crate::read::digits::spelled;
 use crate::read::time::{behind_spaces, behind_time, place_of};
@@ -22,6 +22,8 @@ pub enum Stop {
     Before(u8),
     /// Before two spaces, as between two columns.
     Column,
+    /// The same, or behind 16 bytes with a space behind each.
+    Dump,
 }
 
 /// One part of a pattern: a character, a field, or something else.
@@ -250,6 +252,7 @@ fn field(stop: Stop, line: &[u8]) -> &[u8]
         Stop::End => line,
         Stop::Before(byte) => &line[..place_of(byte, line)],
         Stop::Column => &line[..column(line)],
+        Stop::Dump => &line[..dump(line)],
     }
 }
 
@@ -261,6 +264,7 @@ fn behind_field(stop: Stop, line: &[u8]) -> &[u8]
         Stop::End => &line[line.len()..],
         Stop::Before(byte) => &line[place_of(byte, line)..],
         Stop::Column => &line[column(line)..],
+        Stop::Dump => &line[dump(line)..],
     }
 }
 
@@ -275,6 +279,14 @@ fn column(line: &[u8]) -> usize
         }
     }
     line.len()
+}
+
+/// The same, at most the size of 16 bytes with a space behind each.
+fn dump(line: &[u8]) -> usize
+    ensures value { result ≡ dump line.now }
+    ensures within { result ≤ length line.now }
+{
+    column(&line[..line.len().min(3 * ROW)])
 }
 
 /// Whether a word ends before these bytes: the first is not a letter or digit.

@@ -5,6 +5,7 @@ ghost use Rattle.trace_explain.specs.Lines.{read_on};
 ghost use Rattle.trace_explain.specs.Turns.{sender};
 
 use crate::read::entry::Source;
+use crate::read::files::FileList;
 use crate::read::form_row::Rows;
 use crate::read::forms::{Forms, LOG};
 use crate::read::time::are_decimal;
@@ -63,6 +64,7 @@ impl Options<'_> {
             ways: self.ways,
             of_tpdus,
             is_of_blocks: self.is_of_blocks,
+            files: FileList::none(alloc),
         })
     }
 }
@@ -84,6 +86,8 @@ pub struct Reading {
     pub of_tpdus: bool,
     /// Whether the trace begins among blocks of T=1.
     pub is_of_blocks: bool,
+    /// The files of the trace.
+    pub files: FileList,
 }
 
 impl Reading {

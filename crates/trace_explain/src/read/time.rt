@@ -1,6 +1,6 @@
 //! The time before the sign of a line, or before digits without one.
 ghost use Rattle.std.specs.Prelude.{◌≡◌, ◌≤◌, ◌+◌, length, true};
-ghost use Rattle.trace_explain.specs.Times.{are_decimal, are_of_time, are_of_zone, begins_dash, behind_clock, behind_label, behind_mark, behind_spaces, behind_time, behind_time_of, behind_word, bracket_len, dated_len, is_date, is_labelled, is_stamp, is_unit, is_zoned, place_of, shift_len, stamp_len, time_in, time_len};
+ghost use Rattle.trace_explain.specs.Times.{are_decimal, are_of_time, are_of_zone, begins_dash, behind_clock, behind_label, behind_mark, behind_spaces, behind_tag, behind_time, behind_time_of, behind_word, bracket_len, dated_len, ends_tag, is_date, is_labelled, is_month, is_stamp, is_unit, is_zoned, place_of, shift_len, stamp_len, time_in, time_len};
 
 /// Returns the time that a line begins with, and what follows it and its spaces. Without a time the
 /// first is empty, and the second is the whole line. A byte order mark before it is skipped.
@@ -28,12 +28,13 @@ pub fn behind_time(line: &[u8]) -> &[u8]
     behind_label(behind_spaces(&line[size..]))
 }
 
-/// Returns what follows the labels `- WORD - ` or `- WORD - WORD - ` of Python's `logging`.
+/// Returns what follows the labels `- WORD - ` or `- WORD - WORD - ` of Python's `logging`, or the
+/// host and program of syslog.
 fn behind_label(line: &[u8]) -> &[u8]
     ensures { result.now ≡ behind_label line.now }
 {
     if !is_labelled(line) {
-        return line;
+        return behind_tag(line);
     }
     let next = behind_word(line);
     if is_labelled(next) {
@@ -41,6 +42,27 @@ fn behind_label(line: &[u8]) -> &[u8]
     } else {
         &next[2..]
     }
+}
+
+/// Returns what follows a host and a program with its number: `host program[123]: `.
+fn behind_tag(line: &[u8]) -> &[u8]
+    ensures { result.now ≡ behind_tag line.now }
+{
+    let tag = behind_spaces(&line[place_of(b' ', line)..]);
+    let size = place_of(b']', tag);
+    if size < place_of(b' ', tag) && ends_tag(&tag[size..]) {
+        behind_spaces(&tag[size + 2..])
+    } else {
+        line
+    }
+}
+
+/// Whether the number of a program ends here.
+fn ends_tag(line: &[u8]) -> bool
+    ensures value { result ≡ ends_tag line.now }
+    ensures within { result ≡ true → 3 ≤ length line.now }
+{
+    matches!(line, [b']', b':', b' ', ..])
 }
 
 /// Whether the line begins with a dash, a word and another dash, with a space after each.
@@ -109,7 +131,8 @@ fn time_len(line: &[u8]) -> usize
     match line {
         [b'[', rest @ ..] => bracket_len(rest),
         [b'+', rest @ ..] => shift_len(rest),
-        _ if is_date(line) => dated_len(&line[11..]),
+        _ if is_date(line) => dated_len(11, &line[11..]),
+        _ if is_month(line) => dated_len(7, &line[7..]),
         _ => stamp_len(line),
     }
 }
@@ -138,14 +161,38 @@ fn is_date(line: &[u8]) -> bool
     )
 }
 
-/// The same for a date and what follows it, a time of day and perhaps a zone.
-fn dated_len(time: &[u8]) -> usize
-    ensures value { result ≡ dated_len time.now }
-    ensures within { result ≤ length time.now + 11 }
+/// Whether a date of syslog precedes a time of day: `Nov 28 12:`.
+fn is_month(line: &[u8]) -> bool
+    ensures value { result ≡ is_month line.now }
+    ensures within { result ≡ true → 7 ≤ length line.now }
+{
+    matches!(
+        line,
+        [
+            b'A'..=b'Z',
+            b'a'..=b'z',
+            b'a'..=b'z',
+            b' ',
+            b' ' | b'0'..=b'9',
+            b'0'..=b'9',
+            b' ',
+            b'0'..=b'9',
+            b'0'..=b'9',
+            b':',
+            ..
+        ]
+    )
+}
+
+/// The same for a date of this length and what follows it, a time of day and perhaps a zone.
+fn dated_len(date: usize, time: &[u8]) -> usize
+    requires date { date ≤ 11 }
+    ensures value { result ≡ dated_len date time.now }
+    ensures within { result ≤ length time.now + date }
 {
     let size = place_of(b' ', time);
     if is_zoned(&time[..size]) {
-        11 + size
+        date + size
     } else {
         0
     }

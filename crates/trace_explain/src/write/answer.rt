@@ -7,19 +7,23 @@ use crate::describe::mask::Mask;
 use crate::follow::opening::{is_direct, is_short};
 use crate::follow::preface::Preface;
 use crate::write::ascii::push_digits;
+use crate::write::counts::Counts;
 use crate::write::layout::{Anchor, Kind, Side, Topic};
 use crate::write::page::Page;
 use crate::write::pps::push_characters;
 use crate::write::sheet::Sheet;
 use atr_core::{Atr, AtrFault, Category, Fi, di};
 
-/// Adds the box of an answer: whole, cut off or invalid. A mask that hides anything hides the
-/// characters of one that is not whole, since they may be the end of some data.
-pub fn tell_answer(mask: &Mask, preface: &Preface, page: &mut Page) {
+/// Adds the box of an answer, and counts one that is cut off or invalid. A mask that hides anything
+/// hides the characters of one that is not whole, since they may be the end of some data.
+pub fn tell_answer(mask: &Mask, preface: &Preface, counts: &mut Counts, page: &mut Page) {
     let bytes = preface.answer.as_slice();
     let read = Atr::read(bytes);
-    let kind = kind_of(&read);
-    page.open(kind, Anchor::None, Topic::Answer, preface.line);
+    let (kind, anchor) = match &read {
+        Ok(_) => (Kind::Well, Anchor::None),
+        Err(fault) => (kind_of(fault), counts.fault(preface.line)),
+    };
+    page.open(kind, anchor, Topic::Answer, preface.line);
     push_characters(&mut page.lines, mask, bytes, read.is_ok());
     page.row(Side::Card, "characters");
     if !is_direct(preface.turned) {
@@ -37,12 +41,12 @@ pub fn tell_answer(mask: &Mask, preface: &Preface, page: &mut Page) {
     page.close();
 }
 
-/// The kind of the box: whether the answer is whole, cut off or invalid.
-fn kind_of(read: &Result<Atr, AtrFault>) -> Kind {
-    match read {
-        Ok(_) => Kind::Well,
-        Err(fault) if is_short(fault.reason) => Kind::CutOff,
-        Err(_) => Kind::Error,
+/// The kind of the box of an answer that is cut off or invalid.
+fn kind_of(fault: &AtrFault) -> Kind {
+    if is_short(fault.reason) {
+        Kind::CutOff
+    } else {
+        Kind::Error
     }
 }
 

@@ -17,7 +17,7 @@ use std::alloc::AllocError;
 
 /// Adds what precedes a TPDU in its command, which may end one and begin another. It began in this
 /// line.
-pub fn tell_begin(command: &mut Command, links: Links, line: u64, page: &mut Page) {
+pub fn tell_begin(command: &mut Command, links: Links, page: &mut Page) {
     if links.joins {
         page.separate();
         return;
@@ -28,7 +28,7 @@ pub fn tell_begin(command: &mut Command, links: Links, line: u64, page: &mut Pag
         return;
     }
     if page.is_json() {
-        page.open(Kind::Well, Anchor::None, Topic::Command, line);
+        page.open(Kind::Well, Anchor::None, Topic::Command, page.began);
         page.number("number", links.number);
     }
     page.begin_list();

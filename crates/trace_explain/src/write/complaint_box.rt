@@ -6,12 +6,12 @@ use crate::follow::pair::PairFault;
 use crate::write::layout::{Anchor, Kind, Side, Topic};
 use crate::write::page::Page;
 
-/// Adds the box of the protocol error with this number, an unexpected byte.
-pub fn tell_complaint(number: u64, complaint: Complaint, page: &mut Page) {
-    let anchor = Anchor::Error(number);
+/// Adds the box of a protocol error with this name, an unexpected byte.
+pub fn tell_complaint(anchor: Anchor, complaint: Complaint, page: &mut Page) {
     page.open(Kind::Error, anchor, Topic::Byte, complaint.line);
     let character = complaint.place.saturating_add(1);
-    writeln!(page.lines, "line {}, character {character}", complaint.line);
+    page.push_place(complaint.line);
+    writeln!(page.lines, ", character {character}");
     page.row(Side::Nobody, "place");
     writeln!(page.lines, "{}", expected_text(complaint.expected));
     page.row(Side::Nobody, "expected");
@@ -28,19 +28,17 @@ pub fn tell_complaint(number: u64, complaint: Complaint, page: &mut Page) {
     page.close();
 }
 
-/// Adds the box of the protocol error with this number, a command from this line with its answer,
-/// if any. If the mask hides anything, it hides both.
+/// Adds the box of a protocol error with this name, a command with its answer, if any. If the mask
+/// hides anything, it hides both.
 pub fn tell_bad_pair(
-    number: u64,
-    line: u64,
+    anchor: Anchor,
     why: PairFault,
     command: &[u8],
     answer: Option<&[u8]>,
     mask: &Mask,
     page: &mut Page,
 ) {
-    let anchor = Anchor::Error(number);
-    page.open(Kind::Error, anchor, Topic::Pair, line);
+    page.open(Kind::Error, anchor, Topic::Pair, page.began);
     writeln!(page.lines, "{why}");
     page.row(Side::Nobody, "fault");
     mask.push_unknown(&mut page.lines, command);

@@ -6,13 +6,13 @@ use crate::follow::block_row::BlockRow;
 use crate::follow::story::{header_of, status_of};
 use crate::follow::tpdu::Tpdu;
 use crate::instructions::instruction;
-use crate::write::layout::Side;
+use crate::write::layout::{Anchor, Side};
 use crate::write::page::Page;
 use std::alloc::{AllocError, Global};
 use std::collections::BTreeMap;
 
-/// How many protocol errors have links on a page.
-const ERROR_LINKS: usize = 4;
+/// How many protocol errors and answers at fault have links on a page.
+const FAULT_LINKS: usize = 4;
 
 /// How many statuses have links on a page, to two TPDUs each.
 const STATUS_LINKS: usize = 8;
@@ -46,8 +46,12 @@ pub struct Counts {
     /// Blocks at T=1, as `BLOCK_WORDS` names them.
     blocks: [u64; 4],
     complaints: u64,
-    /// The lines of the first protocol errors.
-    error_lines: Vec<u64>,
+    /// Protocol errors, and answers to reset at fault.
+    faults: u64,
+    /// The lines of the first of them.
+    fault_lines: [u64; FAULT_LINKS],
+    /// The longest time of a TPDU, in microseconds.
+    most_us: u64,
 }
 
 impl Counts {
@@ -63,7 +67,9 @@ impl Counts {
             statuses: BTreeMap::new(alloc),
             blocks: [0; 4],
             complaints: 0,
-            error_lines: Vec::new(alloc),
+            faults: 0,
+            fault_lines: [0; FAULT_LINKS],
+            most_us: 0,
         }
     }
 
@@ -77,14 +83,25 @@ impl Counts {
         self.tpdus > self.cut_off
     }
 
-    /// Counts a protocol error in this line. Returns `AllocError` if memory ran out: the error is
-    /// counted, and its line may be missing.
-    pub fn complain(&mut self, line: u64) -> Result<(), AllocError> {
+    /// Counts a protocol error in this line. Returns the name of its box.
+    pub fn complain(&mut self, line: u64) -> Anchor {
         self.complaints = self.complaints.saturating_add(1);
-        if self.error_lines.len() < ERROR_LINKS {
-            self.error_lines.push(line)?;
+        self.fault(line)
+    }
+
+    /// Counts an answer to reset at fault, or a protocol error. Returns the name of its box.
+    pub fn fault(&mut self, line: u64) -> Anchor {
+        let others = self.fault_lines.iter_mut().skip(self.faults as usize);
+        for place in others.take(1) {
+            *place = line;
         }
-        Ok(())
+        self.faults = self.faults.saturating_add(1);
+        Anchor::Error(self.faults)
+    }
+
+    /// Notes the time of a TPDU, in microseconds.
+    pub fn take_time(&mut self, micros: u64) {
+        self.most_us = self.most_us.max(micros);
     }
 
     /// Counts a TPDU, whose header may be hidden. Returns `AllocError` if memory ran out: the TPDU
@@ -149,6 +166,7 @@ impl Counts {
             page.number("tpdus", self.tpdus);
             page.number("cut_off", self.cut_off);
             page.number("errors", self.complaints);
+            page.number("atr_faults", self.faults.saturating_sub(self.complaints));
             if let Some(micros) = clock.whole_us() {
                 page.number("time_us", micros);
             }
@@ -168,11 +186,16 @@ impl Counts {
         page.end_counts("statuses", "none other than 9000\n");
         if !page.is_json() {
             writeln!(page.lines, "errors: {}", self.complaints);
+            if self.faults > self.complaints {
+                let answers = self.faults.saturating_sub(self.complaints);
+                writeln!(page.lines, "answers to reset at fault: {answers}");
+            }
             page.row(Side::Nobody, "protocol");
             clock.push_whole(&mut page.lines);
+            page.push_most(self.most_us);
             page.row(Side::Nobody, "time");
         }
-        page.link_errors(self.error_lines.as_slice(), self.complaints);
+        page.link_faults(self.fault_lines.as_slice(), self.faults);
         self.link_statuses(page);
         page.close_block();
     }

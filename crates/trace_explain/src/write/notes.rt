@@ -60,9 +60,12 @@ pub fn tell_passed(passed: Option<Passed>, page: &mut Page) {
         return;
     };
     let place = place.saturating_add(1);
-    write!(page.lines, "skipped: line {line} from character {place}");
+    page.lines.push_str("skipped: ");
+    page.push_place(line);
+    write!(page.lines, " from character {place}");
     if last > line {
-        write!(page.lines, ", to line {last}");
+        page.lines.push_str(", to ");
+        page.push_place(last);
     }
     page.note_line("\n");
 }
@@ -101,7 +104,7 @@ fn push_note(text: &mut Sheet, note: &[u8]) {
 }
 
 /// Adds the bytes of a note: printable ASCII as it is, others as `\xHH`.
-fn push_printable(text: &mut Sheet, bytes: &[u8]) {
+pub fn push_printable(text: &mut Sheet, bytes: &[u8]) {
     for &byte in bytes {
         match byte {
             b' '..=b'~' => text.push(char::from(byte)),

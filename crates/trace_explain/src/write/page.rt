@@ -3,13 +3,16 @@ ghost use Rattle.std.specs.Prelude.{◌≡◌, true};
 ghost use Rattle.trace_explain.specs.Sheets.{Joins};
 ghost use Rattle.trace_explain.specs.Words.{has_own, is_own};
 
+use crate::describe::clock::push_duration;
+use crate::read::files::FileList;
 use crate::write::layout::{Anchor, Kind, Layout, Medium, Side, Topic};
+use crate::write::notes::push_printable;
 use crate::write::row::ROW_INDENT;
 use crate::write::script::SCRIPT;
 use crate::write::sheet::Sheet;
 use crate::write::style::STYLE;
 use crate::write::words::{Form, Piece, push_pieces};
-use std::alloc::Global;
+use std::alloc::{AllocError, Global};
 
 /// The most columns of a line of text.
 const COLUMNS: usize = 100;
@@ -25,8 +28,12 @@ const PART_SIZE: u64 = 1_000;
 #[derive(Drop)]
 pub struct Page {
     layout: Layout,
+    /// The files of the trace so far.
+    files: FileList,
     /// The current line of the trace.
-    pub line: u64,
+    line: u64,
+    /// The line of the trace where the current TPDU began.
+    pub began: u64,
     /// Whether a field of the current object of JSON is hidden.
     is_masked: bool,
     /// Whether objects of JSON are those of a list.
@@ -49,7 +56,9 @@ impl Page {
     pub fn new(alloc: Global, layout: Layout) -> Page {
         Page {
             layout,
+            files: FileList::none(alloc),
             line: 0,
+            began: 0,
             is_masked: false,
             is_list: false,
             is_first: true,
@@ -111,13 +120,22 @@ impl Page {
         }
     }
 
-    /// Adds the start of a page of HTML. Text has none.
-    pub fn begin(&mut self) {
-        if matches!(self.layout.medium, Medium::Html) {
+    /// Whether it is a page of HTML.
+    pub fn is_html(&self) -> bool {
+        matches!(self.layout.medium, Medium::Html)
+    }
+
+    /// Adds the start of a page of HTML with this title. Text has none.
+    pub fn begin(&mut self, title: &str) {
+        if self.is_html() {
+            push_printable(&mut self.text, title.as_bytes());
+            self.add(Form::Head);
             self.text.push_str(STYLE);
             self.add(Form::Style);
             self.text.push_str(SCRIPT);
             self.add(Form::Script);
+            push_printable(&mut self.text, title.as_bytes());
+            self.add(Form::Heading);
         }
     }
 
@@ -138,13 +156,39 @@ impl Page {
         }
     }
 
+    /// Begins this line of the trace, of these files. Returns `AllocError` if memory ran out.
+    pub fn enter(&mut self, files: &FileList, line: u64) -> Result<(), AllocError> {
+        self.line = line;
+        self.files.extend(files, line)
+    }
+
+    /// Notes that a TPDU begins in the current line, and returns its number in its file.
+    pub fn begin_tpdu(&mut self) -> u64 {
+        self.began = self.line;
+        self.files.number(self.line)
+    }
+
+    /// Adds the name of the file where the current TPDU began, if any, to the lines.
+    pub fn push_file(&mut self) {
+        let _ = push_file(&mut self.lines, &self.files, self.began);
+    }
+
+    /// Adds a line of the trace, after the name of its file, if any, to the lines.
+    pub fn push_place(&mut self, line: u64) {
+        push_place(&mut self.lines, &self.files, line);
+    }
+
     /// Opens a box about this.
     pub fn open(&mut self, kind: Kind, anchor: Anchor, topic: Topic, line: u64) {
         if self.prints() {
             if self.is_list {
                 self.add(Form::Comma);
             }
-            self.add(Form::Box(kind, anchor, topic, line));
+            let number = self.files.number(line);
+            self.add(Form::Box(kind, anchor, topic, number));
+            if push_file(&mut self.text, &self.files, line) {
+                self.add(Form::Row(Side::Nobody, "file"));
+            }
         }
     }
 
@@ -336,16 +380,37 @@ impl Page {
         self.add(Form::BlockEnd);
     }
 
-    /// Adds links to the first of `all` protocol errors, and how many are left. Text has no links.
-    pub fn link_errors(&mut self, lines: &[u64], all: u64) {
-        let mut number: u64 = 0;
-        self.begin_links("protocol errors in", lines.is_empty());
-        for line in lines {
-            number = number.saturating_add(1);
-            write!(self.text, "line {line}");
-            self.add(Form::Link(Anchor::Error(number)));
+    /// Adds the scale of the bars on a page to the lines, by the longest time of a TPDU in
+    /// microseconds; nothing if no time is known.
+    pub fn push_most(&mut self, micros: u64) {
+        if self.is_html() && micros > 0 {
+            self.add(Form::Most(micros));
+            self.lines.push_str("the longest bar: ");
+            push_duration(&mut self.lines, micros.saturating_mul(1_000));
+            self.lines.push_str("; its solid part is the card's\n");
         }
-        self.end_links(number, all);
+    }
+
+    /// Adds links to the first of `all` faults, which are in these lines, and how many are left.
+    /// Text has no links.
+    pub fn link_faults(&mut self, lines: &[u64], all: u64) {
+        if all == 0 {
+            return;
+        }
+        self.text.push_str("faults in");
+        self.add(Form::Links);
+        let mut number: u64 = 0;
+        for line in lines {
+            if number < all {
+                number = number.saturating_add(1);
+                push_place(&mut self.text, &self.files, *line);
+                self.add(Form::Link(Anchor::Error(number)));
+            }
+        }
+        if all > number {
+            write!(self.text, " and {} more", all.saturating_sub(number));
+        }
+        self.add(Form::More);
     }
 
     /// Adds links to the first of `all` TPDUs with this status, and to the next one, by their
@@ -378,25 +443,6 @@ impl Page {
             let word = if statuses == 1 { "status" } else { "statuses" };
             write!(self.text, "{statuses} more {word}");
             self.add(Form::Links);
-            self.add(Form::More);
-        }
-    }
-
-    /// Adds the start of a paragraph of links, unless it has none.
-    fn begin_links(&mut self, words: &str, is_empty: bool) {
-        if !is_empty {
-            self.text.push_str(words);
-            self.add(Form::Links);
-        }
-    }
-
-    /// Adds how many of `all` have no link, and the end of the paragraph, unless it has no link.
-    fn end_links(&mut self, linked: u64, all: u64) {
-        if linked > 0 {
-            let more = all.saturating_sub(linked);
-            if more > 0 {
-                write!(self.text, " and {more} more");
-            }
             self.add(Form::More);
         }
     }
@@ -456,6 +502,26 @@ fn push_wrapped(out: &mut Sheet, words: &str, begins: usize, wrap: &str, indent:
         is_first = false;
     }
     column
+}
+
+/// Adds the name of the file of a line, after LF. Returns whether it has one.
+fn push_file(text: &mut Sheet, files: &FileList, line: u64) -> bool {
+    match files.at(line).0 {
+        Some(name) => {
+            write!(text, "\n{name}");
+            true
+        }
+        None => false,
+    }
+}
+
+/// Adds a line, after the name of its file, if any.
+fn push_place(text: &mut Sheet, files: &FileList, line: u64) {
+    let (name, number) = files.at(line);
+    if let Some(name) = name {
+        write!(text, "{name} ");
+    }
+    write!(text, "line {number}");
 }
 
 /// The number of decimal digits of a number.

@@ -6,22 +6,35 @@ use crate::follow::block_row::BlockRows;
 use crate::follow::opening::{Role, Stage};
 use crate::follow::preface::Preface;
 use crate::write::answer::tell_answer;
+use crate::write::counts::Counts;
 use crate::write::layout::{Anchor, Kind, Side, Topic};
 use crate::write::page::Page;
 use crate::write::pps::tell_pps;
 use crate::write::sheet::Sheet;
 
 /// Adds the box of the part that ends before a character of this role, if any.
-pub fn tell_before(role: Role, preface: &Preface, mask: &Mask, page: &mut Page) {
+pub fn tell_before(
+    role: Role,
+    preface: &Preface,
+    mask: &Mask,
+    counts: &mut Counts,
+    page: &mut Page,
+) {
     if !role.continues() {
-        tell_part(preface.stage, preface, mask, page);
+        tell_part(preface, mask, counts, page);
     }
 }
 
 /// Adds the box of the part that ended with a character of this role, if any.
-pub fn tell_after(role: Role, preface: &Preface, mask: &Mask, page: &mut Page) {
+pub fn tell_after(
+    role: Role,
+    preface: &Preface,
+    mask: &Mask,
+    counts: &mut Counts,
+    page: &mut Page,
+) {
     match (role, preface.stage) {
-        (Role::Answer, Stage::Ready | Stage::Astray) => tell_answer(mask, preface, page),
+        (Role::Answer, Stage::Ready | Stage::Astray) => tell_answer(mask, preface, counts, page),
         (Role::Response, Stage::Ready) => tell_pps(mask, preface, page),
         _ => {}
     }
@@ -63,10 +76,10 @@ fn push_carried(text: &mut Sheet, bytes: &[u8], mask: &Mask) {
     }
 }
 
-/// Adds the box of the part that is in progress in this stage, if any.
-pub fn tell_part(stage: Stage, preface: &Preface, mask: &Mask, page: &mut Page) {
-    match stage {
-        Stage::Answer => tell_answer(mask, preface, page),
+/// Adds the box of the part that is in progress, if any.
+pub fn tell_part(preface: &Preface, mask: &Mask, counts: &mut Counts, page: &mut Page) {
+    match preface.stage {
+        Stage::Answer => tell_answer(mask, preface, counts, page),
         Stage::Request | Stage::Asked | Stage::Response => tell_pps(mask, preface, page),
         Stage::Blocks => tell_blocks(mask, preface, page),
         Stage::Ready | Stage::Astray | Stage::Begun => {}

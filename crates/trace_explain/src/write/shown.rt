@@ -12,18 +12,11 @@ use crate::write::sheet::Sheet;
 /// What precedes each further line of a title in text.
 const TITLE_INDENT: &str = "    ";
 
-/// Adds the title of a TPDU, with these words after its number. If memory ran out for them, it has
-/// for the sheet.
-pub fn push_title(
-    sheet: &mut Sheet,
-    kind: Kind,
-    number: u64,
-    words: &Sheet,
-    status: &[u8],
-    line: u64,
-)
+/// Adds the title of a TPDU up to its line, with these words after its number. If memory ran out
+/// for them, it has for the sheet.
+pub fn push_title(sheet: &mut Sheet, kind: Kind, number: u64, words: &Sheet, status: &[u8])
     ensures { (text : List ℕ) → HasText words.now text →
-        Adds sheet.old (title_text sheet.old.layout.medium kind number text status.now line)
+        Adds sheet.old (title_text sheet.old.layout.medium kind number text status.now)
         sheet.new }
 {
     if words.is_cut() {
@@ -34,7 +27,6 @@ pub fn push_title(
         push_number(sheet, medium, number);
         push_letters(sheet, medium, TITLE_INDENT, words.as_str().as_bytes());
         push_mark(sheet, kind, status);
-        push_line(sheet, line);
     }
 }
 

@@ -33,7 +33,7 @@ details { margin: .35rem 0; background: var(--box); border: 1px solid var(--line
   content-visibility: auto; contain-intrinsic-size: auto 2.3rem; }
 details[open] { padding-bottom: .6rem; contain-intrinsic-size: auto 11rem; }
 details.part { background: none; border: 0; content-visibility: visible; }
-details.part:not([open]) > summary { background: var(--box); border: 1px solid var(--line);
+.part:not([open]) summary { background: var(--box); border: 1px solid var(--line);
   border-radius: .4rem; }
 details.cut { border-style: dashed; }
 details.error { border-color: var(--bad); }
@@ -41,8 +41,17 @@ details.error summary, summary .failed { color: var(--bad); }
 summary .well { color: var(--from); }
 summary .warning { color: var(--warn); }
 summary b { font: 600 13px/1.4 ui-monospace, monospace; }
-summary { padding: .4rem .8rem; cursor: pointer; font-weight: 600; overflow-wrap: anywhere; }
-summary small { color: var(--soft); font-weight: 400; }
+summary { position: relative; padding: .4rem .8rem; cursor: pointer; font-weight: 600;
+  overflow-wrap: anywhere; }
+summary:focus-visible { outline: 2px solid var(--to); outline-offset: -2px; }
+summary span { font: 13px/1.4 ui-monospace, monospace; }
+:is(.well, .warning, .failed, .cut)[open] span { display: none; }
+summary i { position: absolute; left: .4rem; bottom: 0; height: .25rem;
+  width: calc((100% - .8rem) * var(--all) / var(--most));
+  background: repeating-linear-gradient(90deg, var(--to) 0 2px, transparent 2px 5px); }
+summary i::before { content: \"\"; display: block; height: 100%; background: var(--from);
+  width: calc(100% * var(--card) / var(--all)); }
+summary small { color: var(--soft); font-weight: 400; white-space: nowrap; }
 .m { position: relative; margin: .15rem 1.6rem; padding: .2rem .8rem .5rem; }
 .m::before, .m::after { content: \"\"; position: absolute; top: -.2rem; bottom: -.2rem;
   border-left: 2px solid var(--line); }
@@ -72,23 +81,25 @@ pre.note { margin: .4rem 0; padding: 0 .8rem; color: var(--soft);
   details::details-content { content-visibility: visible; } }
 ";
 
-/// The page before its style.
-pub const STYLE_BEGIN: &str = "\
+/// The page before its title.
+pub const HEAD: &str = "\
 <!DOCTYPE html>
 <html lang=\"en\">
 <head>
 <meta charset=\"utf-8\">
 <meta name=\"viewport\" content=\"width=device-width, initial-scale=1\">
-<title>A trace, explained</title>
-<style>
-";
+<title>";
 
-/// The page from the end of its script to its first box or note.
+/// The page from the end of its script to its heading.
 pub const HEAD_END: &str = "\
 </script>
 </head>
 <body>
 <main>
-<h1>A trace, explained</h1>
+";
+
+/// The page from its heading to its first box or note.
+pub const HEADING_END: &str = "\
+</h1>
 <div class=\"ends\"><span>Terminal</span><span>Card</span></div><div>
 ";

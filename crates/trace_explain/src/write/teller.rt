@@ -22,7 +22,10 @@ use crate::follow::pair::{PairFault, tpdu_of_command, tpdu_of_pair};
 use crate::follow::preface::Preface;
 use crate::follow::story::Story;
 use crate::follow::tpdu::Tpdu;
+use crate::read::digits::has_bytes;
 use crate::read::entry::Entry;
+use crate::read::files::FileList;
+use crate::read::time::cut_time;
 use crate::write::command_box::{tell_begin, tell_end, tell_next};
 use crate::write::complaint_box::{tell_bad_pair, tell_complaint};
 use crate::write::counts::Counts;
@@ -44,7 +47,7 @@ pub struct Teller {
     pub mask: Mask,
     /// The current line.
     line: u64,
-    /// The line where the current TPDU began.
+    /// The line of its file where the current TPDU began.
     began: u64,
     /// The last line whose characters were shown as before a header.
     strays: u64,
@@ -62,6 +65,8 @@ pub struct Teller {
     pub first_bad: Option<(u64, PairFault)>,
     /// The first note, and its line.
     pub first_note: Option<(u64, Excerpt)>,
+    /// The same of the first note with bytes.
+    pub first_bytes: Option<(u64, Excerpt)>,
     /// Whether an answer to reset or a PPS request or response was whole.
     has_opening: bool,
     /// The counts.
@@ -73,8 +78,8 @@ pub struct Teller {
 }
 
 impl Teller {
-    /// A teller before the first line.
-    pub fn new(alloc: Global, layout: Layout, mask: Mask) -> Teller
+    /// A teller before the first line. A page has this title.
+    pub fn new(alloc: Global, layout: Layout, title: &str, mask: Mask) -> Teller
         ensures writes { result.keeping.is_on ≡ false }
         ensures mask { result.mask ≡ mask }
         ensures number { result.story.number ≡ 0 }
@@ -82,7 +87,7 @@ impl Teller {
         ensures text { string_bytes result.output.sheet.text ≡ [] }
     {
         let mut output = Output::new(alloc, layout);
-        output.page.begin();
+        output.page.begin(title);
         Teller {
             alloc,
             mask,
@@ -96,6 +101,7 @@ impl Teller {
             clock: Clock::new(alloc),
             first_bad: None,
             first_note: None,
+            first_bytes: None,
             has_opening: false,
             counts: Counts::new(alloc),
             keeping: Keeping {
@@ -106,13 +112,13 @@ impl Teller {
         }
     }
 
-    /// Begins this line, with its time. The time is empty if the line has none. Returns
-    /// `AllocError` if memory ran out: drop the teller.
-    pub fn pass(&mut self, line: u64, time: &[u8]) -> Result<(), AllocError>
+    /// Begins this line of these files, with its time. The time is empty if the line has none.
+    /// Returns `AllocError` if memory ran out: drop the teller.
+    pub fn pass(&mut self, line: u64, files: &FileList, time: &[u8]) -> Result<(), AllocError>
         ensures { StaysWritten self.old self.new }
     {
         self.line = line;
-        self.output.page.line = line;
+        self.output.page.enter(files, line)?;
         self.clock.pass(time)
     }
 
@@ -134,24 +140,26 @@ impl Teller {
         ensures boxes { OnOk result (AddsBoxes [] self.old self.new) }
     {
         let role = preface.role_of(from, byte);
-        self.tell_before(role, preface, rest);
+        self.tell_before(from == End::Card, role, preface, rest);
         preface.take(role, byte, self.line)?;
         if role.is_dialogue() {
             return Ok(false);
         }
         self.is_led = true;
         self.has_opening |= matches!(preface.stage, Stage::Ready | Stage::Asked);
-        tell_after(role, preface, &self.mask, &mut self.output.page);
+        let (mask, counts) = (&self.mask, &mut self.counts);
+        tell_after(role, preface, mask, counts, &mut self.output.page);
         self.output.outcome()?;
         Ok(true)
     }
 
     /// Notes the time, and writes what ends before a character of this role.
-    fn tell_before(&mut self, role: Role, preface: &Preface, rest: &[u8])
+    fn tell_before(&mut self, is_card: bool, role: Role, preface: &Preface, rest: &[u8])
         ensures { StaysWritten self.old self.new }
     {
-        self.clock.count();
-        tell_before(role, preface, &self.mask, &mut self.output.page);
+        self.clock.count(is_card);
+        let (mask, counts) = (&self.mask, &mut self.counts);
+        tell_before(role, preface, mask, counts, &mut self.output.page);
         if role.is_stray() && self.strays != self.line {
             self.strays = self.line;
             let what = "before a header, from the card:\n";
@@ -233,7 +241,7 @@ impl Teller {
             (reports_with role (opening_of preface.new).blocks) events before listener.new
             self.old self.new) }
     {
-        self.lead_to_blocks(preface);
+        self.lead_to_blocks(preface, role == Role::Block(End::Card));
         preface.take(role, byte, self.line)?;
         match &mut preface.blocks {
             Some(blocks) => self.tell_blocks(blocks, listener),
@@ -242,11 +250,11 @@ impl Teller {
     }
 
     /// Notes the time, and writes what ends before the first block.
-    fn lead_to_blocks(&mut self, preface: &Preface)
+    fn lead_to_blocks(&mut self, preface: &Preface, is_card: bool)
         ensures { StaysWritten self.old self.new }
     {
         self.is_led = true;
-        self.clock.count();
+        self.clock.count(is_card);
         if preface.blocks.is_none() {
             self.tell_part(preface);
         }
@@ -337,7 +345,7 @@ impl Teller {
         ensures { StaysWritten self.old self.new }
     {
         if begins {
-            self.began = self.line;
+            self.began = self.output.page.begin_tpdu();
             self.clock.begin();
         }
     }
@@ -358,6 +366,7 @@ impl Teller {
     {
         let is_hidden = self.mask.hides_header(tpdu.is_doubtful());
         self.counts.take(tpdu, is_hidden)?;
+        self.counts.take_time(self.clock.took_us().0);
         let links = self.story.tell(tpdu)?.shown(is_hidden);
         self.tell_in_command(tpdu, links, is_hidden)
     }
@@ -375,7 +384,7 @@ impl Teller {
     {
         let joins = self.command.continues_with(links.link);
         let links = Links { joins, ..links };
-        tell_begin(&mut self.command, links, self.began, &mut self.output.page);
+        tell_begin(&mut self.command, links, &mut self.output.page);
         self.tell(tpdu, links)?;
         let (mask, page) = (&self.mask, &mut self.output.page);
         tell_next(&mut self.command, tpdu, links, is_hidden, mask, page)
@@ -460,8 +469,7 @@ impl Teller {
         {
             self.counts.take_block(part);
         }
-        let stage = preface.stage;
-        tell_part(stage, preface, &self.mask, &mut self.output.page);
+        tell_part(preface, &self.mask, &mut self.counts, &mut self.output.page);
     }
 
     /// Counts an unexpected byte, and writes what it cuts off and its box. A response ends, and
@@ -480,9 +488,8 @@ impl Teller {
         self.cut_off(listener)?;
         tell_end(&mut self.command, &mut self.output.page);
         self.story.lose_some();
-        self.counts.complain(complaint.line)?;
-        let number = self.counts.complaints();
-        tell_complaint(number, complaint, &mut self.output.page);
+        let anchor = self.counts.complain(complaint.line);
+        tell_complaint(anchor, complaint, &mut self.output.page);
         self.output.outcome()
     }
 
@@ -510,12 +517,18 @@ impl Teller {
         self.output.outcome()
     }
 
-    /// Keeps a note, unless it is empty or not the first.
+    /// Keeps a note that is not empty, if it is the first, or the first with bytes.
     fn keep_first(&mut self, note: &[u8])
         ensures { StaysWritten self.old self.new }
     {
-        if !note.is_empty() && self.first_note.is_none() {
-            self.first_note = Some((self.line, Excerpt::of(note, &self.mask)));
+        if note.is_empty() || self.first_bytes.is_some() {
+            return;
+        }
+        let is_of_bytes = has_bytes(cut_time(note).1);
+        if self.first_note.is_none() || is_of_bytes {
+            let kept = Some((self.line, Excerpt::of(note, &self.mask)));
+            self.first_note = self.first_note.or(kept);
+            self.first_bytes = kept.filter(|_| is_of_bytes);
         }
     }
 
@@ -524,11 +537,11 @@ impl Teller {
         for entry in entries {
             match entry {
                 Entry::Begins => {
-                    self.clock.count();
+                    self.clock.count(false);
                     self.begin_if(true);
                 }
                 Entry::Pair(command, answer) => {
-                    self.clock.count();
+                    self.clock.count(true);
                     self.pair(command.as_slice(), Some(answer.as_slice()))?;
                 }
                 Entry::Unanswered(command) => self.pair(command.as_slice(), None)?,
@@ -582,11 +595,10 @@ impl Teller {
         ensures { OnOk result (StaysWritten self.old self.new) }
     {
         self.lose_some();
-        self.counts.complain(self.began)?;
-        self.first_bad = Some(self.first_bad.unwrap_or((self.began, why)));
-        let number = self.counts.complaints();
         let (mask, page) = (&self.mask, &mut self.output.page);
-        tell_bad_pair(number, self.began, why, command, answer, mask, page);
+        let anchor = self.counts.complain(page.began);
+        self.first_bad = Some(self.first_bad.unwrap_or((page.began, why)));
+        tell_bad_pair(anchor, why, command, answer, mask, page);
         Ok(())
     }
 

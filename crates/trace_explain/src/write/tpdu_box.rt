@@ -1,12 +1,12 @@
 //! The box of a TPDU, row by row.
 ghost use Rattle.std.specs.Prelude.{◌≡◌, ◌∷◌, [], false};
-ghost use Rattle.trace_explain.specs.Boxes.{HasAsker, IsAnswer, IsData, IsDataRow, IsFields, IsStatus, IsTitle, IsTogether, PutsBox, PutsDataRow, PutsWhole, ShowsData, no_data, side_of, status_side};
+ghost use Rattle.trace_explain.specs.Boxes.{HasAsker, IsAnswer, IsBar, IsBeside, IsData, IsDataRow, IsFields, IsStatus, IsTitle, IsTogether, PutsBeside, PutsBox, PutsDataRow, PutsWhole, ShowsData, no_data, side_of, status_side};
 ghost use Rattle.trace_explain.specs.Sheets.{Adds, Puts, PutsLines};
 ghost use Rattle.trace_explain.specs.Reports.{report_of};
 ghost use Rattle.trace_explain.specs.Written.{hidden};
 
 use crate::describe::block_words::push_blocks;
-use crate::describe::clock::Clock;
+use crate::describe::clock::{Clock, push_duration};
 use crate::describe::mask::{Mask, Origin, Shown};
 use crate::describe::meaning::{is_well, push_meaning};
 use crate::describe::outline::{Outline, name_of};
@@ -17,14 +17,14 @@ use crate::follow::tpdu::{Tpdu, are_status};
 use crate::instructions::may_have_objects;
 use crate::write::ascii::push_digits;
 use crate::write::fields::{Fields, push_fields};
-use crate::write::html::push_box_end;
+use crate::write::html::{push_bar, push_beside, push_box_end};
 use crate::write::json_tree::push_data;
 use crate::write::layout::{Kind, Medium, Side};
 use crate::write::output::Output;
 use crate::write::page::Page;
 use crate::write::row::{ROW_INDENT, push_lines_row, push_row_of};
 use crate::write::sheet::Sheet;
-use crate::write::shown::{push_header, push_status, push_title};
+use crate::write::shown::{push_header, push_line, push_status, push_title};
 use crate::write::tree_row::push_tree;
 use apdu_core::count;
 use t0_core::Direction;
@@ -54,7 +54,12 @@ pub fn tell_box(
     let outline = Outline::of(tpdu, is_hidden);
     let status = tpdu.status.as_slice();
     tell_title(&outline, name_of(tpdu), status, links, began, output);
+    tell_beside(tpdu, links, mask, output);
+    tell_bar(clock, output);
+    push_line(&mut output.sheet, began);
     tell_fields(tpdu, &outline, links, clock, mask, output);
+    output.page.push_file();
+    output.row(Side::Nobody, "file");
     push_time(&mut output.page.lines, clock);
     output.row(Side::Nobody, "time");
     output.page.lines.push_str(dropped(links.drops_before));
@@ -75,7 +80,7 @@ pub fn tell_box(
     push_box_end(&mut output.sheet);
 }
 
-/// Adds the title of the box. `name` is the name or path of SELECT.
+/// Adds the title of the box up to its line. `name` is the name or path of SELECT.
 fn tell_title(
     outline: &Outline,
     name: &[u8],
@@ -84,14 +89,46 @@ fn tell_title(
     began: u64,
     output: &mut Output,
 )
-    ensures { Puts (IsTitle links.number began status.now) output.old.sheet output.new.sheet }
+    ensures { Puts (IsTitle links.number status.now) output.old.sheet output.new.sheet }
 {
     phrases::push_title(&mut output.page.lines, outline, name);
     phrases::push_links(&mut output.page.lines, links);
     output.page.wrap_title(links.number, began);
     let (kind, number, words) = (kind_of(outline), links.number, &output.page.text);
-    push_title(&mut output.sheet, kind, number, words, status, began);
+    push_title(&mut output.sheet, kind, number, words, status);
     output.page.text.clear();
+}
+
+/// Adds the card's data to the title on a page.
+fn tell_beside(tpdu: &Tpdu, links: Links, mask: &Mask, output: &mut Output)
+    requires asker { HasAsker tpdu.now.header.items links }
+    ensures { Puts (IsBeside mask.now tpdu.now.is_loose tpdu.now.way tpdu.now.header.items
+        tpdu.now.moved.items) output.old.sheet output.new.sheet }
+{
+    if tpdu.way != Some(Direction::FromCard) || !output.page.is_html() {
+        return;
+    }
+    if let Some(origin) = Origin::of(tpdu, links, Direction::FromCard) {
+        tell_value(mask.shown(origin), tpdu.moved.as_slice(), mask, output);
+    }
+}
+
+/// Adds data to the title, as far as they are shown.
+fn tell_value(shown: Shown, bytes: &[u8], mask: &Mask, output: &mut Output)
+    ensures { PutsBeside shown mask.now.tags.items bytes.now output.old.sheet output.new.sheet }
+{
+    output.page.lines.clear();
+    push_shown(&mut output.page.lines, shown, true, bytes, mask);
+    push_beside(&mut output.sheet, &output.page.lines);
+    output.page.lines.clear();
+}
+
+/// Adds a bar for the time to the title on a page.
+fn tell_bar(clock: &Clock, output: &mut Output)
+    ensures { Puts IsBar output.old.sheet output.new.sheet }
+{
+    let (all, card) = clock.took_us();
+    push_bar(&mut output.sheet, all, card);
 }
 
 /// Adds the fields that only JSON has.
@@ -138,10 +175,21 @@ pub fn masked(tpdu: &Tpdu, links: Links, mask: &Mask) -> (bool, bool) {
     )
 }
 
-/// Adds the time of the line where the TPDU begins. JSON has a field for it.
+/// Adds the time of the line where the TPDU begins. JSON has a field for it. A page adds how long
+/// the TPDU took.
 fn push_time(lines: &mut Sheet, clock: &Clock) {
-    if !matches!(lines.layout().medium, Medium::Json) {
-        clock.push_begin(lines);
+    let (all, card) = clock.took_us();
+    match lines.layout().medium {
+        Medium::Json => {}
+        Medium::Html if all > 0 => {
+            clock.push_begin(lines);
+            lines.push_str("took ");
+            push_duration(lines, all.saturating_mul(1_000));
+            lines.push_str(", of which the card ");
+            push_duration(lines, card.saturating_mul(1_000));
+            lines.push_str("\n");
+        }
+        _ => clock.push_begin(lines),
     }
 }
 

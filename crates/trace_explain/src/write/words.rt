@@ -2,7 +2,7 @@
 //! looks like a box of a TPDU, or like a row of one.
 ghost use Rattle.std.specs.Prelude.{◌≡◌, true};
 ghost use Rattle.trace_explain.specs.Sheets.{Adds, Joins};
-ghost use Rattle.trace_explain.specs.Words.{field_before, gap, has_own, json_piece, link_text, marked, part_begin, piece_text, topic_text};
+ghost use Rattle.trace_explain.specs.Words.{field_before, gap, has_own, json_piece, link_text, marked, most_text, part_begin, piece_text, topic_text};
 
 use crate::write::ascii::cut;
 use crate::write::html::{push_box, push_box_end, push_name};
@@ -10,7 +10,7 @@ use crate::write::layout::{Anchor, Kind, Medium, Side, Topic};
 use crate::write::row::{push_letters, push_some_row};
 use crate::write::sheet::Sheet;
 use crate::write::shown::push_line;
-use crate::write::style::{HEAD_END, STYLE_BEGIN};
+use crate::write::style::{HEAD, HEAD_END, HEADING_END};
 
 /// What a piece is. Text has neither a style nor parts nor links. Only JSON has fields and signs.
 #[derive(Clone, Copy)]
@@ -47,10 +47,16 @@ pub enum Form {
     Block,
     /// The end of the last block and of a page.
     BlockEnd,
-    /// The start of a page, with its style.
+    /// The start of a page, up to its title.
+    Head,
+    /// The style of a page.
     Style,
     /// The script of a page, and the rest of its head.
     Script,
+    /// The heading of a page.
+    Heading,
+    /// The longest time of a TPDU on a page, in microseconds.
+    Most(u64),
     /// The start of a part of a page, with the number of its first TPDU.
     Part(u64),
     /// The end of a part.
@@ -116,8 +122,11 @@ fn push_piece(sheet: &mut Sheet, form: Form, text: &[u8])
         (Medium::Html, Form::BlockEnd) => {
             sheet.push_str("</section>\n</main>\n</body>\n</html>\n");
         }
-        (Medium::Html, Form::Style) => push_marked(sheet, STYLE_BEGIN, text, "</style>\n"),
-        (Medium::Html, Form::Script) => push_marked(sheet, "<script>\n", text, HEAD_END),
+        (Medium::Html, Form::Head) => push_marked(sheet, HEAD, text, "</title>\n<style>\n"),
+        (Medium::Html, Form::Style) => push_marked(sheet, "", text, "</style>\n<script>\n"),
+        (Medium::Html, Form::Script) => push_marked(sheet, "", text, HEAD_END),
+        (Medium::Html, Form::Heading) => push_marked(sheet, "<h1>", text, HEADING_END),
+        (Medium::Html, Form::Most(micros)) => push_most(sheet, micros),
         (Medium::Html, Form::Part(number)) => push_part(sheet, number),
         (Medium::Html, Form::PartEnd) => sheet.push_str("</details>\n"),
         (Medium::Html, Form::Links) => push_marked(sheet, "<p>", text, ""),
@@ -205,6 +214,15 @@ fn push_part(sheet: &mut Sheet, number: u64)
     sheet.push_str("<details class=\"part\"><summary>from #");
     sheet.push_number(number);
     sheet.push_str("</summary>\n");
+}
+
+/// Adds the scale of the bars: the longest time.
+fn push_most(sheet: &mut Sheet, micros: u64)
+    ensures { Adds sheet.old (most_text micros) sheet.new }
+{
+    sheet.push_str("<style>main { --most: ");
+    sheet.push_number(micros);
+    sheet.push_str("; }</style>\n");
 }
 
 /// Adds text of a page between two pieces of markup.

@@ -134,7 +134,8 @@ enum {
                              * may */
 
     /* of the line */
-    GT_NOT_LISTENING = -30, /* the end has characters to send */
+    GT_NOT_LISTENING = -30, /* the end has characters to send; at a card of your own also: a header
+                             * or a command waits */
     GT_BAD_PROCEDURE = -31, /* unexpected byte: neither a procedure byte nor a first status byte */
     GT_TOO_LONG = -32,      /* the response exceeds its limit: 16,384 bytes, or fewer */
     GT_STALLED = -33,       /* a GET RESPONSE of the exchange's own brought nothing, and the card
@@ -1511,7 +1512,7 @@ GT_MUST_CHECK int32_t gt_card_turn(gt_card *c, uint8_t *byte) {
  *
  * - GT_OK: after them the card waits for a character of the terminal; `n` may be 0.
  * - GT_SENDS: `bytes` is full, with `room` characters, and there may be more: call again. With room
- *   0 it is always this.
+ *   0 it is always this. At a card of your own also after a NULL, alone.
  * - GT_STATE: the card is not finished yet, or speaks T=1. `bytes` and `n` are unchanged. */
 GT_MUST_CHECK int32_t gt_card_send_bytes(gt_card *c, uint8_t *bytes, size_t room, size_t *n) {
     uint8_t none = 0;
@@ -1771,8 +1772,8 @@ GT_FUNCTION void gt_card_free(gt_card *c) {
  *   GT_HEADER           gt_card_command for the header     gt_card_direction; the same call again
  *   GT_COMMAND          gt_card_command for the command    gt_card_respond; the same call again
  *
- * At T=1 gt_card_more_time may come in place of gt_card_respond. The same call again then has
- * S(WTX request).
+ * gt_card_more_time may come in place of gt_card_respond, except for a TPDU or command that came
+ * whole. The same call again then has one NULL, byte 60, and at T=1 S(WTX request).
  *
  * GT_HEADER is only for a card without directions. GT_COMMAND may follow it. The same call again is
  * gt_card_tpdu or gt_card_apdu with NULL and 0 in place of the bytes.
@@ -1811,7 +1812,8 @@ GT_FUNCTION void gt_card_free(gt_card *c) {
  * - gt_card_respond: no command waits, as before the first one, after the response to it, and after
  *   a reset: GT_STATE. At T=1 also before gt_card_t1_send_bytes returns GT_COMMAND, and after the
  *   next block, as S(ABORT) or S(RESYNCH). Another response than one may give: GT_ARGUMENT.
- * - gt_card_more_time: no command waits at T=1, or it has its response: GT_STATE.
+ * - gt_card_more_time: no command waits by characters, by buffers or at T=1, or it has its
+ *   response: GT_STATE.
  * - gt_card_take and gt_card_receive_bytes, while one waits: GT_NOT_LISTENING.
  * - gt_card_tpdu and gt_card_apdu with bytes, while one waits; or without bytes, while none of that
  *   call waits: GT_STATE, and with nothing that waits GT_NO_TPDU and GT_TOO_SHORT. While one of
@@ -1875,13 +1877,19 @@ GT_MUST_CHECK int32_t gt_card_respond(gt_card *c, const uint8_t *data, size_t n,
     return galliumtoad_card_respond(c, gt_bytes_(data), n, status);
 }
 
-/* Asks the terminal for more time for the command that waits at T=1: gt_card_t1_send_bytes has the
- * S(WTX request). After the response to it that call returns GT_COMMAND again, or GT_HEADER.
+/* Asks the terminal for more time for the command that waits.
  *
- * `multiple`, 1 to 255, is how many times BWT the terminal waits for the next block.
+ * By characters gt_card_turn or gt_card_send_bytes has one NULL, byte 60: `n` is 1, and the code
+ * GT_SENDS. The call after it returns GT_COMMAND again. Until the NULL is out, any other call on
+ * what waits, or to take something, returns GT_STATE. A reset drops the NULL with the command.
+ *
+ * At T=1 gt_card_t1_send_bytes has the S(WTX request). After the response to it that call returns
+ * GT_COMMAND again, or GT_HEADER. `multiple`, 1 to 255, is how many times BWT the terminal waits
+ * for the next block; at T=0 it has no effect.
  *
  * - GT_OK: the command waits on. gt_card_respond returns GT_STATE until then.
- * - GT_STATE: no command waits at T=1, it has its response, or the card is not of your own.
+ * - GT_STATE: no command waits by characters, by buffers or at T=1, it has its response, or the
+ *   card is not of your own.
  * - GT_ARGUMENT: `multiple` is 0. The command still waits. */
 GT_MUST_CHECK int32_t gt_card_more_time(gt_card *c, uint8_t multiple) {
     if (!c) return GT_NULL;

@@ -1,5 +1,5 @@
 /* Tests that `gt_card_tpdu` and `gt_card_apdu` copy their input, so that one buffer may serve as
- * input and output, and that they wipe the copy. */
+ * input and output, and that they wipe the copy. A card amid a TPDU stays off the stack. */
 #ifndef _GNU_SOURCE
 #define _GNU_SOURCE /* for pthread_attr_setstack in strict C99 */
 #endif
@@ -51,6 +51,32 @@ static void *leaves(void *tpdu) {
     return NULL;
 }
 
+static gt_card mine = GT_INIT;
+
+/* A card of one's own has taken 250 bytes of data. */
+static void take_data(const uint8_t *tpdu) {
+    static const uint8_t header[] = { 0x00, 0x20, 0x00, 0x00, 0xFF };
+    uint8_t byte;
+    size_t n;
+    CHECK(gt_card_reset(&mine), GT_OK);
+    CHECK(gt_card_receive_bytes(&mine, header, sizeof header, &n), GT_OK);
+    CHECK(gt_card_turn(&mine, &byte), GT_SENDS);
+    CHECK(gt_card_receive_bytes(&mine, tpdu + 5, 250, &n), GT_OK);
+}
+
+/* Such a card refuses to begin T=1, or is reset. */
+static void *begins(void *tpdu) {
+    (void)tpdu;
+    code = gt_card_t1_begin(&mine);
+    return NULL;
+}
+
+static void *resets(void *tpdu) {
+    (void)tpdu;
+    code = gt_card_reset(&mine);
+    return NULL;
+}
+
 static void *(*volatile runs)(void *);
 
 /* Runs `runs` deep in the stack, where the end of the thread does not write. */
@@ -72,6 +98,7 @@ static void run_on(unsigned char *stack, void *(*run)(void *), int secret) {
     /* the library reads the header of a command, which may stay on its stack */
     if (carries == gt_card_apdu) memcpy(tpdu, "\x00\xA4\x04\x00", 4);
     runs = run;
+    take_data(tpdu);
     memset(stack, 0, STACK);
     CHECK(pthread_attr_init(&own), 0);
     CHECK(pthread_attr_setstack(&own, stack, STACK), 0);
@@ -96,6 +123,8 @@ static size_t left_by(void *(*run)(void *)) {
 }
 
 int main(void) {
+    static const uint8_t directions[32] = { 0, 0, 0, 0, 0x01 };
+    CHECK(gt_card_own(&mine, directions), GT_OK);
     CHECK(gt_card_new(&card), GT_OK);
     CHECK(gt_card_app(&card, AID, sizeof AID), GT_OK);
     CHECK(gt_card_finish(&card), GT_OK);
@@ -106,6 +135,11 @@ int main(void) {
         CHECK(left_by(refused), 0);
         CHECK(code, by_commands ? 0x67 : GT_NO_TPDU);
     }
+    CHECK(left_by(begins), 0);
+    CHECK(code, GT_STATE);
+    CHECK(left_by(resets), 0);
+    CHECK(code, GT_OK);
+    gt_card_free(&mine);
     gt_card_free(&card);
     return check_result("copied");
 }

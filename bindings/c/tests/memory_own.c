@@ -92,6 +92,75 @@ static void as_a_whole(carry *goes) {
     CHECK(gt_card_settled(&card), 1);
 }
 
+/* The card gets this block at T=1, and keeps it also if memory runs out. */
+static void hears(const char *bytes, size_t n) {
+    size_t count = 0;
+    CHECK(gt_card_t1_receive_bytes(&card, (const uint8_t *)bytes, n, &count), GT_SENDS);
+    CHECK(count, n);
+}
+
+/* Its next block is this, or without one a command waits. Returns whether memory ran out first. */
+static size_t sends(const char *want, size_t n) {
+    static uint8_t block[GT_BLOCK_LIMIT];
+    size_t len = 7, times = 0;
+    int32_t code;
+    block[0] = 0xEE;
+    while ((code = gt_card_t1_send_bytes(&card, block, sizeof block, &len)) == GT_MEMORY) {
+        CHECK(len, 7);
+        CHECK(block[0], 0xEE);
+        times++;
+    }
+    CHECK(code, want ? GT_OK : GT_COMMAND);
+    CHECK(len, want ? n : 7);
+    if (want) CHECK_BYTES(block, want, n);
+    return times;
+}
+
+/* Memory runs out at the request with this number, from a command in two blocks to its response in
+ * two. What goes out is the same. Returns how often a call had to come again. */
+static size_t at_t1(size_t which) {
+    static const char ready[] = "\x00\x90\x00\x90";
+    static const char more[36] = "\x00\x20\x20ZZZZZZZZZZZZZZZZZZZZZZZZZZZZZZZZ";
+    gt_command command;
+    size_t times = 0;
+    int32_t code;
+    CHECK(gt_card_t1_begin(&card), GT_OK);
+    requests = 0;
+    refused = which;
+    hears("\x00\x20\x05\x80\x10\x00\x00\x05\xB0", 9);
+    times += sends(ready, 4);
+    hears("\x00\x40\x06\x01\x02\x03\x04\x05\x00\x47", 10);
+    times += sends(NULL, 0);
+    CHECK(gt_card_more_time(&card, 3), GT_OK);
+    times += sends("\x00\xC3\x01\x03\xC1", 5);
+    hears("\x00\xE3\x01\x03\xE1", 5);
+    times += sends(NULL, 0);
+    CHECK(gt_card_command(&card, &command), GT_OK);
+    CHECK(command.size, 5);
+    CHECK_BYTES(command.data, "\x01\x02\x03\x04\x05", 5);
+    while ((code = gt_card_respond(&card, data, 40, 0x9000)) == GT_MEMORY) times++;
+    CHECK(code, GT_OK);
+    times += sends(more, sizeof more);
+    hears(ready, 4);
+    times += sends("\x00\x40\x0AZZZZZZZZ\x90\x00\xDA", 14);
+    refused = 0;
+    return times;
+}
+
+static void each_at_t1(void) {
+    static const uint8_t directions[32] = GT_ISO_DIRECTIONS;
+    size_t i, once, times = 0;
+    for (requests = i = 1; i <= requests; i++) {
+        CHECK(gt_card_own(&card, directions), GT_OK);
+        once = at_t1(i);
+        CHECK(once <= 1, 1);
+        times += once;
+        gt_card_free(&card);
+        CHECK(taken, 0);
+    }
+    CHECK(times > 0, 1);
+}
+
 int main(void) {
     static const size_t sizes[] = { 0, 256, 300, GT_OWN_LIMIT };
     size_t i;
@@ -108,5 +177,6 @@ int main(void) {
     as_a_whole(gt_card_apdu);
     gt_card_free(&card);
     CHECK(taken, 0);
+    each_at_t1();
     return check_result("memory_own");
 }

@@ -81,13 +81,10 @@ static size_t held(void) {
 
 #define GONE() (CHECK(held(), 0), CHECK(given_back, 0))
 
-static bool by_commands;
-
 static unsigned tpdu(gt_card *c, const uint8_t *bytes, size_t n) {
     uint8_t answer[GT_ANSWER_LIMIT];
     size_t len = 0;
-    CHECK(by_commands ? gt_card_apdu(c, bytes, n, answer, sizeof answer, &len)
-                      : gt_card_tpdu(c, bytes, n, answer, sizeof answer, &len), GT_OK);
+    CHECK(gt_card_tpdu(c, bytes, n, answer, sizeof answer, &len), GT_OK);
     return len < 2 ? 0 : answer[len - 2] * 256u + answer[len - 1];
 }
 
@@ -167,71 +164,6 @@ static void refused(gt_card *c) {
     GONE();
     begun(c, TAG, LONG);
     CHECK(select_app(c), 0x6883);
-    GONE();
-}
-
-static void want_of_memory(gt_card *c) {
-    const size_t at = begun(c, TAG, LONG);
-    uint8_t byte = 0;
-    size_t i;
-    const uint8_t header[] = { 0x00, 0xDA, 0x5F, 0x20, (uint8_t)(LONG - at) };
-    for (i = 0; i < sizeof header; i++) CHECK(gt_card_take(c, header[i]), GT_OK);
-    CHECK(gt_card_turn(c, &byte), GT_SENDS);
-    for (i = at; i < LONG; i++) CHECK(gt_card_take(c, secret[i]), GT_OK);
-    is_refused = true;
-    CHECK(gt_card_turn(c, &byte), GT_SENDS);
-    CHECK(byte, 0x65);
-    CHECK(gt_card_turn(c, &byte), GT_SENDS);
-    CHECK(byte, 0x81);
-    is_refused = false;
-    GONE();
-}
-
-/* A reset after `characters` characters of the second piece of a put. CLA says whether that piece
- * is the last. */
-static void reset_at(gt_card *c, uint8_t cla, size_t characters) {
-    const uint8_t header[] = { cla, 0xDA, 0x5F, 0x20, PIECE };
-    uint8_t byte = 0;
-    size_t i;
-    CHECK(piece(c, 0x10, TAG, secret + PIECE, PIECE), 0x9000);
-    for (i = 0; i < characters; i++) {
-        if (i < 5) CHECK(gt_card_take(c, header[i]), GT_OK);
-        else if (i == 5) CHECK(gt_card_turn(c, &byte), GT_SENDS);
-        else if (i < 6 + PIECE) CHECK(gt_card_take(c, secret[i - 6]), GT_OK);
-        else CHECK(gt_card_turn(c, &byte), GT_SENDS);
-    }
-    CHECK(held() > 0, 1);
-    CHECK(gt_card_reset(c), GT_OK);
-    GONE();
-    CHECK(select_app(c), 0x610B);
-}
-
-static void resets(gt_card *c) {
-    static const size_t at[] = { 0, 1, 5, 6, 7, 11, 260, 6 + PIECE, 7 + PIECE };
-    size_t i;
-    for (i = 0; i < sizeof at / sizeof *at; i++) {
-        reset_at(c, 0x00, at[i]);
-        reset_at(c, 0x10, at[i]);
-    }
-}
-
-/* A TPDU without the data that it announces: the card is reset. */
-static void a_reader_stops(gt_card *c) {
-    static const uint8_t bytes[] = { 0x10, 0xDA, 0x5F, 0x20, PIECE };
-    uint8_t answer[GT_ANSWER_LIMIT];
-    size_t len = 0;
-    begun(c, TAG, LONG);
-    CHECK(gt_card_tpdu(c, bytes, sizeof bytes, answer, sizeof answer, &len), GT_WANTS_DATA);
-    GONE();
-    CHECK(select_app(c), 0x610B);
-}
-
-/* A full application takes no new tag. */
-static void full(gt_card *c) {
-    unsigned tag;
-    for (tag = 0xC0; tag < 0xC0 + 31; tag++) CHECK(piece(c, 0x00, tag, ANN, 1), 0x9000);
-    for (tag = 0x80; tag < 0x80 + 31; tag++) CHECK(piece(c, 0x00, tag, ANN, 1), 0x9000);
-    CHECK(put(c, 0xDF01, LONG), 0x6A84);
     GONE();
 }
 
@@ -462,28 +394,109 @@ static void card_at_t1(gt_card *c) {
     CHECK(select_app(c), 0x610B);
 }
 
+/* ---- A card of one's own at T=1: its application gets the value, or returns it --------------- */
+
+/* Gives the card a command with this data: INS 20 takes it. */
+static void to_own(gt_card *c, const uint8_t *value, size_t n) {
+    uint8_t bytes[FIELD] = { 0x00, 0x20 }, block[GT_BLOCK_LIMIT];
+    size_t taken = 0, size;
+    bytes[4] = (uint8_t)n;
+    memcpy(bytes + 5, value, n);
+    size = block_of(block, number, bytes, 5 + n);
+    number ^= 0x40;
+    CHECK(gt_card_t1_receive_bytes(c, block, size, &taken), GT_SENDS);
+    CHECK(gt_card_t1_send_bytes(c, block, sizeof block, &size), GT_COMMAND);
+}
+
+/* Returns the length of the block that the card sends. */
+static size_t own_sends(gt_card *c) {
+    uint8_t block[GT_BLOCK_LIMIT];
+    size_t n = 0;
+    CHECK(gt_card_t1_send_bytes(c, block, sizeof block, &n), GT_OK);
+    return n;
+}
+
+/* Ends what the card holds: with a command and response without secrets. */
+static void own_forgets(gt_card *c) {
+    to_own(c, ANN, sizeof ANN);
+    CHECK(gt_card_respond(c, NULL, 0, 0x9000), GT_OK);
+    CHECK(own_sends(c), 6);
+    GONE();
+}
+
+/* A command is held until its response goes out, and a response until the next one does. */
+static void own_answered(gt_card *c) {
+    to_own(c, secret, 200);
+    CHECK(held() > 0, 1);
+    CHECK(gt_card_respond(c, ANN, sizeof ANN, 0x9000), GT_OK);
+    CHECK(own_sends(c), 6);
+    GONE();
+    to_own(c, ANN, sizeof ANN);
+    CHECK(gt_card_respond(c, secret, LONG, 0x9000), GT_OK);
+    CHECK(own_sends(c), 6);
+    CHECK(held() > 0, 1);
+    own_forgets(c);
+}
+
+/* A block, S(RESYNCH) or a reset drops a command that waits, before and after its response; it may
+ * have asked for more time. */
+static void own_dropped(gt_card *c) {
+    static const uint8_t two[] = { 2 };
+    uint8_t block[GT_BLOCK_LIMIT];
+    size_t taken, n, i;
+    for (i = 0; i < 8; i++) {
+        to_own(c, secret, 200);
+        if (i % 2 != 0) {
+            CHECK(gt_card_more_time(c, 2), GT_OK);
+            CHECK(own_sends(c), 5);
+            n = block_of(block, 0xE3, two, 1);
+            CHECK(gt_card_t1_receive_bytes(c, block, n, &taken), GT_SENDS);
+            CHECK(gt_card_t1_send_bytes(c, block, sizeof block, &n), GT_COMMAND);
+        }
+        if (i % 4 > 1) CHECK(gt_card_respond(c, secret, LONG, 0x9000), GT_OK);
+        CHECK(held() > 0, 1);
+        if (i < 4) {
+            CHECK(hears(c, 0xC0, two, 0), 0xE0);
+            GONE();
+        } else {
+            CHECK(gt_card_reset(c), GT_OK);
+            GONE();
+            CHECK(gt_card_t1_begin(c), GT_OK);
+            CHECK(hears(c, 0xC1, (const uint8_t *)"\xFE", 1), 0xE1);
+        }
+        number = 0;
+    }
+}
+
+static void own_at_t1(void) {
+    static const uint8_t directions[32] = { 0, 0, 0, 0, 0x01 };
+    gt_card c = GT_INIT;
+    number = 0;
+    CHECK(gt_card_own(&c, directions), GT_OK);
+    CHECK(gt_card_t1_begin(&c), GT_OK);
+    CHECK(hears(&c, 0xC1, (const uint8_t *)"\xFE", 1), 0xE1);
+    own_answered(&c);
+    own_dropped(&c);
+    to_own(&c, secret, 200);
+    CHECK(gt_card_respond(&c, secret, LONG, 0x9000), GT_OK);
+    gt_card_free(&c);
+    GONE();
+}
+
 int main(void) {
     static const size_t sizes[] = { FRONT, PIECE, PIECE + FRONT, LONG, GT_VALUE_LIMIT };
     gt_card card = GT_INIT;
     size_t i;
     for (i = 0; i + 1 < sizeof secret; i++) secret[i + 1] = behind(secret[i]);
     build(&card);
-    for (i = 0; i < 2 * (sizeof sizes / sizeof *sizes); i++) {
-        by_commands = i % 2 != 0;
-        stored(&card, sizes[i / 2]);
-    }
+    for (i = 0; i < sizeof sizes / sizeof *sizes; i++) stored(&card, sizes[i]);
     refused(&card);
-    by_commands = false;
-    refused(&card);
-    want_of_memory(&card);
-    resets(&card);
-    a_reader_stops(&card);
     in_a_session(&card);
     card_at_t1(&card);
-    full(&card);
     at_t1(false);
     at_t1(true);
     next_at_t1();
+    own_at_t1();
     gt_card_free(&card);
     for (i = 0; i < MOST; i++) if (blocks[i].at) break;
     CHECK(i, MOST);

@@ -1,10 +1,13 @@
-/* Tests the object reader, on bytes that are worked out by hand (EMV Book 3, Annex B). */
+/* Tests the object reader, the search by a path of tags, and heads, on bytes that are worked out by
+ * hand (EMV Book 3, Annex B). */
 #include "galliumtoad.h"
 #include "check.h"
 
+#define BYTES(s) (const uint8_t *)(s), sizeof(s) - 1
+
 /* 00 6F 09 (84 02 A0 01, 00, A5 02 (50 00)), 5F20 81 01 4A, 00 */
-static const uint8_t LIST[] = { 0x00, 0x6F, 0x09, 0x84, 0x02, 0xA0, 0x01, 0x00, 0xA5, 0x02, 0x50,
-                                0x00, 0x5F, 0x20, 0x81, 0x01, 0x4A, 0x00 };
+#define LIST "\x00\x6F\x09\x84\x02\xA0\x01\x00\xA5\x02\x50\x00\x5F\x20\x81\x01\x4A\x00"
+#define NAME "\x5F\x20\x03JOE"
 
 static const gt_object OBJECTS[] = {
     { 0x6F, 1, 1, 1, 11, 3, 9 },
@@ -13,6 +16,7 @@ static const gt_object OBJECTS[] = {
     { 0x50, 3, 0, 10, 2, 12, 0 },
     { 0x5F20, 1, 0, 12, 5, 16, 1 },
 };
+static const gt_object UNTOUCHED = { 0xEE, 0xEE, 0xEE, 91, 92, 93, 94 };
 
 static void is_object(const gt_object *got, const gt_object *want) {
     CHECK(got->tag, want->tag);
@@ -24,74 +28,132 @@ static void is_object(const gt_object *got, const gt_object *want) {
     CHECK(got->length, want->length);
 }
 
-static void lists_all_levels(void) {
+static void lists(void) {
     gt_object objects[6];
-    size_t count = 0, place = 77;
-    CHECK(gt_objects(LIST, sizeof LIST, objects, 6, &count, &place), GT_OK);
+    size_t i, count = 0, place = 77;
+    objects[5] = UNTOUCHED;
+    CHECK(gt_objects(BYTES(LIST), objects, 6, &count, &place), GT_OK);
     CHECK(count, 5);
-    CHECK(place, 77);
-    for (int i = 0; i < 5; i++) is_object(&objects[i], &OBJECTS[i]);
-    CHECK(gt_objects((const uint8_t *)"\x9F\x81\x01\x00", 4, objects, 6, &count, &place), GT_OK);
-    CHECK(count, 1);
-    CHECK(objects[0].tag, 0x9F8101);
-    CHECK(objects[0].value, 4);
-}
-
-static void counts_where_there_is_too_little_room(void) {
-    gt_object objects[5];
-    size_t count = 0, place = 0;
-    CHECK(gt_objects(LIST, sizeof LIST, NULL, 0, &count, &place), GT_OK);
+    for (i = 0; i < 5; i++) is_object(&objects[i], &OBJECTS[i]);
+    is_object(&objects[5], &UNTOUCHED);
+    CHECK(gt_objects(BYTES(LIST), NULL, 0, &count, &place), GT_OK);
     CHECK(count, 5);
-    objects[2].tag = 0xEE;
-    CHECK(gt_objects(LIST, sizeof LIST, objects, 2, &count, &place), GT_BUFFER);
+    objects[2] = UNTOUCHED;
+    count = 0;
+    CHECK(gt_objects(BYTES(LIST), objects, 2, &count, &place), GT_BUFFER);
     CHECK(count, 5);
     is_object(&objects[1], &OBJECTS[1]);
-    CHECK(objects[2].tag, 0xEE);
-    CHECK(gt_objects(LIST, sizeof LIST, objects, 5, &count, &place), GT_OK);
-    is_object(&objects[4], &OBJECTS[4]);
+    is_object(&objects[2], &UNTOUCHED);
     CHECK(gt_objects(NULL, 0, NULL, 0, &count, &place), GT_OK);
     CHECK(count, 0);
-    CHECK(gt_objects((const uint8_t *)"\0\0", 2, NULL, 0, &count, &place), GT_OK);
-    CHECK(count, 0);
+    CHECK(place, 77);
 }
 
-static void fault(const char *bytes, size_t n, int32_t code, size_t at) {
-    gt_object object;
-    size_t count = 99, place = 99;
-    object.tag = 0xEE;
-    CHECK(gt_objects((const uint8_t *)bytes, n, &object, 1, &count, &place), code);
-    CHECK(place, at);
-    CHECK(count, 99);
-    CHECK(object.tag, 0xEE);
-}
-
-static void first_faults(void) {
-    char deep[34];
-    fault("\x50\x00\x5F", 3, GT_TAG_CUT, 2);
-    fault("\x50\x00\x5F\x80", 4, GT_TAG_FORM, 2);
-    fault("\x50", 1, GT_LENGTH_CUT, 0);
-    fault("\x50\x80", 2, GT_LENGTH_FORM, 0);
-    fault("\x70\x03\x50\x02\x00", 5, GT_VALUE_CUT, 2);
-    for (int i = 0; i < 17; i++) {
-        deep[2 * i] = 0x70;
-        deep[2 * i + 1] = (char)(32 - 2 * i);
+/* The first fault of these bytes, by the list of all objects and by a search. */
+static void faults(void) {
+    static const struct { const char *bytes; size_t n; int32_t code; size_t at; } rows[] = {
+        { "\x50\x00\x5F", 3, GT_TAG_CUT, 2 },
+        { "\x50\x00\x5F\x80", 4, GT_TAG_FORM, 2 },
+        { "\x50", 1, GT_LENGTH_CUT, 0 },
+        { "\x50\x80", 2, GT_LENGTH_FORM, 0 },
+        { "\x70\x03\x50\x02\x00", 5, GT_VALUE_CUT, 2 },
+        { "\x70\x20\x70\x1E\x70\x1C\x70\x1A\x70\x18\x70\x16\x70\x14\x70\x12\x70\x10\x70\x0E\x70\x0C"
+          "\x70\x0A\x70\x08\x70\x06\x70\x04\x70\x02\x70\x00", 34, GT_TOO_DEEP, 32 },
+    };
+    static const uint32_t path[] = { 0x50 };
+    size_t i, count = 99, place;
+    for (i = 0; i < sizeof rows / sizeof *rows; i++) {
+        const uint8_t *bytes = (const uint8_t *)rows[i].bytes;
+        gt_object object = UNTOUCHED;
+        place = 99;
+        CHECK(gt_objects(bytes, rows[i].n, &object, 1, &count, &place), rows[i].code);
+        CHECK(place, rows[i].at);
+        place = 99;
+        CHECK(gt_find(bytes, rows[i].n, path, 1, &object, &place), rows[i].code);
+        CHECK(place, rows[i].at);
+        is_object(&object, &UNTOUCHED);
     }
-    fault(deep, sizeof deep, GT_TOO_DEEP, 32);
+    CHECK(count, 99);
 }
 
-static void null_pointers(void) {
-    gt_object object;
-    size_t count = 0, place = 0;
-    CHECK(gt_objects(NULL, 1, &object, 1, &count, &place), GT_NULL);
-    CHECK(gt_objects(LIST, sizeof LIST, NULL, 1, &count, &place), GT_NULL);
-    CHECK(gt_objects(LIST, sizeof LIST, &object, 1, NULL, &place), GT_NULL);
-    CHECK(gt_objects(LIST, sizeof LIST, &object, 1, &count, NULL), GT_NULL);
+static void finds(size_t steps, const uint32_t *path, int32_t code, const gt_object *want) {
+    gt_object object = UNTOUCHED;
+    size_t place = 77;
+    CHECK(gt_find(BYTES(LIST), path, steps, &object, &place), code);
+    is_object(&object, want);
+    CHECK(place, 77);
+}
+
+static void paths(void) {
+    static const uint32_t inner[] = { 0x6F, 0xA5, 0x50 }, name[] = { 0x5F20 }, alone[] = { 0x84 };
+    static const uint32_t below[] = { 0x6F, 0x84, 0xA0 }, no_tag[] = { 0x6F, 0x5F };
+    static const uint32_t high[] = { 0x100006F };
+    finds(1, inner, GT_OK, &OBJECTS[0]);
+    finds(2, inner, GT_OK, &OBJECTS[2]);
+    finds(3, inner, GT_OK, &OBJECTS[3]);
+    finds(1, name, GT_OK, &OBJECTS[4]);
+    finds(1, alone, GT_NOT_FOUND, &UNTOUCHED);
+    finds(3, below, GT_NOT_FOUND, &UNTOUCHED);
+    finds(0, NULL, GT_NOT_FOUND, &UNTOUCHED);
+    finds(2, no_tag, GT_ARGUMENT, &UNTOUCHED);
+    finds(1, high, GT_ARGUMENT, &UNTOUCHED);
+}
+
+/* `gt_is_object`: the bytes are one object with this tag, without padding around or between its
+ * parts. */
+static void one_object(void) {
+    size_t n;
+    CHECK(gt_is_object(BYTES(NAME), 0x5F20), 1);
+    CHECK(gt_is_object(BYTES("\x50\x00"), 0x50), 1);
+    CHECK(gt_is_object(BYTES("\x5F\x20\x82\x00\x01J"), 0x5F20), 1);
+    CHECK(gt_is_object(BYTES("\x6F\x03\x84\x01\xA0"), 0x6F), 1);
+    for (n = 0; n + 1 < sizeof NAME; n++)
+        CHECK(gt_is_object((const uint8_t *)NAME, n, 0x5F20), 0);
+    CHECK(gt_is_object(BYTES(NAME), 0x5F24), 0);
+    CHECK(gt_is_object(BYTES(NAME), 0x5F), 0);
+    CHECK(gt_is_object(BYTES("JOE"), 0x5F20), 0);
+    CHECK(gt_is_object(BYTES("JOE"), 0x50), 0);
+    CHECK(gt_is_object(BYTES("A"), 0x5F20), 0); /* a value alone that is also a tag */
+    CHECK(gt_is_object(BYTES("\x00" NAME), 0x5F20), 0);
+    CHECK(gt_is_object(BYTES(NAME "\x00"), 0x5F20), 0);
+    CHECK(gt_is_object(BYTES(NAME "\x50\x00"), 0x5F20), 0);
+    CHECK(gt_is_object(BYTES("\x50\x00" NAME), 0x5F20), 0);
+    CHECK(gt_is_object(BYTES("\x6F\x03\x84\x01\xA0"), 0x84), 0); /* an inner tag */
+    CHECK(gt_is_object(BYTES("\x70\x02\x50\x01"), 0x70), 0); /* a template with an invalid value */
+    CHECK(gt_is_object(NULL, 0, 0x5F20), 0);
+    CHECK(gt_is_object(NULL, 6, 0x5F20), 0);
+}
+
+/* The shortest form of each length, and numbers that are no tag: a byte is missing, or there is one
+ * too many, or the second is 80. */
+static void heads(void) {
+    static const struct { uint32_t tag; uint16_t length; const char *head; size_t n; } rows[] = {
+        { 0x50, 0, "\x50\x00", 2 },
+        { 0x50, 127, "\x50\x7F", 2 },
+        { 0x5F20, 128, "\x5F\x20\x81\x80", 4 },
+        { 0x6F, 255, "\x6F\x81\xFF", 3 },
+        { 0x9F8101, 256, "\x9F\x81\x01\x82\x01\x00", 6 },
+        { 0x9F8101, 65535, "\x9F\x81\x01\x82\xFF\xFF", 6 },
+    };
+    static const uint32_t none[] = { 0, 0x5F, 0x5F80, 0x5020, 0x5F8001, 0x5F8180, 0x1005F20 };
+    uint8_t head[6];
+    size_t i, n = 0;
+    for (i = 0; i < sizeof rows / sizeof *rows; i++) {
+        CHECK(gt_head(rows[i].tag, rows[i].length, head, &n), GT_OK);
+        CHECK(n, rows[i].n);
+        CHECK_BYTES(head, rows[i].head, n);
+    }
+    for (i = 0; i < sizeof none / sizeof *none; i++)
+        CHECK(gt_head(none[i], 0, head, &n), GT_ARGUMENT);
+    CHECK(n, 6);
+    CHECK_BYTES(head, "\x9F\x81\x01\x82\xFF\xFF", 6);
 }
 
 int main(void) {
-    lists_all_levels();
-    counts_where_there_is_too_little_room();
-    first_faults();
-    null_pointers();
+    lists();
+    faults();
+    paths();
+    one_object();
+    heads();
     return check_result("objects");
 }

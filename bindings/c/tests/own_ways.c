@@ -36,14 +36,29 @@ static int by_buffers, cut_used; /* whether the TPDU has taken the plan that wai
 static uint8_t queue[ROOM], came[ROOM];
 static size_t queue_at, queue_n, came_n;
 
+static int32_t sends(void) {
+    queue_at = queue_n = 0;
+    return by_buffers ? gt_card_send_bytes(&card, queue, 1 + any(ROOM), &queue_n)
+                      : gt_card_turn(&card, queue);
+}
+
+/* A NULL goes out, alone, and the command still waits. */
+static void ask_time(void) {
+    CHECK(gt_card_more_time(&card, (uint8_t)(1 + any(255))), GT_OK);
+    CHECK(gt_card_respond(&card, given, given_n, given_status), GT_STATE);
+    CHECK(sends(), GT_SENDS);
+    CHECK(queue_n, by_buffers);
+    CHECK(queue[0], 0x60);
+    CHECK(sends(), GT_COMMAND);
+}
+
 /* The card's next character. */
 static uint8_t next(void) {
     int32_t code;
     if (by_buffers && queue_at < queue_n) return queue[queue_at++];
     do {
-        queue_at = queue_n = 0;
-        code = by_buffers ? gt_card_send_bytes(&card, queue, 1 + any(ROOM), &queue_n)
-                          : gt_card_turn(&card, queue);
+        code = sends();
+        while (code == GT_COMMAND && queue_n == 0 && any(4) == 0) ask_time();
     } while (queue_n == 0 && is_asked(code));
     if (was_reset) return 0;
     CHECK(by_buffers ? queue_n > 0 : code == GT_SENDS, 1);
@@ -102,6 +117,7 @@ static void misuse(carry *goes, carry *other) {
     CHECK(goes(&card, room, 5, room, sizeof room, &n), GT_STATE);
     CHECK(other(&card, NULL, 0, room, sizeof room, &n), GT_STATE);
     CHECK(goes(&card, NULL, 0, room, 1, &n), GT_BUFFER);
+    CHECK(gt_card_more_time(&card, 1), GT_STATE);
     CHECK(byte, 0x5A);
     CHECK(n, 7);
 }

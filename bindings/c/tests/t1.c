@@ -1,316 +1,183 @@
-/* Tests the terminal's end at T=1, against blocks by ISO/IEC 7816-3, clause 11. */
+/* Tests both ends at T=1 against worked dialogues, by ISO/IEC 7816-3, clause 11. A word of a
+ * dialogue is
+ *
+ * - `>` and a block that the end sends: PCB and field, then `*` and how many times BWT it may take
+ * - `<` and a block that it gets; `#` with a wrong LRC; `-` without its end
+ * - `~`, nothing comes; `?`, the parity is wrong
+ * - `:` and a command that begins; `=` and its response, or `!` with why and how it was given up:
+ *   Tries, Extensions, Aborted or Long, and the outcome. */
 #include "galliumtoad.h"
 #include "check.h"
 
-static const uint8_t SELECT[] = { 0x00, 0xA4, 0x04, 0x00, 0x07, 0xA0, 0x00, 0x00, 0x00, 0x03, 0x10,
-                                  0x10, 0x00 };
-static const uint8_t GET[] = { 0x00, 0xCA, 0x5F, 0x20, 0x00 };
+#include <stdlib.h>
+
+#define SELECT "00A4040007A000000003101000"
+#define NAME "6F098407A00000000310109000"
+#define GET "00CA5F2000"
+#define OPENED(command) ":" command " >C1FE <E1FE "
+#define BYTES_20 "4142434445464748494A4B4C4D4E4F5051525354"
+
+/* With IFSC 5, 2 tries more, 3 extensions and at most 20 bytes of response. */
+static const char *const OF_A_TERMINAL[] = {
+    OPENED(GET) ">00" GET " <2000CA5F >90 <402000 =" GET
+        " :" SELECT " >6000A4040007 <80 >20A000000003 <90 >40101000 <00" GET " =" GET,
+    ":" GET " ~ >C1FE ~ >C1FE ~ >00" GET " ~ >82 ~ ~ !T1",
+    OPENED(GET) "#00" GET " >81 -00" GET " ~ >82 ~ !T1",
+    OPENED(GET) "-00" GET " ? >81 ~ >82 ? !T1",
+    OPENED(SELECT) "~ ~ ~ !T0",
+    OPENED(GET) "<2000CA5F ~ ~ ~ !T2",
+    OPENED(SELECT) "<C300 >E300 <C301 >E301 <C3FF >E3FF*255 <C300 !E0",
+    OPENED(SELECT) "<C108 >E108 <90 >40A000000003101000 <C2 >E2 ~ !A1",
+    OPENED(GET) "<00" BYTES_20 " =" BYTES_20 " :" GET " <40" BYTES_20 "55 !L1",
+    /* an IFSC that the card lowers before and within a command */
+    ":" GET " <C102 >E102 <E1FE >2000CA <C101 >E101 <80 >2000 <9F >60CA",
+    /* a chain of blocks without a field would never end */
+    OPENED(GET) ">00" GET " <20 >82 <20 >82 <20 !T1",
+    OPENED(GET) "<2000CA5F >90 <60 >92 <60 >92 <60 !T2",
+    OPENED(GET) "<2000CA5F <40 =00CA5F",
+};
+
+/* With the name JOE, after S(IFS request) 254. */
+static const char *const OF_A_CARD[] = {
+    "<2000A4040007 >90 <40A000000003101000 >00" NAME " <2000DA5F20 >90 <600241 >80 <0042 >409000"
+    " <C105 >E105 <40" GET " >205F20024142 <90 >409000",
+    "#00" SELECT " >81 -00" SELECT " ~ >82 -00" SELECT " ? >81 <40" SELECT " >82 <00" SELECT
+    " >00" NAME " <80 >00" NAME " <4010DA5F200141 >409000 <4010DA5F200141 >82 <90 >409000"
+    " <0000DA5F200142 >009000 <40" GET " >405F200241429000 <C2 >E2 <C0 >E0 <00" GET
+    " >005F200241429000",
+    /* what is no short command, or not agreed */
+    "<00 >006700 <4000A404 >406700 <0000A40400030141 >006700 <4000CA5F20000000 >406700"
+    " <0000600000 >006D00 <40009A000000 >406D00 <0000A4040000 >006700 <4000B0000000 >406D00",
+    "<00" GET " >006985 <40" SELECT " >40" NAME " <00" GET " >005F20034A4F459000",
+};
+
+static gt_t1 end;
+static gt_card card;
+static bool is_card;
+static uint8_t block[GT_BLOCK_LIMIT + 1];
+
+/* Writes the bytes of these digits, and returns how many they are. */
+static size_t bytes_of(const char *digits, uint8_t *bytes) {
+    size_t n;
+    for (n = 0; n < strlen(digits) / 2; n++) {
+        const char two[3] = { digits[2 * n], digits[2 * n + 1], '\0' };
+        bytes[n] = (uint8_t)strtoul(two, NULL, 16);
+    }
+    return n;
+}
 
 /* Writes a block with this PCB and field. Its LRC makes the exclusive-or of all bytes 00. */
-static size_t block_of(uint8_t bytes[GT_BLOCK_LIMIT], uint8_t pcb, const uint8_t *info, size_t n) {
+static size_t block_of(const char *digits) {
+    const size_t n = bytes_of(digits, block + 2) + 2;
     size_t i;
-    uint8_t sum = (uint8_t)(pcb ^ n);
-    bytes[0] = 0;
-    bytes[1] = pcb;
-    bytes[2] = (uint8_t)n;
-    for (i = 0; i < n; i++) {
-        bytes[3 + i] = info[i];
-        sum ^= info[i];
-    }
-    bytes[3 + n] = sum;
-    return n + 4;
+    block[0] = 0;
+    block[1] = block[2];
+    block[2] = (uint8_t)(n - 3);
+    block[n] = 0;
+    for (i = 0; i < n; i++) block[n] ^= block[i];
+    return n + 1;
 }
 
-/* The end's next block is this one. The card has `times` times BWT to answer. */
-static void sends(gt_t1 *t, uint8_t pcb, const uint8_t *info, size_t size, uint8_t times) {
-    uint8_t want[GT_BLOCK_LIMIT] = { 0 }, got[GT_BLOCK_LIMIT + 1];
-    const size_t n = block_of(want, pcb, info, size);
+static void sends(const char *digits, unsigned long times) {
+    uint8_t want[GT_BLOCK_LIMIT + 1], waits = 0;
+    const size_t n = block_of(digits);
     size_t count = 0;
-    uint8_t waits = 0;
-    memset(got, 0xEE, sizeof got);
-    CHECK(gt_t1_send_bytes(t, got, n - 1, &count, &waits), GT_BUFFER);
-    CHECK(count, n);
-    CHECK(waits, times);
-    CHECK(got[0], 0xEE);
-    count = waits = 0;
-    CHECK(gt_t1_send_bytes(t, got, n, &count, &waits), GT_OK);
-    CHECK(count, n);
-    CHECK(waits, times);
-    CHECK_BYTES(got, want, n);
-    CHECK(got[n], 0xEE);
-}
-
-/* The end sends nothing, returns this code, and expects no block. */
-static void is_silent(gt_t1 *t, int32_t code) {
-    uint8_t byte = 0xEE, waits = 0xEE;
-    size_t n = 7;
-    CHECK(gt_t1_send_bytes(t, &byte, 1, &n, &waits), code);
-    CHECK(gt_t1_receive_bytes(t, &byte, 1, &n), GT_STATE);
-    CHECK(gt_t1_missed(t), GT_STATE);
-    CHECK(gt_t1_damaged(t), GT_STATE);
-    CHECK(byte, 0xEE);
-    CHECK(waits, 0xEE);
-    CHECK(n, 7);
-}
-
-/* Gives the end this block byte by byte. It takes no byte after the block. */
-static void comes(gt_t1 *t, uint8_t pcb, const uint8_t *info, size_t size) {
-    uint8_t bytes[GT_BLOCK_LIMIT + 1] = { 0 };
-    const size_t n = block_of(bytes, pcb, info, size);
-    size_t i, taken = 0;
-    for (i = 0; i + 2 < n; i++) {
-        CHECK(gt_t1_receive_bytes(t, bytes + i, 1, &taken), GT_OK);
-        CHECK(taken, 1);
+    int i;
+    memcpy(want, block, n);
+    for (i = 1; i >= 0; i--) {
+        memset(block, 0xEE, sizeof block);
+        CHECK(is_card ? gt_card_t1_send_bytes(&card, block, n - (size_t)i, &count)
+              : gt_t1_send_bytes(&end, block, n - (size_t)i, &count, &waits),
+              i ? GT_BUFFER : GT_OK);
+        CHECK(count, n);
+        if (i > 0) CHECK(block[0], 0xEE);
     }
-    CHECK(gt_t1_receive_bytes(t, bytes + n - 2, 3, &taken), GT_SENDS);
-    CHECK(taken, 2);
+    CHECK_BYTES(block, want, n);
+    CHECK(block[n], 0xEE);
+    if (!is_card) CHECK(waits, times);
 }
 
-static void is_faulty(gt_t1 *t, int32_t cause, int32_t outcome) {
-    int32_t found = 1, known = 9;
-    uint8_t byte = 0xEE;
-    size_t len = 7;
-    is_silent(t, GT_FAILED);
-    CHECK(gt_t1_fault(t, &found, &known), GT_OK);
-    CHECK(found, cause);
-    CHECK(known, outcome);
-    CHECK(gt_t1_begin(t, GET, sizeof GET), GT_STATE);
-    CHECK(gt_t1_response(t, &byte, 1, &len), GT_STATE);
-    CHECK(len, 7);
-    CHECK(byte, 0xEE);
+/* The end gets these bytes, and takes no byte after a block. */
+static void hears(const uint8_t *bytes, size_t n, int32_t code, size_t want) {
+    size_t taken = 99;
+    CHECK(is_card ? gt_card_t1_receive_bytes(&card, bytes, n, &taken)
+          : gt_t1_receive_bytes(&end, bytes, n, &taken), code);
+    CHECK(taken, want);
 }
 
-/* The response is this one, and the end is ready for the next command. */
-static void responds(gt_t1 *t, const uint8_t *want, size_t n) {
-    uint8_t got[GT_ANSWER_LIMIT];
-    size_t len = 0;
+static void comes(char kind, const char *digits) {
+    const size_t n = block_of(digits);
+    if (kind == '#') block[n - 1] ^= 1;
+    hears(block, 3, GT_OK, 3);
+    if (kind != '-') hears(block + 3, n - 2, GT_SENDS, n - 3);
+}
+
+/* The end has the response, or the reason why it gave up. */
+static void is_over(const char *word) {
+    static const struct { char why; int32_t cause; } WHYS[] = {
+        { 'T', GT_TRIES_SPENT }, { 'E', GT_EXTENSIONS_SPENT }, { 'A', GT_ABORTED },
+        { 'L', GT_TOO_LONG }
+    };
+    static const int32_t OUTCOMES[] = { GT_NOT_CARRIED_OUT, GT_UNKNOWN, GT_IN_PART };
+    uint8_t want[GT_ANSWER_LIMIT];
     int32_t cause = 1, outcome = 9;
-    is_silent(t, GT_DONE);
-    CHECK(gt_t1_fault(t, &cause, &outcome), GT_NOT_FOUND);
-    CHECK(cause, 1);
-    CHECK(outcome, 9);
-    memset(got, 0xEE, sizeof got);
-    if (n > 0) CHECK(gt_t1_response(t, got, n - 1, &len), n > 0 ? GT_BUFFER : GT_OK);
-    if (n > 0) CHECK(len, n);
-    CHECK(got[0], 0xEE);
-    CHECK(gt_t1_response(t, got, sizeof got, &len), GT_OK);
-    CHECK(len, n);
-    CHECK_BYTES(got, want, n);
-    CHECK(got[n], 0xEE);
-}
-
-static const uint8_t IFSD[] = { 0xFE };
-
-/* Opens an end with this IFSC and a command, and agrees on an IFSD of 254 with the card. */
-static void open_end(gt_t1 *t, uint8_t ifsc, const uint8_t *apdu, size_t n) {
-    CHECK(gt_t1_new(t, GT_LRC, ifsc, 2, 3, 20), GT_OK);
-    CHECK(gt_t1_begin(t, apdu, n), GT_OK);
-    sends(t, 0xC1, IFSD, 1, 1);
-    comes(t, 0xE1, IFSD, 1);
-}
-
-static void arguments(void) {
-    gt_t1 t = GT_INIT;
-    uint8_t byte = 0;
-    size_t n = 0;
-    unsigned edc;
-    CHECK(gt_t1_begin(&t, GET, sizeof GET), GT_EMPTY);
-    CHECK(gt_t1_send_bytes(&t, &byte, 1, &n, &byte), GT_EMPTY);
-    CHECK(gt_t1_receive_bytes(&t, &byte, 1, &n), GT_EMPTY);
-    CHECK(gt_t1_missed(&t), GT_EMPTY);
-    CHECK(gt_t1_damaged(&t), GT_EMPTY);
-    CHECK(gt_t1_reset(&t), GT_EMPTY);
-    for (edc = 0; edc < 256; edc++)
-        if (edc != GT_LRC)
-            CHECK(gt_t1_new(&t, (uint8_t)edc, 32, 4, 16, 258), GT_ARGUMENT);
-    CHECK(gt_t1_new(&t, GT_LRC, 0, 4, 16, 258), GT_ARGUMENT);
-    CHECK(gt_t1_new(&t, GT_LRC, 255, 4, 16, 258), GT_ARGUMENT);
-    CHECK(gt_t1_new(&t, GT_LRC, 254, GT_T1_TRIES, GT_T1_EXTENSIONS, GT_ANSWER_LIMIT), GT_OK);
-    CHECK(gt_t1_new(&t, GT_CRC, 0, 4, 16, 258), GT_STATE);
-    responds(&t, &byte, 0);
-    gt_t1_free(&t);
-    CHECK(gt_t1_missed(&t), GT_EMPTY);
-}
-
-/* Commands in one block and in three, their numbers, and a response in two blocks. */
-static void chains(void) {
-    gt_t1 t = GT_INIT;
-    open_end(&t, 5, GET, sizeof GET);
-    sends(&t, 0x00, GET, 5, 1);
-    CHECK(gt_t1_begin(&t, GET, sizeof GET), GT_STATE);
-    comes(&t, 0x20, GET, 3);
-    sends(&t, 0x90, NULL, 0, 1);
-    comes(&t, 0x40, GET + 3, 2);
-    responds(&t, GET, 5);
-    CHECK(gt_t1_begin(&t, SELECT, sizeof SELECT), GT_OK);
-    sends(&t, 0x60, SELECT, 5, 1);
-    comes(&t, 0x80, NULL, 0);
-    sends(&t, 0x20, SELECT + 5, 5, 1);
-    comes(&t, 0x90, NULL, 0);
-    sends(&t, 0x40, SELECT + 10, 3, 1);
-    comes(&t, 0x00, GET, 5);
-    responds(&t, GET, 5);
-    gt_t1_free(&t);
-}
-
-/* Each reception without progress costs a try. R(N(R)) asks for the card's block. */
-static void tries(void) {
-    uint8_t bytes[GT_BLOCK_LIMIT];
-    gt_t1 t = GT_INIT;
-    size_t n, taken = 0;
-    CHECK(gt_t1_new(&t, GT_LRC, 5, 2, 3, 20), GT_OK);
-    CHECK(gt_t1_begin(&t, GET, sizeof GET), GT_OK);
-    CHECK(gt_t1_missed(&t), GT_OK);
-    sends(&t, 0xC1, IFSD, 1, 1);
-    CHECK(gt_t1_missed(&t), GT_OK);
-    sends(&t, 0xC1, IFSD, 1, 1);
-    CHECK(gt_t1_missed(&t), GT_OK);
-    /* The command goes without S(IFS response), with all its tries. */
-    sends(&t, 0x00, GET, 5, 1);
-    CHECK(gt_t1_missed(&t), GT_OK);
-    sends(&t, 0x82, NULL, 0, 1);
-    CHECK(gt_t1_missed(&t), GT_OK);
-    CHECK(gt_t1_missed(&t), GT_OK);
-    is_faulty(&t, GT_TRIES_SPENT, GT_UNKNOWN);
-    CHECK(gt_t1_reset(&t), GT_OK);
-    responds(&t, bytes, 0);
-    gt_t1_free(&t);
-    open_end(&t, 5, GET, sizeof GET);
-    n = block_of(bytes, 0x00, GET, 5);
-    bytes[n - 1] ^= 1;
-    CHECK(gt_t1_receive_bytes(&t, bytes, n, &taken), GT_SENDS);
-    sends(&t, 0x81, NULL, 0, 1);
-    CHECK(gt_t1_receive_bytes(&t, bytes, 3, &taken), GT_OK);
-    CHECK(gt_t1_missed(&t), GT_OK);
-    sends(&t, 0x82, NULL, 0, 1);
-    CHECK(gt_t1_missed(&t), GT_OK);
-    is_faulty(&t, GT_TRIES_SPENT, GT_UNKNOWN);
-    CHECK(gt_t1_damaged(&t), GT_STATE);
-    gt_t1_free(&t);
-    /* A wrong parity drops the received part of the block, and R says 1. */
-    open_end(&t, 5, GET, sizeof GET);
-    CHECK(gt_t1_receive_bytes(&t, bytes, 3, &taken), GT_OK);
-    CHECK(gt_t1_damaged(&t), GT_OK);
-    sends(&t, 0x81, NULL, 0, 1);
-    CHECK(gt_t1_missed(&t), GT_OK);
-    sends(&t, 0x82, NULL, 0, 1);
-    CHECK(gt_t1_damaged(&t), GT_OK);
-    is_faulty(&t, GT_TRIES_SPENT, GT_UNKNOWN);
-    gt_t1_free(&t);
-    open_end(&t, 5, SELECT, sizeof SELECT);
-    CHECK(gt_t1_missed(&t), GT_OK);
-    CHECK(gt_t1_missed(&t), GT_OK);
-    CHECK(gt_t1_missed(&t), GT_OK);
-    is_faulty(&t, GT_TRIES_SPENT, GT_NOT_CARRIED_OUT);
-    gt_t1_free(&t);
-    open_end(&t, 5, GET, sizeof GET);
-    comes(&t, 0x20, GET, 3);
-    CHECK(gt_t1_missed(&t), GT_OK);
-    CHECK(gt_t1_missed(&t), GT_OK);
-    CHECK(gt_t1_missed(&t), GT_OK);
-    is_faulty(&t, GT_TRIES_SPENT, GT_IN_PART);
-    gt_t1_free(&t);
-}
-
-/* S(WTX), S(IFS) and S(ABORT) from the card, and a response above the limit of 20 bytes. */
-static void requests(void) {
-    static const uint8_t times[] = { 0, 1, 255 };
-    uint8_t data[21] = { 0 };
-    gt_t1 t = GT_INIT;
-    size_t i;
-    open_end(&t, 5, SELECT, sizeof SELECT);
-    for (i = 0; i < 3; i++) {
-        comes(&t, 0xC3, times + i, 1);
-        sends(&t, 0xE3, times + i, 1, times[i] == 0 ? 1 : times[i]);
+    size_t i, n = 0, count = 0;
+    CHECK(gt_t1_missed(&end), GT_STATE);
+    if (*word == '=') {
+        n = bytes_of(word + 1, want);
+        CHECK(gt_t1_response(&end, block, n - 1, &count), GT_BUFFER);
+        CHECK(gt_t1_response(&end, block, sizeof block, &count), GT_OK);
+        CHECK(count, n);
+        CHECK_BYTES(block, want, n);
+        CHECK(gt_t1_fault(&end, &cause, &outcome), GT_NOT_FOUND);
+        return;
     }
-    comes(&t, 0xC3, times, 1);
-    is_faulty(&t, GT_EXTENSIONS_SPENT, GT_NOT_CARRIED_OUT);
-    gt_t1_free(&t);
-    open_end(&t, 5, SELECT, sizeof SELECT);
-    comes(&t, 0xC1, (const uint8_t *)"\x08", 1);
-    sends(&t, 0xE1, (const uint8_t *)"\x08", 1, 1);
-    comes(&t, 0x90, NULL, 0);
-    sends(&t, 0x40, SELECT + 5, 8, 1);
-    comes(&t, 0xC2, NULL, 0);
-    sends(&t, 0xE2, NULL, 0, 1);
-    CHECK(gt_t1_missed(&t), GT_OK);
-    is_faulty(&t, GT_ABORTED, GT_UNKNOWN);
-    gt_t1_free(&t);
-    open_end(&t, 5, GET, sizeof GET);
-    comes(&t, 0x00, data, 20);
-    responds(&t, data, 20);
-    CHECK(gt_t1_begin(&t, GET, sizeof GET), GT_OK);
-    comes(&t, 0x40, data, 21);
-    is_faulty(&t, GT_TOO_LONG, GT_UNKNOWN);
-    gt_t1_free(&t);
+    CHECK(gt_t1_fault(&end, &cause, &outcome), GT_OK);
+    for (i = 0; WHYS[i].why != word[1]; i++) {}
+    CHECK(cause, WHYS[i].cause);
+    CHECK(outcome, OUTCOMES[word[2] - '0']);
+    CHECK(gt_t1_response(&end, block, 1, &count), GT_STATE);
+    CHECK(gt_t1_reset(&end), GT_OK);
+    CHECK(gt_t1_fault(&end, &cause, &outcome), GT_NOT_FOUND);
 }
 
-/* 300 extensions in one command; and an IFSC that the card lowers before and within a command. */
-static void many_requests(void) {
-    static const uint8_t one[] = { 1 }, two[] = { 2 };
-    gt_t1 t = GT_INIT;
-    int i;
-    CHECK(gt_t1_new(&t, GT_LRC, 5, 2, 300, 20), GT_OK);
-    CHECK(gt_t1_begin(&t, GET, sizeof GET), GT_OK);
-    comes(&t, 0xE1, IFSD, 1);
-    for (i = 0; i < 300; i++) {
-        comes(&t, 0xC3, two, 1);
-        sends(&t, 0xE3, two, 1, 2);
+static void happens(char *word) {
+    const int32_t code = is_card ? GT_SENDS : GT_OK;
+    uint8_t command[GT_APDU_LIMIT];
+    char *star = strchr(word, '*');
+    if (star) *star++ = '\0';
+    switch (*word) {
+    case '>': sends(word + 1, star ? strtoul(star, NULL, 10) : 1); break;
+    case '~': CHECK(is_card ? gt_card_t1_missed(&card) : gt_t1_missed(&end), code); break;
+    case '?': CHECK(is_card ? gt_card_t1_damaged(&card) : gt_t1_damaged(&end), code); break;
+    case ':': CHECK(gt_t1_begin(&end, command, bytes_of(word + 1, command)), GT_OK); break;
+    case '=':
+    case '!': is_over(word); break;
+    default: comes(*word, word + 1);
     }
-    comes(&t, 0xC3, two, 1);
-    is_faulty(&t, GT_EXTENSIONS_SPENT, GT_UNKNOWN);
-    gt_t1_free(&t);
-    CHECK(gt_t1_new(&t, GT_LRC, 254, 2, 3, 20), GT_OK);
-    CHECK(gt_t1_begin(&t, GET, sizeof GET), GT_OK);
-    comes(&t, 0xC1, two, 1);
-    sends(&t, 0xE1, two, 1, 1);
-    comes(&t, 0xE1, IFSD, 1);
-    sends(&t, 0x20, GET, 2, 1);
-    comes(&t, 0xC1, one, 1);
-    sends(&t, 0xE1, one, 1, 1);
-    comes(&t, 0x80, NULL, 0);
-    sends(&t, 0x20, GET, 1, 1);
-    comes(&t, 0x9F, NULL, 0);
-    sends(&t, 0x60, GET + 1, 1, 1);
-    gt_t1_free(&t);
 }
 
-/* An I-block without a field inside a chain is invalid: a chain of such blocks would never end. */
-static void empty_fields(void) {
-    gt_t1 t = GT_INIT;
-    int i;
-    open_end(&t, 5, GET, sizeof GET);
-    sends(&t, 0x00, GET, 5, 1);
-    for (i = 0; i < 2; i++) {
-        comes(&t, 0x20, NULL, 0);
-        sends(&t, 0x82, NULL, 0, 1);
-    }
-    comes(&t, 0x20, NULL, 0);
-    is_faulty(&t, GT_TRIES_SPENT, GT_UNKNOWN);
-    gt_t1_free(&t);
-    open_end(&t, 5, GET, sizeof GET);
-    comes(&t, 0x20, GET, 3);
-    sends(&t, 0x90, NULL, 0, 1);
-    comes(&t, 0x60, NULL, 0);
-    for (i = 0; i < 2; i++) {
-        sends(&t, 0x92, NULL, 0, 1);
-        comes(&t, 0x60, NULL, 0);
-    }
-    is_faulty(&t, GT_TRIES_SPENT, GT_IN_PART);
-    gt_t1_free(&t);
-    open_end(&t, 5, GET, sizeof GET);
-    comes(&t, 0x20, GET, 3);
-    comes(&t, 0x40, NULL, 0);
-    responds(&t, GET, 3);
-    gt_t1_free(&t);
+static void dialogue(const char *words) {
+    static const uint8_t aid[] = { 0xA0, 0x00, 0x00, 0x00, 0x03, 0x10, 0x10 };
+    char text[600], *word;
+    const int before = failed;
+    CHECK(gt_t1_new(&end, GT_LRC, 5, 2, 3, 20), GT_OK);
+    CHECK(gt_card_new(&card), GT_OK);
+    CHECK(gt_card_app(&card, aid, sizeof aid), GT_OK);
+    CHECK(gt_card_object(&card, 0x5F20, (const uint8_t *)"JOE", 3, 0), GT_OK);
+    CHECK(gt_card_finish(&card), GT_OK);
+    CHECK(gt_card_t1_begin(&card), GT_OK);
+    snprintf(text, sizeof text, "%s%s", is_card ? "<C1FE >E1FE " : "", words);
+    for (word = strtok(text, " "); word; word = strtok(NULL, " ")) happens(word);
+    if (failed > before) printf("in the dialogue %s\n", words);
+    gt_t1_free(&end);
+    gt_card_free(&card);
 }
 
 int main(void) {
-    arguments();
-    chains();
-    tries();
-    many_requests();
-    empty_fields();
-    requests();
+    size_t i;
+    for (i = 0; i < sizeof OF_A_TERMINAL / sizeof *OF_A_TERMINAL; i++) dialogue(OF_A_TERMINAL[i]);
+    is_card = true;
+    for (i = 0; i < sizeof OF_A_CARD / sizeof *OF_A_CARD; i++) dialogue(OF_A_CARD[i]);
     return check_result("t1");
 }

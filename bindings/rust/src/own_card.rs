@@ -35,14 +35,15 @@ impl fmt::Debug for Command<'_> {
     }
 }
 
-/// The data of a response, up to [`OWN_LIMIT`] bytes. They are wiped once the library has them.
+/// The data of a response, up to [`OWN_LIMIT`] bytes, which are wiped once the library has them.
+/// With more, the call of the card returns [`Error::Argument`], and resets card and application.
 pub struct Response {
     room: Vec<u8>,
     count: usize,
 }
 
 impl Response {
-    /// Adds bytes at the end.
+    /// Adds bytes at the end. Those beyond the limit are only counted.
     pub fn extend(&mut self, bytes: &[u8]) {
         let end = self.count.saturating_add(bytes.len());
         if let Some(room) = self.room.get_mut(self.count..end) {

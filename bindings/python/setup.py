@@ -23,9 +23,8 @@ def declarations():
     """The types, numbers and functions of the header, in the form that cffi reads."""
     text = re.sub(r"/\*.*?\*/", "", TEXT, flags=re.DOTALL)
     numbers = re.findall(r"^#define (GT_[A-Z_]+) (?:\d|\(GT_)", text, re.M)
-    text = re.sub(r"^#.*$", "", text, flags=re.M).replace('extern "C" {', "")
+    text = re.sub(r'(?m)^#.*$|extern "C" \{|\b(GT_(MUST_CHECK|FUNCTION)|static inline)\b', "", text)
     text = re.sub(r"\) \{\n.*?\n\}", ");", text, flags=re.DOTALL)  # a function's body
-    text = re.sub(r"\b(GT_MUST_CHECK|GT_FUNCTION|static inline)\b", "", text)
     items = re.findall(r"[^;{}]*(?:\{[^{}]*\}[^;{}]*)?;", text)
     public = [it.strip() for it in items if not re.search(r"\bgalliumtoad_|_\(", it)]
     return "\n".join([f"#define {name} ..." for name in numbers] + public)
@@ -36,6 +35,9 @@ def builder():
     archive = BINDINGS / "lib" / f"{platform.machine()}-linux-gnu" / "libcard_c.a"
     if not archive.is_file():
         raise SystemExit(f"galliumtoad: there is no archive for Linux on {platform.machine()}")
+    there = archive.read_text("latin-1")
+    if lacks := [it for it in re.findall(r"\bgalliumtoad_\w+(?=\()", TEXT) if it not in there]:
+        raise SystemExit(f"galliumtoad: {archive} is not that of the header: no {lacks[0]}")
     heap = os.path.relpath(BINDINGS / "c" / "src" / "heap.c", HERE)
     made = cffi.FFI()
     made.cdef(declarations())

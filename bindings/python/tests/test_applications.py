@@ -16,7 +16,7 @@ from galliumtoad.faults import Faults, Mistake, block, read
 from galliumtoad.simulate import Simulator, main
 from room import folder_of_programs
 from test_simulate import Vpcd
-from waiting import wait_until
+from waiting import AtPty, wait_until
 
 SOURCE = Path(simulate.__file__).parent.parent
 EXAMPLES = Path(__file__).resolve().parents[1] / "examples"
@@ -67,20 +67,15 @@ def dialogue(name):
     return words[::2], words[1::2]
 
 
-class Card:
-    """The program at a pseudo terminal without an echo. It talks T=1 with that answer to reset."""
+class Card(AtPty):
+    """The program without an echo. It talks T=1 with that answer to reset."""
 
     def __init__(self, *words, cwd=EXAMPLES):
-        program = [sys.executable, "-m", "galliumtoad.simulate", *words, "--pty", "--no-echo"]
-        self.program = subprocess.Popen(
-            program, stdout=subprocess.PIPE, stderr=subprocess.PIPE, text=True, cwd=cwd,
-            env={**os.environ, "PYTHONPATH": str(SOURCE)},
-            # these tests may run where SIGINT is ignored
-            preexec_fn=lambda: signal.signal(signal.SIGINT, signal.SIG_DFL))
-        self.line = os.open(self.program.stdout.readline().strip(), os.O_RDWR | os.O_NOCTTY)
+        super().__init__(*words, "--no-echo", cwd=cwd)
         self.t1 = T1(self.carried) if words[-1] == T1_ATR else None
+        self.open()
         wanted = bytes.fromhex(T1_ATR if self.t1 else "3B00")
-        assert b"".join(os.read(self.line, 1) for _ in wanted) == wanted
+        assert self.read(len(wanted)) == wanted
 
     def carried(self, data, waits):
         """Sends a block, and returns the received bytes."""
@@ -95,13 +90,10 @@ class Card:
         with Exchange(bytes.fromhex(command)) as it:
             while (found := it.answer()) is None:
                 os.write(self.line, it.send_bytes())
-                assert select.select([self.line], [], [], 30)[0], "the card is silent"
-                it.receive_bytes(os.read(self.line, 1))
+                byte = self.read(1)
+                assert byte, "the card is silent"
+                it.receive_bytes(byte)
             return (found.data + found.status.to_bytes(2, "big")).hex().upper()
-
-    def end(self):
-        self.program.kill()
-        return self.program.communicate()
 
 
 @pytest.mark.parametrize("atr", ["3B00", T1_ATR])
@@ -230,7 +222,7 @@ def test_the_simulation_ends_with_its_program():
      (["--program", ""], "list index out of range"), (["--program", "'"], "No closing quotation")],
 )
 def test_cards_that_can_not_be_made(capsys, monkeypatch, words, text):
-    monkeypatch.setattr(simulate, "serve", lambda *_: pytest.fail("it serves"))
+    monkeypatch.setattr(simulate, "serve_pty", lambda *_: pytest.fail("it serves"))
     assert main([*words, "--pty"]) == 2
     out, error = capsys.readouterr()
     assert text in error and out == ""

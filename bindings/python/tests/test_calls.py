@@ -9,42 +9,10 @@ from types import SimpleNamespace
 from unittest.mock import Mock
 
 import pytest
-from galliumtoad import (
-    Answer,
-    Atr,
-    AtrError,
-    AtrT1,
-    BlockError,
-    BuildError,
-    CallError,
-    Card,
-    Code,
-    CommandError,
-    Due,
-    Edc,
-    Entry,
-    Exchange,
-    Get,
-    Level,
-    LineError,
-    ObjectsError,
-    OutOfMemory,
-    Outcome,
-    Pps,
-    PpsError,
-    Put,
-    Refused,
-    Select,
-    Send,
-    Session,
-    Status,
-    T1,
-    Terminal,
-    TransportError,
-    find,
-    head,
-    objects,
-)
+from galliumtoad import (Answer, Atr, AtrError, AtrT1, BlockError, BuildError, CallError, Card,
+                         Code, CommandError, Due, Edc, Entry, Exchange, Get, Level, LineError,
+                         ObjectsError, OutOfMemory, Outcome, Pps, PpsError, Put, Refused, Select,
+                         Send, Session, Status, T1, Terminal, TransportError, find, head, objects)
 from galliumtoad._library import ffi, lib
 from galliumtoad.errors import checked
 from galliumtoad.handle import Handle
@@ -230,17 +198,27 @@ def test_any_bytes_like_object_is_read():
         session.run(Put(0x5F20, memoryview(b"A.N.N.")[::2]))
 
 
-def test_a_card_is_built_or_refused():
-    with raises(CallError, "GT_ARGUMENT"):
-        Card({b"1234": {}})
-    with raises(BuildError, "GT_TOO_MANY_APPS"):
-        Card({bytes(4) + bytes([it]): {} for it in range(9)})
-    with raises(BuildError, "GT_VALUE_TOO_LONG"):
-        Card({AID: {0x5F20: bytes(8193)}})
-    with raises(BuildError, "GT_NOT_OBJECTS"):
-        Card({AID: {0x70: b"\x5f"}})
-    with raises(CallError, "GT_ARGUMENT"):
-        Card({AID: {0x5F2080: b""}})
+REFUSED = [
+    (CallError, "GT_ARGUMENT", lambda: Card({b"1234": {}})),
+    (BuildError, "GT_TOO_MANY_APPS", lambda: Card({bytes(4) + bytes([at]): {} for at in range(9)})),
+    (BuildError, "GT_VALUE_TOO_LONG", lambda: Card({AID: {0x5F20: bytes(8193)}})),
+    (BuildError, "GT_NOT_OBJECTS", lambda: Card({AID: {0x70: b"\x5f"}})),
+    (CallError, "GT_ARGUMENT", lambda: Card({AID: {0x5F2080: b""}})),
+    (TransportError, "GT_NO_TPDU", lambda: card().tpdu(b"123")),
+    (TransportError, "GT_WANTS_DATA", lambda: card().tpdu(bytes.fromhex("00A4040007"))),
+    (CallError, "GT_ARGUMENT", lambda: card().plan("x")),
+    (CallError, "GT_ARGUMENT", lambda: card().plan("", 257)),
+    (CommandError, "GT_TOO_SHORT", lambda: Exchange(b"123")),
+    (CommandError, "GT_BAD_LENGTH", lambda: Exchange(bytes.fromhex("00A4040002AA"))),
+    (CommandError, "GT_INVALID_INS", lambda: Exchange(bytes.fromhex("00600000"))),
+    (CallError, "GT_ARGUMENT", lambda: Exchange(SELECT, limit=16385)),
+]
+
+
+@pytest.mark.parametrize(("kind", "name", "call"), REFUSED)
+def test_a_refused_call(kind, name, call):
+    with raises(kind, name):
+        call()
 
 
 def test_what_a_card_holds():
@@ -253,17 +231,6 @@ def test_what_a_card_holds():
     assert held.selected == AID
     held.reset()
     assert held.selected is None
-
-
-def test_tpdus_at_a_card():
-    with raises(TransportError, "GT_NO_TPDU"):
-        card().tpdu(b"123")
-    with raises(TransportError, "GT_WANTS_DATA"):
-        card().tpdu(bytes.fromhex("00A4040007"))
-    with raises(CallError, "GT_ARGUMENT"):
-        card().plan("x")
-    with raises(CallError, "GT_ARGUMENT"):
-        card().plan("", 257)
 
 
 def test_characters_at_a_card():
@@ -322,14 +289,6 @@ def test_of_whole_tpdus_and_commands_no_data_are_known():
 
 
 def test_faults_of_an_exchange():
-    with raises(CommandError, "GT_TOO_SHORT"):
-        Exchange(b"123")
-    with raises(CommandError, "GT_BAD_LENGTH"):
-        Exchange(bytes.fromhex("00A4040002AA"))
-    with raises(CommandError, "GT_INVALID_INS"):
-        Exchange(bytes.fromhex("00600000"))
-    with raises(CallError, "GT_ARGUMENT"):
-        Exchange(SELECT, limit=16385)
     exchange = Exchange(SELECT, limit=10)
     assert exchange.tpdu() == (SELECT[:-1], 0)
     exchange.answered(bytes.fromhex("610B"))

@@ -32,7 +32,7 @@ class End(Line):
     """A card's end of a line, at T=0 or T=1, in a thread of its own: the line is two queues."""
 
     def __init__(self, it, talks):
-        self.of, self.cwt, self.sent, self.fault = it, 1.0, b"", None
+        self.of, self.cwt, self.sent, self.fault, self.blocks = it, 1.0, b"", None, []
         self.asks, self.characters = SimpleQueue(), SimpleQueue()
         threading.Thread(target=self.run, args=[talks], daemon=True).start()
         self.asks.get(timeout=60)
@@ -59,6 +59,13 @@ class End(Line):
         if self.fault:
             raise self.fault
         return sent
+
+    def pass_block(self, data, waits=0):
+        """Takes a block, and returns what the card sends, which `blocks` keeps."""
+        if not data:
+            return b""
+        self.blocks.append(b"".join(self.take_in(bytes([it])) for it in data))
+        return self.blocks[-1]
 
 
 def simulator(text, t=1, **more):
@@ -167,15 +174,7 @@ def test_blocks_carry_the_same(trial):
     it, other = simulator(trial.faults)[0], simulator(trial.faults)[0]
     for each in (it, other):
         each.is_over.set()
-    end = End(it, at_t1)
-
-    def line(data, waits):
-        try:
-            return b"".join(end.take_in(data[at : at + 1]) for at in range(len(data)))
-        except Gone:
-            return b""
-
-    with T1(line) as terminal:
+    with T1(End(it, at_t1).pass_block) as terminal:
         for command, answer in zip(JOB, whole(other)):
             if answer is None or len(answer) > 258:  # no terminal takes a longer response
                 break
@@ -256,16 +255,10 @@ def test_what_is_stored_over_a_line(fault, size):
         it, _ = simulator(fault, t)
         if t:
             end = End(it, at_t1)
-            sent = []
-
-            def line(data, _):
-                sent.append(b"".join(end.take_in(bytes([it])) for it in data))
-                return sent[-1]
-
-            with T1(line) as terminal:
+            with T1(end.pass_block) as terminal:
                 assert [terminal(each)[-2:] for each in JOB[:4]] == [b"\x90\x00"] * 4
                 # IFS, SELECT, and the pieces in fields of 32 bytes: nothing is asked for again
-                assert len(sent) == 1 + 1 + 9 + 9 + 3
+                assert len(end.blocks) == 1 + 1 + 9 + 9 + 3
                 assert terminal(bytes.fromhex("00CA005F00"))[-2:] != b"\x90\x00"
         else:
             said(it, *T0_JOB[:5])
@@ -290,19 +283,11 @@ AT_T1 = {
 def test_blocks(kind):
     """A line fault at T=1 changes one block, and the terminal gets the answer all the same."""
     it, struck = simulator(f"command 1, {kind}")
-    end, sent, left = End(it, at_t1), [], []
-
-    def line(data, waits):
-        if data:
-            came = [end.take_in(bytes([it])) for it in data]
-            sent.append(b"".join(came))
-            left[:] = [sent[-1]]
-        return left.pop() if left else b""
-
-    with T1(line) as terminal:
+    end = End(it, at_t1)
+    with T1(end.pass_block) as terminal:
         assert terminal(JOB[0]) == ANSWERS[0]
         expected = AT_T1[kind](block(0, 0, ANSWERS[0]))
-        assert sent[1 : 1 + len(expected)] == expected and len(struck) == 1
+        assert end.blocks[1 : 1 + len(expected)] == expected and len(struck) == 1
         for command, answer in zip(JOB[1:], ANSWERS[1:]):
             assert terminal(command) == answer
 
@@ -321,17 +306,10 @@ def test_blocks_of_a_trial(trial):
     """They come in place of the response of its command, which has one block, and the rest of the
     job is as without a fault, unless the card aborts."""
     it, struck = simulator(trial.faults)
-    end, sent, left = End(it, at_t1), [], []
-    when, kind = trial.faults.split(", ")
+    end = End(it, at_t1)
+    sent, (when, kind) = end.blocks, trial.faults.split(", ")
     number = int(when.split()[1])
-
-    def line(data, waits):
-        if data:
-            sent.append(b"".join(end.take_in(bytes([each])) for each in data))
-            left[:] = [sent[-1]]
-        return left.pop() if left else b""
-
-    with T1(line) as terminal:
+    with T1(end.pass_block) as terminal:
         for place, (command, answer) in enumerate(zip(JOB, ANSWERS), 1):
             sent.clear()
             if (place, kind) == (number, "abort"):
@@ -349,21 +327,17 @@ def test_blocks_of_a_trial(trial):
 
 def test_a_changed_response_goes_in_fields_of_the_terminal_s_size():
     it, _ = simulator("command 5, flip 100")
-    end, sent = End(it, at_t1), []
-
-    def line(data, waits):
-        sent.append(b"".join(end.take_in(bytes([it])) for it in data))
-        return sent[-1]
-
-    with T1(line) as terminal:
+    end = End(it, at_t1)
+    with T1(end.pass_block) as terminal:
         assert [len(terminal(command)) for command in JOB[:5]][4] == 258
-    assert [len(it) for it in sent[-2:]] == [258, 8] and sent[0] == block(0, 0xE1, b"\xfe")
+    assert [len(it) for it in end.blocks[-2:]] == [258, 8]
+    assert end.blocks[0] == block(0, 0xE1, b"\xfe")
 
 
 def blocks(it, *sent):
     """What the card's end at T=1 answers to each of these blocks."""
     end = End(it, at_t1)
-    return [b"".join(end.take_in(bytes([each])) for each in one) for one in sent]
+    return [end.pass_block(one) for one in sent]
 
 
 GET_NAME = bytes.fromhex("00CA5F2000")
@@ -380,7 +354,7 @@ def test_fields_of_each_size(size):
     end, number = End(it, at_t1), 0
 
     def ask(pcb, field=b""):
-        return b"".join(end.take_in(bytes([each])) for each in block(0, pcb, field))
+        return end.pass_block(block(0, pcb, field))
 
     assert ask(0xC1, bytes([size])) == block(0, 0xE1, bytes([size]))
     asks = [(b"\x00\xDA\x00\x51\x00", b"\x67\x00"), (GET, b"\x51\x81\xFD" + value + b"\x90\x00")]
@@ -432,6 +406,14 @@ def test_a_resynchronisation():
     assert sent[2:] == [block(0, 0x80, b""), block(0, 0xE0, b""), block(0, 0, NAME)]
 
 
+def test_a_part_of_a_command_that_was_damaged():
+    """It counts once, when it comes again."""
+    part = block(0, 0x60, GET_NAME[:2])
+    sent = blocks(simulator("")[0], block(0, 0, SELECT), part[:-1] + b"\0", part,
+                  block(0, 0, GET_NAME[2:]))
+    assert sent[1:] == [block(0, 0x91, b""), block(0, 0x80, b""), block(0, 0x40, NAME)]
+
+
 @pytest.mark.parametrize(
     "damaged", [block(0x21, 0, GET_NAME), block(0, 0, GET_NAME)[:-1] + b"\0", block(0, 0x10, b"\0"),
                 block(0, 0x20, b""), block(0, 0, bytes(255))])
@@ -455,9 +437,7 @@ def test_a_fault_of_blocks_waits_for_blocks():
 
 def test_an_abort():
     it, struck = simulator("command 1, abort")
-    end = End(it, at_t1)
-    assert b"".join(end.take_in(bytes([it])) for it in block(0, 0, JOB[0])) == block(0, 0xC2, b"")
-    assert struck
+    assert blocks(it, block(0, 0, JOB[0])) == [block(0, 0xC2, b"")] and struck
 
 
 def test_an_echo():
@@ -592,8 +572,10 @@ def test_changes_come_in_the_order_of_their_lines():
 
 @pytest.mark.parametrize("kind", ["lrc", "nad", "double", "byte 1 flip"])
 def test_nothing_is_left_of_a_lost_block_to_change(kind):
+    """Nor when it is sent again, since the faults of a command strike at one block."""
     it, struck = simulator(f"command 1, lose; command 1, {kind}")
-    assert blocks(it, block(0, 0, JOB[0])) == [b""] and len(struck) == 1
+    sent = blocks(it, block(0, 0, JOB[0]), block(0, 0x82, b""))
+    assert sent == [b"", block(0, 0, ANSWERS[0])] and len(struck) == 1
 
 
 @pytest.mark.parametrize(("t", "expected"), [(0, b"\xa4\x61\x0b"), (1, block(0, 0, b"\x61\x0b"))])

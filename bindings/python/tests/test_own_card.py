@@ -6,18 +6,8 @@ import threading
 from functools import partial
 
 import pytest
-from galliumtoad import (
-    T1,
-    Application,
-    CallError,
-    Command,
-    CommandError,
-    Exchange,
-    OwnCard,
-    Session,
-    Status,
-    TransportError,
-)
+from galliumtoad import (T1, Application, CallError, Command, CommandError, Exchange, OwnCard,
+                         Session, Status, TransportError)
 
 
 def made(count):

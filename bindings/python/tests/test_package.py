@@ -4,7 +4,9 @@ import asyncio
 import importlib.util
 import json
 import os
+import platform
 import re
+import shutil
 import subprocess
 import sys
 from pathlib import Path
@@ -97,6 +99,21 @@ def test_what_pip_reads():
     assert {it: named[f"galliumtoad-{it}"] for it in PROGRAMS} == {
         it: f"galliumtoad.{it}:main" for it in PROGRAMS
     }
+
+
+def test_an_archive_of_another_header_is_refused(tmp_path):
+    """The build says so, and not the first import."""
+    for name in ("python/setup.py", "c/include/galliumtoad.h"):
+        (tmp_path / name).parent.mkdir(parents=True)
+        shutil.copy(TOP.parent / name, tmp_path / name)
+    folder = f"{platform.machine()}-linux-gnu"
+    archive = (TOP.parent / "lib" / folder / "libcard_c.a").read_bytes()
+    (tmp_path / "lib" / folder).mkdir(parents=True)
+    older = archive.replace(b"_card_own", b"_card_one")
+    for changed, said in ((archive, ""), (older, "_card_own")):
+        (tmp_path / "lib" / folder / "libcard_c.a").write_bytes(changed)
+        done = python("-c", "import setup; setup.builder()", cwd=tmp_path / "python")
+        assert (done.returncode, done.stderr.strip()[-9:]) == (bool(said), said)
 
 
 def test_asyncio():

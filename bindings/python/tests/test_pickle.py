@@ -7,26 +7,8 @@ import signal
 from concurrent.futures import ProcessPoolExecutor
 
 import pytest
-from galliumtoad import (
-    T1,
-    Answer,
-    Atr,
-    BlockError,
-    Card,
-    Code,
-    Due,
-    Error,
-    Get,
-    ObjectsError,
-    OutOfMemory,
-    Outcome,
-    Pps,
-    Refused,
-    Select,
-    Session,
-    Status,
-    objects,
-)
+from galliumtoad import (T1, Answer, Atr, BlockError, Card, Code, Due, Error, Get, ObjectsError,
+                         OutOfMemory, Outcome, Pps, Refused, Select, Session, Status, objects)
 from galliumtoad.errors import checked
 
 AID = bytes.fromhex("A0000000031010")

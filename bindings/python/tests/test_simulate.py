@@ -18,7 +18,7 @@ from galliumtoad import Card, simulate
 from galliumtoad.faults import Faults, Mistake, block, read
 from galliumtoad.simulate import Simulator, main, read_table, serve_vpcd
 from galliumtoad.trials import trials
-from waiting import wait_for_looks
+from waiting import AtPty
 
 SOURCE = str(Path(simulate.__file__).parent.parent)
 AID = "A0000000031010"
@@ -26,54 +26,15 @@ TABLE = f"app {AID}\nobject 5F20 4A4F45\nlocked 50 -\n"
 SELECT = bytes.fromhex(f"00A4040007{AID}")
 
 
-class Card_at_pty:
-    """The program at a pseudo terminal, and this end of it."""
-
-    def __init__(self, folder, table=TABLE, faults="", words=()):
-        (folder / "table").write_text(table)
-        (folder / "faults").write_text(faults)
-        program = [sys.executable, "-m", "galliumtoad.simulate", "--table", folder / "table"]
-        program += ["--pty", "--faults", folder / "faults", *words]
-        self.program = subprocess.Popen(
-            program, stdout=subprocess.PIPE, text=True, env={**os.environ, "PYTHONPATH": SOURCE}
-        )
-        self.name = self.program.stdout.readline().strip()
-        self.line = -1
-
-    def open(self):
-        self.line = os.open(self.name, os.O_RDWR | os.O_NOCTTY)
-
-    def close(self):
-        os.close(self.line)
-        wait_for_looks(self.program)
-
-    def read(self, count, seconds=30):
-        found = b""
-        while len(found) < count and select.select([self.line], [], [], seconds)[0]:
-            found += os.read(self.line, 1)
-        return found
-
-    def talk(self, sent, count, has_echo=True):
-        """Sends characters, and returns `count` of the card."""
-        for byte in sent:
-            os.write(self.line, bytes([byte]))
-            if has_echo:
-                assert self.read(1) == bytes([byte])
-        return self.read(count)
-
-    def end(self):
-        if self.program.returncode is None:
-            self.program.kill()
-            self.lines = self.program.communicate()[0].splitlines()
-        return self.lines
-
-
 @pytest.fixture
 def at_pty(tmp_path):
     made = []
 
-    def start(*words, **more):
-        made.append(Card_at_pty(tmp_path, *words, **more))
+    def start(table=TABLE, faults="", words=()):
+        (tmp_path / "table").write_text(table)
+        (tmp_path / "faults").write_text(faults)
+        files = ["--table", tmp_path / "table", "--faults", tmp_path / "faults"]
+        made.append(AtPty(*files, *words))
         return made[-1]
 
     yield start
@@ -94,7 +55,7 @@ def test_a_line_at_t0(at_pty, tmp_path):
         assert found.hex() == "ca5f20034a4f459000"
         card.close()
     struck = f"fault at command 1: {tmp_path}/faults:1: INS CA once, status 6F00"
-    assert card.end()[:5] == ["reset", "< 3B00", "> 00CA5F2006", struck, "< 6F00"]
+    assert card.end()[0].splitlines()[:5] == ["reset", "< 3B00", "> 00CA5F2006", struck, "< 6F00"]
 
 
 def test_a_line_at_t1(at_pty):
@@ -102,7 +63,7 @@ def test_a_line_at_t1(at_pty):
     card.open()
     assert card.read(4).hex() == "3b800181"
     command = block(0, 0, SELECT + b"\x00")
-    assert card.talk(command, 17, False)[3:-1].hex() == "6f098407a00000000310109000"
+    assert card.talk(command, 17)[3:-1].hex() == "6f098407a00000000310109000"
     os.write(card.line, command[:7])  # and then it stops: the card asks for the block again
     assert card.read(4).hex() == "00920092"
     card.close()
@@ -140,7 +101,7 @@ def test_an_echo_that_differs(at_pty):
     assert card.read(6).hex() == "00da005100da"
     assert card.talk(put[5:], 2).hex() == "9000"
     card.close()
-    assert sum("wrong echo" in it for it in card.end()) == 1
+    assert card.end()[0].count("wrong echo") == 1
 
 
 def test_inverse_convention(at_pty):
@@ -280,7 +241,7 @@ def test_the_seed(tmp_path, monkeypatch):
     (tmp_path / "table").write_text(TABLE)
     (tmp_path / "faults").write_text("p 0.5, mute")
     found = []
-    monkeypatch.setattr(simulate, "serve", lambda it, _: found.append(it.faults.chance()))
+    monkeypatch.setattr(simulate, "serve_pty", lambda it, *_: found.append(it.faults.chance()))
     words = ["--pty", "--table", str(tmp_path / "table"), "--faults", str(tmp_path / "faults")]
     for seed in (["--seed", "7"], []):
         assert main([*words, *seed]) == 0
@@ -335,6 +296,7 @@ def test_errors_before_anything_runs(tmp_path, capsys, monkeypatch, words, fault
 
 
 def test_a_reader_that_is_not_there_is_named_once(capsys, monkeypatch):
+    """And each time that the card is in, it says so."""
     monkeypatch.setattr(simulate, "AWAY_FOR", 0.01)
     with socket.create_server(("localhost", 0)) as closed:
         address = f"localhost:{closed.getsockname()[1]}"
@@ -342,10 +304,17 @@ def test_a_reader_that_is_not_there_is_named_once(capsys, monkeypatch):
     thread = threading.Thread(target=serve_vpcd, args=(of, address))
     thread.start()
     time.sleep(0.3)
+    with socket.create_server(("localhost", int(address.partition(":")[2]))) as server:
+        server.settimeout(60)
+        for _ in range(2):
+            server.accept()[0].close()
+        connected = server.accept()[0]
     of.is_over.set()
     thread.join()
-    error = capsys.readouterr().err
-    assert error.count("\n") == 1 and error.startswith(f"waiting for vpcd at {address}: ")
+    connected.close()
+    first, *lines = capsys.readouterr().err.splitlines()
+    assert first.startswith(f"waiting for vpcd at {address}: ")
+    assert lines == [f"the card is in the reader of vpcd at {address}"] * 3
 
 
 def test_files_that_are_missing(tmp_path, capsys):

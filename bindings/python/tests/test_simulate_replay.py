@@ -3,19 +3,17 @@
 
 import json
 import os
-import select
-import subprocess
-import sys
 from pathlib import Path
 
 import pytest
-from galliumtoad import T1, OwnCard, cards, simulate
+from galliumtoad import T1, OwnCard, cards
 from galliumtoad.cards import Replay
 from galliumtoad.faults import Mistake
 from galliumtoad.simulate import Simulator, main
 from room import folder_of_programs
 from test_faults import End, at_t0, at_t1
 from test_simulate import Vpcd
+from waiting import AtPty
 
 TESTS = Path(__file__).resolve().parent
 CAPTURES = TESTS.parents[2] / "checks" / "explain" / "cases" / "captures"
@@ -232,7 +230,10 @@ def test_without_the_program(monkeypatch, capsys):
     monkeypatch.setenv("PATH", "/none")
     path = str(CAPTURES / "sim_tracer.trace")
     assert main(["--replay", path, "--pty"]) == 2
-    assert "No such file or directory: 'trace_explain'" in capsys.readouterr().err
+    error = capsys.readouterr().err
+    assert error.startswith(f"{path}: trace_explain, which reads captures, is not on the PATH. It")
+    # bindings/debian puts the program there
+    assert "bindings/bin" in error and error.endswith("Debian package galliumtoad\n")
 
 
 LONG = bytes(it % 251 for it in range(200))
@@ -245,7 +246,7 @@ def test_at_t1(replay):
     """Pieces of a chain, and a response of several blocks."""
     card = replay(CHAIN, READS)
     end = End(Simulator(OwnCard(card), bytes.fromhex("3B800181")), at_t1)
-    with T1(lambda data, waits: b"".join(end.take_in(bytes([it])) for it in data)) as terminal:
+    with T1(end.pass_block) as terminal:
         asks = ["10DA005001AA", "00DA005001BB", "00B0000000", "00B0000009", "00CA000000"]
         answers = [terminal(bytes.fromhex(it)) for it in asks]
     assert [it.hex() for it in answers[:2]] == ["9000", "6a84"]
@@ -265,51 +266,37 @@ def test_over_vpcd(replay):
 
 @pytest.fixture
 def program(tmp_path):
-    """Runs the program with this capture at a pseudo terminal. Gives the program and its line."""
+    """Runs the program with this capture at a pseudo terminal. It has its answer to reset."""
     made = []
 
     def start(*words):
         lines = [json.dumps(it, separators=(",", ":")) for it in (ATR, *COUNTER, SELECT)]
         (tmp_path / "capture").write_text("\n".join(lines))
-        words = ["--replay", tmp_path / "capture", "--pty", "--no-echo", *words]
-        made.append(subprocess.Popen(
-            [sys.executable, "-m", "galliumtoad.simulate", *words], text=True,
-            stdout=subprocess.PIPE, stderr=subprocess.PIPE,
-            env={**os.environ, "PYTHONPATH": str(Path(simulate.__file__).parent.parent)}))
-        return made[-1], os.open(made[-1].stdout.readline().strip(), os.O_RDWR | os.O_NOCTTY)
+        made.append(AtPty("--replay", tmp_path / "capture", "--no-echo", *words).open())
+        assert made[-1].read(4).hex() == "3b021450"
+        return made[-1]
 
     yield start
     for it in made:
-        it.kill()
-        it.communicate()
+        it.end()
 
 
-def talk(line, asked_for, count):
-    """What the card sends after these characters."""
-    os.write(line, bytes.fromhex(asked_for))
-    found = b""
-    while len(found) < count and select.select([line], [], [], 30)[0]:
-        found += os.read(line, 1)
-    return found.hex()
+ASKS = bytes.fromhex("8010000001")
 
 
 def test_the_program(program):
-    """It has the capture's answer to reset."""
-    _, line = program("--unknown", "6a88")
-    assert talk(line, "", 4) == "3b021450"
-    assert talk(line, "8010000001", 4) == "10019000"
-    assert [talk(line, "8010000001", 4) for _ in range(2)] == ["10026283"] * 2
-    assert talk(line, "80CA000000", 2) == "6a88"
+    card = program("--unknown", "6a88")
+    assert [card.talk(ASKS, 4).hex() for _ in range(3)] == ["10019000", "10026283", "10026283"]
+    assert card.talk(bytes.fromhex("80CA000000"), 2).hex() == "6a88"
 
 
 def test_the_program_ends_at_a_departure(program, tmp_path):
-    made, line = program("--strict")
-    assert talk(line, "", 4) == "3b021450"
-    assert [talk(line, "8010000001", 4) for _ in range(2)] == ["10019000", "10026283"]
-    os.write(line, bytes.fromhex("80CA000000"))
-    assert made.wait(60) == 2
+    card = program("--strict")
+    assert [card.talk(ASKS, 4).hex() for _ in range(2)] == ["10019000", "10026283"]
+    os.write(card.line, bytes.fromhex("80CA000000"))
+    assert card.program.wait(60) == 2
     said = f"{tmp_path}/capture: line 6 has 00A40400A000000003, not 80CA0000\n"
-    assert made.communicate()[1] == said
+    assert card.end()[1] == said
 
 
 @pytest.mark.parametrize("words", [["--unknown", "6100"], ["--unknown", "900"], ["--strict", "x"],

@@ -74,15 +74,23 @@ def test_verdicts():
         assert it.verdict(139, output) == "crashed"
 
 
-def test_a_get_may_be_sent_again():
-    """It changes nothing at the card. The same piece of a put does."""
-    trial = next(it for it in trials.trials() if it.name == "select late")
-    for command, verdict in [("00CA005100", "told"), ("10DA00510141", "twice")]:
-        it = Run(trial, 0)
-        it.struck.append("struck")
-        for _ in range(2):
-            it.carried_out(bytes.fromhex(command))
-        assert it.verdict(1, "") == verdict
+PIECE, OTHER, GET, SELECT = "10DA00510141", "10DA00510142", "00CA005100", "00A4040000"
+
+
+@pytest.mark.parametrize(
+    ("commands", "verdict"),
+    [([GET, GET], "told"), ([PIECE, PIECE], "twice"), ([PIECE, OTHER, "DA"], "told"),
+     ([PIECE, OTHER, PIECE, SELECT, PIECE], "twice"), ([PIECE, SELECT, PIECE, OTHER], "told"),
+     ([PIECE, GET, PIECE], "twice")],
+)
+def test_what_was_sent_again(commands, verdict):
+    """A get changes nothing at the card. The same piece of a put does, unless a SELECT came
+    between: then the put begins again."""
+    it = Run(next(it for it in trials.trials() if it.name == "select late"), 0)
+    it.struck.append("struck")
+    for command in commands:
+        it.carried_out(bytes.fromhex(command))
+    assert it.verdict(1, "") == verdict
 
 
 def test_what_can_be_tried():

@@ -5,34 +5,9 @@ from concurrent.futures import ProcessPoolExecutor
 from typing import Optional
 
 import galliumtoad
-from galliumtoad import (
-    T1,
-    Answer,
-    Application,
-    Atr,
-    BlockError,
-    Card,
-    Code,
-    Command,
-    Due,
-    Edc,
-    Error,
-    Exchange,
-    Function,
-    Get,
-    Level,
-    Operation,
-    Outcome,
-    OwnCard,
-    Put,
-    Refused,
-    Select,
-    Send,
-    Session,
-    Status,
-    Terminal,
-    Transport,
-)
+from galliumtoad import (T1, Answer, Application, Atr, BlockError, Card, Code, Command, Due, Edc,
+                         Error, Exchange, Function, Get, Level, Operation, Outcome, OwnCard, Put,
+                         Refused, Select, Send, Session, Status, Terminal, Transport)
 from galliumtoad.pyscard import transport
 
 

@@ -1,7 +1,15 @@
-"""Waits of tests: until something holds, in place of a pause after which it may not hold yet."""
+"""Waits of tests: until something holds, in place of a pause after which it may not hold yet. And
+the simulated card that such tests talk to."""
 
+import os
+import select
+import signal
+import subprocess
+import sys
 import time
 from pathlib import Path
+
+from galliumtoad import simulate
 
 SECONDS = 60  # on a busy machine
 
@@ -24,3 +32,48 @@ def wait_for_looks(program):
 
     before = sleeps()
     wait_until(lambda: program.poll() is not None or sleeps() >= before + 4)
+
+
+class AtPty:
+    """The program `galliumtoad.simulate` at a pseudo terminal, and this end of it."""
+
+    def __init__(self, *words, **more):
+        self.program = subprocess.Popen(
+            [sys.executable, "-m", "galliumtoad.simulate", *words, "--pty"], text=True,
+            stdout=subprocess.PIPE, stderr=subprocess.PIPE,
+            env={**os.environ, "PYTHONPATH": str(Path(simulate.__file__).parent.parent)},
+            # these tests may run where SIGINT is ignored
+            preexec_fn=lambda: signal.signal(signal.SIGINT, signal.SIG_DFL), **more)
+        self.name, self.has_echo = self.program.stdout.readline().strip(), "--no-echo" not in words
+        self.line, self.said = -1, ()
+
+    def open(self):
+        self.line = os.open(self.name, os.O_RDWR | os.O_NOCTTY)
+        return self
+
+    def close(self):
+        os.close(self.line)
+        wait_for_looks(self.program)
+
+    def read(self, count, seconds=30):
+        found = b""
+        while len(found) < count and select.select([self.line], [], [], seconds)[0]:
+            if not (byte := os.read(self.line, 1)):
+                break  # the program has ended
+            found += byte
+        return found
+
+    def talk(self, sent, count):
+        """Sends characters, and returns `count` of the card."""
+        for byte in sent:
+            os.write(self.line, bytes([byte]))
+            if self.has_echo:
+                assert self.read(1) == bytes([byte])
+        return self.read(count)
+
+    def end(self):
+        """Ends the program. Returns what it printed."""
+        if not self.said:
+            self.program.kill()
+            self.said = self.program.communicate()
+        return self.said

@@ -2,6 +2,7 @@
 program of any language, or the answers of a capture."""
 
 import atexit
+import contextlib
 import importlib
 import json
 import os
@@ -75,20 +76,19 @@ def application(name: str) -> Application:
         raise Mistake(f"{name}: {why}") from None
     if not isinstance(made, Application):
         raise Mistake(f"{name} is no Application")
-    carry_out = made.carry_out
-    setattr(made, "carry_out", lambda command: result(f"{name}.carry_out", carry_out(command)))
+    own = made.carry_out
+
+    def carry_out(command: Command) -> tuple[int, bytes]:
+        given = own(command)
+        with contextlib.suppress(TypeError, ValueError):
+            status, data = given
+            if len(kept := bytes(memoryview(data))) <= 4096:
+                return status_of(f"{status:04X}"), kept
+        raise Mistake(f"{name}.carry_out returned {given!r:.100}, not a status and up to 4096 bytes"
+                      " of data")
+
+    setattr(made, "carry_out", carry_out)
     return made
-
-
-def result(of: str, given: Any) -> tuple[int, bytes]:
-    """Reads what this method of an application returned. Raises `Mistake`."""
-    try:
-        status, data = given
-        if len(kept := bytes(memoryview(data))) <= 4096:
-            return status_of(f"{status:04X}"), kept
-    except (TypeError, ValueError):
-        pass
-    raise Mistake(f"{of} returned {given!r:.100}, not a status and up to 4096 bytes of data")
 
 
 class Program(Application):
@@ -168,8 +168,10 @@ def explained(path: str) -> list[dict[str, Any]]:
     try:
         text = Path(path).read_bytes()
         if not text.startswith(b'{"type":'):
-            done = subprocess.run([name or "trace_explain", "--json", "--commands"], input=text,
-                                  capture_output=True)
+            if not name:
+                raise ValueError("trace_explain, which reads captures, is not on the PATH. It is in"
+                                 " the repository's bindings/bin and Debian package galliumtoad")
+            done = subprocess.run([name, "--json", "--commands"], input=text, capture_output=True)
             if done.returncode:
                 raise ValueError(done.stderr.decode("utf-8", "replace").strip())
             text = done.stdout

@@ -17,7 +17,14 @@ FORMS: dict[str, tuple[str, Callable[[str], Any]]] = {
     "HEX": ("(?:[0-9A-F]{2})+", bytes.fromhex), "SW": ("[69][0-9A-F]{3}", bytes.fromhex),
     "SECONDS": (r"[0-9]+(?:\.[0-9]+)?s", lambda text: float(text[:-1])),
 }
-WHENS = ("command N", "every XX", "INS XX once", "after N", "p CHANCE")
+# When a fault strikes: at this command, or at what fetches its response.
+WHENS: dict[str, Callable[[Any, Any], Any]] = {
+    "command N": lambda now, number: now.is_next and now.count == number,
+    "every XX": lambda now, ins: now.ins == ins,
+    "INS XX once": lambda now, ins: now.ins == ins,
+    "after N": lambda now, number: now.count > number,
+    "p CHANCE": lambda now, chance: now.chance() < chance,
+}
 # The card's requests at T=1, by their PCB (ISO/IEC 7816-3, 11.3.2.2).
 REQUESTS = {"wtx BYTE": 0xC3, "ifs BYTE": 0xC1, "abort": 0xC2}
 # What a fault does: where it can happen, and if it changes data of a response (anywhere) or what a
@@ -68,25 +75,16 @@ class Fault:
     values: list[Any]
     place: str
     change: Optional[Callable[..., Any]]
-    is_spent: bool = False
-
-    def is_due(self, count: int, ins: bytes, is_next: bool, chance: Callable[[], float]) -> bool:
-        """Whether it strikes at this command, or at what fetches its response."""
-        if self.when in ("every XX", "INS XX once"):
-            return ins == self.number and not (self.is_spent and self.when != "every XX")
-        if self.when == "p CHANCE":
-            return bool(chance() < self.number)
-        return bool(count > self.number if self.when == "after N" else
-                    is_next and count == self.number)
 
 
-def matched(table: Iterable[str], words: str) -> tuple[str, list[Any]]:
-    """Returns the entry of a table that the words have the form of, and its values."""
+def matched(table: Iterable[str], words: str, wrong: str) -> tuple[str, list[Any]]:
+    """Returns the entry of a table that the words have the form of, and its values. Raises
+    `Mistake`."""
     for entry in table:
         forms = [FORMS.get(it, (it, None)) for it in entry.split()]
         if found := re.fullmatch(" ".join(f"({it})" for it, _ in forms), words.strip(), re.I):
             return entry, [reads(it) for (_, reads), it in zip(forms, found.groups()) if reads]
-    return "", []
+    raise Mistake(f"{wrong} is one of: {', '.join(table)}")
 
 
 def read(text: str, name: str = "faults") -> list[Fault]:
@@ -100,13 +98,10 @@ def read(text: str, name: str = "faults") -> list[Fault]:
         if words[:1] in ("", "#"):
             continue
         at, _, does = words.partition(",")
-        (when, number), (kind, values) = matched(WHENS, at), matched(KINDS, does)
-        if not (when and kind):
-            half, table = ("WHAT", [*KINDS]) if when else ("WHEN", [*WHENS])
-            raise Mistake(f"{name}:{line}: not WHEN, WHAT of a fault: {words}\n"
-                          f"{half} is one of: {', '.join(table)}")
-        text = f"{at.strip()}, {does.strip()}"
-        found.append(Fault(line, text, when, number[0], kind, values, *KINDS[kind]))
+        wrong = f"{name}:{line}: not WHEN, WHAT of a fault: {words}\n"
+        when, [number] = matched(WHENS, at, f"{wrong}WHEN")
+        kind, values = matched(KINDS, does, f"{wrong}WHAT")
+        found.append(Fault(line, words, when, number, kind, values, *KINDS[kind]))
     return found
 
 
@@ -114,12 +109,6 @@ def block(nad: int, pcb: int, field: bytes) -> bytes:
     """A block of T=1 with its LRC."""
     front = bytes([nad, pcb, len(field)]) + field
     return front + bytes([reduce(lambda a, b: a ^ b, front)])
-
-
-def pcb_of(data: bytes) -> int:
-    """The PCB of a block with address 0 and a right length and LRC, or -1."""
-    is_block = len(data) > 3 and data[2] < 255 and block(0, data[1], data[3:-1]) == data
-    return data[1] if is_block else -1
 
 
 def flipped(data: bytes, *bits: int) -> bytes:
@@ -141,6 +130,7 @@ class Faults:
         self.all, self.name, self.tell, self.since = list(found), name, tell, since
         self.chance = random.Random(seed).random
         self.count, self.header, self.was_6c, self.loop = 0, b"", False, ""
+        self.ins, self.is_next = b"", False
         self.due, self.pauses = list[Fault](), list[float]()
         self.gone: Optional[Gone] = None  # from then on the card is silent until a reset
 
@@ -166,23 +156,22 @@ class Faults:
         if header[: len(self.since)] != self.since[: len(header)]:
             self.due = []
             return None
-        self.since, ins = b"", header[1:2]
+        self.since, self.ins = b"", header[1:2]
         is_again = self.was_6c and header[:4] == self.header
-        is_next = not is_again and ins != GET_RESPONSE
-        self.count += is_next
+        self.is_next = not is_again and self.ins != GET_RESPONSE
+        if self.is_next:
+            self.count, self.header, self.loop = self.count + 1, header[:4], ""
         waits = [it for it in self.due if it.change and it.place in (ANYWHERE, LINE)]
-        self.due = [] if is_next else waits
-        self.due += [it for it in self.all if it not in self.due
-                     and it.is_due(self.count, ins, is_next, self.chance)]
-        if is_next:
-            self.header, self.loop = header[:4], ""
+        self.due = [] if self.is_next else waits
+        self.due += [it for it in self.all
+                     if it not in self.due and WHENS[it.when](self, it.number)]
         self.was_6c, le = False, header[4] if len(header) > 4 else 0
         if self.strikes("forget"):
             return OK
         if self.strikes("6C again") or self.loop == "6C":
             self.loop, self.was_6c = "6C", True
             return bytes([0x6C, le % 255 + 1])  # never the length that was asked for
-        if self.loop == "61" and ins == GET_RESPONSE:
+        if self.loop == "61" and self.ins == GET_RESPONSE:
             return bytes(le or 256) + MORE
         if self.strikes("reset"):
             reset()
@@ -194,7 +183,8 @@ class Faults:
         for it in self.due:
             if it.kind in which or it in which:
                 self.due.remove(it)
-                it.is_spent = True
+                if it.when == "INS XX once":
+                    self.all.remove(it)
                 self.tell(f"fault at command {self.count}: {self.name}:{it.line}: {it.text}")
                 return it
         return None

@@ -15,22 +15,19 @@ import time
 import tty
 from typing import Callable, Optional, Union
 
-from ._library import ffi, lib
 from .answers import Atr, Edc, Pps
 from .card import Card
 from .cards import LEAST_ATR, Program, Replay, application, read_table, status_of
-from .errors import AtrError, Code, CommandError, OutOfMemory
-from .faults import ECHO, LINE, OK, T0, T1, Faults, Gone, Mistake, block, pcb_of
-from .handle import readable
-from .own_card import OwnCard
+from .errors import AtrError, Code, CommandError, OutOfMemory, PpsError
+from .faults import ECHO, LINE, OK, T0, T1, Faults, Gone, Mistake, block
+from .own_card import Application, Command, OwnCard
 from .terminal import Level
 
 VPCD = "localhost:35963"
 POWER_OFF, POWER_ON, RESET, GET_ATR = (bytes([it]) for it in (0, 1, 2, 4))  # vpcd's own messages
 MUTE_FOR, AWAY_FOR = 10.0, 2.0  # seconds until the connection to vpcd closes, and opens again
-PPSS, LOOKS_EVERY, FOREVER, TAKE_DATA = b"\xFF", 0.01, float("inf"), (0xA4, 0xDA)
-RESYNCH, IFS, ABORT, RESPONSE, DEFAULT_RATE = 0xC0, 0xC1, 0xC2, 0x20, 0x11  # requests at T=1
-BAUDS = [9600, 19200, 38400, 57600, 115200]
+PPSS, DEFAULT_RATE, LOOKS_EVERY, FOREVER = b"\xFF", 0x11, 0.01, float("inf")
+RESYNCH, IFS, ABORT, RESPONSE = 0xC0, 0xC1, 0xC2, 0x20  # requests at T=1
 SIGNALS = {"cts": termios.TIOCM_CTS, "dsr": termios.TIOCM_DSR, "dcd": termios.TIOCM_CAR}
 TURNED = bytes(int(f"{byte:08b}"[::-1], 2) ^ 0xFF for byte in range(256))  # inverse convention
 
@@ -56,15 +53,16 @@ class Simulator(contextlib.ExitStack):
         self.callback(card.close)
         self.card, self.atr, self.faults = card, atr, faults or Faults()
         self.shows, self.sign, self.is_over = shows, "", threading.Event()
-        self.own = card.application if isinstance(card, OwnCard) else None
-        self.instead = self.own.instead if isinstance(self.own, Replay) else lambda header: None
+        own = card.application if isinstance(card, OwnCard) else None
+        self.takes_data = own.takes_data if own else lambda header: header[1] in (0xA4, 0xDA)
+        self.instead = own.instead if isinstance(own, Replay) else lambda header: None
         self.carried_out: Callable[[bytes], object] = lambda command: None
         self.faults.tell = self.tell
         self.says: Optional[Atr] = None
         with contextlib.suppress(AtrError):  # whole commands reach a card with any answer
             self.says = Atr(atr)
         is_t1 = self.says is not None and self.says.protocols[0] > 0
-        self.level = Level.APDU if is_t1 or self.own else Level.TPDU
+        self.level = Level.APDU if is_t1 or own else Level.TPDU
 
     def __call__(self, data: bytes, /) -> bytes:
         self.faults.check([], "a card in this process")
@@ -119,38 +117,54 @@ class Simulator(contextlib.ExitStack):
             self.is_over.wait(self.faults.pauses.pop())
 
 
-class Blocks:
-    """The library's end of a line at T=1, in front of a card of its own: it numbers, acknowledges
-    and repeats blocks. The fields of its responses are replaced by `fields`."""
+class Blocks(Application):
+    """The library's end of a line at T=1: it numbers, acknowledges and repeats blocks. In place of
+    a command it gets one of its own, whose response has as many fields, of one or two bytes. Those
+    of the card replace them."""
 
-    def __init__(self) -> None:
-        self.card, self.taken = Card({bytes(5): {0x50: bytes(256)}}), ffi.new("size_t *")
-        self.card.apdu(bytes.fromhex("00A40400050000000000"))
-        self.card._call("t1_begin")
-        self.last, self.fields = -1, list[bytes]()
+    def __init__(self, line: "Line") -> None:
+        self.line, self.of, self.end, self.size = line, line.of, OwnCard(self), 32
+        self.command, self.asked, self.number, self.fields = b"", b"", -1, list[bytes]()
+        self.end.begin_t1()
+
+    def takes_data(self, header: bytes) -> bool:
+        return False
+
+    def carry_out(self, command: Command) -> tuple[int, bytes]:
+        response, self.command, self.number = self.of.whole(self.asked), b"", -1
+        self.fields = [response[at : at + self.size] for at in range(0, len(response), self.size)]
+        if request := self.of.faults.request():
+            for _ in range(4):
+                self.line.write(request)
+                if self.line.block() == block(0, request[1] | RESPONSE, request[3:-1]):
+                    break
+        return 0x9000, bytes(min(self.size, 2) * len(self.fields) - 2)
 
     def answer(self, came: bytes) -> bytes:
-        """What the end sends for these bytes."""
-        if self.card._call("t1_receive_bytes", *readable(came), self.taken) != lib.GT_SENDS:
-            self.card._call("t1_missed")
-        sent = self.card._copied("t1_send_bytes", room=lib.GT_BLOCK_LIMIT)
-        if sent[1] >= 0x80:
-            return sent
-        if sent[1] != self.last:
-            self.last = sent[1]
-            self.fields.pop(0)
-        return block(0, sent[1], self.fields[0])
-
-    def respond(self, pcb: int, response: bytes, size: int) -> bytes:
-        """Ends a command with a response in fields of this size, at most 129. In place of the
-        command the end gets one whose response has as many fields, of one or two bytes."""
-        self.fields = [response[at : at + size] for at in range(0, len(response), size)]
-        each = min(size, 2)
-        le = each * min(len(self.fields), 258 // each) - 2
-        self.fields.insert(0, b"")  # of the last response
-        self.answer(block(0, ABORT, b""))
-        self.answer(block(0, IFS, bytes([each])))
-        return self.answer(block(0, pcb, bytes.fromhex("00CA0050") + bytes([le & 0xFF][:le])))
+        """What the card sends after the received bytes of a block."""
+        field = came[3:-1][:254]
+        if came[1:2] in (b"\0", b"\x40") and came == block(0, came[1], field):  # a command ends
+            self.asked = self.command + field
+            if self.command:
+                self.end.block(block(0, ABORT, b""))
+            self.end.block(block(0, IFS, bytes([min(self.size, 2)])))
+            came = block(0, came[1], bytes(5))
+        sent = self.end.block(came)
+        if came[1:2] in (b"\x20", b"\x60") and sent[1] & 0xEF == 0x80:  # a part is acknowledged
+            self.command += field
+        elif sent[1] == IFS | RESPONSE:
+            self.size = sent[3]
+        elif sent[1] == ABORT | RESPONSE:
+            self.command = b""
+        elif sent[1] == RESYNCH | RESPONSE:
+            self.command, self.size = b"", 32
+        elif sent[1] < 0x80:
+            is_first = self.number < 0
+            if sent[1] != self.number:  # it is not the same block again
+                self.number, self.fields = sent[1], self.fields[not is_first :]
+            sent = block(0, sent[1], self.fields[0])
+            return self.of.faults.edited(sent, T1, LINE) if is_first else sent
+        return sent
 
 
 class Line:
@@ -163,9 +177,9 @@ class Line:
             raise Mistake("a line needs an answer to reset that offers T=0, or T=1 with LRC, first,"
                           " at the rate of a reset")
         self.of, self.fd, self.says, self.has_echo, self.heard = of, fd, of.says, has_echo, b""
-        self.is_inverse, self.bit = self.says.convention == lib.GT_INVERSE, SIGNALS.get(signal, 0)
-        self.cwt = 0.2 + self.says.t1.cwt_etu / baud  # seconds inside of a block
-        of.faults.check([LINE, *(it for it, t in ((T0, 0), (T1, 1)) if t in self.says.protocols),
+        self.turned = TURNED if of.atr[0] == 0x3F else None
+        self.bit, self.cwt = SIGNALS.get(signal, 0), 0.2 + of.says.t1.cwt_etu / baud
+        of.faults.check([LINE, *(it for it, t in ((T0, 0), (T1, 1)) if t in of.says.protocols),
                          *[ECHO] * has_echo], "this line")
 
     def is_reset(self) -> bool:
@@ -182,7 +196,7 @@ class Line:
             if select.select([self.fd], [], [], LOOKS_EVERY)[0]:
                 if not (byte := os.read(self.fd, 1)):
                     raise OSError("the line is gone")
-                self.heard = byte.translate(TURNED) if self.is_inverse else byte
+                self.heard = byte.translate(self.turned)
                 self.of.tell(self.heard.hex().upper(), ">")
                 return self.heard
             if time.monotonic() > until:
@@ -198,7 +212,7 @@ class Line:
         self.send(data)
 
     def send(self, data: bytes) -> None:
-        data = data.translate(TURNED) if self.is_inverse else data
+        data = data.translate(self.turned)
         while data and not self.is_reset():
             data = data[os.write(self.fd, data) :]
 
@@ -210,29 +224,25 @@ class Line:
         return data
 
     def talk(self) -> None:
-        """Resets the card, sends its answer to reset, and talks. Raises `OSError` at the next
-        reset, or when the line or the program ends."""
+        """Resets the card, sends its answer to reset, and talks, after PPS at the rate of a reset.
+        After an invalid request it is mute (ISO/IEC 7816-3, 9.1 and 9.3). Raises `OSError` at the
+        next reset, or when the line or the program ends."""
         self.of.reset()
         self.write(self.of.atr)
-        with contextlib.suppress(Gone):
-            self.begin()
+        t, data = self.says.protocols[0], self.read()
+        with contextlib.suppress(Gone, PpsError):
+            if data == PPSS and not self.says.specific:
+                data = self.take(data, lambda it: 2 if len(it) < 2 else
+                                 3 + bin(it[1] & 0x70).count("1"))
+                t = data[1] & 15
+                has_rate = Pps(t, DEFAULT_RATE).is_agreed(data)
+                if t not in self.says.protocols:
+                    raise Gone
+                self.write(data if has_rate else Pps(t).request)
+                data = b""
+            (self.talk_t1 if t else self.talk_t0)(data)
         while True:  # a card that is gone
             self.read()
-
-    def begin(self) -> None:
-        """Answers a PPS request, keeps the rate of a reset, and is mute after an invalid request
-        (ISO/IEC 7816-3, 9.1 and 9.3)."""
-        t, data = self.says.protocols[0], self.read()
-        if data == PPSS and not self.says.specific:
-            request = self.take(data, lambda it: 2 if len(it) < 2 else
-                                3 + bin(it[1] & 0x70).count("1"))
-            rest, t = [*request[2:-1]], request[1] & 15
-            given = [rest.pop(0) if request[1] & bit else None for bit in (0x10, 0x20, 0x40)]
-            if Pps(t, *given).request != request or t not in self.says.protocols:
-                raise Gone("mute")
-            self.write(Pps(t, DEFAULT_RATE if given[0] == DEFAULT_RATE else None).request)
-            data = b""
-        (self.talk_t1 if t else self.talk_t0)(data)
 
     def talk_t0(self, data: bytes) -> None:
         """Talks T=0 after the first character."""
@@ -240,31 +250,28 @@ class Line:
 
         def answered(characters: bytes) -> bytes:
             of.card.receive_bytes(characters)
-            return of.card.send_bytes()
+            sent = of.card.send_bytes()
+            return sent[len(sent) != 2 :]  # without its procedure byte
 
         while True:
             header = self.take(data, lambda it: 5)
-            instead = faults.begin(header, of.card.reset) or of.instead(header)
             ins, data, sent = header[1:2], b"", b""
+            instead = faults.begin(header, of.card.reset) or of.instead(header)
             if faults.strikes("early status"):
                 answer = instead = OK
             elif instead is None:
                 answer = answered(header)
             else:
-                is_to_card = of.own.takes_data(header[:4]) if of.own else header[1] in TAKE_DATA
-                answer = ins if header[4] and is_to_card else instead
-            if len(answer) == 1:
+                answer = b"" if header[4] and of.takes_data(header[:4]) else instead
+            if not answer:
                 sent = faults.edited(ins, T0, LINE)
                 self.write(sent)
                 data = self.take(b"", lambda it: header[4])
                 answer = instead or answered(data)
-            elif instead is None:
-                answer = answer[len(answer) > 2 :]  # without the procedure byte
             if instead is None:
                 of.carried_out(header + data)
                 if faults.strikes("twice"):
-                    answered(header)
-                    answered(data)
+                    of.card.tpdu(header + data)
             answer = faults.changed(answer)
             answer = ins + answer if len(answer) > 2 and not data else answer
             self.write(faults.edited(sent + answer, T0, LINE)[len(sent) :])
@@ -272,29 +279,10 @@ class Line:
 
     def talk_t1(self, data: bytes) -> None:
         """Talks T=1 after the first character."""
-        self.of.level, faults = Level.APDU, self.of.faults
-        due, size, command, end = 0, 32, b"", Blocks()
+        self.of.level, end = Level.APDU, Blocks(self)
         while True:
-            came, data = self.block(data), b""
-            if pcb_of(came) == due << 6 and not end.fields[1:]:  # a command ends
-                response = self.of.whole(command + came[3:-1])
-                sent, request = end.respond(came[1], response, size), faults.request()
-                for _ in range(4 if request else 0):
-                    self.write(request)
-                    if pcb_of(self.block()) == request[1] | RESPONSE:
-                        break
-                due, command, sent = 1 - due, b"", faults.edited(sent, T1, LINE)
-                self.write(sent)
-                continue
-            self.write(sent := end.answer(came))
-            if sent[1] == 0x80 | 1 - due << 4:  # an R-block acknowledges a part of it
-                due, command = 1 - due, command + came[3:-1]
-            elif sent[1] == IFS | RESPONSE:
-                size = sent[3]
-            elif sent[1] == ABORT | RESPONSE:
-                command, end.fields = b"", []
-            elif sent[1] == RESYNCH | RESPONSE:
-                end, due, size, command = Blocks(), 0, 32, b""
+            self.write(end.answer(self.block(data)))
+            data = b""
 
     def block(self, data: bytes = b"") -> bytes:
         """Takes a block after these characters, or as much of it as comes."""
@@ -310,7 +298,7 @@ def serve_tty(of: Simulator, path: str, baud: int, signal: str) -> None:
     fcntl.flock(fd, fcntl.LOCK_EX | fcntl.LOCK_NB)
     tty.setraw(fd)
     state = termios.tcgetattr(fd)
-    state[2] |= termios.PARENB | termios.CSTOPB | (termios.PARODD if line.is_inverse else 0)
+    state[2] |= termios.PARENB | termios.CSTOPB | (termios.PARODD if line.turned else 0)
     state[4] = state[5] = getattr(termios, f"B{baud}")
     termios.tcsetattr(fd, termios.TCSANOW, state)
     while not of.is_over.is_set():
@@ -349,17 +337,20 @@ def connected(address: str) -> socket.socket:
     return line
 
 
-def talk_vpcd(of: Simulator, line: socket.socket,
-              tell: Callable[[str], object] = lambda name: None) -> None:
-    """Answers vpcd until the connection ends. A mute card keeps it open for ten seconds. `tell`
-    gets a call when pcscd, which has given the card power and read its answer, looks for it
-    again."""
-    of.level, messages, looks = Level.APDU, line.makefile("rb"), -1
-    with contextlib.suppress(OSError):
-        while len(size := messages.read(2)) == 2:
+def talk_vpcd(of: Simulator, line: socket.socket, tell: Callable[[str], object]) -> None:
+    """Answers vpcd until the connection or the program ends. A mute card keeps it open for ten
+    seconds. `tell` gets a call when pcscd, which has given the card power and read its answer,
+    looks for it again."""
+    of.level, looks = Level.APDU, -1
+    with line, contextlib.suppress(OSError):
+        while not of.is_over.is_set():
+            if not select.select([line], [], [], LOOKS_EVERY)[0]:
+                continue
+            if len(size := line.recv(2, socket.MSG_WAITALL)) < 2:
+                break
             # vpcd sends the rest once the length is acknowledged, else 40 ms later.
             line.setsockopt(socket.IPPROTO_TCP, socket.TCP_QUICKACK, 1)
-            data = messages.read(int.from_bytes(size, "big"))
+            data = line.recv(int.from_bytes(size, "big"), socket.MSG_WAITALL)
             if data in (POWER_OFF, POWER_ON, RESET):
                 of.reset()
                 looks = 2
@@ -373,19 +364,18 @@ def talk_vpcd(of: Simulator, line: socket.socket,
                 of.is_over.wait(MUTE_FOR if str(gone) == "mute" else 0)
                 break
             line.sendall(len(answer).to_bytes(2, "big") + answer)
-        line.shutdown(socket.SHUT_RDWR)
 
 
 def serve_vpcd(of: Simulator, address: str) -> None:
     """Puts the card into vpcd's reader, again whenever the connection ends. While there is no
-    vpcd, it waits, and says so once on standard error."""
+    vpcd, it waits. It says so once on standard error, and each time that the card is in."""
     waits = False
     of.faults.check([], "vpcd")
     while not of.is_over.is_set():
         try:
-            with connected(address) as line:
-                waits = False
-                talk_vpcd(of, line)
+            line, waits = connected(address), False
+            print(f"the card is in the reader of vpcd at {address}", file=sys.stderr, flush=True)
+            talk_vpcd(of, line, lambda name: None)
         except OSError as why:
             if not waits:
                 print(f"waiting for vpcd at {address}: {why}", file=sys.stderr, flush=True)
@@ -395,41 +385,39 @@ def serve_vpcd(of: Simulator, address: str) -> None:
 
 
 def parser() -> argparse.ArgumentParser:
-    it = argparse.ArgumentParser("galliumtoad.simulate", description="A card with faults.")
+    it = argparse.ArgumentParser("galliumtoad.simulate", description="A card with faults.",
+                                 epilog="docs/FAULTS.md says more.")
     what = it.add_mutually_exclusive_group(required=True).add_argument
     where = it.add_mutually_exclusive_group(required=True).add_argument
     option = it.add_argument
-    what("--table", metavar="FILE", type=read_table, help="a card of data objects")
+    what("--table", metavar="FILE", type=read_table,
+         help="a card of data objects: lines `app`, `object`, `locked` and `atr`")
     what("--application", metavar="MODULE:CLASS", dest="own", type=application,
-         help="a card of one's own")
-    what("--program", metavar="COMMAND", dest="own", type=Program, help="one in any language")
+         help="a card of your own: a class of a module in this folder, or of one that is installed")
+    what("--program", metavar="COMMAND", dest="own", type=Program,
+         help="one in any language, by lines of its input and output")
     what("--replay", metavar="FILE", help="one that answers as in a capture that trace_explain "
          "reads, or in what it wrote with --json --commands")
     where("--vpcd", nargs="?", const=VPCD, metavar="HOST:PORT",
-          help=f"vsmartcard's reader; {VPCD} if nothing else is given")
-    where("--pty", action="store_true", help="makes a pseudo terminal")
-    where("--tty", metavar="PATH", help="a serial line")
-    option("--atr", type=bytes.fromhex, metavar="HEX", help="the answer to reset")
-    option("--faults", metavar="FILE", help="lines WHEN, WHAT")
-    option("--seed", type=int, default=0, help="for faults with p")
+          help=f"puts the card into vsmartcard's reader; {VPCD} if nothing else is given")
+    where("--pty", action="store_true",
+          help="makes a pseudo terminal, and prints its name; each opening resets the card")
+    where("--tty", metavar="PATH", help="puts the card behind this serial line")
+    option("--atr", type=bytes.fromhex, metavar="HEX",
+           help="the answer to reset; without it that of the card, else 3B00")
+    option("--faults", metavar="FILE", help="lines WHEN, WHAT, as `command 2, cut 1`")
+    option("--seed", type=int, default=0, help="the seed of faults with p; 0")
     option("-v", action="store_true", help="prints the dialogue for trace_explain")
     option("--no-echo", action="store_true", help="the pseudo terminal has no echo")
-    option("--baud", type=int, default=9600, choices=BAUDS, help="the tty's rate; 9600")
-    option("--reset", choices=SIGNALS, default="", help="the tty's line of the reset")
+    option("--baud", type=int, default=9600, choices=[9600, 19200, 38400, 57600, 115200],
+           help="the tty's rate at a reset; 9600")
+    option("--reset", choices=SIGNALS, default="",
+           help="the tty's line that holds the card in reset while it is on; without it the only "
+           "reset is the start")
     option("--unknown", metavar="SW", type=status_of, default="6D00",
            help="the status of a command that the capture lacks; 6D00")
     option("--strict", action="store_true", help="ends at a command that is not the capture's next")
     return it
-
-
-def serve(simulator: Simulator, given: argparse.Namespace) -> None:
-    """Puts the card where the words say, until the program ends. Raises `Mistake` or `OSError`."""
-    if given.vpcd:
-        serve_vpcd(simulator, given.vpcd)
-    elif given.pty:
-        serve_pty(simulator, not given.no_echo, lambda name: print(name, flush=True))
-    else:
-        serve_tty(simulator, given.tty, given.baud, given.reset)
 
 
 def main(words: Optional[list[str]] = None) -> int:
@@ -440,7 +428,12 @@ def main(words: Optional[list[str]] = None) -> int:
         card, atr = given.table or (OwnCard(own), getattr(own, "atr", b"") or LEAST_ATR)
         faults = Faults.of_file(given.faults, given.seed) if given.faults else None
         with Simulator(card, given.atr or atr, faults, given.v) as simulator:
-            serve(simulator, given)
+            if given.vpcd:
+                serve_vpcd(simulator, given.vpcd)
+            elif given.pty:
+                serve_pty(simulator, not given.no_echo, lambda name: print(name, flush=True))
+            else:
+                serve_tty(simulator, given.tty, given.baud, given.reset)
     except (Mistake, OSError) as why:
         print(why, file=sys.stderr)
         return 2 if isinstance(why, Mistake) else 1

@@ -259,8 +259,8 @@ class Terminal(Machine, Lasting):
         Errors:
         - TypeError: the transport is not callable, or its `level` is no `Level`; nothing was sent.
         - as `begin`: nothing was sent.
-        - what the transport raises, or as `answered` and `apdu`: the terminal is reset. What the
-          card has done is unknown, so reset it too.
+        - what the transport raises, TypeError if it returns no bytes, or as `answered` and `apdu`:
+          the terminal is reset. What the card has done is unknown, so reset it too.
         """
         level = getattr(transport, "level", Level.TPDU if hasattr(transport, "__name__") else None)
         if not (callable(transport) and isinstance(level, Level)):
@@ -321,7 +321,8 @@ class T1(Lasting):
 
         Errors:
         - BlockError: the end gave up. Reset the card and this end.
-        - what the line raises: the command is still in progress. Reset the card and this end.
+        - what the line raises, or TypeError if it returns something other than bytes: the command
+          is still in progress. Reset the card and this end.
         - CallError, GT_STATE: the end gave up or was left so before, and was not reset.
         - OutOfMemory: memory ran out. Reset the card and this end.
         """

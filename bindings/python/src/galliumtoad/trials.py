@@ -26,7 +26,7 @@ from .pages import begin
 
 AID, TAG = bytes.fromhex("A0000000031010"), 0x51
 VALUE = bytes(it % 251 for it in range(600))  # so that no two pieces of it are equal
-SELECT, PUT = b"\x00\xA4\x04\x00", 0xDA
+SELECT, PUT = b"\x00\xA4\x04\x00", b"\xDA"
 ATRS = [bytes.fromhex("3B00"), bytes.fromhex("3B800181")]  # T=0, T=1
 AWAIT_READER, GONE_AFTER = 60.0, 1.0  # seconds until a reader should have seen a card come, and go
 BAD = ("wrong", "twice", "hung", "crashed")
@@ -77,26 +77,35 @@ def trials() -> list[Trial]:
 
 
 class Run(Simulator):
-    """The card of one trial, what it has carried out, and the faults that struck."""
+    """The card of one trial, the faults that struck, and the pieces of a put since a SELECT."""
 
     def __init__(self, trial: Trial, protocol: int) -> None:
-        self.table, self.done, self.struck = Card({AID: {}}), list[bytes](), list[str]()
+        self.table, self.struck = Card({AID: {}}), list[str]()
+        self.pieces, self.is_twice = list[bytes](), False
         t = T1 in trial.places if trial.places != {ANYWHERE} else protocol
         super().__init__(self.table, ATRS[t], trial.read(SELECT + bytes([len(AID)]) + AID))
-        self.carried_out, self.faults.tell = self.done.append, self.struck.append
+        self.carried_out, self.faults.tell = self.note, self.struck.append
+
+    def note(self, command: bytes) -> None:
+        """Notes a command that the card has carried out."""
+        if command[1:2] == SELECT[1:2]:
+            self.pieces.clear()
+        if command[1:2] == PUT:
+            self.is_twice |= command in self.pieces
+            self.pieces.append(command)
 
     def verdict(self, status: Optional[int], output: str) -> str:
-        """Compares what the terminal said with what the card holds."""
+        """Judges an exit status, or None for a terminal that was still running after the limit. A
+        success counts only if the card holds the value and the output contains it."""
         held = {it.tag: it.value for it in self.table.entries(AID)}
         printed = WORDS["value"] in re.sub(r"[^0-9A-F]", "", output.upper())
-        puts = [it for it in self.done if it[1] == PUT]
         if status is None:
             return "hung"
         if status < 0 or status > 128:
             return "crashed"
         if status == 0 and not (held.get(TAG) == VALUE and printed):
             return "wrong"
-        if len({*puts}) < len(puts):
+        if self.is_twice:
             return "twice"
         return "told" if status and self.struck else "right" if self.struck else "unmet"
 
@@ -115,48 +124,28 @@ def placed(run: Run, vpcd: str) -> Iterator[str]:
         raise OSError(f"the reader at {vpcd} does not see the card") from None
     finally:
         run.is_over.set()
-        if line:
-            with contextlib.suppress(OSError):
-                line.shutdown(2)
-            line.close()
         thread.join()
         time.sleep(GONE_AFTER if vpcd else 0)
 
 
-def carried(words: list[str], limit: float) -> tuple[str, Optional[int]]:
-    """Runs a terminal. Returns its output, and its exit status, or None if it was still running
-    after the limit."""
-    program = subprocess.Popen(words, stdin=subprocess.DEVNULL, stdout=subprocess.PIPE,
-                               stderr=subprocess.STDOUT, start_new_session=True, encoding="utf-8",
-                               errors="replace")
-    try:
-        return program.communicate(timeout=limit)[0], program.returncode
-    except subprocess.TimeoutExpired:
-        os.killpg(program.pid, signal.SIGKILL)
-        return program.communicate()[0], None
-
-
 def tried(trial: Trial, given: argparse.Namespace) -> None:
     """Lets a terminal do the job with this fault."""
-    run, begun, told = Run(trial, given.protocol), time.monotonic(), {"reader": given.reader}
+    run, begun, told = Run(trial, given.protocol), time.monotonic(), dict(WORDS)
     with placed(run, "" if given.is_line else given.vpcd) as told["tty"]:
-        told.update(WORDS)
+        told["reader"] = given.reader
         words = [re.sub(r"\{(\w+)\}", lambda it: told.get(str(it[1]), str(it[0])), word)
                  for word in given.terminal]
-        output, trial.status = carried(words, given.limit)
+        program = subprocess.Popen(words, stdin=subprocess.DEVNULL, stdout=subprocess.PIPE,
+                                   stderr=subprocess.STDOUT, start_new_session=True,
+                                   encoding="utf-8", errors="replace")
+        try:
+            output, trial.status = program.communicate(timeout=given.limit)[0], program.returncode
+        except subprocess.TimeoutExpired:
+            os.killpg(program.pid, signal.SIGKILL)
+            output = program.communicate()[0]
         trial.seconds = round(time.monotonic() - begun, 1)
     lines = [it for it in output.splitlines() if WORDS["value"] not in it] or [""]
     trial.verdict, trial.said = run.verdict(trial.status, output), lines[-1][:200]
-
-
-def as_text(results: list[Trial]) -> str:
-    """The results as a table of text."""
-    width = max(len(it.name) for it in results)
-    lines = [f"{it.name:{width}}  {it.verdict:7}{'*' if it.is_unseen else ' '} {it.said}".rstrip()
-             for it in results]
-    counts = Counter(it.verdict for it in results if not it.is_unseen)
-    lines.append(", ".join(f"{counts[it]} {it}" for it in VERDICTS if counts[it]))
-    return "\n".join(lines + [STAR] * any(it.is_unseen for it in results))
 
 
 def as_html(results: list[Trial]) -> str:
@@ -172,7 +161,7 @@ def as_html(results: list[Trial]) -> str:
 def parser() -> argparse.ArgumentParser:
     it = argparse.ArgumentParser("galliumtoad.trials", epilog=USAGE,
                                  description="Lets a terminal do a job with cards that misbehave.")
-    it.add_argument("--vpcd", default=VPCD, metavar="HOST:PORT", help=f"of vpcd; {VPCD}")
+    it.add_argument("--vpcd", default=VPCD, metavar="HOST:PORT", help=f"where vpcd is; {VPCD}")
     it.add_argument("--reader", default="Virtual PCD 00 00", help="vpcd's reader for PC/SC")
     it.add_argument("--protocol", type=int, choices=[0, 1], default=0, help="T of the card; 0")
     it.add_argument("--limit", type=float, default=60, metavar="S", help="seconds for a job; 60")
@@ -201,9 +190,15 @@ def main(words: Optional[list[str]] = None) -> int:
         return 0
     try:
         results = possible(given)
+        width = max((len(it.name) for it in results), default=0)
         for it in results:
             tried(it, given)
-        print(as_text(results))
+            star = "*" if it.is_unseen else " "
+            print(f"{it.name:{width}}  {it.verdict:7}{star} {it.said}".rstrip(), flush=True)
+        counts = Counter(it.verdict for it in results if not it.is_unseen)
+        print(", ".join(f"{counts[it]} {it}" for it in VERDICTS if counts[it]))
+        if any(it.is_unseen for it in results):
+            print(STAR)
         if given.json:
             Path(given.json).write_text(json.dumps([asdict(it) for it in results], indent=1) + "\n")
         if given.html:

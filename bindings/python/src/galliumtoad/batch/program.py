@@ -29,7 +29,8 @@ def parsed(words: Optional[list[str]]) -> argparse.Namespace:
     add = parser.add_argument
     add("script", help="operations as gt_pcsc takes them, one a line")
     add("--rows", required=True, help="the table; its first line names the columns")
-    add("--journal", action="append", required=True, help="the file that records each row")
+    add("--journal", action="append", required=True,
+        help="the file that says what became of each row; with --status there may be several")
     add("--new", action="store_true", help="create the journal, which must not exist")
     add("--id", type=tag, help="the tag of an object that tells cards apart: use it")
     add("--reader", action="append", default=[], help="a part of its name; once for each reader")

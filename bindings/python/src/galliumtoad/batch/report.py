@@ -65,7 +65,7 @@ def _picture(done: list[Entry]) -> str:  # how many rows were done over time
     points = " ".join(f"{(end - ends[0]) / whole * 600:.1f},{150 - at * step:.1f}"
                       for at, end in enumerate(ends, 1))
     return f"""<p>a card took {median(times):.1f} s (median), {max(times):.1f} s at most</p>
-<svg width="600" height="150" role="img" aria-label="rows done over time">\
-<polyline fill="none" stroke="#06c" points="{points}"/></svg>
+<svg width="600" height="150" viewBox="0 0 600 150" role="img" \
+aria-label="rows done over time"><polyline fill="none" stroke="var(--to)" points="{points}"/></svg>
 <p>{len(ends)} rows done, from {ends[0]:%F %R %z} to {ends[-1]:%F %R %z}</p>
 """

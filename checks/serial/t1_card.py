@@ -131,6 +131,19 @@ def carried_out(trace):
     return log
 
 
+def from_card(trace):
+    """The valid blocks of the card in a trace."""
+    found = set()
+    for line in trace.splitlines():
+        data = bytes.fromhex(line[2:]) if line[0] == "<" else b""
+        while len(data) > 3:
+            size = data[2] + 4
+            if is_valid(data[:size]):
+                found.add(data[:size])
+            data = data[size:]
+    return found
+
+
 class Noise:
     """What a line does with each block. `fates` lists the blocks that it damages, by number.
     Without it the choice is random, and `well` is the share of undamaged blocks."""

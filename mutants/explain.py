@@ -23,7 +23,7 @@ PATH = re.compile(rf"\bcrate::(?:(?:{'|'.join(FOLDERS)})::)?")
 # The most faults in one program. A program of 50 took 8 GB of memory to build.
 COPIES = 30
 # The number of runs for a module's cases. A run may write a mebibyte at most.
-BATCHES = 4
+BATCHES = 9
 # Separates the cases in the program's input, and its outputs.
 MARK = "\x1e"
 DECLARED = re.compile(r"^ *(?:ghost use [^;]*;|#\[tactic\(auto, using\(.*)\n", re.M)
@@ -165,11 +165,12 @@ fn run{number}(rt: &HostRuntime, part: &[u8]) {{
         let Some(other) = reading{number}(rt, &options) else {{
             return;
         }};
-        return diff{number}(rt, mask, resumes, (reading, other), trace);
+        return diff{number}(rt, layout, mask, resumes, (reading, other), trace);
     }}
     let outcome = m{number}::explain::explain(
         rt.alloc(),
         layout,
+        "A trace, explained",
         mask,
         resumes,
         reading,
@@ -193,6 +194,7 @@ fn reading{number}(
 
 fn diff{number}(
     rt: &HostRuntime,
+    layout: m{number}::layout::Layout,
     mask: m{number}::mask::Mask,
     resumes: bool,
     readings: (m{number}::reading::Reading, m{number}::reading::Reading),
@@ -202,8 +204,16 @@ fn diff{number}(
     let mut a = parts.next().unwrap_or(&[]);
     let mut b = parts.next().unwrap_or(&[]);
     let mut out = io::writer(rt);
-    let outcome =
-        m{number}::diff::diff(rt.alloc(), mask, resumes, readings, (&mut a, &mut b), &mut out);
+    let outcome = m{number}::diff::diff(
+        rt.alloc(),
+        layout,
+        "Two traces, compared",
+        mask,
+        resumes,
+        readings,
+        (&mut a, &mut b),
+        &mut out,
+    );
     let _ = out.write_all(b"\\x1e");
     if let Err(fault) = outcome {{
         let _ = out.writeln(&fault);

@@ -12,9 +12,16 @@
   - `out`: a line of the output. Rows of headers, procedure bytes, data and statuses are left out,
     except with a mask or `--diff`. Of a page only the part below its head is compared.
   - `refused`, `name` and `whole`: the lines of a GET DATA (`GETS`), as `refused #2 3` for its
-    number and line, and then its time if it has one. `answer 1` is 3B00 in line 1, and
-    `unexpected 2 1 55 card a status` an unexpected byte (`rows_of`).
-  - `err`: a line on standard error; `time`: the time in the last block.
+    number and line, and then its time if it has one. `object` is its last rows (`OBJECT`).
+  - `box #2 3 GET DATA of 50 | < 4142 | 9000`: a TPDU with its number, line, title, data and status.
+    On a page the color comes first: `box well #2 3 ..`.
+  - `answer 1 3B800181 T=1`: an answer to reset in line 1, or as `answer 1` that of 3B00.
+  - `unexpected 2 1 55 card a status` and `fault 1 00A404 6700 a reason`: an unexpected byte, or
+    command and answer (`rows_of`).
+  - `counts 1 | GET DATA: 1 | none other than 9000 | errors: 0`: the last block.
+  - `bad LINE`: a case in which `--tpdu` refuses this line alone as `bad hex`.
+  - `err`: a line on standard error, in place of that for the first protocol error. `time`: the time
+    in the last block.
   - `\\xHH` in a line is that byte.
 - In the same form, with the whole output above the last block:
   - lines.cases: the forms of lines, each also as a row `form`; times.cases: times before the signs.
@@ -47,6 +54,7 @@ COMMAND = re.compile(
 )
 TIME = re.compile(r"^    time       (.*)$", re.MULTILINE)
 PROTOCOL_ERRORS = ("unexpected byte  (", "unexpected command or answer  (")
+AT_FAULT = re.compile(r"    fault      .* \(TS is at 0\)$")
 BLOCK = "summary"
 HEX = re.compile(r"\b(?:[0-9A-F]{2})+\b")
 ENDS = '<div class="ends"><span>Terminal</span><span>Card</span></div><div>'
@@ -116,10 +124,11 @@ GETS = {
 }
 
 
-# The rows of the answer to reset 3B00.
-ANSWER = ["  < characters 3B00", "    convention direct", "    protocols  T=0",
-          "    rate       Fi 372, up to 5000 kHz; Di 1", "    guard time T=0: 12 etu",
-          "    waiting    T=0: 3571200 clock cycles", "    historical none"]
+# The rows of a whole GET DATA of 5F20 that brings the object.
+OBJECT = ["  > header     00CA5F2000", '  < data       5F20 4A4F45 "JOE"  cardholder name',
+          "  < status     9000 normal processing"]
+# The sentences of two statuses.
+SENTENCES = {"9000": "9000 normal processing", "6A88": "6A88 referenced data not found"}
 
 
 @dataclass
@@ -194,13 +203,15 @@ def block_of(lines, time):
     statuses = Counter(line.split()[0] for line in came if not line.startswith("9000 "))
     cut_off = commands.total() - len(came)
     of_them = f" (cut off: {cut_off})" if cut_off else ""
+    at_fault = sum(bool(AT_FAULT.match(line)) for line in lines)
     return [
         BLOCK,
         *row("TPDUs", [f"{commands.total()}{of_them}"]),
         *(row("blocks", [marked(blocks)]) if (blocks := blocks_in(lines)) else []),
         *row("commands", counted(commands, rank) or ["none"]),
         *row("statuses", counted(statuses, str) or ["none other than 9000"]),
-        *row("protocol", [f"errors: {sum(line.startswith(PROTOCOL_ERRORS) for line in lines)}"]),
+        *row("protocol", [f"errors: {sum(line.startswith(PROTOCOL_ERRORS) for line in lines)}",
+                          *([f"answers to reset at fault: {at_fault}"] if at_fault else [])]),
         *(row("time", [time]) if time else []),
     ]
 
@@ -334,7 +345,11 @@ def rows_of(word, said):
     An answer to reset has its line. An unexpected byte has its place, itself, who sent it, and what
     was expected."""
     if word == "answer":
-        return [f"answer to reset  (line {said})", *ANSWER]
+        return answer_of(*said.split())
+    if word == "fault":
+        line, command, answer, fault = said.split(" ", 3)
+        return [f"unexpected command or answer  (line {line})", f"    fault      {fault}",
+                f"  > command    {command}", f"  < answer     {answer}"]
     if word == "unexpected":
         line, place, byte, end, expected = said.split(" ", 4)
         return [f"unexpected byte  (line {line})", f"    place      line {line}, character {place}",
@@ -342,6 +357,85 @@ def rows_of(word, said):
     number, line, *time = said.split(" ", 2)
     title = f"{number} GET DATA of 5F20  (line {line})"
     return [title, *(f"    time       {it}" for it in time), *GETS[word]]
+
+
+def answer_of(line, characters="3B00", offered="T=0"):
+    """The lines of an answer to reset that changes no value, by the protocols that it offers."""
+    names = offered.split(",")
+    guards = [f"{name}: 12 etu" for name in names]
+    waits = row("waiting", ["T=0: 3571200 clock cycles"]) if "T=0" in names else []
+    convention = "inverse" if characters.startswith("3F") else "direct"
+    return [
+        f"answer to reset  (line {line})", f"  < characters {characters}",
+        *row("convention", [convention]), *row("protocols", [", ".join(names)]),
+        *row("rate", ["Fi 372, up to 5000 kHz; Di 1"]), *row("guard time", guards), *waits,
+        *row("historical", ["none"]),
+    ]
+
+
+def box_of(said, case):
+    """The lines of the TPDU of a row `box`. Its header is the first five bytes of its line."""
+    about, *parts, status = said.split(" | ")
+    is_page = "--html" in case.words
+    kind, about = about.split(" ", 1) if is_page else ("", about)
+    number, line, title = about.split(" ", 2)
+    given = SIGNED.sub(b"", case.given.splitlines()[int(line) - 1]).decode()
+    header = title if title == "**" else re.sub("[^0-9A-F]", "", given.upper())[:10]
+    shown = SENTENCES.get(status, status)
+    pieces = [(">", "header", in_parts(header) if is_page else header)]
+    if parts and "--tpdu" not in case.words:
+        pieces.append(("<", "procedure", "all at once"))
+    pieces += [(it[0], "Le", it[5:]) if " Le " in it else (it[0], "data", it[2:]) for it in parts]
+    pieces.append((" " if shown.startswith("cut off") else "<", "status", shown))
+    if not is_page:
+        rows_of_it = [f"  {way} {name:<10} {text}" for way, name, text in pieces]
+        return [f"{number} {title}  (line {line})", *rows_of_it]
+    is_open = "" if kind == "well" else " open"
+    word = "" if kind == "cut" else f'<b class="{kind}">{shown[:4]}</b> '
+    beside = "".join(f"<span>{it[2:]}</span> " for it in parts if it[0] == "<" and "**" not in it)
+    return [f'<details class="{kind}" id="t{number[1:]}"{is_open}><summary>{number} {title} {word}'
+            f"{beside}<small>line {line}</small></summary>",
+            *(line for it in pieces for line in piece(*it)), "</details>"]
+
+
+def in_parts(header):
+    """The characters of a header, each with its name."""
+    names = ("CLA", "INS", "P1", "P2", "P3")
+    pairs = re.findall("..", header)
+    return header if header == "**" else "  ".join(map(" ".join, zip(names, pairs)))
+
+
+def piece(way, name, text):
+    """The lines of a piece of a page, which one end sends, or neither."""
+    kind, arrow = {">": ("t", "<i></i>"), "<": ("c", "<i></i>"), " ": ("n", "")}[way]
+    return f'<div class="m {kind}"><b>{name}</b><pre>{text}</pre>{arrow}</div>'.split("\n")
+
+
+def counts_of(said, case):
+    """The lines of a row `counts`: the last block, as text or as a part of a page."""
+    pieces = list(zip(("TPDUs", "commands", "statuses", "protocol"), said.split(" | ")))
+    if "--html" not in case.words:
+        return [BLOCK, *(it for name, text in pieces for it in row(name, text.split(", ")))]
+    lines = (it for name, text in pieces for it in piece(" ", name, text.replace(", ", "\n")))
+    return ["</div><section><h2>summary</h2>", *lines]
+
+
+def error_of(case):
+    """The text for the first protocol error that a case lists, and for how many there are."""
+    places = [at for at, line in enumerate(case.wanted) if line.startswith(PROTOCOL_ERRORS)]
+    if not places:
+        return ""
+    title, about, *rest = (it[15:] for it in case.wanted[places[0] : places[0] + 5])
+    is_byte = case.wanted[places[0]].startswith(PROTOCOL_ERRORS[0])
+    is_counted = not is_byte or "--resume" in case.words
+    counted = f" (protocol errors: {len(places)})" if is_counted else ""
+    if not is_byte:
+        place = re.search(r"\((line \d+)\)", title)[1]
+        return f"{place}: unexpected command or answer: {about}{counted}\n"
+    byte, _, end = rest[1].partition(" from the ")
+    hint = "".join(f"; {it}" for it in rest[2:] if case.wanted[places[0] + 4][4:8] == "hint")
+    return (f"{about}: unexpected byte: the {end} sent {byte} in place of {rest[0]}{hint}"
+            f"{counted}\n")
 
 
 def form_cases(name, to, back, *others):
@@ -374,8 +468,15 @@ def story_cases(name, part):
         word, _, rest = line.partition(" ")
         if word == "case":
             found.append(Case(rest, b"", [], part=part))
-        elif word in (*GETS, "answer", "unexpected"):
+        elif word in (*GETS, "answer", "unexpected", "fault"):
             found[-1].wanted += rows_of(word, rest)
+        elif word in ("box", "counts"):
+            found[-1].wanted += {"box": box_of, "counts": counts_of}[word](rest, found[-1])
+        elif word == "bad":
+            found.append(Case(f"bad hex: {rest}", lines_of([rest]), [], ["--tpdu"],
+                              "line 1: bad hex\n", part))
+        elif word == "object":
+            found[-1].wanted += OBJECT
         elif word == "form":
             found += form_cases(*rest.split())
         elif word == "in":
@@ -401,6 +502,8 @@ def story_cases(name, part):
                 found[-1].part = part
         else:
             raise ValueError(f"{name}: {line}")
+    for it in found:
+        it.error = it.error or error_of(it)
     return found
 
 
@@ -423,7 +526,7 @@ def link_cases():
     for count, more in ((4, ""), (5, " and 1 more"), (7, " and 3 more")):
         given = ["> 00CA5F2000", "< 55"] * count
         links = [f'<a href="#e{it}">line {2 * it}</a>' for it in range(1, 5)]
-        wanted = f"<p>protocol errors in {' '.join(links)}{more}</p>"
+        wanted = f"<p>faults in {' '.join(links)}{more}</p>"
         block = page_block(count, f" (cut off: {count})", "none other than 9000", count, wanted)
         error = (
             "line 2, character 1: unexpected byte: the card sent 55 in place of a procedure byte "

@@ -1,5 +1,5 @@
 -- What whole commands gather of a response.
-use Rattle.std.proofs.Common.{◌≡◌, ◌∙◌, ℕ, List, [], ◌∷◌, ◌++◌, length, take, drop, Option, Some, None, Bool, true, refl, sym, ap, subst, arith, length-append}
+use Rattle.std.proofs.Common.{◌≡◌, ◌∙◌, ℕ, List, [], ◌∷◌, ◌++◌, length, take, drop, Option, Some, None, Bool, refl, sym, ap, subst, arith, length-append}
 use Rattle.std.proofs.lemmas.List.{take-append-drop}
 use Rattle.apdu_core.specs.declared.header.Header.{Header}
 use Rattle.apdu_core.specs.CommandBytes.{Command}
@@ -12,7 +12,7 @@ use Rattle.command_card.proofs.LineLemmas.{one_step}
 use Rattle.command_card.proofs.WholeLemmas.{own_status}
 
 -- two responses are the same only if their data and statuses are
-tail_same : (xs ys : List ℕ) (v w : StatusWord) → xs ++ status_bytes v ≡ ys ++ status_bytes w
+pub tail_same : (xs ys : List ℕ) (v w : StatusWord) → xs ++ status_bytes v ≡ ys ++ status_bytes w
     → (xs ≡ ys) × (v ≡ w)
 tail_same [] [] v w e =
     let first : v.0 ≡ w.0 = cc in
@@ -73,13 +73,16 @@ module _ {S : Type 0} (takes : S → Header → Bool) (Act : S → Did → S →
       → Makes Act first.app (told (takes first.app c.header) c) (front ++ rest) status last.app
       × (last.left ≡ Nothing_left)
   whole_gathers first mid last c front rest sw status others asks agreed responds go =
-      let one = one_step takes Act first mid c (front ++ status_bytes sw) asks agreed responds in
+      let one = one_step takes Act first mid c (front ++ status_bytes sw) agreed responds in
+      let hands : HandsOut one.bytes one.status 256 (front ++ status_bytes sw) mid.left =
+      subst (λ (m : Option ℕ). HandsOut one.bytes one.status (may_bring m)
+      (front ++ status_bytes sw) mid.left) asks one.hands in
       let (front_is, sw_is) = tail_same front (take 256 one.bytes) sw
-      (announcing (drop 256 one.bytes) one.status 256) one.hands.response_is in
+      (announcing (drop 256 one.bytes) one.status 256) hands.response_is in
       let own = own_status Act first.app _ one.bytes one.status mid.app one.makes in
       let (rest_is, status_is, app_is, none) =
       rest_comes others (drop 256 one.bytes) one.status sw mid last rest status own
-      one.hands.left_is sw_is go in
+      hands.left_is sw_is go in
       let all : front ++ rest ≡ one.bytes =
       ap (λ xs. xs ++ rest) front_is ∙ ap (λ xs. take 256 one.bytes ++ xs) rest_is
       ∙ take-append-drop 256 one.bytes in

@@ -6,3 +6,5 @@ pub mod WholeLemmas
 pub mod DeedLemmas
 pub mod LineLemmas
 pub mod GatherLemmas
+pub mod BuildLemmas
+pub mod AlikeLemmas

@@ -13,11 +13,8 @@ use Rattle.command_card.specs.Meaning.{Does}
 use Rattle.command_card.proofs.WholeLemmas.{gathers_the_response}
 use Rattle.command_card.specs.Carrying.{Did, Makes, taking}
 use Rattle.command_card.specs.State.{CardState, Nothing_left, announcing, fetch_left}
-use Rattle.command_card.specs.AtT1.{CarriesTold, HandsOut, Responds, RespondsBy, may_bring, status_bytes}
+use Rattle.command_card.specs.AtT1.{Carries, CarriesTold, HandsOut, Responds, RespondsBy, may_bring, status_bytes}
 use Rattle.command_card.specs.Told.{AreAgreed, IsOneStep, told}
-
-none_is_not : (n : ℕ) → None ≡ Some n → ⊥
-none_is_not n e = absurd (cc)
 
 module _ {S : Type 0} (takes : S → Header → Bool) (Act : S → Did → S → Type 0) where
   hands_all : (bytes : List ℕ) (status : StatusWord) → length bytes ≤ 256
@@ -30,31 +27,50 @@ module _ {S : Type 0} (takes : S → Header → Bool) (Act : S → Did → S →
         left_is = ap (λ xs. fetch_left xs status) (sym none);
       }
 
+  taken_so : (first new : CardState S) (c : Command) (response bytes : List ℕ)
+      (status : StatusWord) (content : List ℕ) → c.content ≡ content
+      → Makes Act first.app (taking c.header c.content) bytes status new.app
+      → HandsOut bytes status (may_bring c.le) response new.left
+      → Carries Act first (taking c.header content) (may_bring c.le) response new
+  taken_so first new c response bytes status content is makes hands = record {
+    bytes = bytes;
+    status = status;
+    makes = subst (λ xs. Makes Act first.app (taking c.header xs) bytes status new.app) is makes;
+    hands = hands;
+  }
+
   by_takes : (first new : CardState S) (c : Command) (response bytes : List ℕ)
-      (status : StatusWord) (v : Bool) (content : List ℕ) → c.le ≡ Some 256
+      (status : StatusWord) (v : Bool) (content : List ℕ) (le : Option ℕ)
       → c.content ≡ content → (v ≡ false → content ≡ [])
-      → (v ≡ true → content ≡ [] → c.le ≡ None)
+      → (v ≡ true → content ≡ [] → le ≡ None)
       → Makes Act first.app (told v c) bytes status new.app
       → HandsOut bytes status (may_bring c.le) response new.left
-      → CarriesTold Act first c response new v content c.le
-  by_takes first new c response bytes status true [] asks is none no_le makes hands =
-      absurd (none_is_not 256 (sym (no_le refl refl) ∙ asks))
-  by_takes first new c response bytes status true (b ∷ content) asks is none no_le makes hands =
-      record {
-        bytes = bytes;
-        status = status;
-        makes = subst (λ xs. Makes Act first.app (taking c.header xs) bytes status new.app) is
-            makes;
-        hands = hands;
-      }
-  by_takes first new c response bytes status false [] asks is none no_le makes hands = record {
+      → CarriesTold Act first c response new v content le
+  by_takes first new c response bytes status true [] (Some n) is none no_le makes hands =
+      let no : Some n ≡ None = no_le refl refl in absurd (cc)
+  by_takes first new c response bytes status true [] None is none no_le makes hands =
+      taken_so first new c response bytes status [] is makes hands
+  by_takes first new c response bytes status true (b ∷ content) le is none no_le makes hands
+      = taken_so first new c response bytes status (b ∷ content) is makes hands
+  by_takes first new c response bytes status false [] le is none no_le makes hands = record {
     bytes = bytes;
     status = status;
     makes = makes;
     hands = hands;
   }
-  by_takes first new c response bytes status false (b ∷ content) asks is none no_le makes hands =
-      let no : b ∷ content ≡ [] = none refl in absurd (cc)
+  by_takes first new c response bytes status false (b ∷ content) le is none no_le makes hands
+      = let no : b ∷ content ≡ [] = none refl in absurd (cc)
+
+  -- one step is a response, for any Le
+  pub hands_so : (first new : CardState S) (c : Command) (bytes : List ℕ) (status : StatusWord)
+      (response : List ℕ) → AreAgreed takes first c
+      → Makes Act first.app (told (takes first.app c.header) c) bytes status new.app
+      → HandsOut bytes status (may_bring c.le) response new.left
+      → Responds takes Act first c response new
+  hands_so first new c bytes status response agreed makes hands =
+      subst (λ v. RespondsBy takes Act first c response new v) (sym agreed.no_fetch)
+      (by_takes first new c response bytes status (takes first.app c.header) c.content c.le refl
+      agreed.no_data agreed.no_le makes hands)
 
   pub responds_so : (first : CardState S) (app : S) (c : Command) (bytes : List ℕ)
       (status : StatusWord) → c.le ≡ Some 256 → AreAgreed takes first c → length bytes ≤ 256
@@ -64,47 +80,51 @@ module _ {S : Type 0} (takes : S → Header → Bool) (Act : S → Did → S →
   responds_so first app c bytes status asks agreed few makes =
       let new : CardState S = record { app = app; left = Nothing_left } in
       let response : List ℕ = bytes ++ status_bytes status in
-      let hands : HandsOut bytes status (may_bring c.le) response Nothing_left =
-      subst (λ (m : Option ℕ). HandsOut bytes status (may_bring m) response Nothing_left)
-      (sym asks) (hands_all bytes status few) in
-      subst (λ v. RespondsBy takes Act first c response new v) (sym agreed.no_fetch)
-      (by_takes first new c response bytes status (takes first.app c.header) c.content asks refl
-      agreed.no_data agreed.no_le makes hands)
+      hands_so first new c bytes status response agreed makes
+      (subst (λ (m : Option ℕ). HandsOut bytes status (may_bring m) response Nothing_left)
+      (sym asks) (hands_all bytes status few))
 
-  told_by : (old new : CardState S) (c : Command) (response : List ℕ) (v : Bool)
-      (content : List ℕ) → takes old.app c.header ≡ v → c.content ≡ content → c.le ≡ Some 256
-      → (v ≡ false → content ≡ []) → (v ≡ true → content ≡ [] → c.le ≡ None)
-      → CarriesTold Act old c response new v content c.le
+  taken_step : (old new : CardState S) (c : Command) (response content : List ℕ)
+      → takes old.app c.header ≡ true → c.content ≡ content
+      → Carries Act old (taking c.header content) (may_bring c.le) response new
       → IsOneStep takes Act old c response new
-  told_by old new c response true [] takes_is is asks none no_le carries =
-      absurd (none_is_not 256 (sym (no_le refl refl) ∙ asks))
-  told_by old new c response true (b ∷ content) takes_is is asks none no_le carries = record {
+  taken_step old new c response content takes_is is carries = record {
     bytes = carries.bytes;
     status = carries.status;
     makes = subst (λ v. Makes Act old.app (told v c) carries.bytes carries.status new.app)
         (sym takes_is)
         (subst (λ xs. Makes Act old.app (taking c.header xs) carries.bytes carries.status new.app)
         (sym is) carries.makes);
-    hands = subst (λ (m : Option ℕ). HandsOut carries.bytes carries.status (may_bring m) response
-        new.left) asks carries.hands;
+    hands = carries.hands;
   }
-  told_by old new c response false [] takes_is is asks none no_le carries = record {
+
+  told_by : (old new : CardState S) (c : Command) (response : List ℕ) (v : Bool)
+      (content : List ℕ) (le : Option ℕ) → takes old.app c.header ≡ v → c.content ≡ content
+      → (v ≡ false → content ≡ []) → (v ≡ true → content ≡ [] → le ≡ None)
+      → CarriesTold Act old c response new v content le
+      → IsOneStep takes Act old c response new
+  told_by old new c response true [] (Some n) takes_is is none no_le carries =
+      let no : Some n ≡ None = no_le refl refl in absurd (cc)
+  told_by old new c response true [] None takes_is is none no_le carries =
+      taken_step old new c response [] takes_is is carries
+  told_by old new c response true (b ∷ content) le takes_is is none no_le carries =
+      taken_step old new c response (b ∷ content) takes_is is carries
+  told_by old new c response false [] le takes_is is none no_le carries = record {
     bytes = carries.bytes;
     status = carries.status;
     makes = subst (λ v. Makes Act old.app (told v c) carries.bytes carries.status new.app)
         (sym takes_is) carries.makes;
-    hands = subst (λ (m : Option ℕ). HandsOut carries.bytes carries.status (may_bring m) response
-        new.left) asks carries.hands;
+    hands = carries.hands;
   }
-  told_by old new c response false (b ∷ content) takes_is is asks none no_le carries =
+  told_by old new c response false (b ∷ content) le takes_is is none no_le carries =
       let no : b ∷ content ≡ [] = none refl in absurd (cc)
 
-  pub one_step : (old new : CardState S) (c : Command) (response : List ℕ) → c.le ≡ Some 256
+  pub one_step : (old new : CardState S) (c : Command) (response : List ℕ)
       → AreAgreed takes old c → Responds takes Act old c response new
       → IsOneStep takes Act old c response new
-  one_step old new c response asks agreed responds =
-      told_by old new c response (takes old.app c.header) c.content refl refl asks agreed.no_data
-      agreed.no_le
+  one_step old new c response agreed responds =
+      told_by old new c response (takes old.app c.header) c.content c.le refl refl
+      agreed.no_data agreed.no_le
       (subst (λ v. RespondsBy takes Act old c response new v) agreed.no_fetch responds)
 
 pub from_exchange : {S : Type 0} (takes : S → Header → Bool) (Act : S → Did → S → Type 0)

@@ -1,7 +1,7 @@
 -- A whole exchange with a card of commands.
 use Rattle.std.proofs.Common.{◌≡◌, ◌∙◌, ◌⊎◌, ℕ, zero, suc, ◌+◌, ◌-◌, ◌%◌, ◌<◌, ◌≤◌, min, List, [], ◌∷◌, ◌++◌, length, take, drop, Option, Some, None, Bool, true, false, refl, sym, ap, subst, arith, inl, inr, append-nil, length-append, length-take, length-drop, eq-eqb}
 use Rattle.std.specs.Prelude.{if◌then◌else◌, ◌==◌, ◌&&◌, nat_lt, nat_le, unwrap_or}
-use Rattle.std.specs.List.{flat_map}
+use Rattle.std.specs.List.{AllByRecursion, flat_map}
 use Rattle.std.proofs.lemmas.Bool.{eqb-true, eqb-false, ltb-true, ltb-false, leb-true, leb-false, le-leb}
 use Rattle.std.proofs.lemmas.List.{take-append-drop, take_all}
 use Rattle.apdu_core.specs.declared.header.Header.{Header}
@@ -22,11 +22,11 @@ use Rattle.command_card.specs.Carrying.{Did, IsOwn, Makes, asking, taking}
 use Rattle.command_card.specs.State.{CardState, For_repeat, Hand, Nothing_left, Outcome, announcing, fetch_left, handed, pending_for, same_header}
 use Rattle.command_card.specs.Meaning.{Answers, Asks, Brings, CarriesAsked, CarriesTaken, Does, DoesBy, Hands, Takes, kind_in, kind_of}
 use Rattle.command_card.proofs.HandLemmas.{enough, handed_enough, handed_fewer}
-use Rattle.command_card.specs.Told.{AreAgreed, GathersPart, told, unwanted_part, wanted_part}
+use Rattle.command_card.specs.Told.{AreAgreed, GathersPart, IsCutOf, told, unwanted_part, wanted_part}
 
 -- statuses
 
-count_told : (n : ℕ) → 1 ≤ n → n ≤ 256 → count (n % 256) ≡ n
+pub count_told : (n : ℕ) → 1 ≤ n → n ≤ 256 → count (n % 256) ≡ n
 count_told n low high = split (n % 256 == 0) refl
   where
     split : (v : Bool) → (n % 256 == 0) ≡ v → (if v then 256 else n % 256) ≡ n
@@ -34,7 +34,7 @@ count_told n low high = split (n % 256 == 0) refl
     split false e = omega (arith, low, high, eqb-false (n % 256) 0 e)
 
 announced : (rest : List ℕ) (own : StatusWord) (cut n : ℕ) → IsOwn own → IsCut cut
-    → announces (announcing rest own cut) ≡ Some n → (1 ≤ n) × (n ≤ length rest)
+    → announces (announcing rest own cut) ≡ Some n → (1 ≤ n) × (n ≤ length rest) × (n ≤ 256)
 announced [] own cut n is in_range e = let no : None ≡ Some n = sym is.0 ∙ e in absurd (cc)
 announced (b ∷ rest) own cut n is in_range e =
     let told : Some (count (min (suc (length rest)) cut % 256)) ≡ Some n = e in
@@ -42,26 +42,27 @@ announced (b ∷ rest) own cut n is in_range e =
     let is_n : n ≡ min (suc (length rest)) cut =
     sym same ∙ count_told (min (suc (length rest)) cut) (omega (arith, in_range.0))
     (omega (arith, in_range.1)) in
-    (omega (arith, is_n, in_range.0), omega (arith, is_n))
+    (omega (arith, is_n, in_range.0), omega (arith, is_n), omega (arith, is_n, in_range.1))
 
 -- no more than is wanted
-abbrev Fits : ℕ → Wanted → Type 0
+abbrev pub Fits : ℕ → Wanted → Type 0
 Fits n (Bytes k) = n ≤ k
 Fits n Everything = Unit {0}
 
-fetch_facts : (rest : List ℕ) (own : StatusWord) (cut n : ℕ) (w : Wanted) → IsOwn own → IsCut cut
+pub fetch_facts : (rest : List ℕ) (own : StatusWord) (cut n : ℕ) (w : Wanted) → IsOwn own → IsCut cut
     → fetched_after w (announcing rest own cut) ≡ Some n
-    → (1 ≤ n) × (n ≤ length rest) × Fits n w
+    → (1 ≤ n) × (n ≤ length rest) × (n ≤ 256) × Fits n w
 fetch_facts [] own cut n w is in_range e =
     let no : None ≡ Some n = subst (λ v. fetched_of w v ≡ Some n) is.0 e in absurd (cc)
 fetch_facts (b ∷ rest) own cut n Everything is in_range e =
-    let facts = announced (b ∷ rest) own cut n is in_range e in (facts.0, facts.1, tt)
+    let facts = announced (b ∷ rest) own cut n is in_range e in (facts.0, facts.1, facts.2, tt)
 fetch_facts (b ∷ rest) own cut n (Bytes k) is in_range e = split (nat_le 1 k) refl
   where
     m : ℕ
     m = count (min (suc (length rest)) cut % 256)
 
-    split : (v : Bool) → nat_le 1 k ≡ v → (1 ≤ n) × (n ≤ length (b ∷ rest)) × (n ≤ k)
+    split : (v : Bool) → nat_le 1 k ≡ v
+        → (1 ≤ n) × (n ≤ length (b ∷ rest)) × (n ≤ 256) × (n ≤ k)
     split true some =
         let told : Some (min (count (min (suc (length rest)) cut % 256)) k) ≡ Some n =
         subst (λ (v : Bool). (if v then Some (min (count (min (suc (length rest)) cut % 256)) k)
@@ -72,6 +73,7 @@ fetch_facts (b ∷ rest) own cut n (Bytes k) is in_range e = split (nat_le 1 k) 
         let one = leb-true 1 k some in (
           omega (arith, same, facts.0, one),
           omega (arith, same, facts.1),
+          omega (arith, same, facts.2),
           omega (arith, same),
         )
     split false none =
@@ -79,7 +81,7 @@ fetch_facts (b ∷ rest) own cut n (Bytes k) is in_range e = split (nat_le 1 k) 
         subst (λ (v : Bool). (if v then Some (min (count (min (suc (length rest)) cut % 256)) k)
         else None) ≡ Some n) none e in absurd (cc)
 
-end_facts : (rest : List ℕ) (own : StatusWord) (cut : ℕ) (w : Wanted)
+pub end_facts : (rest : List ℕ) (own : StatusWord) (cut : ℕ) (w : Wanted)
     → fetched_after w (announcing rest own cut) ≡ None → (rest ≡ []) ⊎ (w ≡ Bytes 0)
 end_facts [] own cut w e = inl refl
 end_facts (b ∷ rest) own cut Everything e = absurd (cc)
@@ -111,18 +113,18 @@ drop_past (x ∷ front) rest (suc k) le =
     let same : k - length front ≡ suc k - length (x ∷ front) = omega arith in
     drop_past front rest k (omega (arith, le)) ∙ ap (λ n. drop n rest) same
 
-more_part : (w : Wanted) (front rest : List ℕ) → Fits (length front) w
+pub more_part : (w : Wanted) (front rest : List ℕ) → Fits (length front) w
     → (front ++ wanted_part (less w (length front)) rest ≡ wanted_part w (front ++ rest))
     × (unwanted_part (less w (length front)) rest ≡ unwanted_part w (front ++ rest))
 more_part Everything front rest fits = (refl, refl)
 more_part (Bytes k) front rest fits =
     (sym (take_past front rest k fits), sym (drop_past front rest k fits))
 
-no_bytes : (xs : List ℕ) → length xs ≡ 0 → xs ≡ []
+pub no_bytes : (xs : List ℕ) → length xs ≡ 0 → xs ≡ []
 no_bytes [] e = refl
 no_bytes (x ∷ xs) e = absurd (omega (arith, e))
 
-last_part : (w : Wanted) (front rest : List ℕ) → Fits (length front) w
+pub last_part : (w : Wanted) (front rest : List ℕ) → Fits (length front) w
     → (rest ≡ []) ⊎ (less w (length front) ≡ Bytes 0)
     → (front ≡ wanted_part w (front ++ rest)) × (rest ≡ unwanted_part w (front ++ rest))
 last_part w front rest fits (inl none) =
@@ -150,31 +152,31 @@ last_part w front rest fits (inr done) =
       ap (λ x. unwanted_part x rest) (sym done) ∙ p.1,
     )
 
-fits_none : (w : Wanted) → Fits 0 w
+pub fits_none : (w : Wanted) → Fits 0 w
 fits_none Everything = tt
 fits_none (Bytes k) = omega arith
 
-fits_le : (m n : ℕ) → m ≤ n → Fits m (wanted_by (Some n))
+pub fits_le : (m n : ℕ) → m ≤ n → Fits m (wanted_by (Some n))
 fits_le m n few = split (n == 256)
   where
     split : (v : Bool) → Fits m (if v then Everything else Bytes n)
     split true = tt
     split false = few
 
-wants_fewer : (k n : ℕ) → k ≤ n → wants_at_least k (less (wanted_by (Some n)) 0) ≡ true
+pub wants_fewer : (k n : ℕ) → k ≤ n → wants_at_least k (less (wanted_by (Some n)) 0) ≡ true
 wants_fewer k n few = split (n == 256)
   where
     split : (v : Bool) → wants_at_least k (less (if v then Everything else Bytes n) 0) ≡ true
     split true = refl
     split false = le-leb k (n - 0) (omega (arith, few))
 
-none_corrected : (rest : List ℕ) (own : StatusWord) (cut : ℕ) → IsOwn own
+pub none_corrected : (rest : List ℕ) (own : StatusWord) (cut : ℕ) → IsOwn own
     → corrects (announcing rest own cut) ≡ None
 none_corrected [] own cut is = is.1
 none_corrected (b ∷ rest) own cut is = refl
 
 -- a status that corrects nothing repeats nothing
-not_repeated : (w : Wanted) (d : Dialogue) → corrects d.status ≡ None → repeated_with w d ≡ None
+pub not_repeated : (w : Wanted) (d : Dialogue) → corrects d.status ≡ None → repeated_with w d ≡ None
 not_repeated w d none =
     ap (λ v. correction_of d.body.direction (after_dialogue w d) v) none
     ∙ each d.body.direction (after_dialogue w d)
@@ -200,14 +202,14 @@ same_as_itself h =
     let c = eq-eqb h.p1 h.p1 refl in
     let d = eq-eqb h.p2 h.p2 refl in rw (a, b, c, d) refl
 
-kind_by : (v w : Bool) (p q : Option Hand) (f g t u : Bool) → v ≡ w → p ≡ q → f ≡ g → t ≡ u
+pub kind_by : (v w : Bool) (p q : Option Hand) (f g t u : Bool) → v ≡ w → p ≡ q → f ≡ g → t ≡ u
     → kind_of v p f t ≡ kind_of w q g u
 kind_by v w p q f g t u a b c d = cc
 
-take_whole : (xs : List ℕ) → take (length xs) xs ≡ xs
+pub take_whole : (xs : List ℕ) → take (length xs) xs ≡ xs
 take_whole xs = take_all (length xs) xs (omega arith)
 
-drop_whole : (xs : List ℕ) → drop (length xs) xs ≡ []
+pub drop_whole : (xs : List ℕ) → drop (length xs) xs ≡ []
 drop_whole [] = refl
 drop_whole (x ∷ xs) = drop_whole xs
 
@@ -219,7 +221,7 @@ opens_asking h content le n d none asks opens =
     (subst (λ (k : List ℕ). Opens (record { header = h; content = k; le = le }) d) none opens)
 
 -- the data to the card, if it had this direction
-abbrev sent_if : Dialogue → Direction → List ℕ
+abbrev pub sent_if : Dialogue → Direction → List ℕ
 sent_if d x = sent (record d { body = record d.body { direction = x } })
 
 asks_nothing : (h : Header) (n : ℕ) (d : Dialogue) → AsksBy h n d → sent d ≡ []
@@ -248,6 +250,23 @@ opened_with : (h : Header) (content : List ℕ) (le : Option ℕ) (d : Dialogue)
     → Opens (record { header = h; content = content; le = le }) d → d.body.header ≡ h
 opened_with h content le d opens = (opens_taking h content le d opens).0
 
+-- a dialogue that asked for data, and brought none, is repeated after a correction
+pub is_repeated : (w : Wanted) (d : Dialogue) (n : ℕ) → d.body.direction ≡ FromCard
+    → received d ≡ [] → wants_at_least n (less w 0) ≡ true → corrects d.status ≡ Some n
+    → repeated_with w d ≡ Some n
+is_repeated w d n from_card none wants corrected =
+    ap (λ v. correction_of d.body.direction (after_dialogue w d) v) corrected
+    ∙ ap (λ x. correction_of x (after_dialogue w d) (Some n)) from_card
+    ∙ ap (λ xs. correction_of FromCard (less w (length xs)) (Some n)) none
+    ∙ ap (λ (v : Bool). if v then Some n else None) wants
+
+pub count_of_byte : (n : ℕ) → 1 ≤ n → count n ≡ n
+count_of_byte n some = split (n == 0) refl
+  where
+    split : (v : Bool) → (n == 0) ≡ v → (if v then 256 else n) ≡ n
+    split true e = absurd (omega (arith, some, eqb-true n 0 e))
+    split false e = refl
+
 -- a status of the application's own
 pub own_status : {S : Type 0} (Act : S → Did → S → Type 0) (old : S) (c : Command)
     (response : List ℕ) (status : StatusWord) (new : S)
@@ -256,7 +275,28 @@ own_status Act old c response status new (inl made) = made.1
 own_status Act old c response status new (inr (same, none, is, long)) =
     subst IsOwn (sym is) (refl, refl)
 
-module _ {S : Type 0} (takes : S → Header → Bool) (Act : S → Did → S → Type 0) where
+-- a cut of these plans, in range
+abbrev pub Among : List Course → ℕ → Type 0
+Among all cut = IsCut cut × IsCutOf all cut
+
+abbrev pub AreAmong : List Course → List Course → Type 0
+AreAmong all plans = AllByRecursion (λ (p : Course). Among all p.cut) plans
+
+pub plain_is : (plans : List Course) → IsCutOf plans 256
+plain_is [] = refl
+plain_is (p ∷ plans) = inr (plain_is plans)
+
+some_of : (all plans : List Course) → HaveCuts plans
+    → ((cut : ℕ) → IsCutOf plans cut → IsCutOf all cut) → AreAmong all plans
+some_of all [] have are = tt
+some_of all (p ∷ plans) have are =
+    ((have.0, are p.cut (inl refl)), some_of all plans have.1 (λ cut is. are cut (inr is)))
+
+pub all_of : (plans : List Course) → HaveCuts plans → AreAmong plans plans
+all_of plans have = some_of plans plans have (λ cut is. is)
+
+module _ {S : Type 0} (takes : S → Header → Bool) (Act : S → Did → S → Type 0)
+    (all : List Course) where
   abbrev Meant : CardState S → ℕ → Tpdu → CardState S → Type 0
   Meant old cut t new = Does takes Act old cut t new
 
@@ -266,19 +306,19 @@ module _ {S : Type 0} (takes : S → Header → Bool) (Act : S → Did → S →
     cut : ℕ
     mid : CardState S
     plans : List Course
-    in_range : IsCut cut
+    in_range : Among all cut
     does : Meant old cut (tpdu_of d) mid
     runs : Runs Meant mid others plans new
-    have : HaveCuts plans
+    have : AreAmong all plans
 
   begun : (old : CardState S) (d : Dialogue) (others : List Dialogue) (plans : List Course)
-      (new : CardState S) → HaveCuts plans → Runs Meant old (d ∷ others) plans new
+      (new : CardState S) → AreAmong all plans → Runs Meant old (d ∷ others) plans new
       → Begun old d others new
   begun old d others [] new have runs = record {
     cut = 256;
     mid = runs.0;
     plans = [];
-    in_range = (omega arith, omega arith);
+    in_range = ((omega arith, omega arith), plain_is all);
     does = runs.1;
     runs = runs.2;
     have = tt;
@@ -304,12 +344,12 @@ module _ {S : Type 0} (takes : S → Header → Bool) (Act : S → Did → S →
     whole_is : whole ≡ front ++ rest
     brought : unit_data u ≡ front
     fits : Fits (length front) w
-    in_range : IsCut cut
+    in_range : Among all cut
     status_is : (last_of u).status ≡ announcing rest own cut
     left_is : mid.left ≡ fetch_left rest own
     app_is : mid.app ≡ app
     runs : Runs Meant mid others plans new
-    have : HaveCuts plans
+    have : AreAmong all plans
 
   -- a GET RESPONSE for no more bytes than are pending
   fetches_some : (bytes : List ℕ) (own : StatusWord) (n cut : ℕ) (d : Dialogue)
@@ -339,7 +379,7 @@ module _ {S : Type 0} (takes : S → Header → Bool) (Act : S → Did → S →
       (old new : CardState S)
       (others : List Dialogue) (plans : List Course) → IsOwn own → old.left ≡ fetch_left bytes own
       → 1 ≤ n → n ≤ length bytes → Fits n w → AsksBy get_response n (first_of u) → IsUnit w u
-      → HaveCuts plans → Runs Meant old (dialogues_of u ++ others) plans new
+      → AreAmong all plans → Runs Meant old (dialogues_of u ++ others) plans new
       → Halfway w bytes own old.app u others new
   fetch_unit w bytes own n (Single d) old new others plans is left some few fits asks unit have
       runs =
@@ -374,6 +414,7 @@ module _ {S : Type 0} (takes : S → Header → Bool) (Act : S → Did → S →
   record Ended (w : Wanted) (whole : List ℕ) (own : StatusWord) (app : S) (units : List UnitOf)
       (last : UnitOf) (new : CardState S) : Type 0 where
     cut : ℕ
+    in_range : Among all cut
     gathered : flat_map unit_data units ≡ wanted_part w whole
     status_is : (last_of last).status ≡ announcing (unwanted_part w whole) own cut
     app_is : new.app ≡ app
@@ -401,6 +442,7 @@ module _ {S : Type 0} (takes : S → Header → Bool) (Act : S → Did → S →
       let same : new ≡ half.mid = half.runs in
       record {
         cut = half.cut;
+        in_range = half.in_range;
         gathered = append-nil (unit_data u) ∙ half.brought ∙ part.0
             ∙ ap (λ xs. wanted_part w xs) (sym half.whole_is);
         status_is = half.status_is ∙ ap (λ xs. announcing xs own half.cut) rest_is;
@@ -423,6 +465,7 @@ module _ {S : Type 0} (takes : S → Header → Bool) (Act : S → Did → S →
       ∙ ap (λ xs. unwanted_part w xs) (sym half.whole_is) in
       record {
         cut = e.cut;
+        in_range = e.in_range;
         gathered = ap (λ xs. unit_data u ++ xs) e.gathered
             ∙ ap (λ xs. xs ++ wanted_part (after_unit w u) half.rest) half.brought
             ∙ ap (λ x. half.front ++ wanted_part x half.rest) is ∙ part.0
@@ -435,12 +478,13 @@ module _ {S : Type 0} (takes : S → Header → Bool) (Act : S → Did → S →
   -- the GET RESPONSEs of an exchange
   fetch_all : (before : List UnitOf) (last : UnitOf) (n : ℕ) (next : Opening) (w left : Wanted)
       (bytes : List ℕ) (own : StatusWord) (old new : CardState S) (plans : List Course)
-      → IsOwn own → old.left ≡ fetch_left bytes own → (1 ≤ n) × (n ≤ length bytes) × Fits n w
+      → IsOwn own → old.left ≡ fetch_left bytes own
+      → (1 ≤ n) × (n ≤ length bytes) × (n ≤ 256) × Fits n w
       → AreFollowed (By_fetch n) w before next left → OpensWith next (first_of last)
       → IsUnit left last → fetched_after (after_unit left last) (last_of last).status ≡ None
-      → HaveCuts plans → Runs Meant old (flat_map dialogues_of (before ++ last ∷ [])) plans new
+      → AreAmong all plans → Runs Meant old (flat_map dialogues_of (before ++ last ∷ [])) plans new
       → Ended w bytes own old.app (before ++ last ∷ []) last new
-  fetch_all [] last n next w left bytes own old new plans is waits (some, few, fits) followed opens
+  fetch_all [] last n next w left bytes own old new plans is waits (some, few, small, fits) followed opens
       unit ends have runs =
       let opens_so : AsksBy get_response n (first_of last) =
       subst (λ o. OpensWith o (first_of last)) followed.0 opens in
@@ -450,13 +494,13 @@ module _ {S : Type 0} (takes : S → Header → Bool) (Act : S → Did → S →
       finished w bytes own old.app last new
       (fetch_unit w bytes own n last old new [] plans is waits some few fits opens_so unit_so have
       runs) ends_so
-  fetch_all (u ∷ before) last n next w left bytes own old new plans is waits (some, few, fits)
+  fetch_all (u ∷ before) last n next w left bytes own old new plans is waits (some, few, small, fits)
       followed opens unit ends have runs =
       let (m, follows, others) = followed in
       let half = fetch_unit w bytes own n u old new
       (flat_map dialogues_of (before ++ last ∷ [])) plans is waits some few fits follows.opens
       follows.is_unit have runs in
-      let more = fetch_facts half.rest own half.cut m (after_unit w u) is half.in_range
+      let more = fetch_facts half.rest own half.cut m (after_unit w u) is half.in_range.0
       (ap (λ s. fetched_after (after_unit w u) s) (sym half.status_is) ∙ follows.fetched) in
       joined w bytes own old.app u last (before ++ last ∷ []) _ new half
       (fetch_all before last m next (after_unit w u) left half.rest own half.mid new half.plans is
@@ -474,7 +518,7 @@ module _ {S : Type 0} (takes : S → Header → Bool) (Act : S → Did → S →
   first_taking : (c : Command) (first new : CardState S) (u : UnitOf) (others : List Dialogue)
       (plans : List Course) → AreAgreed takes first c
       → takes first.app c.header ≡ true → Opens c (first_of u) → IsUnit (wanted_by c.le) u
-      → HaveCuts plans → Runs Meant first (dialogues_of u ++ others) plans new
+      → AreAmong all plans → Runs Meant first (dialogues_of u ++ others) plans new
       → First c first u others new
   first_taking c first new u others plans agreed taking_is opens unit have runs =
       by_unit u opens unit runs
@@ -610,27 +654,10 @@ module _ {S : Type 0} (takes : S → Header → Bool) (Act : S → Did → S →
           (brings.status_is ∙ ap (λ (o : Outcome). o.status) is)
           (brings.left_is ∙ ap (λ (o : Outcome). o.left) is)
 
-  -- a dialogue that asked for data, and brought none, is repeated after a correction
-  is_repeated : (w : Wanted) (d : Dialogue) (n : ℕ) → d.body.direction ≡ FromCard
-      → received d ≡ [] → wants_at_least n (less w 0) ≡ true → corrects d.status ≡ Some n
-      → repeated_with w d ≡ Some n
-  is_repeated w d n from_card none wants corrected =
-      ap (λ v. correction_of d.body.direction (after_dialogue w d) v) corrected
-      ∙ ap (λ x. correction_of x (after_dialogue w d) (Some n)) from_card
-      ∙ ap (λ xs. correction_of FromCard (less w (length xs)) (Some n)) none
-      ∙ ap (λ (v : Bool). if v then Some n else None) wants
-
-  count_of_byte : (n : ℕ) → 1 ≤ n → count n ≡ n
-  count_of_byte n some = split (n == 0) refl
-    where
-      split : (v : Bool) → (n == 0) ≡ v → (if v then 256 else n) ≡ n
-      split true e = absurd (omega (arith, some, eqb-true n 0 e))
-      split false e = refl
-
   first_asking : (c : Command) (first new : CardState S) (u : UnitOf) (others : List Dialogue)
       (plans : List Course) (n : ℕ) → AreAgreed takes first c → c.le ≡ Some n → 1 ≤ n → n ≤ 256
       → takes first.app c.header ≡ false → Opens c (first_of u) → IsUnit (wanted_by c.le) u
-      → HaveCuts plans → Runs Meant first (dialogues_of u ++ others) plans new
+      → AreAmong all plans → Runs Meant first (dialogues_of u ++ others) plans new
       → First c first u others new
   first_asking c first new u others plans n agreed le_is some_le few_le asking_is opens unit have
       runs =
@@ -753,7 +780,7 @@ module _ {S : Type 0} (takes : S → Header → Bool) (Act : S → Did → S →
 
   first_unit : (c : Command) (first new : CardState S) (u : UnitOf) (others : List Dialogue)
       (plans : List Course) → AreAgreed takes first c → Opens c (first_of u)
-      → IsUnit (wanted_by c.le) u → HaveCuts plans
+      → IsUnit (wanted_by c.le) u → AreAmong all plans
       → Runs Meant first (dialogues_of u ++ others) plans new → First c first u others new
   first_unit c first new u others plans agreed opens unit have runs =
       split (takes first.app c.header) refl
@@ -769,11 +796,12 @@ module _ {S : Type 0} (takes : S → Header → Bool) (Act : S → Did → S →
       (f : First c first u others last)
       → Ended (wanted_by c.le) f.response f.own f.app units final last
       → gathered ≡ flat_map unit_data units → status ≡ (last_of final).status
-      → GathersPart takes Act first c gathered status last
+      → GathersPart takes Act all first c gathered status last
   part_so c first last u final units others gathered status f e gathered_is status_is = record {
     bytes = f.response;
     own = f.own;
     cut = e.cut;
+    is_cut = e.in_range.1;
     makes = subst (λ a. Makes Act first.app (told (takes first.app c.header) c) f.response f.own a)
         (sym e.app_is) f.makes;
     gathered_is = gathered_is ∙ e.gathered;
@@ -788,8 +816,8 @@ module _ {S : Type 0} (takes : S → Header → Bool) (Act : S → Did → S →
       → OpensWith opening (first_of last) → IsUnit left last
       → fetched_after (after_unit left last) (last_of last).status ≡ None
       → status ≡ (last_of last).status → gathered ≡ flat_map unit_data (before ++ last ∷ [])
-      → HaveCuts plans → Runs Meant first (flat_map dialogues_of (before ++ last ∷ [])) plans new
-      → GathersPart takes Act first c gathered status new
+      → AreAmong all plans → Runs Meant first (flat_map dialogues_of (before ++ last ∷ [])) plans new
+      → GathersPart takes Act all first c gathered status new
   by_units [] last opening left c first new plans gathered status agreed followed opens unit ends
       status_is gathered_is have runs =
       let w = wanted_by c.le in
@@ -809,7 +837,7 @@ module _ {S : Type 0} (takes : S → Header → Bool) (Act : S → Did → S →
       let f = first_unit c first new u rest plans agreed follows.opens follows.is_unit have runs in
       let half = f.half in
       let own = own_status Act first.app _ f.response f.own f.app f.makes in
-      let more = fetch_facts half.rest f.own half.cut m (after_unit w u) own half.in_range
+      let more = fetch_facts half.rest f.own half.cut m (after_unit w u) own half.in_range.0
       (ap (λ s. fetched_after (after_unit w u) s) (sym half.status_is) ∙ follows.fetched) in
       let e = fetch_all before last m opening (after_unit w u) left half.rest f.own half.mid new
       half.plans own half.left_is more others opens unit ends half.have half.runs in
@@ -821,12 +849,12 @@ pub gathers_a_part : {S : Type 0} (takes : S → Header → Bool) (Act : S → D
     (first last : CardState S) (c : Command) (units : List UnitOf) (plans : List Course)
     (gathered : List ℕ) (status : StatusWord) → AreAgreed takes first c
     → HaveCuts plans → Runs (Does takes Act) first (flat_map dialogues_of units) plans last
-    → Gathers c units gathered status → GathersPart takes Act first c gathered status last
+    → Gathers c units gathered status → GathersPart takes Act plans first c gathered status last
 gathers_a_part takes Act first last c units plans gathered status agreed have runs g =
     let o = g.is_open in
-    by_units takes Act o.before o.last o.opening o.left c first last plans gathered status agreed
+    by_units takes Act plans o.before o.last o.opening o.left c first last plans gathered status agreed
     o.followed o.opens o.is_unit g.ends g.status_is
-    (g.gathered_is ∙ ap (λ us. flat_map unit_data us) o.units_are) have
+    (g.gathered_is ∙ ap (λ us. flat_map unit_data us) o.units_are) (all_of plans have)
     (subst (λ us. Runs (Does takes Act) first (flat_map dialogues_of us) plans last) o.units_are
     runs)
 

@@ -6,4 +6,5 @@ pub mod Given
 pub mod Wanted
 pub mod AtT1
 pub mod Told
+pub mod Alike
 pub mod Deeds

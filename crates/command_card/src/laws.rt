@@ -2,7 +2,7 @@
 //! contract is the law.
 ghost use Rattle.std.specs.Prelude.{◌≡◌, ◌≤◌, ◌++◌, List, ℕ, Some, length};
 ghost use Rattle.std.specs.List.{flat_map};
-ghost use Rattle.apdu_core.specs.StatusWord.{StatusWord};
+ghost use Rattle.apdu_core.specs.StatusWord.{StatusWord, IsStatusWord};
 ghost use Rattle.apdu_core.specs.CommandBytes.{Command};
 ghost use Rattle.t0_core.specs.Meaning.{Prepared, Runs};
 ghost use Rattle.t0_core.specs.Plan.{Course};
@@ -16,7 +16,8 @@ ghost use Rattle.command_card.specs.View.{after_reset};
 ghost use Rattle.command_card.specs.AtT1.{Responds, status_bytes};
 ghost use Rattle.command_card.specs.State.{CardState, Nothing_left};
 ghost use Rattle.command_card.specs.Meaning.{Does};
-ghost use Rattle.command_card.specs.Told.{AreAgreed, GathersPart, GathersRest, IsOneStep, told};
+ghost use Rattle.command_card.specs.Told.{AreAgreed, GathersPart, GathersRest, IsCutOf, IsOneStep, told};
+ghost use Rattle.command_card.specs.Alike.{GathersAtT0, GathersWhole, cut_to};
 ghost use Rattle.command_card.specs.Deeds.{IsThrough};
 
 use crate::application::Application;
@@ -43,7 +44,7 @@ pub fn an_exchange_gathers_what_is_asked_for<A: Application>()
         AreAgreed A.takes first c → HaveCuts plans →
         Runs (Does A.takes A.Does) first (flat_map dialogues_of units) plans last →
         Gathers c units gathered status →
-        GathersPart A.takes A.Does first c gathered status last }
+        GathersPart A.takes A.Does plans first c gathered status last }
 {}
 
 /// At most once, whatever characters the terminal sends and whenever the card is reset. The
@@ -71,17 +72,32 @@ pub fn whole_commands_gather_the_response<A: Application>()
         × (last.left ≡ Nothing_left) }
 {}
 
-/// The same answers at T=0 and T=1. What an exchange at T=0 gathers, up to 256 bytes, the
-/// application may respond at T=1, and is then in the same state. What it responds at T=1 is one
-/// step of it, by the same relation `Makes` as at T=0. Le is 00.
+/// The same answers at T=0 and by whole commands, as at T=1, in both directions and from and to the
+/// same states. What an exchange at T=0 gathers, whole commands may gather (`from_t0`); up to 256
+/// bytes with Le 00 are one response (`in_one`). What whole commands gather, an exchange at T=0 may
+/// gather under any plans (`to_t0`). The status is the same, except that at T=0 a `61XX` announces
+/// at most a plan's cut. A response is one step of the application (`at_t1`). Le is any, or none.
 pub fn both_lines_answer_alike<A: Application>()
     ensures from_t0 { (first last : CardState A.State) (c : Command) (units : List UnitOf)
+        (plans : List Course) (gathered : List ℕ) (status : StatusWord) →
+        AreAgreed A.takes first c → HaveCuts plans →
+        Runs (Does A.takes A.Does) first (flat_map dialogues_of units) plans last →
+        Gathers c units gathered status →
+        (cut : ℕ) × (whole : StatusWord) × IsCutOf plans cut × (status ≡ cut_to cut whole)
+        × GathersWhole A.takes A.Does first c gathered whole last }
+    ensures in_one { (first last : CardState A.State) (c : Command) (units : List UnitOf)
         (plans : List Course) (gathered : List ℕ) (status : StatusWord) → c.le ≡ Some 256 →
         AreAgreed A.takes first c → HaveCuts plans →
         Runs (Does A.takes A.Does) first (flat_map dialogues_of units) plans last →
         Gathers c units gathered status → length gathered ≤ 256 →
         Responds A.takes A.Does first c (gathered ++ status_bytes status) last }
+    ensures to_t0 { (first last : CardState A.State) (c : Command) (plans : List Course)
+        (gathered : List ℕ) (whole : StatusWord) →
+        AreAgreed A.takes first c → HaveCuts plans → IsStatusWord whole →
+        GathersWhole A.takes A.Does first c gathered whole last →
+        (cut : ℕ) × IsCutOf plans cut
+        × GathersAtT0 A.takes A.Does plans first c gathered (cut_to cut whole) last }
     ensures at_t1 { (old new : CardState A.State) (c : Command) (response : List ℕ) →
-        c.le ≡ Some 256 → AreAgreed A.takes old c → Responds A.takes A.Does old c response new →
+        AreAgreed A.takes old c → Responds A.takes A.Does old c response new →
         IsOneStep A.takes A.Does old c response new }
 {}

@@ -30,11 +30,11 @@ use Rattle.command_card.proofs.AnswerLemmas.{same_as_itself}
 use Rattle.command_card.proofs.WholeLemmas.{Among, AreAmong, Fits, all_of, count_of_byte, count_told, end_facts, fetch_facts, fits_le, fits_none, is_repeated, kind_by, last_part, more_part, no_bytes, none_corrected, not_repeated, own_status, plain_is, sent_if, take_whole, drop_whole, wants_fewer}
 
 -- the plan of the next TPDU, and those after it
-abbrev head_of : List Course → Course
+abbrev pub head_of : List Course → Course
 head_of [] = plain
 head_of (p ∷ plans) = p
 
-abbrev rest_of : List Course → List Course
+abbrev pub rest_of : List Course → List Course
 rest_of [] = []
 rest_of (p ∷ plans) = plans
 
@@ -46,13 +46,13 @@ rest_among : (all plans : List Course) → AreAmong all plans → AreAmong all (
 rest_among all [] are = tt
 rest_among all (p ∷ plans) are = are.1
 
-follow_more : (d : Dialogue) (ds : List Dialogue) (plans : List Course)
+pub follow_more : (d : Dialogue) (ds : List Dialogue) (plans : List Course)
     → Follows d (head_of plans) → FollowInTurn ds (rest_of plans) → FollowInTurn (d ∷ ds) plans
 follow_more d ds [] it others = (it, others)
 follow_more d ds (p ∷ plans) it others = (it, others)
 
 -- a dialogue in the segments of a plan
-abbrev made : Header → ℕ → Direction → List ℕ → StatusWord → Course → Dialogue
+abbrev pub made : Header → ℕ → Direction → List ℕ → StatusWord → Course → Dialogue
 made h p3 direction moved status plan = record {
   body = record {
     header = h;
@@ -95,7 +95,7 @@ moved_so x p3 steps xs (inr whole) =
     subst (λ n. length xs ≡ all_moves (segments_of steps (length xs)) n) whole
     (sym (moves_all steps (length xs)))
 
-dialogue_so : (h : Header) (p3 : ℕ) (x : Direction) (moved : List ℕ) (status : StatusWord)
+pub dialogue_so : (h : Header) (p3 : ℕ) (x : Direction) (moved : List ℕ) (status : StatusWord)
     (plan : Course) → ins_is_valid h.ins ≡ true → AllOrNone x p3 moved → IsStatusWord status
     → IsDialogue (made h p3 x moved status plan)
 dialogue_so h p3 x moved status plan valid is word = record {
@@ -104,7 +104,7 @@ dialogue_so h p3 x moved status plan valid is word = record {
   only_nulls = λ invalid. let no : true ≡ false = sym valid ∙ invalid in absurd (cc);
 }
 
-follows_so : (h : Header) (p3 : ℕ) (x : Direction) (moved : List ℕ) (status : StatusWord)
+pub follows_so : (h : Header) (p3 : ℕ) (x : Direction) (moved : List ℕ) (status : StatusWord)
     (plan : Course) → AllOrNone x p3 moved → Follows (made h p3 x moved status plan) plan
 follows_so h p3 x moved status plan is = record { all_or_nothing = is; step_by_step = refl }
 
@@ -182,7 +182,7 @@ module _ {S : Type 0} (takes : S → Header → Bool) (Act : S → Did → S →
   abbrev Meant : CardState S → ℕ → Tpdu → CardState S → Type 0
   Meant old cut t new = Does takes Act old cut t new
 
-  runs_more : (old mid new : CardState S) (d : Dialogue) (ds : List Dialogue)
+  pub runs_more : (old mid new : CardState S) (d : Dialogue) (ds : List Dialogue)
       (plans : List Course) → Meant old (head_of plans).cut (tpdu_of d) mid
       → Runs Meant mid ds (rest_of plans) new → Runs Meant old (d ∷ ds) plans new
   runs_more old mid new d ds [] does others = (mid, does, others)
@@ -314,7 +314,8 @@ module _ {S : Type 0} (takes : S → Header → Bool) (Act : S → Did → S →
             (follows_so get_response (n % 256) FromCard (take n rest)
             (announcing (drop n rest) own plan.cut) plan moved)) r.follow;
         are = λ word.
-            let last_word = subst (λ xs. IsStatusWord (announcing xs own 256)) (sym part.1) word in (
+            let last_word =
+            subst (λ xs. IsStatusWord (announcing xs own 256)) (sym part.1) word in (
               dialogue_so get_response (n % 256) FromCard (take n rest)
                   (announcing (drop n rest) own plan.cut) plan refl moved
                   (word_of _ (drop n rest) own plan.cut last_word),

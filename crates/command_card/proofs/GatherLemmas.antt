@@ -48,19 +48,19 @@ module _ {S : Type 0} (takes : S → Header → Bool) (Act : S → Did → S →
   rest_comes (r ∷ others) [] own sw old new gathered status is left_is sw_is go =
       absurd (go.0 (ap announces sw_is ∙ is.0))
   rest_comes (r ∷ others) (b ∷ bytes) own sw old new gathered status is left_is sw_is
-      (more, fetch, fetches, le_is, mid, responds, front, rest, next, r_is, all_is, go) =
+      (more, fetch, fetches, n, le_is, some, mid, responds, front, rest, next, r_is, all_is, go) =
       let all : List ℕ = b ∷ bytes in
       let fetched : Fetches old (may_bring fetch.le) r mid old.left =
       subst (λ v. RespondsBy takes Act old fetch r mid v) fetches responds in
-      let (same, hands) : (mid.app ≡ old.app) × HandsOut all own 256 r mid.left =
+      let (same, hands) : (mid.app ≡ old.app) × HandsOut all own n r mid.left =
       subst (λ (m : Option ℕ). (mid.app ≡ old.app) × HandsOut all own (may_bring m) r mid.left)
       le_is (subst (λ l. Fetches old (may_bring fetch.le) r mid l) left_is fetched) in
-      let (front_is, next_is) = tail_same front (take 256 all) next
-      (announcing (drop 256 all) own 256) (sym r_is ∙ hands.response_is) in
+      let (front_is, next_is) = tail_same front (take n all) next
+      (announcing (drop n all) own 256) (sym r_is ∙ hands.response_is) in
       let (rest_is, status_is, app_is, none) =
-      rest_comes others (drop 256 all) own next mid new rest status is hands.left_is next_is go in (
-        all_is ∙ ap (λ xs. xs ++ rest) front_is ∙ ap (λ xs. take 256 all ++ xs) rest_is
-            ∙ take-append-drop 256 all,
+      rest_comes others (drop n all) own next mid new rest status is hands.left_is next_is go in (
+        all_is ∙ ap (λ xs. xs ++ rest) front_is ∙ ap (λ xs. take n all ++ xs) rest_is
+            ∙ take-append-drop n all,
         status_is,
         app_is ∙ same,
         none,

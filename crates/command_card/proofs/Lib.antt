@@ -8,3 +8,4 @@ pub mod LineLemmas
 pub mod GatherLemmas
 pub mod BuildLemmas
 pub mod AlikeLemmas
+pub mod CaseLemmas

@@ -49,8 +49,8 @@ abbrev pub Fits : ℕ → Wanted → Type 0
 Fits n (Bytes k) = n ≤ k
 Fits n Everything = Unit {0}
 
-pub fetch_facts : (rest : List ℕ) (own : StatusWord) (cut n : ℕ) (w : Wanted) → IsOwn own → IsCut cut
-    → fetched_after w (announcing rest own cut) ≡ Some n
+pub fetch_facts : (rest : List ℕ) (own : StatusWord) (cut n : ℕ) (w : Wanted) → IsOwn own
+    → IsCut cut → fetched_after w (announcing rest own cut) ≡ Some n
     → (1 ≤ n) × (n ≤ length rest) × (n ≤ 256) × Fits n w
 fetch_facts [] own cut n w is in_range e =
     let no : None ≡ Some n = subst (λ v. fetched_of w v ≡ Some n) is.0 e in absurd (cc)
@@ -484,8 +484,8 @@ module _ {S : Type 0} (takes : S → Header → Bool) (Act : S → Did → S →
       → IsUnit left last → fetched_after (after_unit left last) (last_of last).status ≡ None
       → AreAmong all plans → Runs Meant old (flat_map dialogues_of (before ++ last ∷ [])) plans new
       → Ended w bytes own old.app (before ++ last ∷ []) last new
-  fetch_all [] last n next w left bytes own old new plans is waits (some, few, small, fits) followed opens
-      unit ends have runs =
+  fetch_all [] last n next w left bytes own old new plans is waits
+      (some, few, small, fits) followed opens unit ends have runs =
       let opens_so : AsksBy get_response n (first_of last) =
       subst (λ o. OpensWith o (first_of last)) followed.0 opens in
       let unit_so : IsUnit w last = subst (λ x. IsUnit x last) followed.1 unit in
@@ -494,8 +494,8 @@ module _ {S : Type 0} (takes : S → Header → Bool) (Act : S → Did → S →
       finished w bytes own old.app last new
       (fetch_unit w bytes own n last old new [] plans is waits some few fits opens_so unit_so have
       runs) ends_so
-  fetch_all (u ∷ before) last n next w left bytes own old new plans is waits (some, few, small, fits)
-      followed opens unit ends have runs =
+  fetch_all (u ∷ before) last n next w left bytes own old new plans is waits
+      (some, few, small, fits) followed opens unit ends have runs =
       let (m, follows, others) = followed in
       let half = fetch_unit w bytes own n u old new
       (flat_map dialogues_of (before ++ last ∷ [])) plans is waits some few fits follows.opens
@@ -816,7 +816,8 @@ module _ {S : Type 0} (takes : S → Header → Bool) (Act : S → Did → S →
       → OpensWith opening (first_of last) → IsUnit left last
       → fetched_after (after_unit left last) (last_of last).status ≡ None
       → status ≡ (last_of last).status → gathered ≡ flat_map unit_data (before ++ last ∷ [])
-      → AreAmong all plans → Runs Meant first (flat_map dialogues_of (before ++ last ∷ [])) plans new
+      → AreAmong all plans
+      → Runs Meant first (flat_map dialogues_of (before ++ last ∷ [])) plans new
       → GathersPart takes Act all first c gathered status new
   by_units [] last opening left c first new plans gathered status agreed followed opens unit ends
       status_is gathered_is have runs =
@@ -852,8 +853,8 @@ pub gathers_a_part : {S : Type 0} (takes : S → Header → Bool) (Act : S → D
     → Gathers c units gathered status → GathersPart takes Act plans first c gathered status last
 gathers_a_part takes Act first last c units plans gathered status agreed have runs g =
     let o = g.is_open in
-    by_units takes Act plans o.before o.last o.opening o.left c first last plans gathered status agreed
-    o.followed o.opens o.is_unit g.ends g.status_is
+    by_units takes Act plans o.before o.last o.opening o.left c first last plans gathered status
+    agreed o.followed o.opens o.is_unit g.ends g.status_is
     (g.gathered_is ∙ ap (λ us. flat_map unit_data us) o.units_are) (all_of plans have)
     (subst (λ us. Runs (Does takes Act) first (flat_map dialogues_of us) plans last) o.units_are
     runs)

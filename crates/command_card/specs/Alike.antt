@@ -1,7 +1,8 @@
 -- What a terminal gathers of a command at T=0 and by whole commands, as at T=1.
-use Rattle.std.specs.Prelude.{◌≡◌, ℕ, ◌%◌, ◌==◌, min, List, ◌++◌, Bool, if◌then◌else◌}
+use Rattle.std.specs.Prelude.{◌≡◌, ℕ, ◌%◌, ◌==◌, min, List, [], ◌++◌, None, Bool, true, false, if◌then◌else◌}
 use Rattle.std.specs.List.{AllByRecursion, flat_map}
 use Rattle.apdu_core.specs.declared.header.Header.{Header}
+use Rattle.apdu_core.specs.HeaderBytes.{ins_is_valid}
 use Rattle.apdu_core.specs.CommandBytes.{Command}
 use Rattle.apdu_core.specs.StatusWord.{StatusWord, count}
 use Rattle.t0_core.specs.Dialogue.{IsDialogue}
@@ -11,7 +12,7 @@ use Rattle.card_terminal.specs.declared.wanted.Wanted.{Wanted}
 use Rattle.card_terminal.specs.declared.wanted.Wanted.TheVariants.{Bytes, Everything}
 use Rattle.card_terminal.specs.Gathered.{UnitOf, Gathers, dialogues_of, wanted_by}
 use Rattle.command_card.specs.Carrying.{Did}
-use Rattle.command_card.specs.State.{CardState}
+use Rattle.command_card.specs.State.{CardState, is_fetch, pending_for}
 use Rattle.command_card.specs.Meaning.{Does}
 use Rattle.command_card.specs.AtT1.{Responds, status_bytes}
 use Rattle.command_card.specs.Told.{GathersRest}
@@ -20,8 +21,8 @@ use Rattle.command_card.specs.Told.{GathersRest}
 abbrev pub cut_to : ℕ → StatusWord → StatusWord
 cut_to cut sw = if sw.0 == 0x61 then (0x61, min (count sw.1) cut % 256) else sw
 
--- What follows the first response: for Le 00 GET RESPONSE with Le 00, as long as 61XX announces
--- more; otherwise nothing.
+-- What follows the first response: for Le 00 GET RESPONSE, as long as 61XX announces more;
+-- otherwise nothing.
 abbrev pub FollowsUp : {S : Type 0} → (S → Header → Bool) → (S → Did → S → Type 0) → CardState S
     → List ℕ → StatusWord → List ℕ → StatusWord → CardState S → Wanted → Type 0
 FollowsUp takes Act old front sw gathered status new (Bytes n) =
@@ -49,3 +50,14 @@ pub record GathersAtT0 {S : Type 0} (takes : S → Header → Bool) (Act : S →
   pub follow : FollowInTurn (flat_map dialogues_of units) plans
   pub runs : Runs (Does takes Act) first (flat_map dialogues_of units) plans last
   pub gathers : Gathers c units gathered status
+
+-- Case 1 of an application that takes no data: neither data nor Le. At T=0 its P3 asks for 256
+-- bytes.
+pub record IsCase1 {S : Type 0} (takes : S → Header → Bool) (first : CardState S) (c : Command)
+    : Type 0 where
+  pub valid : ins_is_valid c.header.ins ≡ true
+  pub no_fetch : is_fetch c.header ≡ false
+  pub takes_none : takes first.app c.header ≡ false
+  pub no_data : c.content ≡ []
+  pub no_le : c.le ≡ None
+  pub none_pending : (p3 : ℕ) → pending_for first.left c.header p3 ≡ None

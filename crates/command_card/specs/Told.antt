@@ -66,13 +66,14 @@ pub record IsOneStep {S : Type 0} (takes : S → Header → Bool) (Act : S → D
   pub makes : Makes Act old.app (told (takes old.app c.header) c) bytes status new.app
   pub hands : HandsOut bytes status (may_bring c.le) response new.left
 
--- GET RESPONSE with Le 00, as long as 61XX announces more: the data of all, and the last status.
+-- GET RESPONSE, with any Le, as long as 61XX announces more: the data of all, and the last status.
 abbrev pub GathersRest : {S : Type 0} → (S → Header → Bool) → (S → Did → S → Type 0)
     → CardState S → StatusWord → List (List ℕ) → List ℕ → StatusWord → CardState S → Type 0
 GathersRest takes Act old sw [] gathered status new =
     (announces sw ≡ None) × (gathered ≡ []) × (status ≡ sw) × (new ≡ old)
 GathersRest {S = S} takes Act old sw (response ∷ others) gathered status new =
     (announces sw ≢ None) × (fetch : Command) × (is_fetch fetch.header ≡ true)
-    × (fetch.le ≡ Some 256) × (mid : CardState S) × Responds takes Act old fetch response mid
-    × (front rest : List ℕ) × (next : StatusWord) × (response ≡ front ++ status_bytes next)
-    × (gathered ≡ front ++ rest) × GathersRest takes Act mid next others rest status new
+    × (n : ℕ) × (fetch.le ≡ Some n) × (1 ≤ n) × (mid : CardState S)
+    × Responds takes Act old fetch response mid × (front rest : List ℕ) × (next : StatusWord)
+    × (response ≡ front ++ status_bytes next) × (gathered ≡ front ++ rest)
+    × GathersRest takes Act mid next others rest status new

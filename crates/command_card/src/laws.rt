@@ -1,8 +1,8 @@
 //! Laws of a card of commands and a terminal's exchanges with it. Each function is empty: its
 //! contract is the law.
-ghost use Rattle.std.specs.Prelude.{◌≡◌, ◌≤◌, ◌++◌, List, ℕ, Some, length};
+ghost use Rattle.std.specs.Prelude.{◌≡◌, ◌≤◌, ◌++◌, List, [], ℕ, Some, None, length};
 ghost use Rattle.std.specs.List.{flat_map};
-ghost use Rattle.apdu_core.specs.StatusWord.{StatusWord, IsStatusWord};
+ghost use Rattle.apdu_core.specs.StatusWord.{StatusWord, IsStatusWord, announces, corrects};
 ghost use Rattle.apdu_core.specs.CommandBytes.{Command};
 ghost use Rattle.t0_core.specs.Meaning.{Prepared, Runs};
 ghost use Rattle.t0_core.specs.Plan.{Course};
@@ -17,7 +17,7 @@ ghost use Rattle.command_card.specs.AtT1.{Responds, status_bytes};
 ghost use Rattle.command_card.specs.State.{CardState, Nothing_left};
 ghost use Rattle.command_card.specs.Meaning.{Does};
 ghost use Rattle.command_card.specs.Told.{AreAgreed, GathersPart, GathersRest, IsCutOf, IsOneStep, told};
-ghost use Rattle.command_card.specs.Alike.{GathersAtT0, GathersWhole, cut_to};
+ghost use Rattle.command_card.specs.Alike.{GathersAtT0, GathersWhole, IsCase1, cut_to};
 ghost use Rattle.command_card.specs.Deeds.{IsThrough};
 
 use crate::application::Application;
@@ -61,7 +61,7 @@ pub fn each_command_at_most_once<A: Application>()
 {}
 
 /// By whole commands, as at T=1, a command with Le 00 gathers exactly the response and status of
-/// one step of the application. GET RESPONSE with Le 00 follows as long as `61XX` announces more.
+/// one step of the application. GET RESPONSE with any Le follows as long as `61XX` announces more.
 pub fn whole_commands_gather_the_response<A: Application>()
     ensures { (first mid last : CardState A.State) (c : Command) (front rest : List ℕ)
         (sw status : StatusWord) (others : List (List ℕ)) → c.le ≡ Some 256 →
@@ -100,4 +100,20 @@ pub fn both_lines_answer_alike<A: Application>()
     ensures at_t1 { (old new : CardState A.State) (c : Command) (response : List ℕ) →
         AreAgreed A.takes old c → Responds A.takes A.Does old c response new →
         IsOneStep A.takes A.Does old c response new }
+{}
+
+/// The same for case 1 of an application that takes no data, which the law above leaves out: if
+/// there is no response. Then no `6CXX` comes at T=0, and no `61XX` by whole commands.
+pub fn case_1_answers_alike<A: Application>()
+    ensures from_t0 { (first last : CardState A.State) (c : Command) (units : List UnitOf)
+        (plans : List Course) (gathered : List ℕ) (status : StatusWord) →
+        IsCase1 A.takes first c →
+        Runs (Does A.takes A.Does) first (flat_map dialogues_of units) plans last →
+        Gathers c units gathered status → corrects status ≡ None →
+        (gathered ≡ []) × Responds A.takes A.Does first c (status_bytes status) last }
+    ensures to_t0 { (first last : CardState A.State) (c : Command) (plans : List Course)
+        (status : StatusWord) →
+        IsCase1 A.takes first c → IsStatusWord status → announces status ≡ None →
+        Responds A.takes A.Does first c (status_bytes status) last →
+        GathersAtT0 A.takes A.Does plans first c [] status last }
 {}

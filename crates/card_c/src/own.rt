@@ -84,7 +84,8 @@ fn gives_null(own: &mut OwnSide) -> bool
     is_response(wanted_next(&own.end))
 }
 
-fn is_response(wanted: Wanted<'_>) -> bool
+/// Whether a response is wanted.
+pub(crate) fn is_response(wanted: Wanted<'_>) -> bool
     ensures { result ≡ is_response wanted.entry }
 {
     matches!(wanted, Wanted::Response(_))

@@ -10,7 +10,7 @@ use crate::handle::{Handle, on, with};
 use crate::held_card::CardHandle;
 use crate::own_side::{OwnSide, Whole};
 use crate::own_t1::wanted_at_t1;
-use crate::own_whole::wanted_in;
+use crate::own_whole::{wanted_in, wants_response};
 use apdu_core::{Header, Status};
 use command_card::{CommandCard, Directions, GiveFault, Given, Wanted, decide, give};
 use std::alloc::Global;
@@ -192,9 +192,9 @@ fn respond_at(
 ) -> i32
     ensures { RespondsAt whole asked.now.items bytes.now status end.old result end.new }
 {
-    let Wanted::Response(_) = wanted_in(end, whole, asked) else {
+    if !wants_response(end, whole, asked) {
         return code::STATE;
-    };
+    }
     give_to(end, bytes, status)
 }
 

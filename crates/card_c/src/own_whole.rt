@@ -1,8 +1,10 @@
 //! Whole TPDUs and whole commands at a card of an own application.
 ghost use Rattle.std.specs.Prelude.{◌≡◌, ◌≤◌, length};
+ghost use Rattle.command_card.specs.declared.own.Wanted.{Wanted};
+ghost use Rattle.command_card.specs.Wanted.{wanted_by};
 ghost use Rattle.card_c.specs.Codes.{gt_ok};
 ghost use Rattle.card_c.specs.Copying.{IsCopied};
-ghost use Rattle.card_c.specs.OwnCalls.{IsWantedIn, own_card};
+ghost use Rattle.card_c.specs.OwnCalls.{IsWantedIn, is_response, own_card};
 ghost use Rattle.card_c.specs.OwnWhole.{Begins, Continues, OwnCommand, OwnCommandOne, OwnTpdu, OwnTpduOne, TriesBytes, TriesCommand, TriesTpdu};
 
 use crate::card_apdu::refuse;
@@ -10,10 +12,12 @@ use crate::card_side::CardSide;
 use crate::card_tpdu::pass;
 use crate::code;
 use crate::copied::copied;
+use crate::own::is_response;
 use crate::own_side::{OwnSide, Whole};
 use apdu_core::{ApduFault, Command};
 use command_card::{
-    CommandCard, Given, Wanted, forget, respond_to, wanted_by_command, wanted_by_tpdu, wanted_next,
+    CommandCard, Given, Need, Wanted, forget, needed_by, respond_to, wanted_by_command,
+    wanted_by_tpdu, wanted_next,
 };
 use std::alloc::Global;
 use t0_core::{CardEnd, Gather, PlanQueue, WholeTpdu};
@@ -48,6 +52,35 @@ pub(crate) fn wanted_in<'a>(
             Err(_) => Wanted::Nothing,
         },
     }
+}
+
+/// Whether a response is wanted of the caller at an end, if these bytes wait as a whole.
+pub(crate) fn wants_response(
+    end: &CardEnd<CommandCard<Given>>,
+    whole: Whole,
+    asked: &Vec<u8>,
+) -> bool
+    ensures { (w : Wanted) × IsWantedIn whole asked.now.items end.now w
+        × (result ≡ is_response w) }
+{
+    if !matches!(whole, Whole::Tpdu) {
+        return is_response(wanted_in(end, whole, asked));
+    }
+    match WholeTpdu::read(asked) {
+        Some(tpdu) => needs_response(end, &tpdu),
+        None => false,
+    }
+}
+
+/// Whether a response is wanted before an end at rest carries out this TPDU.
+fn needs_response(end: &CardEnd<CommandCard<Given>>, tpdu: &WholeTpdu<'_>) -> bool
+    ensures { result ≡ is_response
+        (wanted_by end.now.card tpdu.now.header tpdu.now.p3 tpdu.now.content.now) }
+{
+    matches!(
+        needed_by(end.card(), tpdu.header, tpdu.p3, tpdu.content),
+        Need::AtHeader | Need::AfterData
+    )
 }
 
 /// Carries out a whole TPDU, or the one that waits, if the card is one of an own application.
@@ -105,6 +138,7 @@ fn tpdu_again(
 }
 
 /// Carries out a whole TPDU at an end at rest, unless the application is needed first.
+#[inline(always)]
 fn try_tpdu(
     alloc: Global,
     end: &mut CardEnd<CommandCard<Given>>,
@@ -126,10 +160,10 @@ fn try_tpdu(
     if answer.len() < may_come + 2 {
         return Went::Refused(code::BUFFER);
     }
-    match wanted_by_tpdu(end, &asked) {
-        Wanted::Nothing => {}
-        Wanted::Direction(_) => return Went::Waits(code::HEADER),
-        Wanted::Response(_) => return Went::Waits(code::COMMAND),
+    match needed_by(end.card(), asked.header, asked.p3, asked.content) {
+        Need::Nothing => {}
+        Need::Direction => return Went::Waits(code::HEADER),
+        Need::AtHeader | Need::AfterData => return Went::Waits(code::COMMAND),
     }
     match Gather::with_room(alloc, may_come) {
         Ok(mut gather) => Went::Over(pass(end, plans, tpdu, &mut gather, answer, len)),

@@ -48,6 +48,13 @@ wanted_at need.AtHeader given h p3 bytes =
 wanted_at need.AfterData given h p3 bytes =
     if not given && (length bytes == p3) then wanted.Response (taking h bytes) else wanted.Nothing
 
+-- the same by what is still needed
+abbrev pub wanted_as : Need → Header → ℕ → List ℕ → Wanted
+wanted_as need.Nothing h p3 bytes = wanted.Nothing
+wanted_as need.Direction h p3 bytes = wanted.Direction h
+wanted_as need.AtHeader h p3 bytes = wanted.Response (asking h (count p3))
+wanted_as need.AfterData h p3 bytes = wanted.Response (taking h bytes)
+
 abbrev pub wanted_by : CardOf GivenState → Header → ℕ → List ℕ → Wanted
 wanted_by c h p3 bytes =
     wanted_at (need_in (standing_in (λ s. s) c) h p3) (is_some c.app.given) h p3 bytes

@@ -41,13 +41,12 @@ fn go_to_card(directions: &Directions, ins: u8) -> bool
     }
 }
 
-/// The directions once a command has ended.
-fn forgotten(directions: Directions) -> Directions
-    ensures { result ≡ forgotten directions }
+/// Forgets what was answered about one header.
+fn forget(directions: &mut Directions)
+    ensures { directions.new ≡ forgotten directions.old }
 {
-    match directions {
-        Directions::Table(bytes) => Directions::Table(bytes),
-        Directions::Unknown | Directions::Known(_) => Directions::Unknown,
+    if matches!(*directions, Directions::Known(_)) {
+        *directions = Directions::Unknown;
     }
 }
 
@@ -176,7 +175,7 @@ impl Given {
     pub(crate) fn forget_direction(&mut self)
         ensures { self.new ≡ without_answer self.old }
     {
-        self.directions = forgotten(self.directions);
+        forget(&mut self.directions);
     }
 
     /// Drops the response, and what was answered about one header.
@@ -187,7 +186,7 @@ impl Given {
         wipe(&mut self.spare);
         self.status = None;
         self.used = true;
-        self.directions = forgotten(self.directions);
+        forget(&mut self.directions);
     }
 }
 
@@ -196,6 +195,9 @@ fn copied(bytes: &[u8], into: &mut Vec<u8>) -> Result<(), AllocError>
     ensures { OnOk result (into.new.items ≡ bytes.now) }
 {
     wipe(into);
+    if bytes.is_empty() {
+        return Ok(());
+    }
     into.extend_from_slice(bytes)
 }
 

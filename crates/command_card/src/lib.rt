@@ -33,6 +33,6 @@ pub use copied::{Copied, Eager};
 pub use given::{Directions, Given};
 pub use given_applet::GivenApplet;
 pub use own::{
-    GiveFault, Need, Wanted, decide, forget, give, respond_to, take_back, wanted_by_command,
-    wanted_by_tpdu, wanted_next,
+    GiveFault, Need, Wanted, decide, forget, give, needed_by, respond_to, take_back,
+    wanted_by_command, wanted_by_tpdu, wanted_next,
 };

@@ -9,7 +9,7 @@ ghost use Rattle.command_card.specs.Carrying.{IsOwn};
 ghost use Rattle.command_card.specs.Given.{Gives, settled, takes_data, with_answer};
 ghost use Rattle.command_card.specs.AtT1.{Responds, may_bring};
 ghost use Rattle.command_card.specs.View.{WaitsFor, standing_in, state_of, prepared_in};
-ghost use Rattle.command_card.specs.Wanted.{IsWanted, RespondsAs, is_free, is_open, is_known, need_in, taken_back, wanted_by, wanted_for, wanted_with};
+ghost use Rattle.command_card.specs.Wanted.{IsWanted, RespondsAs, is_free, is_open, is_known, need_in, taken_back, wanted_as, wanted_by, wanted_for, wanted_with};
 
 use crate::answer::{pending_for, wipe, word};
 use crate::applet::{RESPONSE_ROOM, hand_out, write};
@@ -279,6 +279,37 @@ fn respond_given(
     }
     let status = application.hand_over(kept)?;
     Ok(hand_out(kept, 0, status, le, response))
+}
+
+/// What is still needed of the application at a header, if these are its data. It is what
+/// `wanted_by` would find, without the command: that makes it twice as fast.
+#[inline(never)]
+pub fn needed_by(card: &CommandCard<Given>, header: Header, p3: u8, bytes: &[u8]) -> Need
+    ensures { wanted_by card.now header p3 bytes.now ≡ wanted_as result header p3 bytes.now }
+{
+    if !header.ins_is_valid() {
+        return Need::Nothing;
+    }
+    let is_given = card.application.has_response();
+    if is_given && is_known(card.application.directions()) {
+        return Need::Nothing;
+    }
+    match card.need(header, p3) {
+        Need::Nothing => Need::Nothing,
+        Need::Direction => Need::Direction,
+        Need::AtHeader => {
+            if is_given {
+                return Need::Nothing;
+            }
+            Need::AtHeader
+        }
+        Need::AfterData => {
+            if is_given || bytes.len() != p3 as usize {
+                return Need::Nothing;
+            }
+            Need::AfterData
+        }
+    }
 }
 
 /// What is wanted of the caller at a header, if these are its data.

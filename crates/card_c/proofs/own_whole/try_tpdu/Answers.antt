@@ -1,8 +1,9 @@
 use Rattle.std.proofs.Common.{◌≡◌, ◌≤◌, ℕ, ℤ, [], length, sym, subst, ◌∙◌, ap, inr, refl, arith}
 use Rattle.t0_core.specs.Room.{Room}
 use Rattle.t0_core.specs.TpduBytes.{asked_of}
+use Rattle.command_card.specs.Wanted.{wanted_by}
 use Rattle.card_c.specs.declared.own_whole.Went.TheVariants.{Over}
-use Rattle.card_c.specs.OwnCalls.{own_card, wait_code}
+use Rattle.card_c.specs.OwnCalls.{OwnCard, own_card, wait_code}
 use Rattle.card_c.specs.OwnWhole.{TriesTpdu}
 use Rattle.card_c.specs.WholeCalls.{IsCarriedOut, data_room, longest_answer}
 use Rattle.card_c.proofs.CodeLemmas.{as_it_is}
@@ -27,7 +28,8 @@ returns-in-Ok c =
       sym c.if-not-is_at_rest.ensures,
       sym c.in-Some.ensures,
       enough,
-      sym (ap wait_code c.in-Nothing.ensures),
+      ap (λ (k : OwnCard). wait_code (wanted_by k asked.header asked.p3 asked.content))
+          (sym c.card.ensures) ∙ ap wait_code c.in-Nothing.ensures,
       refl,
       carried,
     )))

@@ -277,13 +277,8 @@ def page_in(lines):
 
 def parts_in(lines):
     """The lines that begin and end the parts of a page of TPDUs."""
-    said, is_box = [], False
-    for line in lines:
-        if line.startswith('<details class="part"') or (line == "</details>" and not is_box):
-            said.append(line)
-        elif line.startswith("<details") or line == "</details>":
-            is_box = line != "</details>"
-    return said
+    return [line for line in lines
+            if line.startswith('<details class="part"') or line == "</noscript></details>"]
 
 
 def story_in(lines):
@@ -554,8 +549,8 @@ def part_cases():
     """Pages with as many TPDUs as are shown without a part, and with two parts beyond them."""
     for count, begun in ((2000, []), (2001, [2001]), (3001, [2001, 3001])):
         given = ["> 00CA5F2000", "< 6A88"] * count
-        heads = [f'<details class="part"><summary>from #{it}</summary>' for it in begun]
-        wanted = [line for head in heads for line in (head, "</details>")]
+        heads = [f'<details class="part"><summary>from #{it}</summary><noscript>' for it in begun]
+        wanted = [line for head in heads for line in (head, "</noscript></details>")]
         yield Case(f"{count} on a page", lines_of(given), wanted, ["--html"], part="parts")
 
 

@@ -104,7 +104,7 @@ most_text micros = codes "<style>main { --most: " ++ decimal micros ++ codes "; 
 
 abbrev pub part_begin : ℕ → List ℕ
 part_begin number = codes "<details class=\"part\"><summary>from #" ++ decimal number
-    ++ codes "</summary>\n"
+    ++ codes "</summary><noscript>\n"
 
 -- Text has neither a style nor parts nor links.
 abbrev pub piece_text : Medium → Form → List ℕ → List ℕ
@@ -126,7 +126,7 @@ piece_text Html Script text = marked [] text head_end
 piece_text Html Heading text = marked (codes "<h1>") text heading_end
 piece_text Html (Most micros) text = most_text micros
 piece_text Html (Part number) text = part_begin number
-piece_text Html PartEnd text = codes "</details>\n"
+piece_text Html PartEnd text = codes "</noscript></details>\n"
 piece_text Html Links text = marked (codes "<p>") text []
 piece_text Html (Link anchor) text = link_text anchor text
 piece_text Html More text = marked [] text (codes "</p>\n")

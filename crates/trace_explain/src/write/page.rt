@@ -140,7 +140,7 @@ impl Page {
     }
 
     /// Begins a part of a page with the TPDU of this number, if the one before is full. A browser
-    /// lays out a part when it is opened.
+    /// that runs the script reads a part when it is opened. Any other reads all parts at once.
     pub fn begin_part(&mut self, number: u64) {
         if self.prints() && number >= self.next_part {
             self.end_part();

@@ -128,7 +128,7 @@ fn push_piece(sheet: &mut Sheet, form: Form, text: &[u8])
         (Medium::Html, Form::Heading) => push_marked(sheet, "<h1>", text, HEADING_END),
         (Medium::Html, Form::Most(micros)) => push_most(sheet, micros),
         (Medium::Html, Form::Part(number)) => push_part(sheet, number),
-        (Medium::Html, Form::PartEnd) => sheet.push_str("</details>\n"),
+        (Medium::Html, Form::PartEnd) => sheet.push_str("</noscript></details>\n"),
         (Medium::Html, Form::Links) => push_marked(sheet, "<p>", text, ""),
         (Medium::Html, Form::Link(anchor)) => push_link(sheet, anchor, text),
         (Medium::Html, Form::More) => push_marked(sheet, "", text, "</p>\n"),
@@ -213,7 +213,7 @@ fn push_part(sheet: &mut Sheet, number: u64)
 {
     sheet.push_str("<details class=\"part\"><summary>from #");
     sheet.push_number(number);
-    sheet.push_str("</summary>\n");
+    sheet.push_str("</summary><noscript>\n");
 }
 
 /// Adds the scale of the bars: the longest time.

@@ -147,7 +147,11 @@ fn run{number}(rt: &HostRuntime, part: &[u8]) {{
         is_unsigned: part[5] == b'u',
         ways,
         of_tpdus: part[5] == b't',
-        is_of_blocks: part[6] == b'b',
+        first_edc: match part[6] {{
+            b'l' => Some(t1_core::Edc::Lrc),
+            b'c' => Some(t1_core::Edc::Crc),
+            _ => None,
+        }},
     }};
     let Some(reading) = reading{number}(rt, &options) else {{
         return;
@@ -240,7 +244,7 @@ def input_of(case):
     words += "d" if "--diff" in case.words else "-"
     words += "w" if "--swap" in case.words else "-"
     words += lines_of(case.words)
-    words += "b" if "--protocol" in case.words else "-"
+    words += edc_of(case.words)
     if "--mask" in case.words:
         tags = case.words[case.words.index("--mask") + 1 :]
         words += "=" + "".join(tag for tag in tags[:1] if not tag.startswith("--"))
@@ -248,6 +252,13 @@ def input_of(case):
         words += "\x1b" + (case.words[case.words.index(word) + 1] if word in case.words else "")
     other = b"\x1c" + case.other if "--diff" in case.words else b""
     return MARK.encode() + words.encode() + b"\x1d" + case.given + other
+
+
+def edc_of(words):
+    """Returns the error detection code of the blocks among which the trace begins, if it does."""
+    if "--protocol" not in words:
+        return "-"
+    return words[words.index("--edc") + 1][0] if "--edc" in words else "l"
 
 
 def lines_of(words):

@@ -102,6 +102,9 @@ TOLD_BY_SIGNS = {
     "made here: a chain of the terminal, as a line that damages a block shows it",
     "made here: a byte is lost, so that the block is cut off where the other end begins",
     "a mask hides what blocks without a response carry",
+    "blocks with CRC read as such with LRC: a CRC fits all but the third, and the last has an "
+    "invalid NAD",
+    "blocks with CRC, read as such with LRC",
     "from memory: firmware of a reader, with times; the third block is lost on its way to the card",
     # separators other than spaces
     "colons, commas and 0x between bytes",

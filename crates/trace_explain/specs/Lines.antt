@@ -109,7 +109,7 @@ pub record Position : Type 0 where
 -- The position before the first line.
 abbrev pub first_of_all : Reading → Position
 first_of_all reading = record {
-  opening = first_opening reading.is_of_blocks;
+  opening = first_opening reading.first_edc;
   has_characters = false;
   reading = reading;
 }

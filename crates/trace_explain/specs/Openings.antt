@@ -16,7 +16,7 @@ use Rattle.trace_explain.specs.declared.follow.opening.Stage.TheVariants as stag
 use Rattle.trace_explain.specs.declared.follow.opening.Role.{Role}
 use Rattle.trace_explain.specs.declared.follow.opening.Role.TheVariants as role
 use Rattle.trace_explain.specs.declared.follow.preface.Preface.{Preface}
-use Rattle.t1_core.specs.declared.settings.Edc.TheVariants.{Lrc}
+use Rattle.t1_core.specs.declared.settings.Edc.{Edc}
 use Rattle.trace_explain.specs.Overheard.{Overheard, answered, edc_of, overheard_by, overhears, silent}
 use Rattle.trace_explain.specs.Reports.{Report}
 
@@ -55,10 +55,10 @@ opening_at stage =
 abbrev pub unopened : Opening
 unopened = opening_at stage.Ready
 
--- how a trace begins, by `--protocol`: before an answer to reset, or among blocks
-abbrev pub first_opening : (is_of_blocks : Bool) → Opening
-first_opening false = unopened
-first_opening true = record (opening_at stage.Blocks) { blocks = Some (silent Lrc true) }
+-- how a trace begins: before an answer to reset, or among blocks with this error detection code
+abbrev pub first_opening : (first_edc : Option Edc) → Opening
+first_opening None = unopened
+first_opening (Some edc) = record (opening_at stage.Blocks) { blocks = Some (silent edc true) }
 
 abbrev pub begun : Opening
 begun = opening_at stage.Begun

@@ -1,6 +1,7 @@
 //! The command line.
 
 use crate::describe::mask::{Mask, TagsFault};
+use crate::follow::blocks::edc_of;
 use crate::help;
 use crate::read::reading::Options;
 use crate::read::ways::Ways;
@@ -9,6 +10,7 @@ use clap::error::ErrorKind;
 use clap::{Arg, ArgAction, ArgMatches, Command, Error};
 use std::alloc::{AllocError, Global};
 use t0_core::Direction;
+use t1_core::Edc;
 
 /// What the command line asks for.
 #[derive(Drop)]
@@ -82,7 +84,7 @@ pub fn parsed<'a>(
             is_unsigned: matches.get_flag("unsigned"),
             ways,
             of_tpdus: matches.get_flag("tpdu"),
-            is_of_blocks: matches.get_str("protocol").is_some(),
+            first_edc: first_edc(&matches),
         },
         layout,
         title: matches.get_str("title"),
@@ -95,6 +97,12 @@ pub fn parsed<'a>(
         names: matches.get_str("names-file"),
         lists_names: matches.get_flag("list-names"),
     })
+}
+
+/// The error detection code of the blocks among which the trace begins, if it does.
+fn first_edc(matches: &ArgMatches<'_>) -> Option<Edc> {
+    matches.get_str("protocol")?;
+    Some(edc_of(matches.get_str("edc") == Some("crc")))
 }
 
 /// What is hidden. The error says what is wrong with the tags.
@@ -166,14 +174,18 @@ enum Takes {
     File,
     Instructions,
     Protocol,
+    Edc,
     Title,
 }
 
 /// What `--protocol` takes.
 static PROTOCOLS: [&str; 1] = ["t1"];
 
+/// What `--edc` takes.
+static EDCS: [&str; 2] = ["lrc", "crc"];
+
 /// The options, in the order of the help.
-static OPTIONS: [Row; 18] = [
+static OPTIONS: [Row; 19] = [
     Row(
         "diff",
         help::DIFF,
@@ -206,6 +218,7 @@ static OPTIONS: [Row; 18] = [
     Row("from-card", help::FROM_CARD, Takes::Instructions, &[]),
     Row("summary", help::SUMMARY, Takes::Nothing, &[]),
     Row("protocol", help::PROTOCOL, Takes::Protocol, &["tpdu"]),
+    Row("edc", help::EDC, Takes::Edc, &[]),
     Row("tpdu", help::TPDU, Takes::Nothing, &["resume", "unsigned"]),
 ];
 
@@ -246,6 +259,11 @@ fn taking<'a>(takes: Takes, option: Arg<'a>, forms: &'a [&'a str]) -> Result<Arg
                 .value_name("T")
                 .value_parser(PROTOCOLS.as_slice()),
         ),
+        Takes::Edc => option
+            .action(ArgAction::Set)
+            .value_name("EDC")
+            .value_parser(EDCS.as_slice())
+            .requires_arg("protocol"),
         Takes::File => Ok(option.action(ArgAction::Set).value_name("FILE")),
         Takes::Title => option
             .action(ArgAction::Set)

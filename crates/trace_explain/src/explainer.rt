@@ -66,14 +66,14 @@ impl Explainer {
         ensures position { position_of result ≡ first_of_all reading }
         ensures line { result.line ≡ 0 }
     {
-        let is_of_blocks = reading.is_of_blocks;
+        let first_edc = reading.first_edc;
         Explainer {
             alloc,
             reading,
             resuming: Resuming::new(resumes),
             has_characters: false,
             line: 0,
-            preface: Preface::new(alloc, is_of_blocks),
+            preface: Preface::new(alloc, first_edc),
             listener: Listener::new(alloc),
             log: Log::new(alloc),
             teller: Teller::new(alloc, layout, title, mask),

@@ -46,6 +46,9 @@ pub const SUMMARY: &str = "Writes the last block alone, which contains the count
 
 pub const PROTOCOL: &str = "Reads a trace that begins among blocks of T=1";
 
+pub const EDC: &str =
+    "Sets the error detection code of these blocks, LRC without it; needs `--protocol`";
+
 pub const TPDU: &str = "Reads a log of whole TPDUs or APDUs, as programs of PC/SC write them";
 
 /// What the program reads and prints.
@@ -92,7 +95,8 @@ LRC or CRC as the answer says. A command is shown when its response is whole, wi
 `I(0) 16, more` is an I-block with N(S) 0 and 16 bytes, and more of its chain follow. Repeated,
 damaged and missing blocks are marked and counted, and are no protocol errors. A command that is not
 short is one. Without signs, each end sends a block in turn. With `--protocol t1` the trace begins
-among blocks with LRC.
+among blocks with the code of `--edc`, up to a line `reset`; from there on each answer decides.
+`wrong LRC (a CRC fits)` shows that these blocks have CRC.
 
 A byte is unexpected if no dialogue continues with it. The program prints its line and place,
 counted from 1, the byte, and what was expected; then it stops. With `--resume` it skips what
@@ -142,9 +146,11 @@ What `--mask` hides is `null`, and its object has `\"masked\": true`.
 With `--diff` the traces of two files are compared, TPDU by TPDU, and standard input is not read.
 Headers, data with their direction, and statuses are compared, but not procedure bytes, or what is
 between TPDUs. The first TPDU that differs is shown from both traces. Hidden data are compared, too.
+With `--html` both sides are on one page.
 
-The last block counts TPDUs, commands by name, statuses other than `9000`, and protocol errors. If
-lines have times, it shows how long all took.
+The last block counts TPDUs, commands by name, statuses other than `9000`, protocol errors, and
+answers to reset at fault. If lines have times, it shows how long all took. On a page it links to
+statuses, errors and these answers.
 
 A TPDU that a reset or the end of the trace cuts off is shown as far as it came, and is no fault. A
 trace without a character of either end, such as an empty one, is a fault. So is one with notes, but

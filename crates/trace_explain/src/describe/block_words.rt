@@ -48,9 +48,10 @@ fn push_kind(text: &mut Sheet, row: BlockRow) {
         }
         BlockKind::Request(control) => push_control(text, control, "request"),
         BlockKind::Response(control) => push_control(text, control, "response"),
-        BlockKind::Damaged(why) => {
+        BlockKind::Damaged(why, fits_crc) => {
             let why = words_of(why);
             write!(text, "damaged block of {size} bytes: {why}");
+            text.push_str(if fits_crc { " (a CRC fits)" } else { "" });
         }
         BlockKind::Part => write!(text, "part of a block: {size} bytes"),
     }

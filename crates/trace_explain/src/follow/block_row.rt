@@ -15,7 +15,8 @@ pub enum BlockKind {
     Ready(bool, BlockReason),
     Request(Control),
     Response(Control),
-    Damaged(Damage),
+    /// What is wrong, and whether a CRC fits in place of the wrong LRC.
+    Damaged(Damage, bool),
     /// The first bytes of a block.
     Part,
 }
@@ -42,7 +43,7 @@ impl BlockRow {
             Found::Valid(Block::Ready { number, reason }) => (BlockKind::Ready(number, reason), 0),
             Found::Valid(Block::Request(control)) => (BlockKind::Request(control), 0),
             Found::Valid(Block::Response(control)) => (BlockKind::Response(control), 0),
-            Found::Damaged(why) => (BlockKind::Damaged(why), all),
+            Found::Damaged(why) => (BlockKind::Damaged(why, false), all),
             Found::Cut => (BlockKind::Part, all),
         };
         BlockRow {
@@ -70,7 +71,7 @@ impl BlockRow {
 
     /// Whether its EDC or another of its bytes is wrong.
     pub fn is_damaged(&self) -> bool {
-        matches!(self.kind, BlockKind::Damaged(_))
+        matches!(self.kind, BlockKind::Damaged(..))
     }
 
     /// Whether bytes are missing: of the block, or a block before it.
@@ -108,6 +109,15 @@ impl BlockRows {
             rows: self.rows.clone()?,
             others: self.others,
         })
+    }
+
+    /// Notes that the newest block, whose LRC is wrong, has a CRC.
+    pub fn mark_crc(&mut self) {
+        if self.others == 0
+            && let Some(row) = self.rows.last_mut()
+        {
+            row.kind = BlockKind::Damaged(Damage::Lrc, true);
+        }
     }
 
     /// Adds a block. Returns `AllocError` if memory ran out: it is missing.

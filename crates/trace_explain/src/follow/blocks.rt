@@ -8,7 +8,7 @@ use crate::read::reading::other_end;
 use std::alloc::{AllocError, Global};
 use std::mem;
 use t0_core::End;
-use t1_core::{Edc, End as BlockEnd, Found, Gathered, Progress, Tap};
+use t1_core::{Damage, Edc, End as BlockEnd, Found, Gathered, Item, Progress, Tap};
 
 /// A tap at T=1, with the command in progress.
 #[derive(Drop)]
@@ -28,6 +28,8 @@ pub struct Blocks {
     part: usize,
     /// The item that ended with this byte.
     pub newest: Option<BlockRow>,
+    /// A tap for CRC that has heard the item before this byte, if its LRC is wrong.
+    with_crc: Option<Tap>,
     /// The line, counted from 1, in which the first of them began.
     pub line: u64,
     /// The items since the last command that was answered.
@@ -49,6 +51,7 @@ impl Blocks {
             turn: End::Terminal,
             part: 0,
             newest: None,
+            with_crc: None,
             line: 0,
             rows: BlockRows::new(alloc),
             alloc,
@@ -61,12 +64,14 @@ impl Blocks {
             (overheard_by self.new ≡ overhears (overheard_by self.old) from byte) }
     {
         self.go_on(from);
+        self.try_crc(byte);
         self.tap.hear(as_t1(from), byte);
         if let Some(item) = self.tap.item() {
             self.gathered.add(item)?;
             self.turn = turn_after(item.found, from);
             self.part = usize::from(matches!(item.found, Found::Cut));
             self.newest = Some(BlockRow::of(item));
+            self.with_crc = with_crc(item);
             self.take_gathered()?;
             return self.keep_newest();
         }
@@ -85,6 +90,20 @@ impl Blocks {
         self.part = self.part.saturating_add(1);
         self.newest = None;
         self.turn = from;
+    }
+
+    /// Marks the item before this byte if its LRC is wrong, and with the byte its CRC is right.
+    fn try_crc(&mut self, byte: u8)
+        ensures { overheard_by self.new ≡ overheard_by self.old }
+    {
+        if let Some(mut tap) = self.with_crc.take() {
+            tap.hear(BlockEnd::Terminal, byte);
+            if let Some(item) = tap.item()
+                && matches!(item.found, Found::Valid(_))
+            {
+                self.rows.mark_crc();
+            }
+        }
     }
 
     /// Keeps a whole command until its response is whole.
@@ -172,6 +191,16 @@ impl Blocks {
     {
         mem::replace(&mut self.rows, BlockRows::new(self.alloc))
     }
+}
+
+/// A tap for CRC that has heard this item, if its LRC is wrong.
+fn with_crc(item: Item<'_>) -> Option<Tap> {
+    if !matches!(item.found, Found::Damaged(Damage::Lrc)) {
+        return None;
+    }
+    let mut tap = Tap::new(Edc::Crc);
+    tap.hear_run(BlockEnd::Terminal, item.bytes);
+    Some(tap)
 }
 
 /// The error detection code of blocks.

@@ -36,14 +36,14 @@ pub struct Preface {
 }
 
 impl Preface {
-    /// Starts before the first character of a trace, or among blocks if `is_of_blocks`.
-    pub fn new(alloc: Global, is_of_blocks: bool) -> Preface
-        ensures { opening_of result ≡ first_opening is_of_blocks }
+    /// Starts before the first character of a trace, or among blocks with this EDC.
+    pub fn new(alloc: Global, first_edc: Option<Edc>) -> Preface
+        ensures { opening_of result ≡ first_opening first_edc }
     {
         let mut preface = Preface::unopened(alloc);
-        if is_of_blocks {
+        if let Some(edc) = first_edc {
             preface.stage = Stage::Blocks;
-            preface.blocks = Some(Blocks::new(alloc, Edc::Lrc, true));
+            preface.blocks = Some(Blocks::new(alloc, edc, true));
         }
         preface
     }

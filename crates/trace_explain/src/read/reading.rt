@@ -12,6 +12,7 @@ use crate::read::time::are_decimal;
 use crate::read::ways::Ways;
 use std::alloc::{AllocError, Global};
 use t0_core::End;
+use t1_core::Edc;
 
 /// What the command line says of the lines of a trace.
 #[derive(Clone, Copy)]
@@ -29,7 +30,7 @@ pub struct Options<'a> {
     /// Whether they are a log of whole TPDUs, whatever their form says.
     pub of_tpdus: bool,
     /// As in `Reading`.
-    pub is_of_blocks: bool,
+    pub first_edc: Option<Edc>,
 }
 
 impl Options<'_> {
@@ -63,7 +64,7 @@ impl Options<'_> {
             is_unsigned: self.is_unsigned,
             ways: self.ways,
             of_tpdus,
-            is_of_blocks: self.is_of_blocks,
+            first_edc: self.first_edc,
             files: FileList::none(alloc),
         })
     }
@@ -84,8 +85,9 @@ pub struct Reading {
     pub ways: Ways,
     /// Whether the lines are a log of whole TPDUs or APDUs.
     pub of_tpdus: bool,
-    /// Whether the trace begins among blocks of T=1.
-    pub is_of_blocks: bool,
+    /// The error detection code of the blocks of T=1 among which the trace begins; `None` if it
+    /// does not.
+    pub first_edc: Option<Edc>,
     /// The files of the trace.
     pub files: FileList,
 }

@@ -6,4 +6,5 @@ pub mod SheetLemmas
 mod TreeLemmas
 mod JsonTreeLemmas
 pub mod AccountLemmas
+mod FilesLemmas
 pub mod CarriedLemmas

@@ -4,6 +4,7 @@ pub mod Openings
 pub mod Times
 pub mod Patterns
 pub mod Lines
+pub mod Files
 pub mod WaysOf
 pub mod Turns
 pub mod Pairs

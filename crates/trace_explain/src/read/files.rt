@@ -1,4 +1,7 @@
 //! The files of a trace: each line of the trace is a line of one of them.
+ghost use Rattle.std.specs.Prelude.{◌≡◌};
+ghost use Rattle.std.specs.Option.{option_copied};
+ghost use Rattle.trace_explain.specs.Files.{file_at, name_at, number_at};
 
 use std::alloc::{AllocError, Global};
 use std::fs::File;
@@ -110,15 +113,32 @@ impl FileList {
     }
 
     /// Returns the number of this line of the trace in its file.
-    pub fn number(&self, line: u64) -> u64 {
+    pub fn number(&self, line: u64) -> u64
+        ensures { result ≡ number_at self.now.parts.items line }
+    {
         self.at(line).1
+    }
+
+    /// Returns the file with this line of the trace: the last that begins with it or before.
+    fn file(&self, line: u64) -> Option<&Part>
+        ensures { option_copied result ≡ file_at self.now.parts.items line }
+    {
+        let mut found = None;
+        for part in &self.parts {
+            if part.first <= line {
+                found = Some(part);
+            }
+        }
+        found
     }
 
     /// Returns the name of the file with this line of the trace, if any, and the line's number in
     /// it.
-    pub fn at(&self, line: u64) -> (Option<&str>, u64) {
-        let place = self.parts.iter().rposition(|part| part.first <= line);
-        match place.and_then(|place| self.parts.get(place)) {
+    pub fn at(&self, line: u64) -> (Option<&str>, u64)
+        ensures name { option_copied result.0 ≡ name_at self.now.parts.items line }
+        ensures number { result.1 ≡ number_at self.now.parts.items line }
+    {
+        match self.file(line) {
             Some(part) => {
                 let before = part.first.saturating_sub(1);
                 (Some(part.name.as_str()), line.saturating_sub(before))

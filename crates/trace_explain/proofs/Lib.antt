@@ -6,5 +6,4 @@ pub mod SheetLemmas
 mod TreeLemmas
 mod JsonTreeLemmas
 pub mod AccountLemmas
-mod FilesLemmas
 pub mod CarriedLemmas

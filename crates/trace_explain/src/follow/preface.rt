@@ -1,8 +1,9 @@
 //! What precedes a dialogue: the card's answer to reset, and PPS exchanges.
-ghost use Rattle.std.specs.Prelude.{◌≡◌, false, if◌then◌else◌, OnOk};
+ghost use Rattle.std.specs.Prelude.{◌≡◌, false, true, if◌then◌else◌, OnOk};
 ghost use Rattle.std.specs.Option.{option_map, unwrap_or};
 ghost use Rattle.trace_explain.specs.Overheard.{overheard_by, silent};
 ghost use Rattle.trace_explain.specs.declared.follow.opening.Role.TheVariants.{Block};
+ghost use Rattle.trace_explain.specs.declared.follow.opening.Stage.TheVariants.{Begun};
 ghost use Rattle.trace_explain.specs.Openings.{first_opening, has_answered, is_full, leads_to_blocks, opening_of, opens, or_block, role_of, opening_at, unopened};
 
 use crate::follow::blocks::{Blocks, edc_of};
@@ -69,6 +70,18 @@ impl Preface {
         ensures { result ≡ has_answered (opening_of self.now) }
     {
         !self.answer.is_empty()
+    }
+
+    /// Whether the dialogue at T=0 has begun, and nothing is kept of what precedes it.
+    pub fn is_over(&self) -> bool
+        ensures { result ≡ true → opening_of self.now ≡ opening_at Begun }
+    {
+        self.stage.has_begun()
+            && is_direct(self.turned)
+            && self.answer.is_empty()
+            && self.request.is_empty()
+            && self.response.is_empty()
+            && self.blocks.is_none()
     }
 
     /// Returns what the next character is.

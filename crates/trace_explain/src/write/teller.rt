@@ -139,8 +139,12 @@ impl Teller {
             is_dialogue (role_of (opening_of preface.old) from byte) ≡ not is_of) }
         ensures boxes { OnOk result (AddsBoxes [] self.old self.new) }
     {
+        self.clock.count(from == End::Card);
+        if preface.is_over() {
+            return Ok(false);
+        }
         let role = preface.role_of(from, byte);
-        self.tell_before(from == End::Card, role, preface, rest);
+        self.tell_before(role, preface, rest);
         preface.take(role, byte, self.line)?;
         if role.is_dialogue() {
             return Ok(false);
@@ -153,11 +157,10 @@ impl Teller {
         Ok(true)
     }
 
-    /// Notes the time, and writes what ends before a character of this role.
-    fn tell_before(&mut self, is_card: bool, role: Role, preface: &Preface, rest: &[u8])
+    /// Writes what ends before a character of this role.
+    fn tell_before(&mut self, role: Role, preface: &Preface, rest: &[u8])
         ensures { StaysWritten self.old self.new }
     {
-        self.clock.count(is_card);
         let (mask, counts) = (&self.mask, &mut self.counts);
         tell_before(role, preface, mask, counts, &mut self.output.page);
         if role.is_stray() && self.strays != self.line {

@@ -1,9 +1,10 @@
 -- Pieces that are added to a sheet, one after another.
-use Rattle.std.proofs.Common.{◌≡◌, ℕ, List, [], ◌∷◌, ◌++◌, ◌∙◌, ◌+◌, ◌-◌, ◌<◌, ◌≤◌, length, drop, get_or, take, flat_map, suc, arith, ap, append-nil, append_assoc, Bool, refl, subst, sym, true}
-use Rattle.std.proofs.lemmas.List.{drop_more, nil_from_length, flat_map_more}
+use Rattle.std.proofs.Common.{◌≡◌, ℕ, List, [], ◌∷◌, ◌++◌, ◌∙◌, ◌+◌, ◌-◌, ◌<◌, ◌≤◌, ◌/◌, ◌%◌, length, slice_index, drop, get_or, take, flat_map, suc, arith, ap, append-nil, append_assoc, Bool, refl, subst, sym, true}
+use Rattle.std.proofs.lemmas.List.{drop_all, drop_more, nil_from_length, flat_map_more}
 use Rattle.std.proofs.lemmas.List.Concat.{flat_map-append}
 use Rattle.std.proofs.lemmas.Str.{encode_ascii}
 use Rattle.std.specs.Char.{encode_utf8}
+use Rattle.hex.specs.Hex.{encode_upper, encode_with, upper_digits}
 use Rattle.trace_explain.specs.declared.write.sheet.Sheet.{Sheet}
 use Rattle.trace_explain.specs.Sheets.{Adds, PutsLines, Joins, Puts}
 use Rattle.trace_explain.specs.Written.{AreLines, content, lines_text, spaces}
@@ -80,6 +81,31 @@ spaces_done n i {first} {now} le so_far =
     let e : n - i ≡ 0 = omega (arith, le) in
     let Q : ℕ → Type 0 = λ k. Completes first (spaces n) now (spaces k) in
     completed first now (spaces n) (subst Q e so_far)
+
+-- the digits of one byte more, and then of all
+pub hex_more : (bytes : List ℕ) (i : ℕ) {first now next last : Sheet} → i < length bytes
+    → Completes first (encode_upper bytes) now (encode_upper (drop i bytes))
+    → Adds now (slice_index upper_digits (get_or bytes i 0 / 16) ∷ []) next
+    → Adds next (slice_index upper_digits (get_or bytes i 0 % 16) ∷ []) last
+    → Completes first (encode_upper bytes) last (encode_upper (drop (i + 1) bytes))
+unfolding encode_with
+hex_more bytes i {first} {now} {next} {last} lt so_far high low =
+    let all : List ℕ = encode_upper bytes in
+    let rest : List ℕ = encode_upper (drop (i + 1) bytes) in
+    let h : List ℕ = slice_index upper_digits (get_or bytes i 0 / 16) ∷ [] in
+    let l : List ℕ = slice_index upper_digits (get_or bytes i 0 % 16) ∷ [] in
+    let Q : List ℕ → Type 0 = λ x. Completes first all now (encode_upper x) in
+    completes_more first next last all l rest
+    (completes_more first now next all h (l ++ rest) (subst Q (drop_more bytes i 0 lt) so_far) high)
+    low
+
+pub hex_done : (bytes : List ℕ) (i : ℕ) {first now : Sheet} → length bytes ≤ i
+    → Completes first (encode_upper bytes) now (encode_upper (drop i bytes))
+    → Adds first (encode_upper bytes) now
+unfolding encode_with
+hex_done bytes i {first} {now} le so_far =
+    let Q : List ℕ → Type 0 = λ x. Completes first (encode_upper bytes) now (encode_upper x) in
+    completed first now (encode_upper bytes) (subst Q (drop_all i bytes le) so_far)
 
 -- any lines of the rest complete the lines of all
 abbrev pub LinesGoOn : ℕ → ℕ → Bool → List ℕ → List ℕ → Sheet → Sheet → Type 0

@@ -1,15 +1,18 @@
 //! A text with proved contents: the contract of each call says what it adds.
-ghost use Rattle.std.specs.Prelude.{◌≡◌, ℕ, List, [], true, false, IfErr, IfOk, OnOk};
+ghost use Rattle.std.specs.Prelude.{◌≡◌, ◌<◌, ◌∷◌, ℕ, List, [], slice_index, true, false, IfErr, IfOk, OnOk};
 ghost use Rattle.std.specs.String.{string_bytes};
 ghost use Rattle.std.specs.Char.{encode_utf8};
 ghost use Rattle.std.specs.Fmt.{decimal};
-ghost use Rattle.hex.specs.Hex.{encode_upper};
+ghost use Rattle.hex.specs.Hex.{encode_upper, upper_digits};
 ghost use Rattle.trace_explain.specs.Sheets.{Adds};
 ghost use Rattle.trace_explain.specs.Written.{spaces};
 
 use crate::write::layout::Layout;
 use std::alloc::{AllocError, Global};
 use std::fmt;
+
+/// The hexadecimal digits.
+const DIGITS: &[u8; 16] = b"0123456789ABCDEF";
 
 /// A text to which parts are added until memory runs out. Callers ask `is_whole` once, at the end.
 #[derive(Drop)]
@@ -80,9 +83,9 @@ impl Sheet {
     pub fn push_hex(&mut self, bytes: &[u8])
         ensures { Adds self.old (encode_upper bytes.now) self.new }
     {
-        match hex::encode_upper(self.alloc, bytes) {
-            Ok(digits) => self.push_str(digits.as_str()),
-            Err(_) => self.is_cut = true,
+        for &byte in bytes {
+            self.push(digit(byte / 16));
+            self.push(digit(byte % 16));
         }
     }
 
@@ -163,4 +166,12 @@ impl Sheet {
         self.is_whole()?;
         Ok(self.text)
     }
+}
+
+/// Returns the hexadecimal digit of this value, in upper case.
+fn digit(value: u8) -> char
+    requires { value < 16 }
+    ensures { encode_utf8 result ≡ slice_index upper_digits value ∷ [] }
+{
+    char::from(DIGITS[usize::from(value)])
 }

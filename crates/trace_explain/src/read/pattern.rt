@@ -209,6 +209,10 @@ impl Marks {
         ensures { OnOk result (Some (marked_by self.new)
             ≡ with_bytes (marked_by self.old) (Some bytes.items)) }
     {
+        if self.bytes.is_empty() {
+            self.bytes = bytes;
+            return Ok(());
+        }
         self.bytes.extend_from_slice(bytes.as_slice())
     }
 }

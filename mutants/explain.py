@@ -193,7 +193,7 @@ fn reading{number}(
     options: &m{number}::reading::Options<'_>,
 ) -> Option<m{number}::reading::Reading> {{
     let forms = m{number}::forms::Forms::of(rt.alloc(), m{number}::forms::FORMS).ok()?;
-    options.reading(rt.alloc(), forms).ok()
+    options.reading(rt.alloc(), &forms).ok()
 }}
 
 fn diff{number}(

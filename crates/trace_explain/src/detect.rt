@@ -54,10 +54,11 @@ pub fn forms_of(
 ) -> Result<Vec<&'static str>, FormsFault> {
     let lines = whole_lines(head);
     let mut found = Vec::new(alloc);
-    let reading = options.reading(alloc, Forms::of(alloc, FORMS)?)?;
+    let forms = Forms::of(alloc, FORMS)?;
+    let reading = options.reading(alloc, &forms)?;
     let begun = lines_read(alloc, &reading.rows, lines)?;
-    let mut most = read_by(alloc, options, lines, 1)?.max(begun.saturating_sub(1));
-    for form in &Forms::of(alloc, FORMS)?.forms {
+    let mut most = read_by(alloc, options, &forms, lines, 1)?.max(begun.saturating_sub(1));
+    for form in &forms.forms {
         if !form.is_whole {
             continue;
         }
@@ -66,7 +67,7 @@ pub fn forms_of(
             ..*options
         };
         let least = most.saturating_add(usize::from(found.is_empty()));
-        let count = read_by(alloc, &tried, lines, least)?;
+        let count = read_by(alloc, &tried, &forms, lines, least)?;
         if count > most {
             found.clear();
         }
@@ -83,10 +84,11 @@ pub fn forms_of(
 fn read_by(
     alloc: Global,
     options: &Options<'_>,
+    forms: &Forms<'_>,
     head: &[u8],
     least: usize,
 ) -> Result<usize, FormsFault> {
-    let reading = options.reading(alloc, Forms::of(alloc, FORMS)?)?;
+    let reading = options.reading(alloc, forms)?;
     let count = lines_read(alloc, &reading.rows, head)?;
     if count < least {
         return Ok(0);

@@ -219,14 +219,14 @@ fn reading<D: Files>(
     files: &D,
 ) -> Result<Reading, FormsFault> {
     let Some(path) = options.file else {
-        return Ok(options.reading(alloc, Forms::of(alloc, FORMS)?)?);
+        return Ok(options.reading(alloc, &Forms::of(alloc, FORMS)?)?);
     };
     let text = text_of(alloc, files, path, "forms")?;
     let forms = Forms::of(alloc, text.as_str())?;
     if forms.forms.is_empty() {
         return Err(FormsFault::Line(1));
     }
-    Ok(options.reading(alloc, forms)?)
+    Ok(options.reading(alloc, &forms)?)
 }
 
 /// Returns the names of the program, after those of the file at this path, if any.

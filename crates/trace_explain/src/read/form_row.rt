@@ -93,6 +93,15 @@ pub enum Found {
 }
 
 impl Row {
+    /// Returns a copy, or `AllocError` if memory ran out.
+    pub fn copied(&self) -> Result<Row, AllocError> {
+        Ok(Row {
+            head: self.head.clone()?,
+            tail: self.tail.clone()?,
+            ..*self
+        })
+    }
+
     /// Whether a line that only begins like this row can't be read.
     fn commits(&self) -> bool
         ensures { result ≡ commits self.now }

@@ -221,10 +221,11 @@ impl<'t> Forms<'t> {
     }
 
     /// Returns the rows of a log of this form.
-    pub fn of_log(self, alloc: Global, place: usize, swaps: bool) -> Result<Rows, AllocError> {
+    pub fn of_log(&self, alloc: Global, place: usize, swaps: bool) -> Result<Rows, AllocError> {
         let mut chosen = Rows::none(alloc);
-        for mut row in self.rows {
+        for row in &self.rows {
             if row.form == place {
+                let mut row = row.copied()?;
                 if swaps {
                     row.says = row.says.swapped();
                 }
@@ -235,12 +236,11 @@ impl<'t> Forms<'t> {
     }
 
     /// Returns the rows of characters, of all forms.
-    pub fn of_characters(self, alloc: Global) -> Result<Rows, AllocError> {
+    pub fn of_characters(&self, alloc: Global) -> Result<Rows, AllocError> {
         let mut chosen = Rows::none(alloc);
-        let forms = self.forms;
-        for row in self.rows {
-            if forms.get(row.form).is_some_and(|form| !form.is_whole) {
-                chosen.push(row)?;
+        for row in &self.rows {
+            if !self.is_whole(row.form) {
+                chosen.push(row.copied()?)?;
             }
         }
         Ok(chosen)

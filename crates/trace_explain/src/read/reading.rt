@@ -44,7 +44,7 @@ impl Options<'_> {
     /// # Errors
     ///
     /// - `AllocError`: memory ran out.
-    pub fn reading(&self, alloc: Global, forms: Forms<'_>) -> Result<Reading, AllocError> {
+    pub fn reading(&self, alloc: Global, forms: &Forms<'_>) -> Result<Reading, AllocError> {
         let form = match self.file {
             Some(_) => Some(0),
             None => self.form.and_then(|name| forms.place_of(name)),

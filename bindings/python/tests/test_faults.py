@@ -39,7 +39,7 @@ class End(Line):
 
     def run(self, talks):
         try:
-            talks(self, b"")
+            talks(self)
         except Exception as fault:
             self.fault = fault
         self.asks.put("ended")
@@ -332,6 +332,19 @@ def test_a_changed_response_goes_in_fields_of_the_terminal_s_size():
         assert [len(terminal(command)) for command in JOB[:5]][4] == 258
     assert [len(it) for it in end.blocks[-2:]] == [258, 8]
     assert end.blocks[0] == block(0, 0xE1, b"\xfe")
+
+
+def test_a_response_that_is_longer_than_any_terminal_takes():
+    """The last block has the rest."""
+    it, _ = simulator("command 5, add 5A5A5A")
+    end = End(it, at_t1)
+    with T1(end.pass_block) as terminal:
+        for command in JOB[:4]:
+            terminal(command)
+        with pytest.raises(BlockError):
+            terminal(GET)
+    longer = FIRST + b"\x5a\x5a\x5a\x61\x00"
+    assert end.blocks[-2:] == [block(0, 0x20, longer[:254]), block(0, 0x40, longer[254:])]
 
 
 def blocks(it, *sent):

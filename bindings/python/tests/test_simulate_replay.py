@@ -6,7 +6,7 @@ import os
 from pathlib import Path
 
 import pytest
-from galliumtoad import T1, OwnCard, cards
+from galliumtoad import T1, OwnCard
 from galliumtoad.cards import Replay
 from galliumtoad.faults import Mistake
 from galliumtoad.simulate import Simulator, main
@@ -226,7 +226,6 @@ def test_a_capture_with_a_fault(tmp_path):
 
 
 def test_without_the_program(monkeypatch, capsys):
-    monkeypatch.setattr(cards, "__file__", "/none/of/the/folders/cards.py")
     monkeypatch.setenv("PATH", "/none")
     path = str(CAPTURES / "sim_tracer.trace")
     assert main(["--replay", path, "--pty"]) == 2

@@ -3,10 +3,8 @@ program of any language, or the answers of a capture."""
 
 import atexit
 import contextlib
-import importlib
 import json
-import os
-import platform
+import pkgutil
 import re
 import select
 import shlex
@@ -14,7 +12,6 @@ import shutil
 import subprocess
 import sys
 import time
-from dataclasses import dataclass
 from pathlib import Path
 from typing import Any, Optional, Sequence
 
@@ -23,6 +20,7 @@ from .errors import Error
 from .faults import Mistake
 from .own_card import Application, Command
 
+Object = dict[str, Any]  # a line, or a TPDU in one, of `trace_explain --json --commands`
 LEAST_ATR, PATIENCE = b"\x3B\x00", 10.0  # seconds for a line of a program
 # A status of an application, and what a program answers to a header and to a command: the data, if
 # any, and a status.
@@ -66,12 +64,11 @@ def status_of(digits: str) -> int:
 def application(name: str) -> Application:
     """Makes an object of a class, MODULE:CLASS. Raises `Mistake`, also later for a result of its
     `carry_out` that no application may return."""
-    module, _, kind = name.partition(":")
-    if not (module and kind):
+    if not re.fullmatch(".+:.+", name):
         raise Mistake(f"{name} is not MODULE:CLASS")
     sys.path.insert(0, "")  # the folder of the program's user
     try:
-        made = getattr(importlib.import_module(module), kind)()
+        made = pkgutil.resolve_name(name)()
     except (ImportError, AttributeError, ValueError) as why:
         raise Mistake(f"{name}: {why}") from None
     if not isinstance(made, Application):
@@ -150,51 +147,33 @@ class Program(Application):
             raise self.fault from None
 
 
-@dataclass
-class Known:
-    """A command of a capture, its header and data in hexadecimal, and the answer."""
-
-    line: int
-    sent: str
-    status: int
-    data: bytes
-
-
-def explained(path: str) -> list[dict[str, Any]]:
-    """The objects of `trace_explain --json --commands` for a capture, or those in a file. Raises
-    `Mistake`."""
-    here = f"{Path(__file__).parents[3]}/bin/{platform.machine()}-linux-gnu"
-    name = shutil.which("trace_explain", path=f"{os.environ.get('PATH', '')}{os.pathsep}{here}")
+def explained(path: str) -> list[Object]:
+    """The objects for a capture, or those in a file. Raises `Mistake`."""
     try:
         text = Path(path).read_bytes()
         if not text.startswith(b'{"type":'):
-            if not name:
+            if not (name := shutil.which("trace_explain")):
                 raise ValueError("trace_explain, which reads captures, is not on the PATH. It is in"
                                  " the repository's bindings/bin and Debian package galliumtoad")
             done = subprocess.run([name, "--json", "--commands"], input=text, capture_output=True)
             if done.returncode:
                 raise ValueError(done.stderr.decode("utf-8", "replace").strip())
             text = done.stdout
-        return [json.loads(it) for it in text.split(b"\n") if it]
+        return [json.loads(it) for it in text.splitlines()]
     except (OSError, ValueError) as why:
         raise Mistake(f"{path}: {why}") from None
 
 
 class Replay(Application):
-    """A card that answers as the one in a capture. The same command gets the same answers, in the
-    order of the capture, and then the last one again. Any other command gets the status `unknown`.
-    A strict card takes nothing but the capture's next command: another one is a `Mistake`.
-
-    - A command is its header and its data. Of its response Le fetches as much as it asks for.
-    - What lies between two resets is a session. A reset of this card begins the next one, and after
-      the last the first, so that each run of a terminal gets the same. Resets before any command
-      are one, since readers reset as often as they like.
-    - The part of a response that the capture did not fetch is zeros, with the status `unknown`.
-    """
+    """A card that answers as the one in a capture. The same command, by its header and data, gets
+    the same answers, in the order of its session, and then the last one again. Each reset after a
+    command begins the next session, and after the last the first, so that each run of a terminal
+    gets the same. Other commands get the status `unknown`, and so does a response that the capture
+    did not fetch, in zeros. To a strict card all but the session's next command is a `Mistake`."""
 
     def __init__(self, path: str, unknown: int = 0x6D00, is_strict: bool = False) -> None:
         self.path, self.unknown, self.is_strict, self.atr = path, unknown, is_strict, b""
-        found, self.place, self.sent = [list[Known]()], 0, list[str]()
+        found, self.place, self.sent = [list[Object]()], 0, list[str]()
         for it in explained(path):
             if it["type"] == "error" or it["type"] != "note" and '"masked"' in json.dumps(it):
                 raise Mistake(f"{path}: line {it['line']}: {it.get('text', 'a masked value')}")
@@ -208,51 +187,50 @@ class Replay(Application):
         if not self.sessions:
             raise Mistake(f"{path}: no command with an answer")
 
-    def take(self, it: dict[str, Any], session: list[Known]) -> None:
+    def take(self, it: Object, session: list[Object]) -> None:
         """Takes a TPDU of the capture. The card itself answers 61XX and 6CXX, GET RESPONSE after
         the one, and the same command after the other."""
-        sent = "".join(it[name] for name in ("cla", "ins", "p1", "p2", "sent"))
-        status, data = int(it["status"], 16), bytes.fromhex(it["received"])
-        waits = session[-1].status >> 8 if session else 0
-        if (waits, it["ins"]) == (0x61, "C0") or (waits == 0x6C and sent == session[-1].sent):
-            session[-1].status, session[-1].data = status, session[-1].data + data
+        it["sent"] = "".join(it[name] for name in ("cla", "ins", "p1", "p2", "sent"))
+        last = session[-1] if session else {"status": ""}
+        waits = last["status"][:2]
+        if (waits, it["ins"]) == ("61", "C0") or (waits == "6C" and it["sent"] == last["sent"]):
+            last.update(status=it["status"], received=last["received"] + it["received"])
         else:
-            session.append(Known(it["line"], sent, status, data))
-        if len(session[-1].data) > 4096 - 256:
+            session.append(it)
+        if len(session[-1]["received"]) > 2 * (4096 - 256):
             raise Mistake(f"{self.path}: line {it['line']}: a response of more than 3840 bytes")
 
     def takes_data(self, header: bytes) -> bool:
         named = header.hex().upper()
-        return any(it.sent[:8] == named and it.sent[8:] for it in self.sessions[self.place])
+        return any(it["sent"][:8] == named != it["sent"] for it in self.sessions[self.place])
 
     def carry_out(self, command: Command) -> tuple[int, bytes]:
         sent, session = (command.header + command.data).hex().upper(), self.sessions[self.place]
         due = session[len(self.sent) :][:1]
-        if self.is_strict and [it.sent for it in due] != [sent]:
-            has = f"line {due[0].line} has {due[0].sent}" if due else "the session has ended"
+        if self.is_strict and [it["sent"] for it in due] != [sent]:
+            has = "line {line} has {sent}".format(**due[0]) if due else "the session has ended"
             raise Mistake(f"{self.path}: {has}, not {sent}")
-        known, count = [it for it in session if it.sent == sent], self.sent.count(sent)
+        known, count = [it for it in session if it["sent"] == sent], self.sent.count(sent)
         self.sent.append(sent)
         if not known:
             return self.unknown, b""
         it = known[min(count, len(known) - 1)]
-        is_cut = it.status >> 8 in (0x61, 0x6C)
-        rest = bytes(it.status & 0xFF or 256) if is_cut else b""
-        return self.unknown if is_cut else it.status, it.data + rest
+        status, data = int(it["status"], 16), bytes.fromhex(it["received"])
+        if status >> 8 in (0x61, 0x6C):
+            return self.unknown, data + bytes(status & 0xFF or 256)
+        return status, data
 
     def reset(self) -> None:
         self.place = (self.place + bool(self.sent)) % len(self.sessions)
         self.sent = []
 
     def instead(self, command: bytes) -> Optional[bytes]:
-        """The answer in place of the card's own, or None for a command or header that needs none:
-
-        - to a GET RESPONSE that is a command of its own in the capture, as after 9FXX of a SIM
-        - to data after a header that has none there, and to P3 00 after one that has some
-        """
+        """The answer that the card itself would not give, or None: to a GET RESPONSE that is a
+        command of its own in the capture, as after 9FXX of a SIM, to data after a header that has
+        none there, and to P3 00 after one that has some."""
         header, p3, after = command[:4], command[4:5], command[5:]
         if header[1:2] == b"\xC0" and not after:
-            is_odd = any(it.sent == header.hex().upper() for it in self.sessions[self.place])
+            is_odd = any(it["sent"] == header.hex().upper() for it in self.sessions[self.place])
         else:
             is_odd = self.takes_data(header) != bool(after) and (p3 == b"\0" or bool(after))
         if not is_odd:

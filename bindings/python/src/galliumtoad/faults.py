@@ -64,10 +64,9 @@ class Gone(Exception):
 
 @dataclass
 class Fault:
-    """A line of a file. `text` is the line. `when` and `kind`, with their values, are of the tables
-    above, and so are where it can happen and what it changes."""
+    """A line of a file. `text` is its place and the line. `when` and `kind`, with their values, are
+    of the tables above, and so are where it can happen and what it changes."""
 
-    line: int
     text: str
     when: str
     number: Any
@@ -78,8 +77,7 @@ class Fault:
 
 
 def matched(table: Iterable[str], words: str, wrong: str) -> tuple[str, list[Any]]:
-    """Returns the entry of a table that the words have the form of, and its values. Raises
-    `Mistake`."""
+    """Returns the entry of a table that the words fit, and its values. Raises `Mistake`."""
     for entry in table:
         forms = [FORMS.get(it, (it, None)) for it in entry.split()]
         if found := re.fullmatch(" ".join(f"({it})" for it, _ in forms), words.strip(), re.I):
@@ -90,18 +88,17 @@ def matched(table: Iterable[str], words: str, wrong: str) -> tuple[str, list[Any
 def read(text: str, name: str = "faults") -> list[Fault]:
     """Reads the lines of a file: WHEN, WHAT. Raises `Mistake` for the first line that is wrong.
 
-    >>> [(it.line, it.kind, it.values) for it in read("# two\\nINS CA once, cut 3\\np 0.5, mute")]
-    [(2, 'cut N', [3]), (3, 'mute', [])]
+    >>> [(it.text, it.kind, it.values) for it in read("# one\\nINS CA once, cut 3")]
+    [('faults:2: INS CA once, cut 3', 'cut N', [3])]
     """
     found = []
     for line, words in enumerate(map(str.strip, text.splitlines()), 1):
-        if words[:1] in ("", "#"):
-            continue
-        at, _, does = words.partition(",")
-        wrong = f"{name}:{line}: not WHEN, WHAT of a fault: {words}\n"
-        when, [number] = matched(WHENS, at, f"{wrong}WHEN")
-        kind, values = matched(KINDS, does, f"{wrong}WHAT")
-        found.append(Fault(line, words, when, number, kind, values, *KINDS[kind]))
+        if words[:1] not in ("", "#"):
+            (at, _, does), place = words.partition(","), f"{name}:{line}: "
+            wrong = f"{place}not WHEN, WHAT of a fault: {words}\n"
+            when, [number] = matched(WHENS, at, f"{wrong}WHEN")
+            kind, values = matched(KINDS, does, f"{wrong}WHAT")
+            found.append(Fault(place + words, when, number, kind, values, *KINDS[kind]))
     return found
 
 
@@ -125,9 +122,9 @@ class Faults:
     of the same command. What changes data waits for the response that has some.
     """
 
-    def __init__(self, found: Iterable[Fault] = (), name: str = "faults", seed: int = 0,
+    def __init__(self, found: Iterable[Fault] = (), seed: int = 0,
                  tell: Callable[[str], None] = print, since: bytes = b"") -> None:
-        self.all, self.name, self.tell, self.since = list(found), name, tell, since
+        self.all, self.tell, self.since = list(found), tell, since
         self.chance = random.Random(seed).random
         self.count, self.header, self.was_6c, self.loop = 0, b"", False, ""
         self.ins, self.is_next = b"", False
@@ -138,16 +135,15 @@ class Faults:
     def of_file(cls, path: str, seed: int) -> "Faults":
         """Reads a file. Raises `Mistake` if it can't be read or has a wrong line."""
         try:
-            return cls(read(Path(path).read_text("utf-8"), path), path, seed)
+            return cls(read(Path(path).read_text("utf-8"), path), seed)
         except (OSError, UnicodeDecodeError) as why:
             raise Mistake(f"{path}: {why}") from None
 
     def check(self, places: Iterable[str], where: str) -> None:
         """Raises `Mistake` for the faults that can't happen at these places."""
-        wrong = [f"{self.name}:{it.line}: {it.text}: this needs {it.place}, and {where} has none"
-                 for it in self.all if it.place not in (ANYWHERE, *places)]
-        if wrong:
-            raise Mistake("\n".join(wrong))
+        if wrong := [it for it in self.all if it.place not in (ANYWHERE, *places)]:
+            raise Mistake("\n".join(f"{it.text}: this needs {it.place}, and {where} has none"
+                                    for it in wrong))
 
     def begin(self, header: bytes, reset: Callable[[], None] = lambda: None) -> Optional[bytes]:
         """A TPDU or command begins: its header, or all of it. Chooses the faults that strike at it,
@@ -156,16 +152,15 @@ class Faults:
         if header[: len(self.since)] != self.since[: len(header)]:
             self.due = []
             return None
-        self.since, self.ins = b"", header[1:2]
+        self.since, self.ins, le = b"", header[1:2], sum(header[4:5])
         is_again = self.was_6c and header[:4] == self.header
         self.is_next = not is_again and self.ins != GET_RESPONSE
         if self.is_next:
-            self.count, self.header, self.loop = self.count + 1, header[:4], ""
-        waits = [it for it in self.due if it.change and it.place in (ANYWHERE, LINE)]
-        self.due = [] if self.is_next else waits
+            self.count, self.header, self.loop, self.due = self.count + 1, header[:4], "", []
+        self.due = [it for it in self.due if it.change and it.place in (ANYWHERE, LINE)]
         self.due += [it for it in self.all
                      if it not in self.due and WHENS[it.when](self, it.number)]
-        self.was_6c, le = False, header[4] if len(header) > 4 else 0
+        self.was_6c = False
         if self.strikes("forget"):
             return OK
         if self.strikes("6C again") or self.loop == "6C":
@@ -178,16 +173,14 @@ class Faults:
         return None
 
     def strikes(self, *which: Union[str, Fault]) -> Optional[Fault]:
-        """Prints and returns the first chosen fault that is one of these, or of these kinds, or
-        returns None."""
-        for it in self.due:
-            if it.kind in which or it in which:
-                self.due.remove(it)
-                if it.when == "INS XX once":
-                    self.all.remove(it)
-                self.tell(f"fault at command {self.count}: {self.name}:{it.line}: {it.text}")
-                return it
-        return None
+        """Prints and returns the first chosen fault that is, or whose kind is, one of these."""
+        it = next((it for it in self.due if it.kind in which or it in which), None)
+        if it:
+            self.due.remove(it)
+            if it.when == "INS XX once":
+                self.all.remove(it)
+            self.tell(f"fault at command {self.count}: {it.text}")
+        return it
 
     def edited(self, data: bytes, *places: str) -> bytes:
         """What the card sends with the chosen faults of these places in it, in the order of their
@@ -199,8 +192,7 @@ class Faults:
         return data
 
     def changed(self, answer: bytes) -> bytes:
-        """The answer of the card with the faults in it. Raises `Gone`. `pauses` gets the seconds
-        before it."""
+        """The answer with the faults in it. `pauses` gets the seconds before it. Raises `Gone`."""
         data, status = answer[:-2], answer[-2:]
         self.was_6c |= status[:1] == b"\x6C"
         if data or status[0] not in (0x61, 0x6C):
@@ -215,8 +207,3 @@ class Faults:
             self.gone = Gone(silent.kind)
             raise self.gone
         return data + status
-
-    def request(self) -> bytes:
-        """A request of the card at T=1, which comes before its response, or nothing."""
-        fault = self.strikes(*REQUESTS)
-        return block(0, REQUESTS[fault.kind], bytes(fault.values)) if fault else b""

@@ -18,8 +18,8 @@ from typing import Callable, Optional, Union
 from .answers import Atr, Edc, Pps
 from .card import Card
 from .cards import LEAST_ATR, Program, Replay, application, read_table, status_of
-from .errors import AtrError, Code, CommandError, OutOfMemory, PpsError
-from .faults import ECHO, LINE, OK, T0, T1, Faults, Gone, Mistake, block
+from .errors import AtrError, Code, CommandError, PpsError
+from .faults import ECHO, LINE, OK, REQUESTS, T0, T1, Faults, Gone, Mistake, block
 from .own_card import Application, Command, OwnCard
 from .terminal import Level
 
@@ -27,7 +27,7 @@ VPCD = "localhost:35963"
 POWER_OFF, POWER_ON, RESET, GET_ATR = (bytes([it]) for it in (0, 1, 2, 4))  # vpcd's own messages
 MUTE_FOR, AWAY_FOR = 10.0, 2.0  # seconds until the connection to vpcd closes, and opens again
 PPSS, DEFAULT_RATE, LOOKS_EVERY, FOREVER = b"\xFF", 0x11, 0.01, float("inf")
-RESYNCH, IFS, ABORT, RESPONSE = 0xC0, 0xC1, 0xC2, 0x20  # requests at T=1
+RESYNCH, ABORT, RESPONSE, IS_PART = 0xC0, 0xC2, 0x20, 0x20  # of the PCB at T=1
 SIGNALS = {"cts": termios.TIOCM_CTS, "dsr": termios.TIOCM_DSR, "dcd": termios.TIOCM_CAR}
 TURNED = bytes(int(f"{byte:08b}"[::-1], 2) ^ 0xFF for byte in range(256))  # inverse convention
 
@@ -38,12 +38,10 @@ class Simulator(contextlib.ExitStack):
     whole commands otherwise. It raises `Gone` if the card is mute or has no power. `carried_out`
     gets each TPDU or command that the card has carried out. The end of `with` frees the card.
 
-    >>> from galliumtoad import Card
-    >>> from galliumtoad.faults import Faults, read
-    >>> faults = Faults(read("command 1, status 6A82"))
-    >>> with Simulator(Card({bytes(5): {}}), faults=faults) as reader:
+    >>> from galliumtoad.faults import read
+    >>> with Simulator(Card({bytes(5): {}}), faults=Faults(read("p 1, status 6A82"))) as reader:
     ...     reader(bytes.fromhex("00A40400050000000000")).hex()
-    fault at command 1: faults:1: command 1, status 6A82
+    fault at command 1: faults:1: p 1, status 6A82
     '6a82'
     """
 
@@ -94,8 +92,6 @@ class Simulator(contextlib.ExitStack):
         no command with 6D00 or 6700. Bytes that are no TPDU raise `TransportError`."""
         try:
             return self.card.tpdu(data) if self.level is Level.TPDU else self.card.apdu(data)
-        except OutOfMemory:
-            return b"\x65\x81"
         except CommandError as why:
             return b"\x6D\x00" if why.code is Code.INVALID_INS else b"\x67\x00"
 
@@ -119,26 +115,26 @@ class Simulator(contextlib.ExitStack):
 
 class Blocks(Application):
     """The library's end of a line at T=1: it numbers, acknowledges and repeats blocks. In place of
-    a command it gets one of its own, whose response has as many fields, of one or two bytes. Those
-    of the card replace them."""
+    a command it gets one of its own, with a response as long as the card's, which replaces it. The
+    last block has what is longer than the response to a short command."""
 
     def __init__(self, line: "Line") -> None:
-        self.line, self.of, self.end, self.size = line, line.of, OwnCard(self), 32
-        self.command, self.asked, self.number, self.fields = b"", b"", -1, list[bytes]()
+        self.line, self.of, self.end = line, line.of, OwnCard(self)
+        self.command, self.asked, self.response, self.last = b"", b"", b"", b""
         self.end.begin_t1()
 
     def takes_data(self, header: bytes) -> bool:
         return False
 
     def carry_out(self, command: Command) -> tuple[int, bytes]:
-        response, self.command, self.number = self.of.whole(self.asked), b"", -1
-        self.fields = [response[at : at + self.size] for at in range(0, len(response), self.size)]
-        if request := self.of.faults.request():
+        self.response, self.command, self.last = self.of.whole(self.asked), b"", b""
+        if fault := self.of.faults.strikes(*REQUESTS):
+            pcb, field = REQUESTS[fault.kind], bytes(fault.values)
             for _ in range(4):
-                self.line.write(request)
-                if self.line.block() == block(0, request[1] | RESPONSE, request[3:-1]):
+                self.line.write(block(0, pcb, field))
+                if self.line.block() == block(0, pcb | RESPONSE, field):
                     break
-        return 0x9000, bytes(min(self.size, 2) * len(self.fields) - 2)
+        return 0x9000, bytes(min(len(self.response), 258) - 2)
 
     def answer(self, came: bytes) -> bytes:
         """What the card sends after the received bytes of a block."""
@@ -147,28 +143,24 @@ class Blocks(Application):
             self.asked = self.command + field
             if self.command:
                 self.end.block(block(0, ABORT, b""))
-            self.end.block(block(0, IFS, bytes([min(self.size, 2)])))
             came = block(0, came[1], bytes(5))
         sent = self.end.block(came)
         if came[1:2] in (b"\x20", b"\x60") and sent[1] & 0xEF == 0x80:  # a part is acknowledged
             self.command += field
-        elif sent[1] == IFS | RESPONSE:
-            self.size = sent[3]
-        elif sent[1] == ABORT | RESPONSE:
+        elif sent[1] in (ABORT | RESPONSE, RESYNCH | RESPONSE):
             self.command = b""
-        elif sent[1] == RESYNCH | RESPONSE:
-            self.command, self.size = b"", 32
-        elif sent[1] < 0x80:
-            is_first = self.number < 0
-            if sent[1] != self.number:  # it is not the same block again
-                self.number, self.fields = sent[1], self.fields[not is_first :]
-            sent = block(0, sent[1], self.fields[0])
-            return self.of.faults.edited(sent, T1, LINE) if is_first else sent
-        return sent
+        elif sent[1] < 0x80 and sent[1:2] != self.last[1:2]:
+            is_first, size = not self.last, sent[2] if sent[1] & IS_PART else 254
+            self.last = block(0, sent[1], self.response[:size])
+            self.response = self.response[size:]
+            return self.of.faults.edited(self.last, T1, LINE) if is_first else self.last
+        return self.last if sent[1] < 0x80 else sent
 
 
 class Line:
     """A card's end of a line of characters."""
+
+    ahead = b""  # the first character, which may begin a PPS request
 
     def __init__(self, of: Simulator, fd: int, has_echo: bool = False, baud: int = 9600,
                  signal: str = "") -> None:
@@ -206,46 +198,38 @@ class Line:
     def write(self, data: bytes) -> None:
         """Sends the echo of the last character, if there is one, and then characters."""
         echo, self.heard = self.of.faults.edited(self.heard, ECHO) * self.has_echo, b""
-        self.send(echo)
+        os.write(self.fd, echo.translate(self.turned))
         self.of.wait()
-        self.of.tell(data.hex().upper(), "<")
-        self.send(data)
+        if not self.is_reset():
+            self.of.tell(data.hex().upper(), "<")
+            os.write(self.fd, data.translate(self.turned))
 
-    def send(self, data: bytes) -> None:
-        data = data.translate(self.turned)
-        while data and not self.is_reset():
-            data = data[os.write(self.fd, data) :]
-
-    def take(self, data: bytes, size: Callable[[bytes], int], seconds: float = FOREVER) -> bytes:
-        """Takes characters after these until there are as many as their `size`, or until none comes
-        in this time after the first one."""
+    def take(self, size: Callable[[bytes], int], seconds: float = FOREVER) -> bytes:
+        """Takes as many characters as their `size`, or until none follows in this time."""
+        data, self.ahead = self.ahead, b""
         while len(data) < size(data) and (byte := self.read(seconds if data else FOREVER)):
             data += byte
         return data
 
     def talk(self) -> None:
-        """Resets the card, sends its answer to reset, and talks, after PPS at the rate of a reset.
-        After an invalid request it is mute (ISO/IEC 7816-3, 9.1 and 9.3). Raises `OSError` at the
-        next reset, or when the line or the program ends."""
+        """Resets the card, and talks, after PPS at the rate of a reset. An invalid request makes it
+        mute (ISO/IEC 7816-3, 9.1 and 9.3). Raises `OSError` at the next reset, or as `read`."""
         self.of.reset()
         self.write(self.of.atr)
-        t, data = self.says.protocols[0], self.read()
+        t, self.ahead = self.says.protocols[0], self.read()
         with contextlib.suppress(Gone, PpsError):
-            if data == PPSS and not self.says.specific:
-                data = self.take(data, lambda it: 2 if len(it) < 2 else
-                                 3 + bin(it[1] & 0x70).count("1"))
-                t = data[1] & 15
-                has_rate = Pps(t, DEFAULT_RATE).is_agreed(data)
+            if self.ahead == PPSS and not self.says.specific:
+                pps = self.take(lambda it: 3 + bin(it[1] & 0x70).count("1") if it[1:] else 2)
+                t = pps[1] & 15
+                has_rate = Pps(t, DEFAULT_RATE).is_agreed(pps)
                 if t not in self.says.protocols:
                     raise Gone
-                self.write(data if has_rate else Pps(t).request)
-                data = b""
-            (self.talk_t1 if t else self.talk_t0)(data)
+                self.write(pps if has_rate else Pps(t).request)
+            (self.talk_t1 if t else self.talk_t0)()
         while True:  # a card that is gone
             self.read()
 
-    def talk_t0(self, data: bytes) -> None:
-        """Talks T=0 after the first character."""
+    def talk_t0(self) -> None:
         of, faults = self.of, self.of.faults
 
         def answered(characters: bytes) -> bytes:
@@ -254,7 +238,7 @@ class Line:
             return sent[len(sent) != 2 :]  # without its procedure byte
 
         while True:
-            header = self.take(data, lambda it: 5)
+            header = self.take(lambda it: 5)
             ins, data, sent = header[1:2], b"", b""
             instead = faults.begin(header, of.card.reset) or of.instead(header)
             if faults.strikes("early status"):
@@ -266,7 +250,7 @@ class Line:
             if not answer:
                 sent = faults.edited(ins, T0, LINE)
                 self.write(sent)
-                data = self.take(b"", lambda it: header[4])
+                data = self.take(lambda it: header[4])
                 answer = instead or answered(data)
             if instead is None:
                 of.carried_out(header + data)
@@ -275,18 +259,15 @@ class Line:
             answer = faults.changed(answer)
             answer = ins + answer if len(answer) > 2 and not data else answer
             self.write(faults.edited(sent + answer, T0, LINE)[len(sent) :])
-            data = b""
 
-    def talk_t1(self, data: bytes) -> None:
-        """Talks T=1 after the first character."""
+    def talk_t1(self) -> None:
         self.of.level, end = Level.APDU, Blocks(self)
         while True:
-            self.write(end.answer(self.block(data)))
-            data = b""
+            self.write(end.answer(self.block()))
 
-    def block(self, data: bytes = b"") -> bytes:
-        """Takes a block after these characters, or as much of it as comes."""
-        return self.take(data, lambda it: it[2] + 4 if len(it) > 2 else 4, self.cwt)
+    def block(self) -> bytes:
+        """Takes a block, or as much of it as comes."""
+        return self.take(lambda it: it[2] + 4 if it[2:] else 4, self.cwt)
 
 
 def serve_tty(of: Simulator, path: str, baud: int, signal: str) -> None:
@@ -310,8 +291,7 @@ def serve_tty(of: Simulator, path: str, baud: int, signal: str) -> None:
 
 
 def serve_pty(of: Simulator, has_echo: bool, tell: Callable[[str], object]) -> None:
-    """Makes a pseudo terminal, and serves it until `is_over` is set. `tell` gets its name. Each
-    opening resets the card."""
+    """Serves a pseudo terminal, whose name `tell` gets, until `is_over`. Each opening resets."""
     ours, theirs = pty.openpty()
     name, closed, line = os.ttyname(theirs), select.poll(), Line(of, ours, has_echo)
     closed.register(ours, 0)
@@ -338,9 +318,8 @@ def connected(address: str) -> socket.socket:
 
 
 def talk_vpcd(of: Simulator, line: socket.socket, tell: Callable[[str], object]) -> None:
-    """Answers vpcd until the connection or the program ends. A mute card keeps it open for ten
-    seconds. `tell` gets a call when pcscd, which has given the card power and read its answer,
-    looks for it again."""
+    """Answers vpcd until the connection or the program ends. `tell` gets a call when pcscd, which
+    has given the card power and read its answer, looks for it again."""
     of.level, looks = Level.APDU, -1
     with line, contextlib.suppress(OSError):
         while not of.is_over.is_set():
@@ -394,8 +373,7 @@ def parser() -> argparse.ArgumentParser:
          help="a card of data objects: lines `app`, `object`, `locked` and `atr`")
     what("--application", metavar="MODULE:CLASS", dest="own", type=application,
          help="a card of your own: a class of a module in this folder, or of one that is installed")
-    what("--program", metavar="COMMAND", dest="own", type=Program,
-         help="one in any language, by lines of its input and output")
+    what("--program", metavar="COMMAND", dest="own", type=Program, help="one in any language")
     what("--replay", metavar="FILE", help="one that answers as in a capture that trace_explain "
          "reads, or in what it wrote with --json --commands")
     where("--vpcd", nargs="?", const=VPCD, metavar="HOST:PORT",

@@ -3,7 +3,6 @@ terminal said is compared with what the card holds. `python3 -m galliumtoad.tria
 program."""
 
 import argparse
-import contextlib
 import html
 import json
 import os
@@ -17,7 +16,7 @@ from collections import Counter
 from dataclasses import asdict, dataclass
 from pathlib import Path
 from queue import Empty, SimpleQueue
-from typing import Iterator, Optional
+from typing import Optional
 
 from .card import Card
 from .faults import ANYWHERE, T1, Faults, Mistake, read
@@ -26,7 +25,9 @@ from .pages import begin
 
 AID, TAG = bytes.fromhex("A0000000031010"), 0x51
 VALUE = bytes(it % 251 for it in range(600))  # so that no two pieces of it are equal
-SELECT, PUT = b"\x00\xA4\x04\x00", b"\xDA"
+SELECT = bytes([0x00, 0xA4, 0x04, 0x00, len(AID)]) + AID
+# In the hexadecimal lines of commands: a piece of a put, no SELECT, and the same piece.
+TWICE = re.compile(r"^(..da.*)\n(?:(?!..a4).*\n)*\1$", re.M)
 ATRS = [bytes.fromhex("3B00"), bytes.fromhex("3B800181")]  # T=0, T=1
 AWAIT_READER, GONE_AFTER = 60.0, 1.0  # seconds until a reader should have seen a card come, and go
 BAD = ("wrong", "twice", "hung", "crashed")
@@ -54,7 +55,7 @@ class Trial:
     said: str = ""
 
     def read(self, since: bytes = b"") -> Faults:
-        return Faults(read(self.faults.replace("; ", "\n"), self.name), self.name, since=since)
+        return Faults(read(self.faults.replace("; ", "\n"), self.name), since=since)
 
     @property
     def places(self) -> set[str]:
@@ -68,31 +69,19 @@ def trials() -> list[Trial]:
     >>> len(trials()), trials()[2].name, trials()[2].faults
     (60, 'select without answer', 'command 1, mute')
     """
-    found = []
-    for block in Path(__file__).with_name("trials.txt").read_text("utf-8").split("\n\n")[1:]:
-        name, faults, says = block.strip().split("\n")
-        is_unseen = name.endswith(", unseen")
-        found.append(Trial(name.removesuffix(", unseen"), faults, says, is_unseen))
-    return found
+    text = Path(__file__).with_name("trials.txt").read_text("utf-8")
+    found = re.findall(r"^([^#\n].*?)(, unseen)?\n(.+)\n(.+)$", text, re.M)
+    return [Trial(name, faults, says, bool(unseen)) for name, unseen, faults, says in found]
 
 
 class Run(Simulator):
-    """The card of one trial, the faults that struck, and the pieces of a put since a SELECT."""
+    """The card of one trial, the faults that struck, and the commands that it has carried out."""
 
     def __init__(self, trial: Trial, protocol: int) -> None:
-        self.table, self.struck = Card({AID: {}}), list[str]()
-        self.pieces, self.is_twice = list[bytes](), False
+        self.table, self.struck, self.commands = Card({AID: {}}), list[str](), list[bytes]()
         t = T1 in trial.places if trial.places != {ANYWHERE} else protocol
-        super().__init__(self.table, ATRS[t], trial.read(SELECT + bytes([len(AID)]) + AID))
-        self.carried_out, self.faults.tell = self.note, self.struck.append
-
-    def note(self, command: bytes) -> None:
-        """Notes a command that the card has carried out."""
-        if command[1:2] == SELECT[1:2]:
-            self.pieces.clear()
-        if command[1:2] == PUT:
-            self.is_twice |= command in self.pieces
-            self.pieces.append(command)
+        super().__init__(self.table, ATRS[t], trial.read(SELECT))
+        self.carried_out, self.faults.tell = self.commands.append, self.struck.append
 
     def verdict(self, status: Optional[int], output: str) -> str:
         """Judges an exit status, or None for a terminal that was still running after the limit. A
@@ -105,45 +94,37 @@ class Run(Simulator):
             return "crashed"
         if status == 0 and not (held.get(TAG) == VALUE and printed):
             return "wrong"
-        if self.is_twice:
+        if TWICE.search("\n".join(it.hex() for it in self.commands)):
             return "twice"
         return "told" if status and self.struck else "right" if self.struck else "unmet"
 
 
-@contextlib.contextmanager
-def placed(run: Run, vpcd: str) -> Iterator[str]:
-    """Puts a card into vpcd's reader, and waits until pcscd has seen it; or without an address
-    behind a pseudo terminal, whose name it gives. Raises `OSError`."""
-    ready, line = SimpleQueue[str](), connected(vpcd) if vpcd else None
+def tried(trial: Trial, given: argparse.Namespace) -> None:
+    """Lets a terminal do the job with this fault, once pcscd has seen the card in vpcd's reader, or
+    over a pseudo terminal. Raises `OSError`."""
+    run, begun, ready = Run(trial, given.protocol), time.monotonic(), SimpleQueue[str]()
+    line = None if given.is_line else connected(given.vpcd)
     thread = threading.Thread(daemon=True, target=lambda: (
         talk_vpcd(run, line, ready.put) if line else serve_pty(run, True, ready.put)))
     thread.start()
     try:
-        yield ready.get(timeout=AWAIT_READER)
-    except Empty:
-        raise OSError(f"the reader at {vpcd} does not see the card") from None
-    finally:
-        run.is_over.set()
-        thread.join()
-        time.sleep(GONE_AFTER if vpcd else 0)
-
-
-def tried(trial: Trial, given: argparse.Namespace) -> None:
-    """Lets a terminal do the job with this fault."""
-    run, begun, told = Run(trial, given.protocol), time.monotonic(), dict(WORDS)
-    with placed(run, "" if given.is_line else given.vpcd) as told["tty"]:
-        told["reader"] = given.reader
+        told = {**WORDS, "reader": given.reader, "tty": ready.get(timeout=AWAIT_READER)}
         words = [re.sub(r"\{(\w+)\}", lambda it: told.get(str(it[1]), str(it[0])), word)
                  for word in given.terminal]
         program = subprocess.Popen(words, stdin=subprocess.DEVNULL, stdout=subprocess.PIPE,
                                    stderr=subprocess.STDOUT, start_new_session=True,
                                    encoding="utf-8", errors="replace")
-        try:
-            output, trial.status = program.communicate(timeout=given.limit)[0], program.returncode
-        except subprocess.TimeoutExpired:
-            os.killpg(program.pid, signal.SIGKILL)
-            output = program.communicate()[0]
+        output, trial.status = program.communicate(timeout=given.limit)[0], program.returncode
+    except Empty:
+        raise OSError(f"the reader at {given.vpcd} does not see the card") from None
+    except subprocess.TimeoutExpired:
+        os.killpg(program.pid, signal.SIGKILL)
+        output = program.communicate()[0]
+    finally:
         trial.seconds = round(time.monotonic() - begun, 1)
+        run.is_over.set()
+        thread.join()
+        time.sleep(GONE_AFTER if line else 0)
     lines = [it for it in output.splitlines() if WORDS["value"] not in it] or [""]
     trial.verdict, trial.said = run.verdict(trial.status, output), lines[-1][:200]
 
@@ -193,8 +174,8 @@ def main(words: Optional[list[str]] = None) -> int:
         width = max((len(it.name) for it in results), default=0)
         for it in results:
             tried(it, given)
-            star = "*" if it.is_unseen else " "
-            print(f"{it.name:{width}}  {it.verdict:7}{star} {it.said}".rstrip(), flush=True)
+            print(f"{it.name:{width}}  {it.verdict:7}{'*' * it.is_unseen:1} {it.said}".rstrip(),
+                  flush=True)
         counts = Counter(it.verdict for it in results if not it.is_unseen)
         print(", ".join(f"{counts[it]} {it}" for it in VERDICTS if counts[it]))
         if any(it.is_unseen for it in results):
@@ -206,7 +187,7 @@ def main(words: Optional[list[str]] = None) -> int:
     except (Mistake, OSError) as why:
         print(why, file=sys.stderr)
         return 2
-    return int(any(it.verdict in BAD and not it.is_unseen for it in results))
+    return int(any(counts[it] for it in BAD))
 
 
 if __name__ == "__main__":

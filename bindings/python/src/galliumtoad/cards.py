@@ -15,10 +15,8 @@ import time
 from pathlib import Path
 from typing import Any, Optional, Sequence
 
-from .card import Card
-from .errors import Error
+from . import Application, Card, Command, Error
 from .faults import Mistake
-from .own_card import Application, Command
 
 Object = dict[str, Any]  # a line, or a TPDU in one, of `trace_explain --json --commands`
 LEAST_ATR, PATIENCE = b"\x3B\x00", 10.0  # seconds for a line of a program

@@ -15,13 +15,10 @@ import time
 import tty
 from typing import Callable, Optional, Union
 
-from .answers import Atr, Edc, Pps
-from .card import Card
+from . import (Application, Atr, AtrError, Card, Code, Command, CommandError, Edc, Level, OwnCard,
+               Pps, PpsError)
 from .cards import LEAST_ATR, Program, Replay, application, read_table, status_of
-from .errors import AtrError, Code, CommandError, PpsError
 from .faults import ECHO, LINE, OK, REQUESTS, T0, T1, Faults, Gone, Mistake, block
-from .own_card import Application, Command, OwnCard
-from .terminal import Level
 
 VPCD = "localhost:35963"
 POWER_OFF, POWER_ON, RESET, GET_ATR = (bytes([it]) for it in (0, 1, 2, 4))  # vpcd's own messages

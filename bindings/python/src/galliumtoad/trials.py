@@ -18,10 +18,10 @@ from pathlib import Path
 from queue import Empty, SimpleQueue
 from typing import Optional
 
-from .card import Card
+from . import Card
 from .faults import ANYWHERE, T1, Faults, Mistake, read
-from .simulate import VPCD, Simulator, connected, serve_pty, talk_vpcd
 from .pages import begin
+from .simulate import VPCD, Simulator, connected, serve_pty, talk_vpcd
 
 AID, TAG = bytes.fromhex("A0000000031010"), 0x51
 VALUE = bytes(it % 251 for it in range(600))  # so that no two pieces of it are equal

@@ -9,10 +9,10 @@ import re
 import select
 import shlex
 import shutil
-import subprocess
 import sys
 import time
 from pathlib import Path
+from subprocess import PIPE, Popen, run
 from typing import Any, Optional, Sequence
 
 from . import Application, Card, Command, Error
@@ -20,8 +20,7 @@ from .faults import Mistake
 
 Object = dict[str, Any]  # a line, or a TPDU in one, of `trace_explain --json --commands`
 LEAST_ATR, PATIENCE = b"\x3B\x00", 10.0  # seconds for a line of a program
-# A status of an application, and what a program answers to a header and to a command: the data, if
-# any, and a status.
+# A status of an application. What a program answers to a header, and to a command: data if any, SW.
 STATUS = "(?:9[0-9A-F]|6[2-9ABD-F])[0-9A-F]{2}"
 WAY, RESPONSE = "(to|from)-card", f"(?:((?:[0-9A-F]{{2}}){{1,4096}}) )?({STATUS})"
 
@@ -101,8 +100,7 @@ class Program(Application):
 
     def __init__(self, command: str) -> None:
         try:
-            self.program = subprocess.Popen(shlex.split(command), 0, stdin=subprocess.PIPE,
-                                            stdout=subprocess.PIPE)
+            self.program = Popen(shlex.split(command), 0, stdin=PIPE, stdout=PIPE)
         except (OSError, ValueError, IndexError) as why:
             raise Mistake(f"{command}: {why}") from None
         atexit.register(self.program.kill)
@@ -153,11 +151,11 @@ def explained(path: str) -> list[Object]:
             if not (name := shutil.which("trace_explain")):
                 raise ValueError("trace_explain, which reads captures, is not on the PATH. It is in"
                                  " the repository's bindings/bin and Debian package galliumtoad")
-            done = subprocess.run([name, "--json", "--commands"], input=text, capture_output=True)
+            done = run([name, "--json", "--commands"], input=text, capture_output=True)
             if done.returncode:
                 raise ValueError(done.stderr.decode("utf-8", "replace").strip())
             text = done.stdout
-        return [json.loads(it) for it in text.splitlines()]
+        return [json.loads(it) for it in text.splitlines() if it]
     except (OSError, ValueError) as why:
         raise Mistake(f"{path}: {why}") from None
 
@@ -223,9 +221,9 @@ class Replay(Application):
         self.sent = []
 
     def instead(self, command: bytes) -> Optional[bytes]:
-        """The answer that the card itself would not give, or None: to a GET RESPONSE that is a
-        command of its own in the capture, as after 9FXX of a SIM, to data after a header that has
-        none there, and to P3 00 after one that has some."""
+        """Answers in place of the card, or returns None. It answers a GET RESPONSE that is one of
+        the capture's own commands, as after 9FXX of a SIM. It also answers data after a header that
+        has none there, and P3 00 after one that has some."""
         header, p3, after = command[:4], command[4:5], command[5:]
         if header[1:2] == b"\xC0" and not after:
             is_odd = any(it["sent"] == header.hex().upper() for it in self.sessions[self.place])

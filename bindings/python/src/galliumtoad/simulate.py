@@ -151,7 +151,7 @@ class Blocks(Application):
             self.last = block(0, sent[1], self.response[:size])
             self.response = self.response[size:]
             return self.of.faults.edited(self.last, T1, LINE) if is_first else self.last
-        return self.last if sent[1] < 0x80 else sent
+        return self.last if sent[1] < 0x80 else sent  # the same block again, or no response
 
 
 class Line:
@@ -386,9 +386,8 @@ def parser() -> argparse.ArgumentParser:
     option("--no-echo", action="store_true", help="the pseudo terminal has no echo")
     option("--baud", type=int, default=9600, choices=[9600, 19200, 38400, 57600, 115200],
            help="the tty's rate at a reset; 9600")
-    option("--reset", choices=SIGNALS, default="",
-           help="the tty's line that holds the card in reset while it is on; without it the only "
-           "reset is the start")
+    option("--reset", choices=SIGNALS, default="", help="the tty's line that holds the card in "
+           "reset while it is on; without it the only reset is the start")
     option("--unknown", metavar="SW", type=status_of, default="6D00",
            help="the status of a command that the capture lacks; 6D00")
     option("--strict", action="store_true", help="ends at a command that is not the capture's next")

@@ -1,6 +1,5 @@
-"""Trials for terminals: a job with a card, once for each of the faults in `trials.txt`. What the
-terminal said is compared with what the card holds. `python3 -m galliumtoad.trials --help` shows the
-program."""
+"""Trials for terminals: a job with a card, once for each fault in `trials.txt`, is judged by what
+the card holds and the terminal said. `python3 -m galliumtoad.trials --help` shows the program."""
 
 import argparse
 import html
@@ -8,7 +7,6 @@ import json
 import os
 import re
 import signal
-import subprocess
 import sys
 import threading
 import time
@@ -16,6 +14,7 @@ from collections import Counter
 from dataclasses import asdict, dataclass
 from pathlib import Path
 from queue import Empty, SimpleQueue
+from subprocess import DEVNULL, PIPE, STDOUT, Popen, TimeoutExpired
 from typing import Optional
 
 from . import Card
@@ -111,13 +110,12 @@ def tried(trial: Trial, given: argparse.Namespace) -> None:
         told = {**WORDS, "reader": given.reader, "tty": ready.get(timeout=AWAIT_READER)}
         words = [re.sub(r"\{(\w+)\}", lambda it: told.get(str(it[1]), str(it[0])), word)
                  for word in given.terminal]
-        program = subprocess.Popen(words, stdin=subprocess.DEVNULL, stdout=subprocess.PIPE,
-                                   stderr=subprocess.STDOUT, start_new_session=True,
-                                   encoding="utf-8", errors="replace")
+        program = Popen(words, stdin=DEVNULL, stdout=PIPE, stderr=STDOUT, encoding="utf-8",
+                        errors="replace", start_new_session=True)
         output, trial.status = program.communicate(timeout=given.limit)[0], program.returncode
     except Empty:
         raise OSError(f"the reader at {given.vpcd} does not see the card") from None
-    except subprocess.TimeoutExpired:
+    except TimeoutExpired:
         os.killpg(program.pid, signal.SIGKILL)
         output = program.communicate()[0]
     finally:

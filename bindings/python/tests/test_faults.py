@@ -583,6 +583,12 @@ def test_changes_come_in_the_order_of_their_lines():
         assert whole(it, [JOB[0], GET_NAME])[1].hex() == expected and len(struck) == 2
 
 
+def test_a_change_that_finds_no_data_ends_with_its_command():
+    it, struck = simulator("command 2, cut 2")
+    answers = whole(it, [JOB[0], bytes.fromhex("00DA00510141"), GET_NAME])
+    assert answers[1:] == [b"\x90\x00", NAME] and not struck
+
+
 @pytest.mark.parametrize("kind", ["lrc", "nad", "double", "byte 1 flip"])
 def test_nothing_is_left_of_a_lost_block_to_change(kind):
     """Nor when it is sent again, since the faults of a command strike at one block."""

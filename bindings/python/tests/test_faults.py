@@ -597,6 +597,13 @@ def test_nothing_is_left_of_a_lost_block_to_change(kind):
     assert sent == [b"", block(0, 0, ANSWERS[0])] and len(struck) == 1
 
 
+def test_faults_strike_at_the_first_block_of_a_response():
+    it, struck = simulator("command 2, lose; command 2, lrc")
+    sent = blocks(it, block(0, 0, SELECT), block(0, 0xC1, b"\x04"), block(0, 0x40, GET_NAME),
+                  block(0, 0x92, b""), block(0, 0x80, b""))
+    assert sent[2:] == [b"", block(0, 0x60, NAME[:4]), block(0, 0, NAME[4:])] and len(struck) == 1
+
+
 @pytest.mark.parametrize(("t", "expected"), [(0, b"\xa4\x61\x0b"), (1, block(0, 0, b"\x61\x0b"))])
 @pytest.mark.parametrize("kind", ["flip", "drop", "insert 55"])
 def test_a_byte_after_the_last_one_does_not_change(kind, t, expected):

@@ -169,7 +169,9 @@ HEADER, COMMAND = "header 80100000", "command 80100000 1"
     [("sleep 100", HEADER, "it said b'', and no more in 4 s"),
      ("printf from; exec sleep 100", HEADER, "it had said b'from'"),
      ("read a; printf from; exec sleep 100", HEADER, "it said b'from', and no more in 4 s"),
-     ("read a; while printf x; do :; done", HEADER, "it said b'" + 100 * "x" + "', and no more in"),
+     # it fills the pipe faster than it is read
+     (f"read a; while printf {999 * 'x'}; do :; done", HEADER,
+      "it said b'" + 100 * "x" + "', and no more in"),
      ("read a", HEADER, "it has ended"), ("true", HEADER, "it has ended"),
      ("read a; echo either-card; exec sleep 100", HEADER, "it said b'either-card\\n'"),
      ("read a; echo from-card; read a", COMMAND, "it has ended"),

@@ -1,10 +1,10 @@
-//! Tests of the libraries through their public calls.
+//! Tests of the libraries: memory that is there or is refused, which no contract can say.
 
 mod apdu;
-mod atr;
 mod card;
 mod command;
 mod line;
 mod t1;
 mod terminal;
 mod tlv;
+mod tools;

@@ -1,9 +1,6 @@
 //! Tests of `t1_core`.
 
-mod dialogue_tests;
 mod echo;
 mod line;
-mod overheard_tests;
-mod random;
+mod long_tests;
 mod random_tests;
-mod tap_tests;

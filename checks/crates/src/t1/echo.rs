@@ -3,34 +3,42 @@
 use std::alloc::{AllocError, Global};
 use t1_core::{Applet, Requests};
 
-/// The longest command in bytes that the card sends back.
-pub const LIMIT: usize = 350;
-
 /// A card that sends back each command of at most `LIMIT` bytes. To a longer one it responds
 /// `6700`, and records it as an empty one. The first, third, fifth and so on wait twice: before the
 /// response it asks for 3 times BWT. At each third command it announces IFSC 20.
 #[derive(Drop)]
-pub struct Echo {
+pub struct Echo<const LIMIT: usize> {
     alloc: Global,
     /// The commands that it carried out, the latest last.
     pub ran: Vec<Vec<u8>>,
 }
 
-impl Echo {
+impl<const LIMIT: usize> Echo<LIMIT> {
     /// Makes a card that has carried out nothing.
-    pub fn new(alloc: Global) -> Echo {
+    pub fn new(alloc: Global) -> Echo<LIMIT> {
         Echo {
             alloc,
             ran: Vec::new(alloc),
         }
     }
+
+    /// Records a command, and returns the requests before its response.
+    fn record(&mut self, command: &[u8]) -> Result<Requests, AllocError> {
+        self.ran.push(command.to_vec(self.alloc)?)?;
+        let count = self.ran.len();
+        Ok(Requests {
+            extensions: (count % 2 * 2) as u8,
+            multiple: 3,
+            size: if count % 3 == 0 { Some(20) } else { None },
+        })
+    }
 }
 
-impl Applet for Echo {
+impl<const LIMIT: usize> Applet for Echo<LIMIT> {
     const LIMIT: usize = LIMIT;
 
     // Ghost members must be there. Nothing proves these.
-    ghost LIMIT = { 350 };
+    ghost LIMIT = { LIMIT };
 
     ghost State = { Unit {0} };
 
@@ -43,34 +51,14 @@ impl Applet for Echo {
         command: &[u8],
         response: &mut Vec<u8>,
     ) -> Result<Requests, AllocError> {
-        if command.len() > LIMIT {
-            return self.too_long(response);
-        }
         response.clear();
         response.extend_from_slice(command)?;
-        let mut kept = Vec::new(self.alloc);
-        kept.extend_from_slice(command)?;
-        self.ran.push(kept)?;
-        Ok(requests_at(self.ran.len()))
+        self.record(command)
     }
 
     fn too_long(&mut self, response: &mut Vec<u8>) -> Result<Requests, AllocError> {
         response.clear();
         response.extend_from_slice(&[0x67, 0x00])?;
-        self.ran.push(Vec::new(self.alloc))?;
-        Ok(requests_at(self.ran.len()))
+        self.record(&[])
     }
-}
-
-/// The requests at the command with this number, counted from 1.
-fn requests_at(count: usize) -> Requests {
-    Requests {
-        extensions: (count % 2 * 2) as u8,
-        multiple: 3,
-        size: size_at(count),
-    }
-}
-
-fn size_at(count: usize) -> Option<u8> {
-    if count % 3 == 0 { Some(20) } else { None }
 }

@@ -37,26 +37,32 @@ fn size(call: usize) -> usize {
     }
 }
 
-/// As many applications and objects as a card may have. Each value is replaced again and again.
-#[test]
-fn a_builder_lasts(rt: HostRuntime) {
-    let longest = long(&rt, VALUE_LIMIT);
+/// Makes a card of as many applications and objects as it may have. Each value of the first
+/// application is replaced again and again.
+fn is_full(rt: &(impl Abort + AllocGlobal), tries: bool) {
+    let longest = long(rt, VALUE_LIMIT);
     let mut builder = CardBuilder::new(rt.alloc());
     for last in 0..8 {
-        for _ in 0..CALLS * usize::from(last) / 7 {
-            assert!(&rt; builder.app(aid(&rt, 0)) == Err(BuilderFault::Twice));
-        }
-        assert!(&rt; builder.app(aid(&rt, last)).is_ok(), "application {last}");
-        for call in 0..CALLS {
-            let (tag, value) = (numbered(&rt, call % 64 + 1), &longest[..size(call)]);
-            assert!(&rt; builder.locked(tag, value).is_ok(), "object {call}");
-            assert!(&rt; builder.object(tag, value).is_ok(), "object {call}");
+        assert!(rt; builder.app(aid(rt, last)).is_ok(), "application {last}");
+        for call in 0..if last == 0 { CALLS } else { 64 } {
+            assert!(rt; builder.app(aid(rt, 0)) == Err(BuilderFault::Twice));
+            let (tag, value) = (numbered(rt, call % 64 + 1), &longest[..size(call)]);
+            assert!(rt; builder.locked(tag, value).is_ok(), "object {call}");
+            assert!(rt; builder.object(tag, value).is_ok(), "object {call}");
         }
     }
-    let Ok(card) = builder.try_finish() else {
-        panic!(&rt; "no memory")
+    let card = if tries {
+        builder.try_finish().ok()
+    } else {
+        builder.finish().ok()
     };
-    assert!(&rt; card.apps().count() == 8);
+    assert!(rt; card.expect(rt, "memory").apps().count() == 8);
+}
+
+#[test]
+fn full_cards_are_built(rt: HostRuntime) {
+    is_full(&rt, false);
+    is_full(&rt, true);
 }
 
 /// `finish` allocates the buffer of a chain, and nothing else.

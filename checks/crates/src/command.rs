@@ -237,7 +237,7 @@ fn a_patient_card_replies(rt: HostRuntime) {
     let mut due = false;
     for number in 0..CALLS {
         let bytes = command(&rt, number);
-        let (first, last) = bytes.split_at(bytes.len().saturating_sub(254));
+        let (first, last) = bytes.split_at(if bytes.len() > 254 { 254 } else { 0 });
         for (info, more) in [(first, true), (last, false)] {
             let block = Block::Information {
                 number: due,

@@ -4,7 +4,7 @@
 use crate::tools::{CALLS, long};
 use apdu_core::{Command, Header, Status};
 use command_card::{
-    AppletOf, CommandCard, Copied, Directions, Eager, Given, GivenApplet, give, respond_to,
+    AppletOf, CommandCard, Copied, Directions, Eager, Given, GivenApplet, decide, give, respond_to,
 };
 use std::alloc::{AllocError, AllocGlobal, Global};
 use std::process::Abort;
@@ -172,16 +172,23 @@ fn give_to(rt: &(impl Abort + AllocGlobal), end: &mut CardEnd<CommandCard<Given>
     assert!(rt; given.is_ok(), "{header:?}");
 }
 
+/// The third card asks for each command which way its data go.
 #[test]
 fn cards_carry_out_tpdus(rt: HostRuntime) {
-    let (mut counting, mut given) = (counting(rt.alloc()), given(rt.alloc()));
+    let alloc = rt.alloc();
+    let (mut counting, mut given) = (counting(alloc), given(alloc));
+    let asking = Given::new(alloc, Directions::Unknown);
+    let mut asking = CardEnd::new(CommandCard::new(alloc, asking));
     for number in 0..CALLS {
         let bytes = command(&rt, number);
         let (_, status) = sent(&rt, &mut counting, 256, tpdu(&bytes));
         assert!(&rt; status != 0x6581, "command {number}");
-        give_to(&rt, &mut given, &bytes);
-        let (_, same) = sent(&rt, &mut given, 256, tpdu(&bytes));
-        assert!(&rt; status == same, "command {number}");
+        assert!(&rt; decide(&mut asking, number % 2 == 1), "command {number}");
+        for end in [&mut given, &mut asking] {
+            give_to(&rt, end, &bytes);
+            let (_, same) = sent(&rt, end, 256, tpdu(&bytes));
+            assert!(&rt; status == same, "command {number}");
+        }
     }
 }
 

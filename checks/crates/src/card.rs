@@ -148,14 +148,13 @@ fn selected<A: Allocator + Copy>(
     Some(end)
 }
 
-/// Puts a value of this size. Returns the last status.
+/// Puts a value under this P1-P2. Returns the last status.
 fn put<A: Allocator + Copy>(
     rt: &(impl Abort + AllocGlobal),
     end: &mut CardEnd<ObjectCard<A>>,
-    number: usize,
-    size: usize,
+    (p1, p2): (u8, u8),
+    value: &[u8],
 ) -> u16 {
-    let (p1, p2) = numbered(rt, number).p1p2();
     let header = Header {
         cla: 0x00,
         ins: 0xDA,
@@ -163,7 +162,7 @@ fn put<A: Allocator + Copy>(
         p2,
     };
     let mut last = 0;
-    for command in pieces(header, &long(rt, size)) {
+    for command in pieces(header, value) {
         last = status(rt, end, &command);
     }
     last
@@ -173,12 +172,14 @@ fn put<A: Allocator + Copy>(
 fn a_card_takes_thousands_of_puts(rt: HostRuntime) {
     let mut end = selected(&rt, CardBuilder::new(rt.alloc())).expect(&rt, "memory");
     for call in 0..CALLS {
-        let status = put(&rt, &mut end, call % 64 + 1, size(call));
+        let address = numbered(&rt, call % 64 + 1).p1p2();
+        let status = put(&rt, &mut end, address, &long(&rt, size(call)));
         assert!(&rt; status == 0x9000, "put {call}");
     }
 }
 
-/// Each growth is refused in turn: the status is `6581`, and a shorter value is stored.
+/// Each growth is refused in turn: the status is `6581`. A template of no objects is still refused
+/// for that, and a shorter value is stored.
 #[test]
 fn a_card_without_memory(rt: HostRuntime) {
     serves_after_refusals(&rt, 8_192, 64, |heap| {
@@ -186,11 +187,14 @@ fn a_card_without_memory(rt: HostRuntime) {
             return false;
         };
         for number in 1..=64 {
-            match put(&rt, &mut end, number, 64) {
+            let address = numbered(&rt, number).p1p2();
+            match put(&rt, &mut end, address, &[0x41; 64]) {
                 0x9000 => {}
                 status => {
                     assert!(&rt; status == 0x6581);
-                    assert!(&rt; number == 1 || put(&rt, &mut end, 1, 0) == 0x9000);
+                    assert!(&rt; put(&rt, &mut end, (0x00, 0x70), b"\x50") == 0x6A80);
+                    let first = numbered(&rt, 1).p1p2();
+                    assert!(&rt; number == 1 || put(&rt, &mut end, first, &[]) == 0x9000);
                     return false;
                 }
             }

@@ -36,6 +36,7 @@ Only cases/ lists the last block. Elsewhere `block_of` counts what is above it. 
 a line that begins with `#` is a comment."""
 
 import re
+import subprocess
 from collections import Counter
 from dataclasses import dataclass, field
 from itertools import zip_longest
@@ -660,3 +661,14 @@ def all_cases():
     secret = secret_cases([["--resume"], ["--json", "--commands"]])
     long = long_cases(long_traces.traces())
     return [*rows_and_stories(), *secret, *whole_cases(), *long]
+
+
+def run_of(program, case, folder):
+    """Runs a program on a case."""
+    words = [program, *case.words]
+    if "--diff" in words:
+        place = words.index("--diff") + 1
+        words[place:place] = [str(folder / "a"), str(folder / "b")]
+        (folder / "a").write_bytes(case.given)
+        (folder / "b").write_bytes(case.other)
+    return subprocess.run(words, input=case.given, capture_output=True, check=False)

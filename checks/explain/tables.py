@@ -1,25 +1,13 @@
 """Runs a built `trace_explain` on the tables of this folder. `tables.py PROGRAM` prints a line
 `passed`, or what is wrong, for each case."""
 
-import subprocess
 import sys
 import tempfile
 from pathlib import Path
 
 sys.dont_write_bytecode = True
 sys.path.insert(0, str(Path(__file__).resolve().parent))
-from cases import tables  # noqa: E402
-
-
-def run_of(program, case, folder):
-    """Runs a program on a case."""
-    words = [program, *case.words]
-    if "--diff" in words:
-        place = words.index("--diff") + 1
-        words[place:place] = [str(folder / "a"), str(folder / "b")]
-        (folder / "a").write_bytes(case.given)
-        (folder / "b").write_bytes(case.other)
-    return subprocess.run(words, input=case.given, capture_output=True, check=False)
+from cases import run_of, tables  # noqa: E402
 
 
 def status_of(case):

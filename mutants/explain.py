@@ -119,8 +119,8 @@ class Program:
 
 
 def body_of(before, after):
-    """Returns the first line and the end of the function's body outside of which these lines are
-    the same, or None."""
+    """Returns the first line and the end of the function's body, if all other lines are the
+    same, or None."""
     places = [at for at, (one, other) in enumerate(zip(before, after)) if one != other]
     head = enclosing(before, places[0])
     if not head or len(before) != len(after) or "const fn " in before[head[2]]:
@@ -266,7 +266,11 @@ fn runNUMBER(rt: &HostRuntime, part: &[u8], names: &mNUMBER::names::Names) -> Ve
         is_unsigned: part[5] == b'u',
         ways,
         of_tpdus: part[5] == b't',
-        is_of_blocks: part[6] == b'b',
+        first_edc: match part[6] {
+            b'l' => Some(t1_core::Edc::Lrc),
+            b'c' => Some(t1_core::Edc::Crc),
+            _ => None,
+        },
     };
     let mut mask = if words.len() > 7 {
         let tags = str::from_utf8(&words[8..]).unwrap_or("");
@@ -306,7 +310,7 @@ fn readingNUMBER(
     options: &mNUMBER::reading::Options<'_>,
 ) -> mNUMBER::reading::Reading {
     let forms = mNUMBER::forms::Forms::of(rt.alloc(), mNUMBER::forms::FORMS).unwrap();
-    options.reading(rt.alloc(), forms).unwrap()
+    options.reading(rt.alloc(), &forms).unwrap()
 }
 
 fn diffNUMBER(

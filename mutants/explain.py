@@ -5,8 +5,8 @@ another output, or none. No proof covers the words of trace_explain, so its case
 function with faults has its body once more for each, and a function in C says which body runs. For
 a fault outside of bodies there is one more module, with copies of the files that use the faulty
 one. The program runs the cases, and prints those whose output is not that of the built program. It
-stops if they fill SHOWN bytes, and the next program runs the other cases. Without a fault every
-case must pass."""
+stops at one that must refuse the fault, or if they fill SHOWN bytes; then the next program runs the
+other cases. Without a fault every case must pass."""
 
 import itertools
 import os
@@ -37,8 +37,10 @@ COPIED = 3_000_000
 SHOWN = 50_000
 # The most bytes of one output that it prints. A longer one refuses no fault.
 LONGEST = 990_000
-# The most seconds for a module's cases. They take about 20.
-SECONDS = 400
+# The parts of outputs that leave nothing out: any other output refuses a fault.
+WHOLE = ("all", "shown", "json")
+# The most seconds for a module's cases. They take about 35 of a processor.
+SECONDS = 600
 # Separates the cases in the program's input, and its outputs.
 MARK = "\x1e"
 DECLARED = re.compile(r"^ *(?:ghost use [^;]*;|#\[tactic\(auto, using\(.*)\n", re.M)
@@ -231,9 +233,10 @@ fn tryNUMBER(rt: &HostRuntime, all: &[u8]) {
     let names = mNUMBER::names::Names::of(rt.alloc(), "").unwrap();
     let mut size = 0;
     for (place, part) in all.split(|byte| *byte == 0x1E).enumerate().skip(1) {
-        let output = runNUMBER(rt, &part[16..], &names);
-        size += show(rt, place - 1, &part[..16], output.as_slice());
-        if size > SHOWN {
+        let output = runNUMBER(rt, &part[17..], &names);
+        let shown = show(rt, place - 1, &part[..16], output.as_slice());
+        size += shown;
+        if size > SHOWN || (shown > 0 && part[16] == b'!') {
             return;
         }
     }
@@ -345,8 +348,9 @@ fn diffNUMBER(
 
 
 def inputs_of(cases):
-    """Returns each case as a module reads it, with the sum of the built program's output. Raises
-    an error if that program fails a case."""
+    """Returns each case as a module reads it, with the sum of the built program's output, and a
+    sign: after another output of a case with `!` it stops. Raises an error if that program fails a
+    case."""
     program = subprocess.run([TOP / "checks/built", "trace_explain"], capture_output=True,
                              check=True, text=True).stdout.strip()
     with tempfile.TemporaryDirectory() as folder:
@@ -355,7 +359,8 @@ def inputs_of(cases):
             output = f"{run.stdout.decode()}{MARK}{run.stderr.decode()}{MARK}".encode()
             if said := case.fault(*output.decode().split(MARK)[:2]):
                 raise SystemExit(f"the built program fails: {said}")
-            yield f"{MARK}{sum_of(output):016x}".encode() + input_of(case)
+            sign = "!" if case.part in WHOLE and not case.secret else "?"
+            yield f"{MARK}{sum_of(output):016x}{sign}".encode() + input_of(case)
 
 
 def sum_of(output):

@@ -428,7 +428,7 @@ def refusal(end, text, cases):
     for number, out, err in zip(said[::3], said[1::3], said[2::3]):
         ran = int(number) + 1
         found = found or cases[ran - 1].fault(out, err)
-    return found, None if last.strip() == "all" else ran
+    return found or None, None if last.strip() == "all" else ran
 
 
 def ordered(cases):

@@ -1102,7 +1102,8 @@ GT_MUST_CHECK int32_t gt_terminal_new(gt_terminal *t) {
 }
 
 /* As `gt_terminal_new`, for responses of at most `limit` bytes to a command, 0 to
- * GT_RESPONSE_LIMIT. No operation takes more memory for one. The first byte beyond is GT_TOO_LONG.
+ * GT_RESPONSE_LIMIT. No operation takes more memory for one by TPDUs, and at most twice that by
+ * whole commands. The first byte beyond is GT_TOO_LONG.
  *
  * - GT_ARGUMENT, before GT_MEMORY: `limit` is above GT_RESPONSE_LIMIT. The handle still holds
  *   nothing.
@@ -1650,8 +1651,8 @@ GT_MUST_CHECK int32_t gt_card_t1_send_bytes(gt_card *c, uint8_t *bytes, size_t r
 }
 
 /* Takes bytes of the terminal up to the end of its block, and sets `taken` to their number. Drop
- * the bytes that are left, and all that arrive before the card's block is sent. A command is
- * carried out with the last byte of its last block.
+ * the bytes that are left, and all that arrive before the card's block is sent. A card of data
+ * objects carries a command out with the last byte of its last block.
  *
  * - GT_OK: all are taken, and the block is not whole yet.
  * - GT_SENDS: the block is whole, valid or not, and `gt_card_t1_send_bytes` has the answer.

@@ -317,10 +317,13 @@ def test_a_reader_that_is_not_there_is_named_once(capsys, monkeypatch):
     assert lines == [f"the card is in the reader of vpcd at {address}"] * 3
 
 
-def test_files_that_are_missing(tmp_path, capsys):
+def test_files_and_ports_that_are_missing(tmp_path, capsys):
     table = str(tmp_path / "table")
     assert main(["--table", table, "--pty"]) == 2 and "No such file" in capsys.readouterr().err
     (tmp_path / "table").write_text(TABLE)
     assert main(["--table", table, "--pty", "--faults", "/none"]) == 2
     assert main(["--table", table, "--tty", "/none"]) == 1
     assert capsys.readouterr().err.count("No such file") == 2
+    for address in ("localhost", "localhost:", "localhost:vpcd"):
+        assert main(["--table", table, "--vpcd", address]) == 2
+        assert f"HOST:PORT is expected: {address}\n" in capsys.readouterr().err

@@ -107,7 +107,8 @@ pub struct Received {
     /// arrive before the next block is sent.
     pub taken: usize,
     /// Whether the block is whole, valid or not: then [`T1::block_into`] or
-    /// [`CardT1::block_into`](crate::CardT1::block_into) has the next one.
+    /// [`CardT1::block_into`](crate::CardT1::block_into) has the next one, or at `T1` says that
+    /// the command has ended: `None`, or [`Error::Failed`](crate::Error::Failed).
     pub is_whole: bool,
 }
 

@@ -96,8 +96,8 @@ impl Terminal {
     }
 
     /// Makes a terminal that has begun no operation. The response to a command may have `limit`
-    /// data bytes, 0 to [`RESPONSE_LIMIT`]. No operation takes more memory for it, and one byte
-    /// more is [`Error::TooLong`].
+    /// data bytes, 0 to [`RESPONSE_LIMIT`]. No operation takes more memory for it by TPDUs, and at
+    /// most twice that by whole commands. One byte more is [`Error::TooLong`].
     ///
     /// # Errors
     ///

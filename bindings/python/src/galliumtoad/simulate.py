@@ -307,8 +307,10 @@ def serve_pty(of: Simulator, has_echo: bool, tell: Callable[[str], object]) -> N
 
 
 def connected(address: str) -> socket.socket:
-    """Connects to vpcd. Raises `OSError`."""
+    """Connects to vpcd. Raises `OSError`, and `Mistake` for an address without a port."""
     host, _, port = address.rpartition(":")
+    if not port.isdigit():
+        raise Mistake(f"argument --vpcd: HOST:PORT is expected: {address}")
     line = socket.create_connection((host or "localhost", int(port)))
     line.setsockopt(socket.IPPROTO_TCP, socket.TCP_NODELAY, 1)
     return line

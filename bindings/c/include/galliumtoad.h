@@ -1833,7 +1833,8 @@ GT_FUNCTION void gt_card_free(gt_card *c) {
  *
  * `directions` are 32 bytes, which are copied. Bit INS mod 8 of byte INS/8, the lowest bit first,
  * is set if data go to the card: at T=0 the header does not say (ISO/IEC 7816-3, 10.3.1). If
- * `directions` is NULL, each header waits for its direction: GT_HEADER.
+ * `directions` is NULL, each header that the card does not answer alone waits for its direction:
+ * GT_HEADER.
  *
  * - GT_OK.
  * - GT_STATE: the handle holds a card, which stays as it was.

@@ -282,7 +282,7 @@ fn respond_given(
 }
 
 /// What is still needed of the application at a header, if these are its data. It is what
-/// `wanted_by` would find, without the command: that makes it twice as fast.
+/// `wanted_by` would find, without the command.
 #[inline(never)]
 pub fn needed_by(card: &CommandCard<Given>, header: Header, p3: u8, bytes: &[u8]) -> Need
     ensures { wanted_by card.now header p3 bytes.now ≡ wanted_as result header p3 bytes.now }
@@ -290,21 +290,15 @@ pub fn needed_by(card: &CommandCard<Given>, header: Header, p3: u8, bytes: &[u8]
     if !header.ins_is_valid() {
         return Need::Nothing;
     }
-    let is_given = card.application.has_response();
-    if is_given && is_known(card.application.directions()) {
+    if card.application.has_response() && is_known(card.application.directions()) {
         return Need::Nothing;
     }
     match card.need(header, p3) {
         Need::Nothing => Need::Nothing,
         Need::Direction => Need::Direction,
-        Need::AtHeader => {
-            if is_given {
-                return Need::Nothing;
-            }
-            Need::AtHeader
-        }
+        Need::AtHeader => Need::AtHeader,
         Need::AfterData => {
-            if is_given || bytes.len() != p3 as usize {
+            if bytes.len() != p3 as usize {
                 return Need::Nothing;
             }
             Need::AfterData

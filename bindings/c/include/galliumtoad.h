@@ -1288,9 +1288,9 @@ GT_FUNCTION void gt_terminal_free(gt_terminal *t) {
  * The end survives `tries` fruitless receptions since the last progress, and gives up at one more.
  * Progress is the next field of the response, R that acknowledges a field of the command, or the
  * end of S(IFS request). Fruitless are a time-out, an invalid block, and a block that brings no
- * progress, R that asks for a block too. So a lost block of the end costs two tries: the time-out,
- * and the card's R. A lost block of the card costs one. A request of the card that the end grants
- * is not counted.
+ * progress, R that asks for a block too. So a lost I-block of the end costs two tries: the
+ * time-out, and the card's R. Any other lost block costs one. A request of the card that the end
+ * grants is not counted.
  *
  * It grants `extensions` S(WTX request) and S(IFS request) in one command, 0 to 65,535. It takes
  * responses of at most `limit` bytes, status included. GT_T1_TRIES, GT_T1_EXTENSIONS and
@@ -1963,9 +1963,9 @@ GT_MUST_CHECK int32_t gt_session_start(gt_session *s, gt_card *c) {
     return galliumtoad_session_start(s, c);
 }
 
-/* Returns whether an operation can start: 1, or 0 while a chain that `gt_session_send` started is
- * pending at the card. Its last piece, a refused command or `gt_session_reset` ends it. Compare
- * with == 1: GT_EMPTY is not 0 either. */
+/* Returns whether an operation other than `gt_session_send` can start: 1, or 0 while a chain that
+ * it started is pending at the card. Its last piece, a refused command or `gt_session_reset` ends
+ * it. Compare with == 1: GT_EMPTY is not 0 either. */
 GT_MUST_CHECK int32_t gt_session_idle(gt_session *s) {
     if (!s) return GT_NULL;
     return galliumtoad_session_idle(s);

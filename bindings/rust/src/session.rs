@@ -23,10 +23,10 @@ pub enum End {
 
 /// A terminal and a card, joined by a line that delivers every character.
 ///
-/// An operation is carried out to its answer, and none can start while a chain is pending that
-/// [`send`](Session::send) began. [`Answer`] lists the statuses: a select answers `9000` or `6A82`,
-/// a get `9000`, `6985` or `6A88`, and a put `9000`, `6581`, `6700`, `6982`, `6985`, `6A80` or
-/// `6A84`.
+/// An operation is carried out to its answer. None but [`send`](Session::send) can start while a
+/// chain is pending that it began. [`Answer`] lists the statuses: a select answers `9000` or
+/// `6A82`, a get `9000`, `6985` or `6A88`, and a put `9000`, `6581`, `6700`, `6982`, `6985`, `6A80`
+/// or `6A84`.
 ///
 /// ```
 /// use galliumtoad::{CardBuilder, Session};
@@ -62,8 +62,8 @@ impl Session {
         Ok(session)
     }
 
-    /// Whether an operation can start: no chain is pending. The last piece of a chain, a refused
-    /// command or a [`reset`](Session::reset) ends it.
+    /// Whether an operation other than [`send`](Session::send) can start: no chain is pending. The
+    /// last piece of a chain, a refused command or a [`reset`](Session::reset) ends it.
     ///
     /// # Errors
     ///

@@ -69,8 +69,8 @@ pub struct T1Limits {
     /// The fruitless receptions since the last progress that it survives: one more is a fault.
     /// Progress is the next field of the response, R that acknowledges a field of the command, or
     /// the end of S(IFS request). Fruitless are a time-out, an invalid block, and a block that
-    /// brings no progress. So a lost block of the end costs two tries: the time-out, and the card's
-    /// R. A request that the end grants is not counted.
+    /// brings no progress. So a lost I-block of the end costs two tries: the time-out, and the
+    /// card's R. Any other lost block costs one. A request that the end grants is not counted.
     pub tries: u8,
     /// The S(WTX request) and S(IFS request) of the card that it grants in one command.
     pub extensions: u16,

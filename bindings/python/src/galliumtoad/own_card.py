@@ -132,7 +132,8 @@ class OwnCard(Lasting):
         return copied(sent, count)
 
     def plan(self, steps: str, cut: int = 256) -> None:
-        """Adds a plan for one more of the TPDUs to come, as that of `Card`."""
+        """Adds a plan for one more of the TPDUs to come, as that of `Card`. Raises `CallError`,
+        GT_STATE, if the card speaks T=1."""
         self._call("plan", str.encode(steps, "ascii"), within(cut, 0, 0xFFFF, "a cut"))
 
     def _whole(self, call: Callable[..., int], data: Bytes) -> bytes:

@@ -222,7 +222,7 @@ impl<A: Allocator + Copy> ApduTerminal<A> {
     }
 
     /// Returns what `answer` does as an `Answer`, and drops the terminal. Room that the data don't
-    /// take is freed.
+    /// take is freed, unless memory for that runs out.
     pub fn into_answer(self) -> Option<Answer<A>>
         ensures { IsOperationAnswer self.operation
             (option_map (λ a. (a.status, a.content)) result) }

@@ -25,7 +25,8 @@ impl<A: Allocator> Model for Answer<A> {
 }
 
 impl<A: Allocator> Answer<A> {
-    /// Makes an answer of the gathered data. Their room shrinks to their size.
+    /// Makes an answer of the gathered data. Their room shrinks to their size, unless memory for
+    /// that runs out.
     pub fn new(status: Status, gather: Gather<A>) -> Answer<A>
         ensures { result ≡ record { status = status; content = gather.bytes } }
     {

@@ -342,7 +342,7 @@ impl<'a, A: Allocator> Exchange<'a, A> {
     }
 
     /// Returns the answer, if the exchange has ended: the status of its last TPDU, and all data.
-    /// The memory is that of the data; the rest of the room is freed. `None` if the exchange is in
+    /// The rest of the room is freed, unless memory for that runs out. `None` if the exchange is in
     /// progress or has failed; it is dropped.
     pub fn into_answer(self) -> Option<Answer<A>>
         ensures done { (status : StatusWord) → exchange_turn self.entry ≡ HostTurn.Done status →

@@ -55,7 +55,7 @@ pub trait Eager {
     /// Copies the application.
     ///
     /// # Errors
-    /// - `AllocError`: memory ran out.
+    /// - `AllocError`: memory ran out; there is no copy, and the command is not carried out.
     fn copy(&self) -> Result<Self, AllocError>
         ensures done { IfOk result (λ copy. standing copy ≡ standing self.now) }
         ensures failed { IfErr result (λ e. (c : Command) → Does (standing self.now)
@@ -74,7 +74,7 @@ pub struct Copied<E: Eager + Drop> {
 }
 
 impl<E: Eager + Drop> Copied<E> {
-    /// Makes an application whose commands take effect when they settle.
+    /// Makes an [`Application`] of this one. Its commands take effect when they settle.
     pub fn new(current: E) -> Copied<E>
         ensures { result.current ≡ current }
     {
@@ -84,7 +84,7 @@ impl<E: Eager + Drop> Copied<E> {
         }
     }
 
-    /// Returns the application, as it stands.
+    /// Returns the application, without the effect of a command that has not settled.
     pub fn current(&self) -> &E
         ensures { result.now ≡ self.now.current }
     {

@@ -17,9 +17,9 @@ use std::mem::swap;
 pub enum Directions {
     /// By INS: bit INS mod 8 of byte INS/8, the lowest bit first, is set if data go to the card.
     Table([u8; 32]),
-    /// Each header is asked for, and the next one is not answered.
+    /// By header: the caller states it for each, and has not for the next one.
     Unknown,
-    /// It is: whether data go to the card.
+    /// By header, stated for the next one: `true` if its data go to the card.
     Known(bool),
 }
 
@@ -51,7 +51,7 @@ fn forget(directions: &mut Directions)
 }
 
 /// An application that answers each command with the response that it was given for it. Without one
-/// the status is 6581. For callers without callbacks.
+/// the status is `6581`. For callers without callbacks.
 #[derive(Drop)]
 pub struct Given {
     directions: Directions,
@@ -84,7 +84,7 @@ impl Model for Given {
 }
 
 impl Given {
-    /// Makes the application, with no response.
+    /// Makes the application, without a response. It counts as settled.
     pub fn new(alloc: Global, directions: Directions) -> Given
         ensures { result ≡ record { directions = directions; given = None; settled = true } }
     {
@@ -105,14 +105,15 @@ impl Given {
         self.status.is_some()
     }
 
-    /// Whether the last command that got a response has settled.
+    /// Whether the last command that got a response has settled; `true` before the first. It stays
+    /// `false` if a reset drops the command.
     pub fn has_settled(&self) -> bool
         ensures { result ≡ self.now.settled }
     {
         self.settled
     }
 
-    /// Which way data go.
+    /// Which way the data of commands go.
     pub fn directions(&self) -> Directions
         ensures { result ≡ self.now.directions }
     {

@@ -88,7 +88,9 @@ impl CommandCard<Given> {
     ghost use Rattle.std.specs.Prelude.{◌≡◌};
     ghost use Rattle.command_card.specs.View.{standing_in, prepared_in};
 
-    /// What the application is needed for, to answer this header.
+    /// What the application is needed for, to answer this header, whether or not a response was
+    /// given already. Nothing for INS `6X` or `9X`, for GET RESPONSE, and for the header that gets a
+    /// response after `6CXX`.
     pub fn need(&self, header: Header, p3: u8) -> Need
         ensures { result ≡ need_in (standing_in (λ s. s) self.now) header p3 }
     {
@@ -115,10 +117,10 @@ impl CommandCard<Given> {
     ///
     /// # Errors
     /// In this order; nothing has changed:
-    /// - `NotWanted`: it has one, or has begun to answer.
+    /// - `NotWanted`: the card has a response, or has begun to answer.
     /// - `TooLong`: the response exceeds `OWN_RESPONSE_LIMIT`.
     /// - `CardsOwn`: the status is `61XX` or `6CXX`.
-    /// - `OutOfMemory`.
+    /// - `OutOfMemory`: memory ran out.
     pub fn give(&mut self, bytes: &[u8], status: Status) -> Result<(), GiveFault>
         ensures prepared { prepared_in (λ s. s) settled self.new
             ≡ prepared_in (λ s. s) settled self.old }
@@ -145,8 +147,8 @@ impl CommandCard<Given> {
         }
     }
 
-    /// Takes the answer which way the data of the next header go. Returns whether it was wanted;
-    /// otherwise nothing has changed.
+    /// States which way the data of the next header go. Returns `true` if the card did not know, and
+    /// no TPDU is in progress. Otherwise returns `false`, and nothing has changed.
     pub fn decide(&mut self, to_card: bool) -> bool
         ensures prepared { prepared_in (λ s. s) settled self.new
             ≡ prepared_in (λ s. s) settled self.old }
@@ -161,8 +163,8 @@ impl CommandCard<Given> {
         true
     }
 
-    /// Takes back the response to a whole command that is dropped, and what was answered about
-    /// its header. During a TPDU nothing changes.
+    /// Takes back the response that was given, and what was stated about the next header, for a
+    /// command that is dropped. While a TPDU is in progress nothing changes.
     pub fn take_back(&mut self)
         ensures prepared { prepared_in (λ s. s) settled self.new
             ≡ prepared_in (λ s. s) settled self.old }
@@ -173,11 +175,12 @@ impl CommandCard<Given> {
         }
     }
 
-    /// Carries out a whole command, which settles. The card keeps its response until `forget`.
+    /// Carries out a whole command, which settles. `response` has what the card answers. Le is 1 to
+    /// 256, or `None`.
     ///
     /// # Errors
-    /// - `AllocError`: memory ran out, the card has begun to answer, this is no command, or its
-    ///   response was not given; nothing is carried out.
+    /// - `AllocError`: memory ran out, a TPDU is in progress, this is no command, or the response
+    ///   that it needs was not given. Nothing is carried out.
     pub fn respond(
         &mut self,
         header: Header,
@@ -216,14 +219,15 @@ impl CommandCard<Given> {
         Ok(())
     }
 
-    /// The response to the last whole command, until `forget`.
+    /// What the card answers to the last whole command: data, SW1 and SW2. It stays until `forget`
+    /// or a TPDU.
     pub fn response(&self) -> &[u8]
         ensures { result.now ≡ self.now.fresh }
     {
         &self.fresh
     }
 
-    /// Wipes the response to the last whole command, if nothing else is in its place.
+    /// Wipes what `response` returns. While a TPDU is in progress nothing changes.
     pub fn forget(&mut self)
         ensures prepared { prepared_in (λ s. s) settled self.new
             ≡ prepared_in (λ s. s) settled self.old }
@@ -281,8 +285,8 @@ fn respond_given(
     Ok(hand_out(kept, 0, status, le, response))
 }
 
-/// What is still needed of the application at a header, if these are its data. It is what
-/// `wanted_by` would find, without the command.
+/// What is still needed of the application at a header, if `bytes` are the data to the card. A
+/// response is not needed if one was given, or if data are due and `bytes` are not P3 in number.
 #[inline(never)]
 pub fn needed_by(card: &CommandCard<Given>, header: Header, p3: u8, bytes: &[u8]) -> Need
     ensures { wanted_by card.now header p3 bytes.now ≡ wanted_as result header p3 bytes.now }
@@ -351,7 +355,7 @@ fn wanted_after<'a>(card: &CommandCard<Given>, bytes: &'a [u8]) -> Wanted<'a>
     Wanted::Response(Command::new(header, bytes, None).unwrap())
 }
 
-/// What is wanted of the caller before the end's next character.
+/// What is wanted of the caller before the card's end sends its next character.
 pub fn wanted_next<'a>(end: &'a CardEnd<CommandCard<Given>>) -> Wanted<'a>
     ensures { IsWanted end.now result }
 {
@@ -419,7 +423,7 @@ pub fn give(
     end.with_card(|card| card.give(bytes, status))
 }
 
-/// Answers which way the data of the next header go (`CommandCard::decide`).
+/// States which way the data of the next header go (`CommandCard::decide`).
 pub fn decide(end: &mut CardEnd<CommandCard<Given>>, to_card: bool) -> bool
     ensures stage { end.new.stage ≡ end.old.stage }
     ensures failed { result ≡ false → end.new.card ≡ end.old.card }
@@ -438,10 +442,10 @@ pub fn take_back(end: &mut CardEnd<CommandCard<Given>>)
     end.with_card(|card| card.take_back())
 }
 
-/// Carries out a whole command at an end at rest (`CommandCard::respond`).
+/// Carries out a whole command at an end at rest, as `CommandCard::respond`.
 ///
 /// # Errors
-/// - `AllocError`: as there.
+/// - `AllocError`: as there; nothing is carried out.
 pub fn respond_to(
     end: &mut CardEnd<CommandCard<Given>>,
     header: Header,
@@ -462,7 +466,7 @@ pub fn respond_to(
     end.with_card(|card| card.respond(header, bytes, le))
 }
 
-/// Wipes the response to the last whole command (`CommandCard::forget`).
+/// Wipes what the card answered to the last whole command (`CommandCard::forget`).
 pub fn forget(end: &mut CardEnd<CommandCard<Given>>)
     ensures stage { end.new.stage ≡ end.old.stage }
     ensures stands { standing_in (λ s. s) end.new.card ≡ standing_in (λ s. s) end.old.card }

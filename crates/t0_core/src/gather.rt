@@ -56,7 +56,8 @@ impl<A: Allocator> Gather<A> {
         self.bytes.as_slice()
     }
 
-    /// Returns the bytes gathered so far, and frees the unused room.
+    /// Returns the bytes gathered so far, and frees the unused room. If memory for that runs out,
+    /// the room stays.
     pub fn into_bytes(self) -> Vec<u8, A>
         ensures { result.items ≡ self.bytes }
     {

@@ -98,29 +98,29 @@ extern "C" {
 enum {
     GT_OK = 0,              /* success; of a turn (.._next, .._turn): the end listens */
     GT_SENDS = 1,           /* of a turn: a character to send; of .._send_bytes: the buffer is
-                             * full; at T=1: the received block is whole, or dropped */
-    GT_DONE = 2,            /* of a turn of an exchange or a terminal: it has ended, and has an
-                             * answer; at T=1: there is no block to send */
+                             * full, or has a NULL alone; at T=1: the received block is whole, or
+                             * dropped */
+    GT_DONE = 2,            /* of a turn: the exchange or operation has ended, and has an answer;
+                             * at T=1: there is no block to send */
     GT_COMMAND = 3,         /* of a card of your own: a command waits for its response */
     GT_HEADER = 4,          /* of a card of your own: a header waits for the way of its data */
 
     GT_ALL_SENT = 10,       /* all data to the card have left the terminal, or it has none to
                              * send */
     GT_NOT_ALL_SENT = 11,   /* not all have */
-    GT_SENT_UNKNOWN = 12,   /* it is not known: a TPDU or a command went as a whole, or an error has
-                             * ended it */
+    GT_SENT_UNKNOWN = 12,   /* it is not known: see `gt_exchange_data_sent` */
 
     GT_NULL = -1,           /* a pointer is NULL */
     GT_EMPTY = -2,          /* the handle holds nothing */
     GT_STATE = -3,          /* not now: the handle's state does not allow the call */
     GT_MEMORY = -4,         /* memory ran out */
-    GT_ARGUMENT = -5,       /* an argument is out of its range */
+    GT_ARGUMENT = -5,       /* an argument is invalid */
     GT_BUFFER = -6,         /* too little room for the output; the buffer is unchanged, except by
                              * gt_objects, which fills it as far as it goes */
     GT_BUSY = -7,           /* a chain is pending at the card */
     GT_NOT_FOUND = -8,      /* what was asked for is not there */
-    GT_FAILED = -9,         /* of a turn of an exchange or a terminal: it has failed for good; at
-                             * T=1: the end gave up */
+    GT_FAILED = -9,         /* of a turn: the exchange or operation has failed for good; at T=1:
+                             * the end gave up */
     GT_PLANS = -10,         /* GT_PLANS_LIMIT plans wait already */
 
     /* of a card under construction */
@@ -137,10 +137,10 @@ enum {
     GT_NOT_LISTENING = -30, /* the end has characters to send; at a card of your own also: a header
                              * or a command waits */
     GT_BAD_PROCEDURE = -31, /* unexpected byte: neither a procedure byte nor a first status byte */
-    GT_TOO_LONG = -32,      /* the response exceeds its limit: 16,384 bytes, or fewer */
+    GT_TOO_LONG = -32,      /* the response exceeds its limit */
     GT_STALLED = -33,       /* a GET RESPONSE of the exchange's own brought nothing, and the card
                              * announces more */
-    GT_AFTER_END = -34,     /* the exchange has ended or failed, or no operation has started */
+    GT_AFTER_END = -34,     /* the exchange or operation has ended or failed, or none has started */
 
     /* of objects */
     GT_TAG_CUT = -40,       /* the list ends inside a tag */
@@ -167,8 +167,8 @@ enum {
 
     /* of an answer to reset */
     GT_ATR_NO_TS = -70,     /* the first byte is neither 3B nor 3F */
-    GT_ATR_CUT = -71,       /* there are fewer than 33 bytes, and they end before a character that
-                             * is announced */
+    GT_ATR_CUT = -71,       /* there are fewer than 33 bytes, and they end before TS, T0 or an
+                             * announced character */
     GT_ATR_TOO_LONG = -72,  /* there are 33 bytes or more, and the answer would have more than 33,
                              * the most, with TCK */
     GT_ATR_ORDER = -73,     /* the T that this TD names is below the one before it, or 15 in TD1 */
@@ -408,7 +408,7 @@ GT_FUNCTION size_t gt_status_words(uint8_t cla, uint8_t ins, uint16_t status, ch
 enum {
     GT_VALUE_LIMIT = 8192,      /* the most bytes of a value on a card */
     GT_OBJECT_LIMIT = 8197,     /* of such a value with its tag and length: the data of a get */
-    GT_RESPONSE_LIMIT = 16384,  /* of an answer's data, at a terminal with no limit of its own */
+    GT_RESPONSE_LIMIT = 16384,  /* of an answer's data, if no lower limit is given */
     GT_AID_LEAST = 5,           /* the fewest bytes of an application's identifier */
     GT_AID_LIMIT = 16,          /* and the most */
     GT_APPS_LIMIT = 8,          /* the most applications of a card */
@@ -435,7 +435,7 @@ enum {
 typedef struct gt_object {
     uint32_t tag;
     uint8_t level;          /* from 1 to GT_LEVELS_LIMIT */
-    uint8_t constructed;    /* 1 if the value is a list of objects, else 0 */
+    uint8_t constructed;    /* 1 for a template, whose value is a list of objects; else 0 */
     size_t place, size;     /* the first byte of its tag; tag, length and value together */
     size_t value, length;   /* the first byte of its value; the number of its bytes */
 } gt_object;
@@ -448,8 +448,8 @@ typedef struct gt_character {
     uint8_t byte;
 } gt_character;
 
-/* A command that reached a card of your own, as T=0 shows it: with data and without Le, or with Le
- * and without data. */
+/* A command that reached a card of your own, as T=0 shows it: with Le and without data, or without
+ * Le and with data, of 0 bytes or more. A header that waits has neither. */
 typedef struct gt_command {
     uint8_t cla, ins, p1, p2;
     uint16_t le;            /* Le, 1 to 256; 0: the command has none */
@@ -503,7 +503,8 @@ typedef struct gt_atr_t1 {
 typedef struct gt_atr {
     size_t length;              /* the number of its bytes, TS and TCK included: 2 to
                                  * GT_ATR_LIMIT */
-    size_t historical;          /* the place of the first historical byte, from 0 for TS */
+    size_t historical;          /* the place of the first historical byte, from 0 for TS; without
+                                 * any, the place after the interface bytes */
     size_t historical_count;    /* their number, 0 to 15 */
     uint8_t category;           /* their form: GT_HISTORY_NONE .. GT_HISTORY_OWN */
     uint8_t convention;         /* GT_DIRECT or GT_INVERSE */
@@ -537,9 +538,9 @@ typedef struct gt_atr {
  * calls, in the order of use; those after .. may come at any time in between:
  *
  * - gt_exchange_  start or start_within; next and take, send_bytes and receive_bytes, tpdu and
- *                 answered, or apdu and responded; answer; free
+ *                 answered, or apdu and responded; answer; .. data_sent; free
  * - gt_terminal_  new or new_within; then, again and again: select, get, put or send; those of an
- *                 exchange; answer; .. reset; free
+ *                 exchange; answer; .. data_sent, reset; free
  * - gt_t1_        new; then, again and again: begin; send_bytes, and receive_bytes, missed or
  *                 damaged; response or fault; .. reset; free
  * - gt_card_      new; app and object; finish; take and turn, send_bytes and receive_bytes, tpdu
@@ -566,7 +567,9 @@ typedef struct gt_atr {
  *                 T=1 a command adds at most 770, the bytes of the value that it stores, and twice
  *                 those of the longest command since gt_card_t1_begin, which counts as 261 at most
  * - gt_t1         368, the bytes of its longest command since gt_t1_reset, and up to three times
- *                 those of the response; while a block is sent, its bytes too, at most 258
+ *                 those of the longest response since then; while a block is sent, its bytes too,
+ *                 at most 258. While gt_t1_begin copies a longer command, the bytes of the longest
+ *                 before it too
  * - a session     26,961 with that small card, for a select, a put of 3 bytes and a get; 43,339 for
  *                 a put and a get of 8,192 bytes. If somebody listens, 27,217 and 117,064
  * - plans         at most 192 for each of the most plans that waited at once since none did; and
@@ -754,9 +757,9 @@ GT_INLINE int32_t gt_pass_(int32_t (*carry_out)(gt_card *, const uint8_t *, size
  * functions take no memory. */
 
 /* Lists all objects of all levels of a list, in the order of their first bytes: a template comes
- * before the objects in it. `count` gets their number. With room 0 the call only checks and counts,
- * and returns GT_OK; `objects` may then be NULL. `count` and `place` may not. The call takes up
- * to 2.3 KB of stack, for 16 levels.
+ * before the objects in it. `count` gets their number. With room 0 the call only checks and counts;
+ * `objects` may then be NULL. `count` and `place` may not. The call takes up to 2.3 KB of stack,
+ * for 16 levels.
  *
  * - GT_OK: all of them are in `objects`, from its front, or room is 0. `count` is set here too.
  * - GT_BUFFER: there are more than `room`; `count` is their number, and the first `room` of them
@@ -849,8 +852,8 @@ GT_MUST_CHECK int32_t gt_pps_request(uint8_t t, uint16_t pps1, uint16_t pps2, ui
 }
 
 /* Returns whether a card's response accepts a request (9.3). It does if it names the same protocol,
- * and each of PPS1 to PPS3 is as requested or absent. An absent one is the only one that the card
- * does not accept: without PPS1 Fi is 372 and Di 1. Compare with == 1.
+ * and each of PPS1 to PPS3 is as requested or absent. One that is absent is not agreed: without
+ * PPS1 Fi is 372 and Di 1. Compare with == 1.
  *
  * - 1: it does.
  * - 0: it does not. Reset the card, or give it up.
@@ -908,10 +911,11 @@ GT_MUST_CHECK int32_t gt_exchange_start(gt_exchange *e, const uint8_t *command, 
 }
 
 /* As `gt_exchange_start`, for a response of at most `limit` bytes, 0 to GT_RESPONSE_LIMIT. The
- * exchange takes no more memory for it. The first byte beyond is GT_TOO_LONG.
+ * exchange takes no more memory for it by TPDUs, and at most twice that by whole commands. The
+ * first byte beyond is GT_TOO_LONG.
  *
- * - GT_ARGUMENT, before GT_MEMORY: `limit` is above GT_RESPONSE_LIMIT. The handle still holds
- *   nothing.
+ * - GT_ARGUMENT, before GT_MEMORY and after the others: `limit` is above GT_RESPONSE_LIMIT. The
+ *   handle still holds nothing.
  * - The others as above. */
 GT_MUST_CHECK int32_t gt_exchange_start_within(gt_exchange *e, const uint8_t *command, size_t n,
                                                size_t limit) {
@@ -1060,9 +1064,11 @@ GT_MUST_CHECK int32_t gt_exchange_responded(gt_exchange *e, const uint8_t *respo
 /* Returns whether all data of the command have left the terminal. A card may end a TPDU with any
  * status before it takes the data: then a status 61XX, 62XX, 63XX or 9XXX is no success.
  *
- * - GT_ALL_SENT: they have, or the command has no data.
- * - GT_NOT_ALL_SENT: they have not, and won't once the exchange has ended.
- * - GT_SENT_UNKNOWN: a TPDU or a command went as a whole, or an error has ended the last. */
+ * - GT_SENT_UNKNOWN: a TPDU or a command went as a whole, even one without data, or
+ *   GT_BAD_PROCEDURE or GT_TOO_LONG has ended the last TPDU. If an earlier TPDU ended with
+ *   GT_NOT_ALL_SENT, that stays.
+ * - GT_ALL_SENT: else, they have, or the command has no data.
+ * - GT_NOT_ALL_SENT: else, they have not, and won't once the exchange has ended. */
 GT_MUST_CHECK int32_t gt_exchange_data_sent(gt_exchange *e) {
     if (!e) return GT_NULL;
     return galliumtoad_exchange_data_sent(e);
@@ -1319,9 +1325,9 @@ GT_MUST_CHECK int32_t gt_t1_begin(gt_t1 *t, const uint8_t *apdu, size_t n) {
 }
 
 /* Copies the block to send now to `bytes`. `n` gets its length, 4 to GT_BLOCK_LIMIT. `waits` gets
- * how many times BWT the card has for its answer: 1, or as many as it asked for. Each further call
- * gives the same block, until `gt_t1_receive_bytes` returns GT_SENDS, or a call of `gt_t1_missed`
- * or `gt_t1_damaged`.
+ * how many times BWT the card has for its answer: 1, or as many as it asked for (0 counts as 1).
+ * Each further call gives the same block, until `gt_t1_receive_bytes` returns GT_SENDS, or a call
+ * of `gt_t1_missed` or `gt_t1_damaged`.
  *
  * - GT_OK.
  * - GT_DONE: no command is in progress. The last one has its response, or none has started.
@@ -1391,8 +1397,9 @@ GT_MUST_CHECK int32_t gt_t1_response(gt_t1 *t, uint8_t *response, size_t room, s
  * GT_IN_PART. From then on a command can start only after `gt_t1_reset`, after a reset of the card.
  *
  * After S(ABORT request) `gt_t1_send_bytes` gives S(ABORT response). The end gives up with
- * GT_ABORTED at the next reception, whatever that is, or `gt_t1_missed`. If the first block of a
- * response is already too long, the outcome of GT_TOO_LONG is GT_UNKNOWN, since no part is kept.
+ * GT_ABORTED at the next reception, whatever that is, `gt_t1_missed` or `gt_t1_damaged`. If the
+ * first block of a response is already too long, the outcome of GT_TOO_LONG is GT_UNKNOWN, since no
+ * part is kept.
  *
  * - GT_OK.
  * - GT_NOT_FOUND: it has not given up. */
@@ -1487,7 +1494,8 @@ GT_MUST_CHECK int32_t gt_card_finish(gt_card *c) {
  *
  * - GT_OK.
  * - GT_STATE: the card is not finished yet, or speaks T=1. Nothing has changed.
- * - GT_NOT_LISTENING: it has characters to send. Nothing has changed. */
+ * - GT_NOT_LISTENING: it has characters to send, or a header or a command waits at a card of your
+ *   own. Nothing has changed. */
 GT_MUST_CHECK int32_t gt_card_take(gt_card *c, uint8_t byte) {
     if (!c) return GT_NULL;
     return galliumtoad_card_take(c, byte);
@@ -1497,6 +1505,7 @@ GT_MUST_CHECK int32_t gt_card_take(gt_card *c, uint8_t byte) {
  *
  * - GT_SENDS: `byte` gets a character for the terminal. Send it now.
  * - GT_OK: the card waits for a character of the terminal, for `gt_card_take`.
+ * - GT_COMMAND, GT_HEADER: it waits, at a card of your own alone. See there.
  * - GT_STATE: it is not finished yet, or speaks T=1.
  *
  * Only GT_SENDS changes `byte` and the card. A put is stored when the second status byte has been
@@ -1513,7 +1522,8 @@ GT_MUST_CHECK int32_t gt_card_turn(gt_card *c, uint8_t *byte) {
  *
  * - GT_OK: after them the card waits for a character of the terminal; `n` may be 0.
  * - GT_SENDS: `bytes` is full, with `room` characters, and there may be more: call again. With room
- *   0 it is always this. At a card of your own also after a NULL, alone.
+ *   0 it is always this, except GT_STATE. At a card of your own also after a NULL, alone.
+ * - GT_COMMAND, GT_HEADER: after them it waits, at a card of your own alone. See there.
  * - GT_STATE: the card is not finished yet, or speaks T=1. `bytes` and `n` are unchanged. */
 GT_MUST_CHECK int32_t gt_card_send_bytes(gt_card *c, uint8_t *bytes, size_t room, size_t *n) {
     uint8_t none = 0;
@@ -1525,8 +1535,8 @@ GT_MUST_CHECK int32_t gt_card_send_bytes(gt_card *c, uint8_t *bytes, size_t room
  * gets their number.
  *
  * - GT_OK: all were taken, also if `n` is 0.
- * - GT_NOT_LISTENING: after those taken the card has characters to send. `taken` is set, and the
- *   others were not looked at.
+ * - GT_NOT_LISTENING: after those taken the card has characters to send, or a header or a command
+ *   waits at a card of your own. `taken` is set, and the others were not looked at.
  * - GT_STATE: the card is not finished yet, or speaks T=1. `taken` is unchanged. */
 GT_MUST_CHECK int32_t gt_card_receive_bytes(gt_card *c, const uint8_t *bytes, size_t n,
                                             size_t *taken) {
@@ -1624,15 +1634,15 @@ GT_MUST_CHECK int32_t gt_card_apdu(gt_card *c, const uint8_t *apdu, size_t n,
  * or pending stays, and so do the plans, for T=0 after the next reset.
  *
  * - GT_OK.
- * - GT_STATE: the card is not finished yet, a TPDU is in progress, or it speaks T=1. Nothing
- *   changes. */
+ * - GT_STATE: the card is not finished yet, a TPDU is in progress, a header or a command waits, or
+ *   the card speaks T=1. Nothing changes. */
 GT_MUST_CHECK int32_t gt_card_t1_begin(gt_card *c) {
     if (!c) return GT_NULL;
     return galliumtoad_card_t1_begin(c);
 }
 
 /* Copies the block to send now to `bytes`, and sets `n` to its length, 4 to GT_BLOCK_LIMIT. It
- * stays the same block until one of the next two calls returns GT_SENDS or GT_MEMORY, or
+ * stays the same block until one of the next three calls returns GT_SENDS or GT_MEMORY, or
  * gt_card_more_time GT_OK.
  *
  * - GT_OK.
@@ -1779,18 +1789,18 @@ GT_FUNCTION void gt_card_free(gt_card *c) {
  * GT_HEADER is only for a card without directions. GT_COMMAND may follow it. The same call again is
  * gt_card_tpdu or gt_card_apdu with NULL and 0 in place of the bytes.
  *
- * At T=1 any block of the terminal drops a command that waits, and what was answered for it, except
- * S(IFS request) and the response to S(WTX request) while that is in progress. After the response
- * gt_card_t1_send_bytes returns GT_HEADER or GT_COMMAND again. A command that was dropped before
- * the answer may come again in another block: you get it once more, and gt_card_settled is 0 if it
- * had a response, which did not go out.
+ * At T=1 any block of the terminal, even an invalid one, drops a command that waits, and what was
+ * answered for it. While S(WTX request) is in progress only S(ABORT request) and S(RESYNCH request)
+ * drop the command. After the response to S(WTX request) gt_card_t1_send_bytes returns GT_HEADER or
+ * GT_COMMAND again. A command that was dropped before the answer may come again in another block:
+ * you get it once more, and gt_card_settled is 0 if it had a response, which did not go out.
  *
  * No command waits in these cases, and the card answers alone:
  *
  * - GET RESPONSE, INS C0 in any class: it fetches the rest of a response that 61XX announces. If
  *   nothing waits, it is 6985.
  * - The same header with the P3 that 6CXX names: the response is there already.
- * - INS 6X and 9X: 6D00.
+ * - INS 6X and 9X: 6D00; gt_card_apdu returns GT_INVALID_INS.
  *
  * At most P3 bytes of a response go out. The card answers 61XX for the rest, and your status
  * follows the last byte. It answers 6CXX if your response is shorter than P3, but not empty. Any
@@ -1798,12 +1808,13 @@ GT_FUNCTION void gt_card_free(gt_card *c) {
  *
  * A command takes effect when it settles: with SW2 of the TPDU that carried it out, also if that is
  * 61XX or 6CXX. A reset before SW2 drops it: undo what it did. A whole command settles when it is
- * carried out, which is when gt_card_apdu returns GT_OK.
+ * carried out, which is when gt_card_apdu returns GT_OK, and at T=1 when gt_card_t1_send_bytes has
+ * the block that answers it.
  *
- * A whole command reaches you as T=0 shows it, so answers are alike: with data and without Le, or
- * with Le and without data. Le is 256 if it has neither. At most Le bytes come back, none without
- * Le, and 61XX announces the rest; there is no 6CXX. The card answers 6700 alone to data where none
- * go to the card, and to Le without data where some do.
+ * A whole command reaches you as T=0 shows it, so answers are alike: without Le if data go to the
+ * card, even none, and else with Le and without data. That Le is 256 if the command has none. At
+ * most Le bytes come back, none without Le, and 61XX announces the rest; there is no 6CXX. The card
+ * answers 6700 alone to data where none go to the card, and to Le without data where some do.
  *
  * Misuse gets these codes, and changes nothing:
  *
@@ -1811,10 +1822,11 @@ GT_FUNCTION void gt_card_free(gt_card *c) {
  * - gt_card_command: nothing waits: GT_STATE.
  * - gt_card_direction: no header waits: GT_STATE.
  * - gt_card_respond: no command waits, as before the first one, after the response to it, and after
- *   a reset: GT_STATE. At T=1 also before gt_card_t1_send_bytes returns GT_COMMAND, and after the
- *   next block, as S(ABORT) or S(RESYNCH). Another response than one may give: GT_ARGUMENT.
+ *   a reset: GT_STATE. At T=1 also before gt_card_t1_send_bytes returns GT_COMMAND or GT_HEADER,
+ *   and after the next block, as S(ABORT) or S(RESYNCH). Another response than one may give:
+ *   GT_ARGUMENT.
  * - gt_card_more_time: no command waits by characters, by buffers or at T=1, or it has its
- *   response: GT_STATE.
+ *   response: GT_STATE. A multiple of 0: GT_ARGUMENT.
  * - gt_card_take and gt_card_receive_bytes, while one waits: GT_NOT_LISTENING.
  * - gt_card_tpdu and gt_card_apdu with bytes, while one waits; or without bytes, while none of that
  *   call waits: GT_STATE, and with nothing that waits GT_NO_TPDU and GT_TOO_SHORT. While one of
@@ -1889,7 +1901,8 @@ GT_MUST_CHECK int32_t gt_card_respond(gt_card *c, const uint8_t *data, size_t n,
  * GT_COMMAND again, or GT_HEADER. `multiple`, 1 to 255, is how many times BWT the terminal waits
  * for the next block; at T=0 it has no effect.
  *
- * - GT_OK: the command waits on. gt_card_respond returns GT_STATE until then.
+ * - GT_OK: the command waits on. gt_card_respond returns GT_STATE until the NULL is out, and at T=1
+ *   until GT_COMMAND or GT_HEADER comes again.
  * - GT_STATE: no command waits by characters, by buffers or at T=1, it has its response, or the
  *   card is not of your own.
  * - GT_ARGUMENT: `multiple` is 0. The command still waits. */
@@ -1901,7 +1914,7 @@ GT_MUST_CHECK int32_t gt_card_more_time(gt_card *c, uint8_t multiple) {
 /* Returns whether the last command that got a response has settled. Compare with == 1.
  *
  * - 1: it has, or there was none.
- * - 0: it has not. After a reset it never will: undo it.
+ * - 0: it has not. After a reset, or once a block at T=1 has dropped it, it never will: undo it.
  * - GT_STATE: the card is not of your own. */
 GT_MUST_CHECK int32_t gt_card_settled(gt_card *c) {
     if (!c) return GT_NULL;

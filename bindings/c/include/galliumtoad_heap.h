@@ -20,8 +20,8 @@
  * - Blocks hold values of data objects, commands and answers. The archive's own functions wipe each
  *   block before they free it, so that nothing of this stays in free memory. The library itself
  *   wipes no block. Three functions of your own must do that, for all bytes of a block, also of one
- *   that rattle_realloc moves or shortens. The stack and registers are not wiped, except the copy
- *   that gt_card_tpdu makes. */
+ *   that rattle_realloc moves or shortens. The stack and registers are not wiped, except the copies
+ *   that gt_card_tpdu and gt_card_apdu make. */
 #ifndef GALLIUMTOAD_HEAP_H
 #define GALLIUMTOAD_HEAP_H
 

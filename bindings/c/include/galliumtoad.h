@@ -110,7 +110,7 @@ enum {
     GT_NOT_ALL_SENT = 11,   /* not all have */
     GT_SENT_UNKNOWN = 12,   /* it is not known: see `gt_exchange_data_sent` */
 
-    GT_NULL = -1,           /* a pointer is NULL */
+    GT_NULL = -1,           /* a pointer is NULL that must not be */
     GT_EMPTY = -2,          /* the handle holds nothing */
     GT_STATE = -3,          /* not now: the handle's state does not allow the call */
     GT_MEMORY = -4,         /* memory ran out */
@@ -463,8 +463,8 @@ enum { GT_CLASS_A = 1, GT_CLASS_B = 2, GT_CLASS_C = 4 };
 enum { GT_LRC = 1, GT_CRC = 2 };
 
 /* What is known of a command if a terminal's end at T=1 gave up. The card has not carried it out,
- * since its last block was never sent (0). It may have (1). It has, and a part of the response
- * arrived (2). */
+ * since its last block was never sent, or has to come again in shorter ones (0). It may have (1).
+ * It has, and a part of the response arrived (2). */
 enum { GT_NOT_CARRIED_OUT = 0, GT_UNKNOWN = 1, GT_IN_PART = 2 };
 
 /* The form of historical bytes, by the first of them (ISO/IEC 7816-4, 12.1.1). */
@@ -1623,9 +1623,10 @@ GT_MUST_CHECK int32_t gt_card_apdu(gt_card *c, const uint8_t *apdu, size_t n,
  * ```
  *
  * The caller keeps the times of the card's answer to reset: `gt_atr.t1`. Blocks have NAD 00 and an
- * LRC, and fields of at most 32 bytes until S(IFS request). The end answers each other request of a
- * terminal, and sends no request but S(WTX) by gt_card_more_time. The response to other bytes than
- * a short command is 6700, and to an invalid INS 6D00 (profile).
+ * LRC, and fields of at most 32 bytes until S(IFS request). The end answers S(ABORT request) and
+ * S(RESYNCH request) too. S(WTX request) and S(IFS request) of 0 or 255 count as invalid blocks. It
+ * sends no request but S(WTX) by gt_card_more_time. The response to other bytes than a short
+ * command is 6700, and to an invalid INS 6D00 (profile).
  *
  * The card speaks T=1 up to gt_card_reset. Until then gt_card_plan, gt_session_start and the other
  * calls that send or receive return GT_STATE. Those that show its content work as before.
@@ -1929,9 +1930,9 @@ GT_MUST_CHECK int32_t gt_card_settled(gt_card *c) {
  * - 00 C0 00 00 Le: GET RESPONSE. An exchange sends it by itself.
  *
  * After all except 9000 and 61XX no value is stored, what was selected stays selected, and a chain
- * is dropped. So is a response that waits, unless GET RESPONSE itself gets 6CXX. If more than one
- * holds, the answer is the first of 6883, 6E00, 6D00, 6884, 6A86, 6985, 6982, 6A88, 6700, 6CXX. The
- * others come after the data.
+ * is dropped. So is a response that waits, unless GET RESPONSE itself gets 6CXX. The 6700 that
+ * gt_card_apdu lists drops neither. If more than one holds, the answer is the first of 6883, 6E00,
+ * 6D00, 6884, 6A86, 6985, 6982, 6A88, 6700, 6CXX. The others come after the data.
  *
  * - 9000: it is done, and all data were received.
  * - 61XX: it is done, and XX more bytes can be had with GET RESPONSE (00: 256). GET DATA with an Le

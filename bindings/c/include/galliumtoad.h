@@ -148,7 +148,7 @@ enum {
     GT_LENGTH_CUT = -42,    /* the list ends inside a length, or before it */
     GT_LENGTH_FORM = -43,   /* the length starts with 80, or with a byte above 82 */
     GT_VALUE_CUT = -44,     /* the value passes the end of the list */
-    GT_TOO_DEEP = -45,      /* the list is a level below the deepest one, 16 */
+    GT_TOO_DEEP = -45,      /* an object is below the deepest level, 16 */
 
     /* of a command */
     GT_TOO_SHORT = -50,     /* there are fewer than four bytes */
@@ -413,7 +413,7 @@ enum {
     GT_AID_LIMIT = 16,          /* and the most */
     GT_APPS_LIMIT = 8,          /* the most applications of a card */
     GT_ENTRIES_LIMIT = 64,      /* the most data objects of an application */
-    GT_LEVELS_LIMIT = 16,       /* the deepest level of a list of objects */
+    GT_LEVELS_LIMIT = 16,       /* the deepest level of an object */
     GT_TPDU_LIMIT = 260,        /* the most bytes of a whole TPDU: header, P3 and 255 of data */
     GT_APDU_LIMIT = 261,        /* of a command: header, Lc, 255 of data and Le */
     GT_ANSWER_LIMIT = 258,      /* of the answer to either: 256 of data, and the status */
@@ -558,8 +558,9 @@ typedef struct gt_atr {
  * - an exchange   272 and its limit on the response, which is 16,384 if none is given, and the
  *                 bytes of the command's data: at most 16,911
  * - a terminal    464. The first operation adds its limit on a response, 16,384 if none is given,
- *                 and the data that it sends: an identifier, a value or a command. That part grows
- *                 with the longest data so far; the old copy stays until the new one is made
+ *                 and the data that it sends: an identifier, a value, or those of a command. That
+ *                 part grows with the longest data so far; the old copy stays until the new one is
+ *                 made
  * - by commands   an exchange and a terminal take room for the response and the data once more. A
  *                 terminal keeps both
  * - a card        10,571 with one application and one object of 3 bytes, and 27,234 together with a
@@ -1544,8 +1545,9 @@ GT_MUST_CHECK int32_t gt_card_receive_bytes(gt_card *c, const uint8_t *bytes, si
     return galliumtoad_card_receive_bytes(c, gt_bytes_(bytes), n, taken);
 }
 
-/* Resets the card, at any time: a TPDU or a block in progress is dropped, and nothing is selected
- * or pending. The card waits for a header, at T=0. Data objects and the plans that wait stay.
+/* Resets the card, at any time: a TPDU, a block or a command in progress is dropped, and nothing is
+ * selected or pending. The card waits for a header, at T=0. Data objects and the plans that wait
+ * stay.
  *
  * - GT_OK.
  * - GT_STATE: it is not finished yet. */

@@ -1029,8 +1029,8 @@ GT_MUST_CHECK int32_t gt_exchange_answered(gt_exchange *e, const uint8_t *answer
 }
 
 /* The next two are for a reader that carries whole commands (APDUs), as PC/SC does for a card at
- * T=1 or without contacts. The first is the exchange's own command, with its Le. GET RESPONSE
- * follows 61XX. After 6CXX the terminal sends a command of case 2 once more.
+ * T=1 or without contacts. The first is the exchange's own command, with its Le. By the rules of
+ * `gt_exchange_start` GET RESPONSE follows 61XX, and a command of case 2 is sent again after 6CXX.
  *
  * The first character sent, or the first answer that is taken or fails the exchange, sets the
  * level: characters and TPDUs, or commands. From then on calls of the other level return GT_STATE,
@@ -1065,7 +1065,7 @@ GT_MUST_CHECK int32_t gt_exchange_responded(gt_exchange *e, const uint8_t *respo
 /* Returns whether all data of the command have left the terminal. A card may end a TPDU with any
  * status before it takes the data: then a status 61XX, 62XX, 63XX or 9XXX is no success.
  *
- * - GT_SENT_UNKNOWN: a TPDU or a command went as a whole, even one without data, or
+ * - GT_SENT_UNKNOWN: the answer to a whole TPDU or command was taken, even without data, or
  *   GT_BAD_PROCEDURE or GT_TOO_LONG has ended the last TPDU. If an earlier TPDU ended with
  *   GT_NOT_ALL_SENT, that stays.
  * - GT_ALL_SENT: else, they have, or the command has no data.
@@ -1083,14 +1083,14 @@ GT_FUNCTION void gt_exchange_free(gt_exchange *e) {
 
 /* ---- A terminal, for the objects of a card over any line -------------------------------------
  *
- * An operation is several commands and many TPDUs. A terminal sends them one after another; the
+ * An operation may be several commands and many TPDUs. A terminal sends them one after another; the
  * caller carries its characters, or its whole TPDUs, to a card and back. `gt_terminal_select`,
  * `_get`, `_put` and `_send` start one. `gt_terminal_next` says when it has ended.
  * `gt_terminal_answer` gives its answer, the status and the data of its last command.
  *
- * No chain may be pending at the card when an operation starts. One may be after a fault: a put
- * under the same tag would continue it, and the card refuses any other with 6883. So reset the card
- * after a fault.
+ * No chain may be pending at the card when an operation starts, unless `gt_terminal_send` continues
+ * it. One may be after a fault: a put under the same tag would continue it, and the card refuses
+ * any other with 6883. So reset the card after a fault.
  *
  * A terminal keeps the memory of an operation for the next: room for a response, and a copy of the
  * data that go to the card. The next takes more only for more data than any before.
@@ -1293,11 +1293,11 @@ GT_FUNCTION void gt_terminal_free(gt_terminal *t) {
  * those of `gt_atr.t1`; only LRC is supported (profile).
  *
  * The end survives `tries` fruitless receptions since the last progress, and gives up at one more.
- * Progress is the next field of the response, R that acknowledges a field of the command, or the
- * end of S(IFS request). Fruitless are a time-out, an invalid block, and a block that brings no
- * progress, R that asks for a block too. So a lost I-block of the end costs two tries: the
- * time-out, and the card's R. Any other lost block costs one. A request of the card that the end
- * grants is not counted.
+ * During S(IFS request) it then sends the command instead. Progress is the next field of the
+ * response, R that acknowledges a field of the command, or the end of S(IFS request). Fruitless are
+ * a time-out, an invalid block, and a block that brings no progress, R that asks for a block too.
+ * So a lost I-block of the end costs two tries: the time-out, and the card's R. Any other lost
+ * block costs one. A request of the card that the end grants is not counted.
  *
  * It grants `extensions` S(WTX request) and S(IFS request) in one command, 0 to 65,535. It takes
  * responses of at most `limit` bytes, status included. GT_T1_TRIES, GT_T1_EXTENSIONS and
@@ -1432,7 +1432,8 @@ GT_FUNCTION void gt_t1_free(gt_t1 *t) {
  * After `gt_card_finish` it is finished: it answers a terminal, character by character
  * (`gt_card_take`, `gt_card_turn`), to SELECT, GET DATA, PUT DATA and GET RESPONSE. The functions
  * after `gt_card_finish` are for this time, also those that return what the card holds.
- * `gt_card_free` is for any time. */
+ * `gt_card_free` is for any time. At a card of your own application some return GT_STATE in more
+ * cases: see its section. */
 
 /* Starts a card without applications, in a handle that holds nothing.
  *
@@ -1625,10 +1626,10 @@ GT_MUST_CHECK int32_t gt_card_apdu(gt_card *c, const uint8_t *apdu, size_t n,
  * ```
  *
  * The caller keeps the times of the card's answer to reset: `gt_atr.t1`. Blocks have NAD 00 and an
- * LRC, and fields of at most 32 bytes until S(IFS request). The end answers S(ABORT request) and
- * S(RESYNCH request) too. S(WTX request) and S(IFS request) of 0 or 255 count as invalid blocks. It
- * sends no request but S(WTX) by gt_card_more_time. The response to other bytes than a short
- * command is 6700, and to an invalid INS 6D00 (profile).
+ * LRC. The end takes fields of up to 254 bytes, and sends at most 32 until S(IFS request). It
+ * answers S(ABORT request) and S(RESYNCH request) too. S(WTX request) and S(IFS request) of 0 or
+ * 255 count as invalid blocks. It sends no request but S(WTX) by gt_card_more_time. The response to
+ * other bytes than a short command is 6700, and to an invalid INS 6D00 (profile).
  *
  * The card speaks T=1 up to gt_card_reset. Until then gt_card_plan, gt_session_start and the other
  * calls that send or receive return GT_STATE. Those that show its content work as before.
@@ -1792,11 +1793,12 @@ GT_FUNCTION void gt_card_free(gt_card *c) {
  * GT_HEADER is only for a card without directions. GT_COMMAND may follow it. The same call again is
  * gt_card_tpdu or gt_card_apdu with NULL and 0 in place of the bytes.
  *
- * At T=1 any block of the terminal, even an invalid one, drops a command that waits, and what was
- * answered for it. While S(WTX request) is in progress only S(ABORT request) and S(RESYNCH request)
- * drop the command. After the response to S(WTX request) gt_card_t1_send_bytes returns GT_HEADER or
- * GT_COMMAND again. A command that was dropped before the answer may come again in another block:
- * you get it once more, and gt_card_settled is 0 if it had a response, which did not go out.
+ * At T=1 a command waits once gt_card_t1_send_bytes has returned GT_HEADER or GT_COMMAND. Any block
+ * of the terminal, even an invalid one, drops it and what was answered for it. While S(WTX request)
+ * is in progress only S(ABORT request) and S(RESYNCH request) drop the command. After the response
+ * to S(WTX request) gt_card_t1_send_bytes returns GT_HEADER or GT_COMMAND again. A command that was
+ * dropped before the answer may come again in another block: you get it once more, and
+ * gt_card_settled is 0 if it had a response, which did not go out.
  *
  * No command waits in these cases, and the card answers alone:
  *
@@ -1805,9 +1807,9 @@ GT_FUNCTION void gt_card_free(gt_card *c) {
  * - The same header with the P3 that 6CXX names: the response is there already.
  * - INS 6X and 9X: 6D00; gt_card_apdu returns GT_INVALID_INS.
  *
- * At most P3 bytes of a response go out. The card answers 61XX for the rest, and your status
- * follows the last byte. It answers 6CXX if your response is shorter than P3, but not empty. Any
- * other command drops what waits. Pieces of a chain (CLA 10) arrive one by one.
+ * At most P3 bytes of a response go out (00: 256). The card answers 61XX for the rest, and your
+ * status follows the last byte. It answers 6CXX if your response is shorter than P3, but not empty.
+ * Any other command drops what waits. Pieces of a chain (CLA 10) arrive one by one.
  *
  * A command takes effect when it settles: with SW2 of the TPDU that carried it out, also if that is
  * 61XX or 6CXX. A reset before SW2 drops it: undo what it did. A whole command settles when it is
@@ -1825,9 +1827,8 @@ GT_FUNCTION void gt_card_free(gt_card *c) {
  * - gt_card_command: nothing waits: GT_STATE.
  * - gt_card_direction: no header waits: GT_STATE.
  * - gt_card_respond: no command waits, as before the first one, after the response to it, and after
- *   a reset: GT_STATE. At T=1 also before gt_card_t1_send_bytes returns GT_COMMAND or GT_HEADER,
- *   and after the next block, as S(ABORT) or S(RESYNCH). Another response than one may give:
- *   GT_ARGUMENT.
+ *   a reset: GT_STATE. At T=1 also after the next block, as S(ABORT) or S(RESYNCH). Another
+ *   response than one may give: GT_ARGUMENT.
  * - gt_card_more_time: no command waits by characters, by buffers or at T=1, or it has its
  *   response: GT_STATE. A multiple of 0: GT_ARGUMENT.
  * - gt_card_take and gt_card_receive_bytes, while one waits: GT_NOT_LISTENING.

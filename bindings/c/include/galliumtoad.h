@@ -564,9 +564,11 @@ typedef struct gt_atr {
  * - by commands   an exchange and a terminal take room for the response and the data once more. A
  *                 terminal keeps both
  * - a card        10,571 with one application and one object of 3 bytes, and 27,234 together with a
- *                 gt_exchange of SELECT or GET DATA; 4,241,200 with all that a card can hold. At
- *                 T=1 a command adds at most 770, the bytes of the value that it stores, and twice
- *                 those of the longest command since gt_card_t1_begin, which counts as 261 at most
+ *                 gt_exchange of SELECT or GET DATA by characters; 4,241,200 with all that a card
+ *                 can hold. A call of gt_card_tpdu adds at most 256, of gt_card_apdu 512, and what
+ *                 PUT DATA takes: see gt_card_tpdu. At T=1 a command adds at most 770, the bytes of
+ *                 the value that it stores, and twice those of the longest command since
+ *                 gt_card_t1_begin, which counts as 261 at most
  * - gt_t1         368, the bytes of its longest command since gt_t1_reset, and up to three times
  *                 those of the longest response since then; while a block is sent, its bytes too,
  *                 at most 258. While gt_t1_begin copies a longer command, the bytes of the longest

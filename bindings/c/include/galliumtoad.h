@@ -7,7 +7,7 @@
  *
  * - A pointer with a count is that many elements, all readable and, without const, writable. It may
  *   be NULL if the count is 0. If any other pointer is NULL, the call returns GT_NULL and does
- *   nothing. Pointers are aligned as their types require.
+ *   nothing, except as its comment says. Pointers are aligned as their types require.
  * - The memory that the arguments of one call point to does not overlap, unless all of it is const
  *   or the comment of the function allows it.
  * - A handle (gt_exchange, gt_terminal, gt_t1, gt_card, gt_session) is all zero before its first
@@ -553,7 +553,7 @@ typedef struct gt_atr {
  *                 back, or free
  *
  * The most bytes that a handle asks of the heap at once, without the heap's own needs for each
- * block:
+ * block; of cards, those of data objects:
  *
  * - an exchange   272 and its limit on the response, which is 16,384 if none is given, and the
  *                 bytes of the command's data: at most 16,911

@@ -570,9 +570,9 @@ typedef struct gt_atr {
  *                 the value that it stores, and twice those of the longest command since
  *                 gt_card_t1_begin, which counts as 261 at most
  * - gt_t1         368, the bytes of its longest command since gt_t1_reset, and up to three times
- *                 those of the longest response since then; while a block is sent, its bytes too,
- *                 at most 258. While gt_t1_begin copies a longer command, the bytes of the longest
- *                 before it too
+ *                 those of the longest response since then, or 8; while a block is sent, its bytes
+ *                 too, at most 258. While gt_t1_begin copies a longer command, the bytes of the
+ *                 longest before it too
  * - a session     26,961 with that small card, for a select, a put of 3 bytes and a get; 43,339 for
  *                 a put and a get of 8,192 bytes. If somebody listens, 27,217 and 117,064
  * - plans         at most 192 for each of the most plans that waited at once since none did; and
@@ -1068,8 +1068,8 @@ GT_MUST_CHECK int32_t gt_exchange_responded(gt_exchange *e, const uint8_t *respo
  * status before it takes the data: then a status 61XX, 62XX, 63XX or 9XXX is no success.
  *
  * - GT_SENT_UNKNOWN: the answer to a whole TPDU or command was taken, even without data, or
- *   GT_BAD_PROCEDURE or GT_TOO_LONG has ended the last TPDU. If an earlier TPDU ended with
- *   GT_NOT_ALL_SENT, that stays.
+ *   GT_BAD_PROCEDURE or GT_TOO_LONG has ended the last TPDU. By TPDUs GT_NOT_ALL_SENT of another
+ *   TPDU comes first.
  * - GT_ALL_SENT: else, they have, or the command has no data.
  * - GT_NOT_ALL_SENT: else, they have not, and won't once the exchange has ended. */
 GT_MUST_CHECK int32_t gt_exchange_data_sent(gt_exchange *e) {

@@ -21,11 +21,12 @@ class Status(int):
 
     @property
     def is_ok(self) -> bool:
-        """Whether it is 9000: the card has done all of it. 61XX is not: a response waits."""
+        """Whether it is 9000, normal processing. 61XX is not: a response waits."""
         return self == 0x9000
 
     def words(self, cla: int = 0, ins: int = 0) -> str:
-        """What it means after a command with this CLA and INS (ISO/IEC 7816-4, 5.1.3).
+        """What it means after a command with this CLA and INS (ISO/IEC 7816-4, 5.1.3). Both are 0
+        if the command is not known. CLA A0 is that of a SIM card, which has its own statuses.
 
         Raises `ValueError` for a number below 0 or above 0xFFFF, or a CLA or INS that is no byte.
 
@@ -47,9 +48,10 @@ class Status(int):
 class Object(NamedTuple):
     """A data object, whose `tag` is the number of its one to three bytes, as 0x5F20.
 
-    `level` is 1 outside of any other, and one more in each template. `is_constructed` is whether
-    the value is a list of objects. `place` is the index of its first byte. `encoded` is its tag,
-    length and value as they were. Its `repr` hides both.
+    `level`, 1 to 16, is 1 outside of any other, and one more in each template. `is_constructed` is
+    whether its tag is that of a template, whose value is a list of objects. `place` is the index of
+    its first byte. `encoded` is its tag, length and value as they were. Its `repr` hides `encoded`
+    and `value`.
     """
 
     tag: int
@@ -73,9 +75,9 @@ def _object(found: Any, data: bytes) -> Object:
 def objects(data: Bytes) -> list[Object]:
     """Returns all objects of a list, a template before the objects in it (EMV Book 3, Annex B).
 
-    Padding, 00 before, between and after objects, is skipped. The call takes 40 bytes of memory for
-    each byte. Raises `ObjectsError` if the bytes are not a list, with the first fault and the place
-    of the innermost object at fault.
+    Padding, 00 before, between and after objects, is skipped. Beside a copy and the result, the
+    call takes 40 bytes of memory for each byte. Raises `ObjectsError` if the bytes are not a list,
+    with the first fault and the place of the innermost object at fault.
 
     >>> import galliumtoad
     >>> [(hex(it.tag), it.level, it.value.hex()) for it in
@@ -89,7 +91,8 @@ def objects(data: Bytes) -> list[Object]:
 
 
 def find(data: Bytes, *path: int) -> Optional[Object]:
-    """Returns the first object whose tags, from level 1 to its own, are this path, or None.
+    """Returns the first object whose tags, from level 1 to its own, are this path, or None. A path
+    of no tags finds none.
 
     Errors:
     - CallError, GT_ARGUMENT: a step is not a tag, whatever the bytes are.
@@ -166,14 +169,14 @@ class Answer(NamedTuple):
 
 
 class Edc(enum.IntEnum):
-    """The error detection code of blocks at T=1, by the number of its bytes."""
+    """The error detection code of blocks at T=1, by the number of its bytes, or RESERVED."""
 
     RESERVED, LRC, CRC = range(3)
 
 
 class AtrT1(NamedTuple):
     """What an answer to reset says of T=1, by the first TA, TB and TC for T=1 from TA3, TB3 and TC3
-    on: the fields of `gt_atr_t1` in the header."""
+    on: the fields of `gt_atr_t1` in the header. For a missing one the standard's default holds."""
 
     ifsc: int
     edc: Edc
@@ -246,9 +249,9 @@ def _numbers(kind: Any, record: Any) -> dict[str, Any]:
 class Pps:
     """A terminal's PPS request (ISO/IEC 7816-3, clause 9) for protocol `t`, 0 to 15.
 
-    `pps1` to `pps3` are numbers from 0 to 255, or None for a byte that is not sent. `pps1` has the
-    codes of Fi and Di, as TA1. Raises `ValueError` for any other number. `request` has the bytes to
-    send, 3 to 6.
+    `pps1` to `pps3` are numbers from 0 to 255, or None, the default, for a byte that is not sent.
+    `pps1` has the codes of Fi and Di, as TA1. Raises `ValueError` for any other number. `request`
+    has the bytes to send, 3 to 6.
 
     >>> from galliumtoad import Pps
     >>> pps = Pps(0, pps1=0x95)

@@ -78,7 +78,7 @@ class Holder(Lasting):
 
 class Card(Holder):
     """A card with these applications and their data objects. `locked` lists the pairs of identifier
-    and tag that no command changes. Nothing is selected.
+    and tag that no command changes; a pair of no object here has no effect. Nothing is selected.
 
     `tpdu` is a transport for a `Terminal`. A line passes characters by `receive_bytes` and
     `send_bytes`.
@@ -87,7 +87,7 @@ class Card(Holder):
     Errors, after which there is no card:
     - CallError, GT_ARGUMENT: an identifier not of 5 to 16 bytes, or a tag that GET DATA can't name.
     - BuildError: too many applications or objects, too long a value, or a template whose value is
-      not a list of objects.
+      not a list of objects, or has more than 15 levels.
     - ValueError: a tag below 0 or above 0xFFFFFF.
     - OutOfMemory: memory ran out.
 
@@ -111,7 +111,7 @@ class Card(Holder):
         """Carries out a whole TPDU under the next plan. Returns the card's data and SW1 SW2.
 
         Errors:
-        - CallError, GT_STATE: characters of a TPDU have passed; nothing has changed.
+        - CallError, GT_STATE: a TPDU is in progress by characters; nothing has changed.
         - TransportError, GT_NO_TPDU: the bytes are not a TPDU; nothing has changed.
         - TransportError, GT_WANTS_DATA or GT_SENDS_DATA: the TPDU lacks data that the card takes,
           or asks for none of those that it sends. The card is reset, and the plan is used up.
@@ -120,14 +120,15 @@ class Card(Holder):
         return self._copied("tpdu", readable(tpdu), room=lib.GT_ANSWER_LIMIT)
 
     def apdu(self, command: Bytes) -> bytes:
-        """Carries out a whole command, as a card at T=1, and returns the data and SW1 SW2.
+        """Carries out a whole command, as a card at T=1, under no plan. Returns at most Le bytes of
+        data, none without Le, and SW1 SW2; 61XX announces the rest.
 
         The card answers 6700, and nothing changes, to bytes whose lengths fit no case of a command.
         It does so to SELECT and PUT DATA in case 2, and to GET DATA and GET RESPONSE in any other.
 
         Errors, after which nothing has changed:
-        - CallError, GT_STATE: characters of a TPDU have passed.
-        - CommandError: there are fewer than four bytes, or INS is 6X or 9X.
+        - CallError, GT_STATE: a TPDU is in progress by characters.
+        - CommandError: there are fewer than four bytes; or INS is 6X or 9X, and the lengths fit.
         - OutOfMemory: memory ran out.
         """
         return self._copied("apdu", readable(command), room=lib.GT_ANSWER_LIMIT)
@@ -141,7 +142,8 @@ class Card(Holder):
 
     def send_bytes(self, room: int = 1024) -> bytes:
         """Returns the card's next characters, or no bytes if it listens. They are at most `room`,
-        and at most 16,384. They count as sent: a put is stored with its second status byte.
+        1,024 by default, and at most 16,384. They count as sent: a put is stored with its second
+        status byte.
 
         Raises `ValueError` for a room below 0 or above 1,073,741,824.
         """
@@ -209,7 +211,8 @@ class Session(Holder):
         self._call("listen")
 
     def heard(self) -> list[Character]:
-        """Returns all characters of the last operation that was carried out since `listen`.
+        """Returns all characters of the last operation that was carried out since `listen`, none
+        before the first.
 
         Errors:
         - CallError, GT_STATE: `listen` was not called.

@@ -30,7 +30,7 @@ class Outcome(enum.IntEnum):
 
 
 class Error(Exception):
-    """The library refused a call. The text is the library's.
+    """The library refused a call, or could not end it. The text is the library's, and the place.
 
     `code` is a `Code`, and `name` its name in `galliumtoad.h`. `place` is the index of the faulty
     byte, from 0, or None if the call has no such place. For data objects it is the first byte of
@@ -55,7 +55,8 @@ class Error(Exception):
 
 
 class CallError(Error):
-    """The state or the arguments do not fit the call. Nothing has changed.
+    """The state or the arguments do not fit the call. Nothing has changed, except as the call's
+    comment says.
 
     GT_FAILED of `send_bytes` is one too: the exchange or operation failed before.
     """
@@ -73,7 +74,7 @@ class LineError(Error):
     """A received character or answer does not fit.
 
     - GT_BAD_PROCEDURE, GT_TOO_LONG, GT_STALLED: the exchange or operation has failed for good.
-    - GT_NOT_LISTENING, GT_AFTER_END: nothing has changed.
+    - GT_NOT_LISTENING, GT_AFTER_END: it has changed nothing. Characters before it are taken.
 
     `place` is that of the character in `receive_bytes`, and None if an answer does not fit.
     """
@@ -89,7 +90,7 @@ class CommandError(Error):
 
 class TransportError(Error):
     """A whole TPDU, or the answer to a TPDU or command, does not fit. Nothing has changed, except
-    that GT_WANTS_DATA and GT_SENDS_DATA reset the card."""
+    that GT_WANTS_DATA and GT_SENDS_DATA reset the card, and `Terminal.run` the terminal."""
 
 
 class AtrError(Error):

@@ -11,7 +11,8 @@ from .handle import Bytes, Lasting, copied, readable, within, writable
 class Command(NamedTuple):
     """A command that reached an `OwnCard`, as T=0 shows it: with data, or with Le and without data.
 
-    `header` is CLA, INS, P1 and P2. `le` is 1 to 256, or 0 without Le. Its `repr` hides the data.
+    `header` is CLA, INS, P1 and P2. If the application takes data, `data` are 0 to 255 bytes, and
+    `le` is 0. If not, `le` is 1 to 256. Its `repr` hides the data.
     """
 
     header: bytes
@@ -32,9 +33,11 @@ class Application(ABC):
 
     @abstractmethod
     def carry_out(self, command: Command) -> tuple[int, Bytes]:
-        """Carries out a command, once, and returns its status and up to 4,096 bytes of data. Of
-        more than the terminal asks for the card keeps the rest for GET RESPONSE. The status follows
-        the last byte. It is not 61XX or 6CXX, which are the card's own."""
+        """Carries out a command, once, and returns its status and up to 4,096 bytes of data. The
+        status is 6XXX or 9XXX, but not 60XX, nor 61XX or 6CXX, which are the card's own.
+
+        Of more than the terminal asks for the card keeps the rest for GET RESPONSE, and the status
+        follows the last byte. Of fewer, but not none, a TPDU first gets the number, as 6CXX."""
 
     def settle(self) -> None:
         """The last command takes effect, with SW2 of its TPDU, also if that is 61XX or 6CXX. A
@@ -48,10 +51,11 @@ class OwnCard(Lasting):
     """A card of an `Application` of your own: you write what a command does. It goes over T=0, by
     characters, as whole TPDUs and as whole commands, and over T=1. A command is carried out at most
     once, by `send_bytes`, `tpdu`, `apdu` or `block`. The card itself answers GET RESPONSE, the same
-    header after 6CXX, and INS 6X and 9X.
+    header after 6CXX, and INS 6X and 9X, for which `apdu` raises `CommandError`.
 
-    An exception in the application resets the card and the application, and is raised again. So
-    does `CallError`, GT_ARGUMENT, for a status or data that no application may return.
+    An exception once the application is asked resets the card and the application, and is raised
+    again: one of its own, OutOfMemory, or for what no application may return `CallError`,
+    GT_ARGUMENT, `ValueError` or `TypeError`.
 
     >>> from galliumtoad import Application, OwnCard
     >>> class Hello(Application):
@@ -87,8 +91,8 @@ class OwnCard(Lasting):
         return int(taken[0])
 
     def send_bytes(self, room: int = 1024) -> bytes:
-        """Returns the card's next characters, as that of `Card`. It carries a command out when all
-        its data have arrived."""
+        """Returns the card's next characters, as that of `Card`, but with no limit beside `room`.
+        It carries a command out when all its data have arrived."""
         (made, count), copies = writable(within(room, 0, 1 << 30, "the room")), b""
 
         def send(*_: object) -> int:
@@ -113,18 +117,24 @@ class OwnCard(Lasting):
         application takes none, and to Le without data where it takes some. GET RESPONSE fetches,
         with any Le.
 
-        Errors, besides those of the application, after which nothing has changed: as of `Card`.
+        Errors, beside the exceptions that `OwnCard` names: as of `Card`.
         """
         return self._whole(lib.gt_card_apdu, command)
 
     def begin_t1(self) -> None:
-        """Lets the card speak T=1 until the next `reset`. It raises `CallError`, GT_STATE, if the
-        card does already, or if a TPDU is in progress."""
+        """Lets the card speak T=1 until the next `reset`. Until then `receive_bytes`,
+        `send_bytes`, `tpdu`, `apdu` and `plan` raise `CallError`, GT_STATE: use `block`. So does
+        this if the card speaks T=1 already, or if a TPDU is in progress."""
         self._call("t1_begin")
 
     def block(self, came: Bytes) -> bytes:
-        """Takes a block of a terminal at T=1, and returns the card's. A block that is not whole is
-        reported as one that stopped: with b"" for one that was lost the card asks for it."""
+        """Takes a block of a terminal at T=1, and returns the card's. A block that is not whole
+        counts as one that stopped, and b"" as one that was lost: the card asks for it again. Bytes
+        after its end are dropped.
+
+        Errors, beside the exceptions that `OwnCard` names:
+        - CallError, GT_STATE: the card speaks T=0; nothing has changed.
+        - OutOfMemory: memory ran out, and there is no answer. The terminal asks again."""
         if self._call("t1_receive_bytes", *readable(came), ffi.new("size_t *")) != lib.GT_SENDS:
             self._call("t1_missed")
         sent, count = writable(room := lib.GT_BLOCK_LIMIT)

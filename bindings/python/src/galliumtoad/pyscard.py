@@ -9,7 +9,7 @@ _T1 = 2
 
 
 class transport:
-    """Carries whole TPDUs at T=0, and whole commands at T=1, over an open pyscard connection.
+    """Carries whole commands at T=1, and else whole TPDUs, over an open pyscard connection.
 
     The protocol is that of the connection when this is made. A call raises what pyscard raises.
 

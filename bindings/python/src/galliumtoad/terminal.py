@@ -50,7 +50,8 @@ class Select(Operation):
 
 @dataclass(frozen=True)
 class Get(Operation):
-    """Reads the data object with this tag. The answer's data are its tag, length and value."""
+    """Reads the data object with this tag. With 9000 the data should be its tag, length and value:
+    `Answer.object` looks, since some cards send the value alone."""
 
     tag: int
 
@@ -257,10 +258,12 @@ class Terminal(Machine, Lasting):
         """Carries out an operation over a transport, and returns the card's answer.
 
         Errors:
-        - TypeError: the transport is not callable, or its `level` is no `Level`; nothing was sent.
+        - TypeError: the transport is neither a function nor a callable with a `level`; nothing was
+          sent.
         - as `begin`: nothing was sent.
-        - what the transport raises, TypeError if it returns no bytes, or as `answered` and `apdu`:
-          the terminal is reset. What the card has done is unknown, so reset it too.
+        - what the transport raises, TypeError if it returns something other than bytes, or as
+          `answered` and `apdu`: the terminal is reset. What the card has done is unknown, so reset
+          it too.
         """
         level = getattr(transport, "level", Level.TPDU if hasattr(transport, "__name__") else None)
         if not (callable(transport) and isinstance(level, Level)):
@@ -283,7 +286,7 @@ class T1(Lasting):
     """A terminal's end of a line at T=1 (ISO/IEC 7816-3, clause 11), as a transport.
 
     It carries whole commands as blocks over a line that may damage and lose them. `edc` and `ifsc`
-    are those of `Atr.t1`. Errors, after which there is no end:
+    are those of `Atr.t1`, by default LRC and 32. Errors, after which there is no end:
     - CallError, GT_ARGUMENT: an EDC other than LRC, or an IFSC of 0 or 255.
     - ValueError: one of both is below 0 or above 255.
     - TypeError: the line is not callable.

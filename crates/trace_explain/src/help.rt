@@ -11,45 +11,63 @@ pub const VERSION: &str = "0.3.0";
 // The help of each argument and option.
 pub const FILE: &str = "Reads these files as one trace; `-` is standard input";
 
-pub const DIFF: &str = "Compares the traces of two files, and shows the first TPDU that differs";
+pub const DIFF: &str =
+    "Compares the traces of two files, and shows the first TPDU that differs; not with \
+    `--json`, `--commands`, `--summary` or files";
 
-pub const HTML: &str = "Writes one page of HTML, which needs no other file, in place of text";
+pub const HTML: &str =
+    "Writes one page of HTML, which needs no other file, in place of text; not with `--json`";
 
-pub const TITLE: &str = "Sets the title of the page";
+pub const TITLE: &str = "Sets the title of the page; needs `--html`; no effect with `--json`";
 
-pub const JSON: &str = "Writes one object of JSON in each line, in place of text";
+pub const JSON: &str =
+    "Writes one object of JSON in each line, in place of text; not with `--html`";
 
-pub const COMMANDS: &str = "Joins TPDUs to commands: parts of a response, and pieces of a chain";
+pub const COMMANDS: &str =
+    "Joins TPDUs to commands: parts of a response, and pieces of a chain; no effect with \
+    `--summary`";
 
 pub const MASK: &str = "Shows `**` for reference data, and for objects with tags such as `5A,57`";
 
-pub const RESUME: &str = "Continues after an unexpected byte";
+pub const RESUME: &str = "Continues after an unexpected byte; not with `--tpdu` or a log's form";
 
 pub const FORM: &str = "Sets the form of the lines; not with `--form-file` or `--unsigned`";
 
-pub const FORM_FILE: &str = "Reads lines by the first form in this file";
+pub const FORM_FILE: &str =
+    "Reads lines by the first form in this file; not with `--form` or `--unsigned`";
 
 pub const NAMES_FILE: &str = "Adds the names in this file to those of the program";
 
-pub const LIST_NAMES: &str = "Lists the names of tags, application identifiers and bits";
+pub const LIST_NAMES: &str =
+    "Lists the names of tags, application identifiers and bits, and reads no trace";
 
-pub const SWAP: &str = "Takes each sign for that of the other end, if TX is the card's";
+pub const SWAP: &str =
+    "Takes each sign for that of the other end, if TX is the card's; not with `--unsigned`";
 
-pub const UNSIGNED: &str = "Reads lines without signs: the dialogue shows who sent each character";
+pub const UNSIGNED: &str =
+    "Reads lines without signs: the dialogue shows who sent each character; not with `--form`, \
+    `--form-file`, `--swap` or `--tpdu`";
 
 pub const TO_CARD: &str =
-    "Lists instructions whose data go to the card, as `5A,F0`; needs `--unsigned`";
+    "Lists instructions whose data go to the card, as `5A,F0`; needs `--unsigned`; no effect \
+    with an option that excludes that";
 
-pub const FROM_CARD: &str = "Lists instructions whose data come from the card; needs `--unsigned`";
+pub const FROM_CARD: &str =
+    "Lists instructions whose data come from the card; needs `--unsigned`; no effect with an \
+    option that excludes that";
 
 pub const SUMMARY: &str = "Writes the last block alone, which contains the counts";
 
-pub const PROTOCOL: &str = "Reads a trace that begins among blocks of T=1";
+pub const PROTOCOL: &str =
+    "Reads a trace that begins among blocks of T=1; not with `--tpdu`; no effect on a log";
 
 pub const EDC: &str =
-    "Sets the error detection code of these blocks, LRC without it; needs `--protocol`";
+    "Sets the error detection code of these blocks, LRC without it; needs `--protocol`; no \
+    effect with `--tpdu`";
 
-pub const TPDU: &str = "Reads a log of whole TPDUs or APDUs, as programs of PC/SC write them";
+pub const TPDU: &str =
+    "Reads a log of whole TPDUs or APDUs, as programs of PC/SC write them; not with `--resume`, \
+    `--unsigned` or `--protocol`";
 
 /// What the program reads and prints.
 pub const TRACE: &str = "\
@@ -135,9 +153,9 @@ byte ends it; and data of ENVELOPE that may contain reference data. With `--resu
 continues only at a line `reset`.
 
 With `--commands` the TPDUs of a command are joined: its repeat after `6CXX`, each GET RESPONSE
-after `61XX`, and the pieces of a chain. After the last one a line shows the command, its last
-status, and how many bytes of a response, or else of data sent, moved in how many TPDUs. A reset or
-a protocol error ends a command. On a page a box that folds has its TPDUs.
+after `61XX` or `9FXX` of a SIM card, and the pieces of a chain. After the last one a line shows the
+command, its last status, and how many bytes of a response, or else of data sent, moved in how many
+TPDUs. A reset or a protocol error ends a command. On a page a box that folds has its TPDUs.
 
 With `--json` each line is one object: `tpdu`, `reset`, `atr`, `pps`, `note`, `error`, and at the
 end `summary`. With `--commands` the TPDUs are in objects `command`, with the notes between them.
@@ -158,7 +176,8 @@ without a whole TPDU, answer to reset or PPS: its lines may have a form that the
 
 The exit status is 0 if the program explained the whole trace and found no protocol error, or if
 nobody reads the output any more. It is 1 after a fault or a protocol error, and 2 if the command
-line is refused. For a comparison it is 0 if the traces are alike, and 1 if they differ.
+line is refused, as for an option that is given twice. For a comparison it is 0 if the traces are
+alike, and 1 if they differ.
 
 Example:
 

@@ -192,6 +192,10 @@ def test_check_finds_no_mistake_and_writes_nothing(tmp_path):
     assert sorted(it.name for it in tmp_path.iterdir()) == before and not room.held()
     room.create()
     assert room.run("--check") == (0, "2 rows, and no mistake\n", "")
+    journal = tmp_path / "journal"
+    journal.write_text("")  # as a crash may leave it
+    assert room.run("--check", "--new") == (0, "2 rows, and no mistake\n", "")
+    assert journal.read_text() == ""
 
 
 def test_all_mistakes_are_named_at_once_up_to_twenty(tmp_path):

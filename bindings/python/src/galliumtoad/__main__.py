@@ -11,7 +11,7 @@ from . import __version__
 PROGRAMS = {
     "batch": "personalises cards by the hundred; needs pyscard (the extra `pcsc`)",
     "simulate": "a card that misbehaves as a file says, at vpcd or a serial line",
-    "trials": "lets a terminal do a job with 60 cards that misbehave",
+    "trials": "lets a terminal do a job with up to 60 cards that misbehave",
 }
 
 
@@ -21,7 +21,7 @@ def main(words: Optional[list[str]] = None) -> int:
     parser.add_argument("--version", action="version", version=f"%(prog)s {__version__}")
     listed = "; ".join(f"{name}: {what}" for name, what in PROGRAMS.items())
     parser.add_argument("program", choices=PROGRAMS, metavar="PROGRAM", help=listed)
-    parser.add_argument("words", nargs=argparse.REMAINDER, metavar="..", help="its words")
+    parser.add_argument("words", nargs=argparse.REMAINDER, metavar="..", help="its words or --help")
     given = parser.parse_args((sys.argv[1:] if words is None else words) or ["--help"])
     return int(importlib.import_module(f"galliumtoad.{given.program}").main(given.words))
 

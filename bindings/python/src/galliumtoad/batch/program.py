@@ -11,7 +11,9 @@ from .journal import Heading, Journal, create, place_of, refuse_a_second
 from .script import Rows, check_of, steps_of, tag
 
 _ABOUT = "Personalises cards by the hundred: each card that is inserted gets one row of a table."
-_HELP = "In a script `@{column}` is a column's text, `{column}` its digits: put 5F20 @{name}"
+_HELP = """In a script `@{column}` is a column's text, `{column}` its digits: put 5F20 @{name}. The
+first of these is done, and no other: --status, --done and --again; --check; --look; a run.
+--check and --look write no report. --journal, --reader, --done and --again may be repeated."""
 _SHOWN = 20  # mistakes
 
 
@@ -30,19 +32,19 @@ def parsed(words: Optional[list[str]]) -> argparse.Namespace:
     add("script", help="operations as gt_pcsc takes them, one a line")
     add("--rows", required=True, help="the table; its first line names the columns")
     add("--journal", action="append", required=True,
-        help="the file that says what became of each row; with --status there may be several")
-    add("--new", action="store_true", help="create the journal, which must not exist")
-    add("--id", type=tag, help="the tag of an object that tells cards apart: use it")
-    add("--reader", action="append", default=[], help="a part of its name; once for each reader")
+        help="the file that says what became of each row; with --status alone several")
+    add("--new", action="store_true", help="create the journal, if none is there; not by --check")
+    add("--id", type=tag, help="with --new: the tag of an object that tells cards apart: use it")
+    add("--reader", action="append", default=[], help="part of one name; once for each of several")
     add("--go", action="store_true", help="write the cards that lie in the readers at the start")
-    add("--part", type=part, metavar="K/N", help="with --new: every Nth row, from row K")
-    add("--stop-after", type=count, metavar="N", help="stop after N failed or unsure rows")
-    add("--report", metavar="FILE", help="write each row into a page, or a table if it is .csv")
-    add("--allow-duplicates", action="store_true", help="allow equal rows and ids, and no text")
+    add("--part", type=part, metavar="K/N", help="with --new: every Nth row, from row K, 1 to N")
+    add("--stop-after", type=count, metavar="N", help="end a run after N failed or unsure rows")
+    add("--report", metavar="FILE", help="write begun rows into a page, .html, or a table, .csv")
+    add("--allow-duplicates", action="store_true", help="allow equal rows or `id`s, or no text")
     add("--check", action="store_true", help="look for mistakes, and end")
-    add("--status", action="store_true", help="print the rows' states, and end")
-    add("--look", type=count, metavar="ROW", help="compare the card in the reader with a row")
-    for word, what in (("done", "the row's card is whole"), ("again", "write the row once more")):
+    add("--status", action="store_true", help="print failed and unsure rows and a sum, and end")
+    add("--look", type=count, metavar="ROW", help="compare the only reader's card with a row")
+    for word, what in (("done", "decide that ROW is done"), ("again", "decide that ROW is free")):
         add(f"--{word}", type=count, action="append", default=[], metavar="ROW", help=what)
     given = parser.parse_args(words)
     inputs = [os.path.realpath(it) for it in (given.rows, given.script, *given.journal)]
@@ -87,7 +89,7 @@ def opened(given: argparse.Namespace, rows: Rows) -> list[Journal]:
     if given.new:
         [path], (at, of) = given.journal, given.part or (1, 1)
         refuse_a_second(path, given.rows, at, of)
-        if given.check and not os.path.exists(path):
+        if given.check and not (os.path.exists(path) and os.path.getsize(path)):
             return []
         create(path, Heading(at, of, given.id, os.urandom(16).hex(), place_of(given.rows)))
     journals = [Journal(it, given.rows, len(rows)) for it in given.journal]

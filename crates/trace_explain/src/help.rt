@@ -27,7 +27,8 @@ pub const COMMANDS: &str =
     "Joins TPDUs to commands: parts of a response, and pieces of a chain; no effect with \
     `--summary`";
 
-pub const MASK: &str = "Shows `**` for reference data, and for objects with tags such as `5A,57`";
+pub const MASK: &str = "Shows `**` for reference data, and for objects with tags such as `5A,57`; \
+    files precede it, without TAGS";
 
 pub const RESUME: &str = "Continues after an unexpected byte; not with `--tpdu` or a log's form";
 

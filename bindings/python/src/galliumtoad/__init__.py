@@ -8,8 +8,8 @@ and a card that holds them, over a proved library.
 - `T1` carries whole commands over a line at T=1.
 - `objects` and `find` read BER-TLV; `Atr` reads an answer to reset, `Pps` asks for other values.
 
-An argument of a wrong type raises `TypeError`. What Python holds is not wiped: `bytes` can't be.
-What the library holds is wiped when it is freed.
+Bytes and numbers of a wrong type raise `TypeError`. What Python holds is not wiped: `bytes` can't
+be. What the library holds is wiped when it is freed.
 """
 
 from ._library import lib as _lib

@@ -190,7 +190,7 @@ class Session(Holder):
         - CallError, GT_BUSY: a chain of `Send` is pending. `Send` never gets it.
         - CommandError: the bytes of `Send` are not a command.
         - TypeError: it is not an operation.
-        - OutOfMemory: memory ran out.
+        - OutOfMemory: memory ran out. After another `MemoryError` it is unknown what was sent.
         """
         status, room = ffi.new("uint16_t *"), lib.GT_RESPONSE_LIMIT
         data, count = writable(room)

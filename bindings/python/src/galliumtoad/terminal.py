@@ -189,8 +189,8 @@ class Machine(Handle):
 class Exchange(Machine):
     """Begins the terminal's end of one command.
 
-    `limit`, 0 to 16,384, is the most bytes of data that the response may bring. At the first one
-    beyond, the exchange fails for good: GT_TOO_LONG.
+    `limit`, 0 to 16,384, the default, is the most bytes of data that the response may bring. At the
+    first one beyond, the exchange fails for good: GT_TOO_LONG.
 
     With Le 00 it fetches the whole response, with another Le at most that many bytes, without Le
     none. Errors, after which there is no exchange:
@@ -216,8 +216,8 @@ class Exchange(Machine):
 class Terminal(Machine, Lasting):
     """Carries out one operation after another.
 
-    `limit`, 0 to 16,384, is the most bytes of data that a response may bring. At the first one
-    beyond, the operation fails for good: GT_TOO_LONG.
+    `limit`, 0 to 16,384, the default, is the most bytes of data that a response may bring. At the
+    first one beyond, the operation fails for good: GT_TOO_LONG.
 
     Errors, after which there is no terminal:
     - CallError, GT_ARGUMENT: `limit` is above 16,384.

@@ -21,11 +21,11 @@ pub const HTML: &str =
 pub const TITLE: &str = "Sets the title of the page; needs `--html`; no effect with `--json`";
 
 pub const JSON: &str =
-    "Writes one object of JSON in each line, in place of text; not with `--html`";
+    "Writes one object of JSON in each line, in place of text; not with `--html` or `--diff`";
 
 pub const COMMANDS: &str =
     "Joins TPDUs to commands: parts of a response, and pieces of a chain; no effect with \
-    `--summary`";
+    `--summary`; not with `--diff`";
 
 pub const MASK: &str = "Shows `**` for reference data, and for objects with tags such as `5A,57`; \
     files precede it, without TAGS";
@@ -57,7 +57,8 @@ pub const FROM_CARD: &str =
     "Lists instructions whose data come from the card; needs `--unsigned`; no effect with an \
     option that excludes that";
 
-pub const SUMMARY: &str = "Writes the last block alone, which contains the counts";
+pub const SUMMARY: &str =
+    "Writes the last block alone, which contains the counts; not with `--diff`";
 
 pub const PROTOCOL: &str =
     "Reads a trace that begins among blocks of T=1; not with `--tpdu`; no effect on a log";

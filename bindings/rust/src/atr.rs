@@ -28,8 +28,8 @@ codes! {
     AtrReason {
         /// The first byte is neither `3B` nor `3F`.
         NoTs = -70, "no TS";
-        /// There are fewer than 33 bytes, and they end before a character that is announced. One
-        /// more byte may mend this.
+        /// There are fewer than 33 bytes, and they end before TS, T0 or a character that is
+        /// announced. One more byte may mend this.
         Cut = -71, "answer to reset cut";
         /// There are 33 bytes or more, and the answer would have more than 33, the most, with TCK.
         TooLong = -72, "answer to reset too long";
@@ -52,7 +52,7 @@ impl fmt::Display for AtrError {
     }
 }
 
-/// How the line shows the bits of a character (8.1).
+/// How the line shows the bits of a character (ISO/IEC 7816-3, 8.1).
 #[derive(Clone, Copy, Debug, PartialEq, Eq, Hash)]
 pub enum Convention {
     /// TS is `3B`: a high state is 1, and the lowest bit comes first.
@@ -61,14 +61,14 @@ pub enum Convention {
     Inverse,
 }
 
-/// The mode of a card after its answer (6.3.1, and TA2 in 8.3).
+/// The mode of a card after its answer (ISO/IEC 7816-3, 6.3.1, and TA2 in 8.3).
 #[derive(Clone, Copy, Debug, PartialEq, Eq, Hash)]
 pub enum Mode {
     /// The terminal may ask for other values by PPS.
     Negotiable,
-    /// The card continues at once.
+    /// The card continues at once. Bits 7 and 6 of TA2, which are reserved, are not looked at.
     Specific {
-        /// With this protocol.
+        /// With this protocol, 0 to 15, whether the answer offers it or not.
         t: u8,
         /// Whether it can change to negotiable mode.
         can_change: bool,
@@ -77,7 +77,7 @@ pub enum Mode {
     },
 }
 
-/// Whether the clock may stop, and the level at which it does (8.3).
+/// Whether the clock may stop, and the level at which it does (ISO/IEC 7816-3, 8.3).
 #[derive(Clone, Copy, Debug, PartialEq, Eq, Hash)]
 pub enum ClockStop {
     /// It may not.
@@ -90,7 +90,7 @@ pub enum ClockStop {
     AtEither,
 }
 
-/// The classes of voltage that a card takes (8.3).
+/// The classes of voltage that a card takes (ISO/IEC 7816-3, 8.3).
 #[derive(Clone, Copy, Debug, PartialEq, Eq, Hash)]
 #[non_exhaustive]
 pub struct Classes {
@@ -120,7 +120,7 @@ pub enum Category {
     Proprietary,
 }
 
-/// The least time between the beginnings of two characters to the card (8.3).
+/// The least time between the beginnings of two characters to the card (ISO/IEC 7816-3, 8.3).
 #[derive(Clone, Copy, Debug, PartialEq, Eq, Hash)]
 #[non_exhaustive]
 pub struct GuardTime {
@@ -130,7 +130,7 @@ pub struct GuardTime {
     pub indicated: u16,
 }
 
-/// The error detection code of blocks of T=1 (clause 11).
+/// The error detection code of blocks of T=1 (ISO/IEC 7816-3, clause 11).
 #[derive(Clone, Copy, Debug, PartialEq, Eq, Hash)]
 #[non_exhaustive]
 pub enum Edc {
@@ -141,7 +141,7 @@ pub enum Edc {
 }
 
 /// BWT of T=1: the most from the last character of a block to the card to the first of its answer
-/// (clause 11). An S(WTX) multiplies both for one block.
+/// (ISO/IEC 7816-3, clause 11). An S(WTX) multiplies both for one block.
 #[derive(Clone, Copy, Debug, PartialEq, Eq, Hash)]
 #[non_exhaustive]
 pub struct BlockWaitingTime {
@@ -151,7 +151,7 @@ pub struct BlockWaitingTime {
     pub cycles: u64,
 }
 
-/// The times of a line, rounded up to nanoseconds. A reserved code gives `None`.
+/// The times of a line, each part rounded up to nanoseconds. A reserved code gives `None`.
 #[derive(Clone, Copy, Debug, PartialEq, Eq, Hash)]
 #[non_exhaustive]
 pub struct Waits {
@@ -241,7 +241,8 @@ pub struct Atr<'a> {
 }
 
 impl<'a> Atr<'a> {
-    /// Reads an answer to reset: `bytes` is all of it and no more.
+    /// Reads an answer to reset: `bytes` is all of it and no more. In the inverse convention the
+    /// bytes are as they are meant: TS is `3F`.
     ///
     /// # Errors
     ///

@@ -34,7 +34,8 @@ pub enum Stop {
 pub struct ReceiveError {
     /// The number taken: the place of the character that was not.
     pub taken: usize,
-    /// The result of a call with that character alone.
+    /// The result of a call with that character alone. [`Error::State`] may come for an
+    /// empty buffer too.
     pub error: Error,
 }
 
@@ -71,8 +72,8 @@ impl<A: Application> Card<A> {
     ///
     /// # Errors
     ///
-    /// - [`Error::NotListening`], in a [`ReceiveError`]: the card has characters to send after
-    ///   those that it has taken. The others were not looked at.
+    /// - [`Error::NotListening`], in a [`ReceiveError`]: after those taken as for
+    ///   [`take`](Card::take). The others were not looked at.
     #[inline]
     pub fn receive_bytes(&mut self, bytes: &[u8]) -> Result<(), ReceiveError> {
         receive(&self.0, raw::galliumtoad_card_receive_bytes, bytes)

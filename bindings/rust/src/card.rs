@@ -56,11 +56,13 @@ impl fmt::Debug for Entry {
 #[derive(Debug)]
 pub struct CardBuilder(Handle);
 
-/// A card of data objects at the line: SELECT, GET DATA, PUT DATA and GET RESPONSE over T=0.
+/// A card at the line, over T=0 and by whole commands. `Card` is one of data objects: SELECT, GET
+/// DATA, PUT DATA and GET RESPONSE. `Card<A>` is one of your own, see [`OwnCard`](crate::OwnCard).
 ///
 /// It keeps each value until another is stored under its tag, and the bytes of a TPDU until its
-/// second status byte. It keeps those of a chain until it is stored, refused or dropped. A drop
-/// wipes and frees all.
+/// second status byte. It keeps those of a chain until it is stored, refused or dropped. One of
+/// your own keeps a response until all of it is sent, or the next command drops it. A drop wipes
+/// and frees all.
 ///
 /// ```
 /// use galliumtoad::{CardBuilder, Exchange, Turn};
@@ -178,7 +180,8 @@ impl<A: Application> Card<A> {
     ///
     /// # Errors
     ///
-    /// - [`Error::NotListening`]: the card has characters to send. Nothing has changed.
+    /// - [`Error::NotListening`]: the card has characters to send, or [`turn`](Card::turn) has to
+    ///   call its application first. Nothing has changed.
     #[inline]
     pub fn take(&mut self, byte: u8) -> Result<(), Error> {
         // SAFETY: a card's handle.
@@ -205,7 +208,7 @@ impl<A: Application> Card<A> {
     ///
     /// `steps` are letters, in any order and number, carried out from left to right: `n` a NULL,
     /// `o` one data byte, `a` all that are left. If none are left, `o` and `a` are skipped; `n` is
-    /// not. After the last letter all that are left move.
+    /// not. After the last letter all that are left move. If the card refuses the header, none do.
     ///
     /// `cut`, 1 to 256, is the most bytes that `61XX` announces (256 as `6100`). It shows only if a
     /// response waits. Without a plan the card answers as with `""` and 256.
@@ -223,7 +226,7 @@ impl<A: Application> Card<A> {
     }
 
     /// Resets the card, at any time: a TPDU in progress is dropped, and nothing is selected or
-    /// pending. Data objects and the plans that wait stay.
+    /// pending. Data objects and the plans that wait stay. An application of your own is reset too.
     ///
     /// # Errors
     ///
@@ -249,7 +252,7 @@ impl Card {
     }
 
     /// Returns the place of the application with this identifier, from 0, for
-    /// [`entries`](Card::entries).
+    /// [`entries`](Card::entries). `None` if the card has no such application.
     #[must_use]
     pub fn place_of(&self, aid: &[u8]) -> Option<usize> {
         self.apps().position(|it| it == aid)

@@ -50,13 +50,15 @@ impl<A: Application> CardT1<A> {
     }
 
     /// Takes bytes of the terminal up to the end of its block. A command is carried out with the
-    /// last byte of its last block, or at a card of your own by
-    /// [`block_into`](CardT1::block_into).
+    /// last byte of its last block. At a card of your own [`block_into`](CardT1::block_into)
+    /// carries it out, unless another block, `missed` or `damaged` comes before.
     ///
     /// # Errors
     ///
     /// - [`Error::Memory`]: memory ran out. The block is dropped, no command is carried out, and
-    ///   there is no answer. The terminal asks again.
+    ///   there is no answer. The terminal asks again. At a card of your own this error comes from
+    ///   [`block_into`](CardT1::block_into).
+    /// - [`Error::State`]: see [`block_into`](CardT1::block_into).
     pub fn receive(&mut self, bytes: &[u8]) -> Result<Received, Error> {
         let (at, n) = (self.0 .0.at(), bytes.len());
         let mut taken = 0;
@@ -73,20 +75,19 @@ impl<A: Application> CardT1<A> {
     ///
     /// # Errors
     ///
-    /// None today.
+    /// - [`Error::State`]: see [`block_into`](CardT1::block_into).
     pub fn missed(&mut self) -> Result<(), Error> {
         // SAFETY: a card's handle.
         done(unsafe { raw::galliumtoad_card_t1_missed(self.0 .0.at()) })
     }
 
     /// Reports that a character of the terminal's block had a wrong parity: as
-    /// [`missed`](CardT1::missed), but the R-block says so. While more time is asked for, the
-    /// answer to either is S(WTX request) again. The other bytes of the block still come: before
-    /// this call, drop all until none comes for CWT.
+    /// [`missed`](CardT1::missed), but the R-block says so. The other bytes of the block still
+    /// come: before this call, drop all until none comes for CWT.
     ///
     /// # Errors
     ///
-    /// None today.
+    /// - [`Error::State`]: see [`block_into`](CardT1::block_into).
     pub fn damaged(&mut self) -> Result<(), Error> {
         // SAFETY: a card's handle.
         done(unsafe { raw::galliumtoad_card_t1_damaged(self.0 .0.at()) })
@@ -95,15 +96,16 @@ impl<A: Application> CardT1<A> {
     /// Copies the block to send now to the front of `room`, and returns its length, 4 to
     /// [`BLOCK_LIMIT`](crate::BLOCK_LIMIT). Returns `None` if the terminal sent no block, or if
     /// memory ran out at its last one. Each further call gives the same block, until the next one
-    /// of the terminal.
+    /// of the terminal, or a call of [`missed`](CardT1::missed) or [`damaged`](CardT1::damaged).
     ///
     /// # Errors
     ///
-    /// After both nothing has changed. Those of an application of your own are in
-    /// [`OwnCard`](crate::OwnCard): [`reset`](CardT1::reset) then begins T=1 again.
-    ///
-    /// - [`Error::Memory`]: memory ran out.
-    /// - [`Error::Buffer`]: `room` is too short.
+    /// - [`Error::Memory`]: memory ran out. If no application was called, nothing has changed.
+    /// - [`Error::Buffer`]: `room` is too short. The block stays; a card of your own may have
+    ///   carried out its command.
+    /// - Those of an application of your own, see [`OwnCard`](crate::OwnCard): they reset the card,
+    ///   as does a panic of the application. Until [`reset`](CardT1::reset) begins T=1 again, a
+    ///   block is [`Error::State`].
     pub fn block_into(&mut self, room: &mut [u8]) -> Result<Option<usize>, Error> {
         let n = room.len();
         let mut count = 0;

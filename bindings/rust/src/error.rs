@@ -48,16 +48,18 @@ pub(crate) use codes;
 codes! {
     /// Why a call was refused. Each fault has the number that `galliumtoad.h` gives it.
     Error {
-        /// The state of the value does not allow this call: an operation is in progress, none has
-        /// begun, or there is no answer. Or it goes by the other level, characters of a TPDU have
-        /// passed, or nobody listens.
+        /// The state of the value does not allow this call. For example, an operation is in
+        /// progress, none has begun, or there is no answer. Or it goes by the other level,
+        /// characters of a TPDU have passed, nobody listens, or an end at T=1 awaits no block.
         State = -3, "not in this state";
         /// Memory ran out.
         Memory = -4, "out of memory";
-        /// An argument is out of its range.
+        /// An argument is out of its range. Of a session also: its ends would not agree which way
+        /// the data of a command go. Of a card of your own: its application answered what none may.
         Argument = -5, "bad argument";
         /// There is too little room for the output: the caller's buffer is too short, and is
-        /// unchanged, or there is no memory for a buffer. The output stays: ask again.
+        /// unchanged, or there is no memory for a buffer. The output stays, or nothing was carried
+        /// out: ask again.
         Buffer = -6, "buffer too short";
         /// A chain is pending at the card.
         Busy = -7, "a chain is pending";
@@ -81,7 +83,7 @@ codes! {
         /// The tag is new, and the application has [`ENTRIES_LIMIT`](crate::ENTRIES_LIMIT) data
         /// objects.
         TableFull = -25, "table full";
-        /// The end has characters to send.
+        /// The end has characters to send, or a card has to call its application first.
         NotListening = -30, "not listening";
         /// Unexpected byte: neither a procedure byte nor a first status byte.
         BadProcedure = -31, "bad procedure byte";
@@ -95,7 +97,7 @@ codes! {
         TooShort = -50, "command too short";
         /// The bytes after the header fit none of the four cases.
         BadLength = -51, "bad command length";
-        /// INS is `6X` or `9X`.
+        /// INS is `6X` or `9X`, and the bytes after the header fit a case.
         InvalidIns = -52, "invalid INS";
         /// No whole TPDU or command is about to begin.
         NotDue = -60, "nothing due";
@@ -104,7 +106,8 @@ codes! {
         /// Data came back, and none may: the TPDU sends data or is the header alone, or the
         /// command has no Le.
         NotAsked = -62, "data not asked for";
-        /// More data came back than the TPDU or command asks for.
+        /// More data came back than the TPDU or command asks for, or a transport or a line claims
+        /// more bytes than its buffer has.
         TooMany = -63, "more data than asked for";
         /// The bytes are not a whole TPDU.
         NoTpdu = -64, "no whole TPDU";

@@ -18,7 +18,8 @@ pub enum DataSent {
     All,
     /// Not all have.
     NotAll,
-    /// It is not known: a TPDU or a command went as a whole, or an error has ended it.
+    /// It is not known: a TPDU or a command went as a whole, also one without data, or an error has
+    /// ended it.
     NotKnown,
 }
 
@@ -59,12 +60,13 @@ impl fmt::Debug for Turn {
 /// The data are the caller's: this crate wipes no copy of them. `Debug` shows their number.
 ///
 /// An `Err` is about the call, a status about the card: a put that the card refuses is `Ok` with a
-/// status such as `6982`. After all except `9000` and `61XX` no value is stored, what was selected
-/// stays selected, and a chain is dropped. So is a response that waits, unless GET RESPONSE itself
-/// gets `6CXX`. If more than one holds, the answer is the first of `6883`, `6E00`, `6D00`, `6884`,
-/// `6A86`, `6985`, `6982`, `6A88`, `6700`, `6CXX`. The others come after the data.
-/// [`Card::apdu`](crate::Card::apdu) has more cases of `6700`, which change nothing. A
-/// [`Card`](crate::Card) answers:
+/// status such as `6982`. The rest is about a card of data objects of this crate. After all except
+/// `9000` and `61XX` no value is stored, what was selected stays selected, and a chain is dropped.
+/// So is a response that waits, unless GET RESPONSE itself gets `6CXX`. If more than one holds, the
+/// answer is the first of `6883`, `6E00`, `6D00`, `6884`, `6A86`, `6985`, `6982`, `6A88`, `6700`,
+/// `6CXX`. The others come after the data. [`Card::apdu`](crate::Card::apdu) has more cases of
+/// `6700`, and [`CardT1`](crate::CardT1) of `6700` and `6D00`, which change nothing. The card
+/// answers:
 ///
 /// | Status | Why |
 /// |---|---|
@@ -106,8 +108,8 @@ impl Answer {
     }
 
     /// Returns the data as one object with this tag, and nothing else: the answer to a get of that
-    /// tag. `None` if they are not, or if `tag` is not a tag: then the card has sent something
-    /// else, as the value alone.
+    /// tag. `None` if they are not, as when the card sends the value alone, or if `tag` is not a
+    /// tag. A template counts only if its value is a list of objects.
     #[must_use]
     pub fn object(&self, tag: u32) -> Option<Object<'_>> {
         let object = find(&self.data, &[tag]).ok().flatten()?;
@@ -228,7 +230,8 @@ impl Exchange {
     }
 
     /// Starts the exchange of a command whose response may have `limit` data bytes, 0 to
-    /// [`RESPONSE_LIMIT`]. It takes no more memory for it, and one byte more is [`Error::TooLong`].
+    /// [`RESPONSE_LIMIT`]. It takes no more memory for it by TPDUs, and twice that by whole
+    /// commands. One byte more is [`Error::TooLong`].
     ///
     /// # Errors
     ///

@@ -27,7 +27,7 @@ codes! {
     }
 }
 
-/// Why [`Objects::over`], [`find`] or [`encode`] has no result.
+/// Why [`Objects::over`], [`Object::children`], [`find`] or [`encode`] has no result.
 #[derive(Clone, Copy, Debug, PartialEq, Eq, Hash)]
 #[non_exhaustive]
 pub enum ObjectsError {
@@ -41,7 +41,8 @@ pub enum ObjectsError {
     #[non_exhaustive]
     Fault {
         /// The place of the first byte that starts no object, counted in bytes from 0. A template
-        /// around it is not the fault, and nothing inside a cut template counts.
+        /// around it is not the fault, and nothing inside a cut template counts. With [`encode`]
+        /// it counts from the start of the object to write.
         place: usize,
         /// What is wrong there.
         reason: Reason,
@@ -269,7 +270,8 @@ pub fn head(tag: u32, length: u16) -> Option<Vec<u8>> {
 /// - [`ObjectsError::NoTag`]: no tag of one to three bytes has this number.
 /// - [`ObjectsError::TooLong`]: the value has more than 65,535 bytes.
 /// - [`ObjectsError::Memory`]: it ran out.
-/// - [`ObjectsError::Fault`]: the tag is that of a template, and the value is no list of objects.
+/// - [`ObjectsError::Fault`]: the tag is that of a template, and the value is no list of objects,
+///   or has more than 15 levels.
 pub fn encode(tag: u32, value: &[&[u8]]) -> Result<Vec<u8>, ObjectsError> {
     let add = |sum: usize, part: &&[u8]| sum.saturating_add(part.len());
     let length = u16::try_from(value.iter().fold(0, add)).map_err(|_| ObjectsError::TooLong)?;

@@ -15,8 +15,10 @@ pub const DATA_LIMIT: usize = 255;
 /// The most bytes of a [`Response`].
 pub const OWN_LIMIT: usize = 4_096;
 
-/// A command that reached an [`OwnCard`], as T=0 shows it: with data, or with Le and without data.
-/// The card's copy of the data is wiped after the call. `Debug` shows their number.
+/// A command that reached an [`OwnCard`], as T=0 shows it, also a whole command. If
+/// [`takes_data`](Application::takes_data) was true, it has data, which may be empty, and no Le. If
+/// not, it has Le and no data. `data` is a copy that is wiped after the call. `Debug` shows their
+/// number.
 #[derive(Clone, Copy, PartialEq, Eq, Hash)]
 #[non_exhaustive]
 pub struct Command<'a> {
@@ -24,7 +26,8 @@ pub struct Command<'a> {
     pub header: [u8; 4],
     /// The data, at most [`DATA_LIMIT`] bytes.
     pub data: &'a [u8],
-    /// How many bytes the terminal asks for, 1 to 256, or 0 without Le.
+    /// How many bytes the terminal asks for, 1 to 256, or 0 if the command takes data. A header
+    /// alone asks for 256.
     pub le: usize,
 }
 
@@ -60,8 +63,9 @@ pub trait Application {
     fn takes_data(&self, header: [u8; 4]) -> bool;
 
     /// Carries out a command, once. If the response is longer than the terminal asks for, the card
-    /// keeps the rest for GET RESPONSE. The status follows the last byte. It is not `61XX` or
-    /// `6CXX`, which are the card's own.
+    /// keeps the rest for GET RESPONSE. If a TPDU asks for more, and it is not empty, the card
+    /// answers `6CXX`. The status follows the last byte. It is a status word: `6X` except `60`, or
+    /// `9X`, and any byte. It is not `61XX` or `6CXX`, which are the card's own.
     fn carry_out(&mut self, command: Command<'_>, response: &mut Response) -> Status;
 
     /// The last command takes effect, with SW2 of its TPDU, also if that is `61XX` or `6CXX`. A
@@ -76,13 +80,14 @@ pub trait Application {
 /// A card of an [`Application`] of your own: you write what a command does. It goes over T=0, by
 /// characters and buffers, as whole TPDUs and as whole commands, and over T=1 in a
 /// [`CardT1`](crate::CardT1). A command is carried out at most once, by [`turn`](Card::turn),
-/// [`send_bytes`](Card::send_bytes), [`tpdu`](Card::tpdu), [`apdu`](Card::apdu) or
-/// [`CardT1::block_into`](crate::CardT1::block_into). The card itself answers GET RESPONSE, the
-/// same header after `6CXX`, and INS `6X` and `9X`.
+/// [`send_bytes`](Card::send_bytes), [`tpdu`](Card::tpdu), [`apdu`](Card::apdu), their forms with
+/// `_into`, or [`CardT1::block_into`](crate::CardT1::block_into). The card itself answers GET
+/// RESPONSE, the same header with the P3 that `6CXX` names, INS `6X` and `9X`, and with `6700`
+/// [wrong whole commands](Card::apdu).
 ///
 /// A panic of the application, or an error after it was called, resets the card and the
 /// application: [`Error::Argument`] for a status or a length that no application may return, and
-/// [`Error::Memory`].
+/// [`Error::Memory`]. [`Error::Buffer`] of `CardT1::block_into` resets neither.
 ///
 /// ```
 #[doc = include_str!("../examples/counter.rs")]
@@ -151,7 +156,7 @@ impl<A: Application> Card<A> {
         Ok(Card(handle, Own::of(application, room)))
     }
 
-    /// The application of a card of your own.
+    /// The application of a card of your own; `()` of a card of data objects.
     #[must_use]
     pub fn application(&self) -> &A {
         &self.1.application

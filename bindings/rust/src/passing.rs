@@ -111,7 +111,8 @@ macro_rules! passes {
             }
 
             /// Returns the command to send now, for a reader that carries whole commands: see
-            /// [`Level::Apdu`](crate::Level::Apdu). `None` if it has ended or failed.
+            /// [`Level::Apdu`](crate::Level::Apdu). GET RESPONSE follows `61XX`, and after `6CXX` a
+            /// command of case 2 goes once more. `None` if it has ended or failed.
             ///
             /// The first character sent, or the first answer that is taken or fails it, sets the
             /// level, for each operation anew. From then on calls of the other level are

@@ -69,9 +69,9 @@ impl Pps {
         })
     }
 
-    /// Returns whether a card's response accepts this request (9.3). It does if it names the same
-    /// protocol, and each of PPS1 to PPS3 is as requested or absent. If it does not, reset the card
-    /// or give it up.
+    /// Returns whether a card's response accepts this request (ISO/IEC 7816-3, 9.3). It does if it
+    /// names the same protocol, and each of PPS1 to PPS3 is as requested or absent. If it does not,
+    /// reset the card or give it up.
     ///
     /// The card does not accept an absent one: without PPS1, Fi is 372 and Di 1. It has accepted
     /// all that was requested if the response equals [`request`](Pps::request).

@@ -53,7 +53,7 @@ impl Session {
     ///
     /// # Errors
     ///
-    /// None today.
+    /// - [`Error::State`]: the card is one of your own, of the application `()`. It is dropped.
     #[allow(clippy::needless_pass_by_value)] // the session owns it from now on
     pub fn start(card: Card) -> Result<Session, Error> {
         let session = Session(Handle::empty(raw::galliumtoad_session_free));

@@ -6,7 +6,7 @@ use alloc::format;
 use alloc::string::String;
 use core::fmt;
 
-/// A status word, SW1 and SW2: `0x9000` if the card has carried out the command.
+/// A status word, SW1 and SW2, such as `0x9000`: the card has done all of the command.
 ///
 /// ```
 /// use galliumtoad::Status;
@@ -51,7 +51,7 @@ impl Status {
     }
 
     /// What it means, in a few words (ISO/IEC 7816-4, 5.1.3). `X` or `XX` in it is a number, which
-    /// [`words`](Status::words) writes out.
+    /// [`words`](Status::words) writes out. A status that is not known is "no known meaning".
     #[must_use]
     pub fn text(self) -> &'static str {
         self.meaning(0, 0).0

@@ -23,7 +23,8 @@ codes! {
         /// In one command the card sent more S(WTX request), and S(IFS request) of 1 to 254, than
         /// [`T1Limits::extensions`].
         ExtensionsSpent = -91, "too many requests from the card";
-        /// The card sent S(ABORT request), and the end has answered it.
+        /// The card sent S(ABORT request), and the end has answered it. It gives up at the next
+        /// reception, or at [`T1::missed`] or [`T1::damaged`].
         Aborted = -92, "aborted by the card";
         /// The response is longer than [`T1Limits::response`].
         TooLong = -32, "response too long";
@@ -36,7 +37,8 @@ codes! {
 pub enum Outcome {
     /// The card has not carried it out: its last block was never sent.
     NotCarriedOut,
-    /// The card may have carried it out.
+    /// The card may have carried it out. This is the outcome too if the first field of the response
+    /// is too long: no part is kept.
     Unknown,
     /// The card has carried it out, and a part of the response arrived.
     InPart,
@@ -67,10 +69,12 @@ impl fmt::Display for T1Fault {
 #[derive(Clone, Copy, Debug, PartialEq, Eq, Hash)]
 pub struct T1Limits {
     /// The fruitless receptions since the last progress that it survives: one more is a fault.
-    /// Progress is the next field of the response, R that acknowledges a field of the command, or
-    /// the end of S(IFS request). Fruitless are a time-out, an invalid block, and a block that
-    /// brings no progress. So a lost I-block of the end costs two tries: the time-out, and the
-    /// card's R. Any other lost block costs one. A request that the end grants is not counted.
+    /// In S(IFS request), before the first command, it is not: the command follows, with all its
+    /// tries. Progress is the next field of the response, R that acknowledges a field of the
+    /// command, or the end of S(IFS request). Fruitless are a time-out, an invalid block, and a
+    /// block that brings no progress. So a lost I-block of the end costs two tries: the time-out,
+    /// and the card's R. Any other lost block costs one. A request that the end grants is not
+    /// counted.
     pub tries: u8,
     /// The S(WTX request) and S(IFS request) of the card that it grants in one command.
     pub extensions: u16,
@@ -115,6 +119,9 @@ pub struct Received {
 /// A terminal's end of a line at T=1, which carries whole commands over a line that may damage and
 /// lose bytes. The times of the line are the caller's to keep: [`Atr::waits`](crate::Atr::waits)
 /// has them, and [`T1Line`](crate::T1Line) keeps them. [`CardT1`](crate::CardT1) has an example.
+///
+/// Before the first command it sends S(IFS request) with 254. It takes fields of 254 bytes whether
+/// the card answers that or not (profile).
 #[derive(Debug)]
 pub struct T1(Handle);
 
@@ -154,7 +161,7 @@ impl T1 {
     /// Copies the block to send now to the front of `room`. Returns `None` if no command is in
     /// progress: the last one has its response, or none has started. Each further call gives the
     /// same block, until [`receive`](T1::receive) has taken a whole block or a call of
-    /// [`missed`](T1::missed).
+    /// [`missed`](T1::missed) or [`damaged`](T1::damaged).
     ///
     /// # Errors
     ///
@@ -224,9 +231,10 @@ impl T1 {
         done(unsafe { raw::galliumtoad_t1_damaged(self.0.at()) })
     }
 
-    /// Copies the response to the last command to the front of `room`: data, and then SW1 SW2.
-    /// Returns the number of its bytes, or 0 before the first command. The response stays until the
-    /// next [`begin`](T1::begin) or [`reset`](T1::reset).
+    /// Copies the response to the last command to the front of `room`: data, and then SW1 SW2. The
+    /// end does not check that: [`Terminal::responded`](crate::Terminal::responded) does. Returns
+    /// the number of its bytes, or 0 before the first command. The response stays until the next
+    /// [`begin`](T1::begin) or [`reset`](T1::reset).
     ///
     /// # Errors
     ///

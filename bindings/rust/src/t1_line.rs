@@ -30,10 +30,13 @@ pub trait Line {
 }
 
 /// A terminal's end at T=1 and its line, as a transport of whole commands. It keeps the times of
-/// the line: it sends once the line was quiet for [`T1Waits::guard`].
+/// the line: it sends once the line was quiet for [`T1Waits::guard`], or was not in 258 calls of
+/// [`Line::receive`].
 ///
-/// Its error is the line's own, a [`T1Fault`] if the end gave up, or an [`Error`] of the end. After
-/// one, reset the card, and then [`end`](T1Line::end). Until then a command is [`Error::State`].
+/// Its error is the line's own, a [`T1Fault`] if the end gave up, or an [`Error`]: of the end, or
+/// [`Error::TooMany`] if the line claims more bytes than the room has. After one, reset the card,
+/// and then [`end`](T1Line::end). Until then a command is [`Error::State`], if the last is in
+/// progress or the end gave up.
 #[derive(Debug)]
 #[non_exhaustive]
 pub struct T1Line<L> {

@@ -12,7 +12,8 @@ use core::fmt;
 pub enum Operation<'a> {
     /// Selects the application with this identifier, of 5 to 16 bytes.
     Select(&'a [u8]),
-    /// Reads the data object with this tag: the data are its tag, length and value.
+    /// Reads the data object with this tag. The data should be its tag, length and value, but some
+    /// cards send the value alone: [`Answer::object`](crate::Answer::object) tells.
     Get(u32),
     /// Stores a value under a tag, in as many chained commands of up to 255 bytes as it takes. It
     /// stops at the first status other than `9000`.
@@ -58,9 +59,9 @@ pub(crate) use calls;
 /// [`run`](Terminal::run) does all of that with a [`Transport`](crate::Transport), and
 /// [`begin_guarded`](Terminal::begin_guarded) is for code that may be cancelled on the way.
 ///
-/// No chain may be pending at the card when an operation begins. One may be after a fault: a put
-/// under the same tag would continue it, and the card refuses any other with `6883`. So reset the
-/// card after a fault.
+/// No chain may be pending at the card when an operation begins, except one that
+/// [`Operation::Send`] began and continues. One may be after a fault: a put under the same tag
+/// would continue it, and the card refuses any other with `6883`. So reset the card after a fault.
 ///
 /// The memory of an operation, room for a response and a copy of the data that go to the card, is
 /// kept for the next. It keeps sent and received bytes, secrets included, until a later operation

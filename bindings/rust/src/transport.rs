@@ -39,15 +39,16 @@ pub enum Level {
 /// # Ok::<(), Box<dyn std::error::Error>>(())
 /// ```
 ///
-/// [`whole_commands`] makes one at [`Level::Apdu`]. A [`Card`] is one, and so is a [`T1Line`],
-/// which carries commands in blocks. References and boxes are transports by [`By`].
+/// [`whole_commands`] makes one at [`Level::Apdu`]. A [`Card`] of data objects is one, and so is a
+/// [`T1Line`], which carries commands in blocks. References and boxes are transports by [`By`].
 ///
 /// [`T1Line`]: crate::T1Line
 pub trait Transport {
-    /// Why nothing was carried: of a closure, its own error.
+    /// Why the transport failed: of a closure, its own error.
     type Error;
 
-    /// What it carries. [`Terminal::run`] asks once, before it sends anything.
+    /// What it carries: whole TPDUs by default. [`Terminal::run`] asks once, before it sends
+    /// anything.
     fn level(&self) -> Level {
         Level::Tpdu
     }

@@ -149,8 +149,8 @@ impl<A: Application> Card<A> {
     ///
     /// # Errors
     ///
-    /// - [`Error::Buffer`]: `room` is less than 2 bytes and Le (`00`: 256), or than 2 without Le.
-    ///   Nothing has changed.
+    /// - [`Error::Buffer`]: `room` is less than 2 bytes and Le (`00`: 256), or than 2 without Le or
+    ///   with wrong lengths. Nothing has changed.
     /// - Any other: as [`apdu`](Card::apdu); `room` is unchanged.
     pub fn apdu_into(&mut self, command: &[u8], room: &mut [u8]) -> Result<usize, Error> {
         self.carry_out(raw::galliumtoad_card_apdu, command, room)

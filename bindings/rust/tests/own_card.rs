@@ -368,7 +368,10 @@ fn over_t1(card: &mut CardT1<Probe>, terminal: &mut T1, command: &[u8]) -> Vec<u
             card.missed().expect("a card");
         }
         assert_eq!(card.block_into(&mut room[..3]), Err(Error::Buffer));
-        let n = card.block_into(&mut room).expect("a card").expect("a block");
+        let n = card
+            .block_into(&mut room)
+            .expect("a card")
+            .expect("a block");
         assert!(terminal.receive(&room[..n]).expect("memory").is_whole);
     }
     let n = terminal.response_into(&mut room).expect("a response");
@@ -386,7 +389,12 @@ fn at_t1() {
     let select = [0x00, 0xA4, 0x00, 0x10];
     let long = [0x00, 0xB0, 0x02, 0x58];
     rows(
-        |command| (over_t1(&mut card, &mut terminal, command), steps(card.card())),
+        |command| {
+            (
+                over_t1(&mut card, &mut terminal, command),
+                steps(card.card()),
+            )
+        },
         &[
             (b"\x00\xB0\x00\x05\x00", 0, 5, 0x9000, done(read, b"", 256)),
             (b"\x80\xB2\x00\x05\x03", 0, 3, 0x6102, done(warns, b"", 3)),

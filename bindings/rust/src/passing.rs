@@ -153,7 +153,7 @@ macro_rules! passes {
             }
 
             /// Returns the answer, the status and the data of the last command. Each further call
-            /// gives the same.
+            /// gives the same, until a terminal begins the next operation or is reset.
             ///
             /// # Errors
             ///

@@ -27,8 +27,8 @@ pub enum Stop {
     Done,
 }
 
-/// The character of a buffer that was not taken. Those before it were. Those after it were not
-/// looked at.
+/// Why a character of a buffer was not taken. Those before it were. Those after it were not looked
+/// at.
 #[derive(Clone, Copy, Debug, PartialEq, Eq, Hash)]
 #[non_exhaustive]
 pub struct ReceiveError {
@@ -72,8 +72,8 @@ impl<A: Application> Card<A> {
     ///
     /// # Errors
     ///
-    /// - [`Error::NotListening`], in a [`ReceiveError`]: after those taken as for
-    ///   [`take`](Card::take). The others were not looked at.
+    /// - [`Error::NotListening`], in a [`ReceiveError`]: as of [`take`](Card::take), after the
+    ///   characters that it has taken. The others were not looked at.
     #[inline]
     pub fn receive_bytes(&mut self, bytes: &[u8]) -> Result<(), ReceiveError> {
         receive(&self.0, raw::galliumtoad_card_receive_bytes, bytes)

@@ -95,8 +95,9 @@ impl<A: Application> CardT1<A> {
 
     /// Copies the block to send now to the front of `room`, and returns its length, 4 to
     /// [`BLOCK_LIMIT`](crate::BLOCK_LIMIT). Returns `None` if the terminal sent no block, or if
-    /// memory ran out at its last one. Each further call gives the same block, until the next one
-    /// of the terminal, or a call of [`missed`](CardT1::missed) or [`damaged`](CardT1::damaged).
+    /// [`receive`](CardT1::receive) ran out of memory at its last one. Each further call gives the
+    /// same block, until the next one of the terminal, or a call of [`missed`](CardT1::missed) or
+    /// [`damaged`](CardT1::damaged).
     ///
     /// # Errors
     ///

@@ -143,7 +143,8 @@ impl<A: Application> Drop for Resets<'_, A> {
 }
 
 impl<A: Application> Card<A> {
-    /// Makes a card of an application of your own. It listens for a header at T=0.
+    /// Makes a card of an application of your own. It listens for a header at T=0. The application
+    /// `()` answers each command with `6F00`.
     ///
     /// # Errors
     ///

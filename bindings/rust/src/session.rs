@@ -157,8 +157,8 @@ impl Session {
     /// - [`Error::TooShort`], [`Error::BadLength`], [`Error::InvalidIns`]: the bytes are not a
     ///   command.
     /// - [`Error::Argument`]: over T=0 both ends must know which way data move, and the card takes
-    ///   the command the other way. That is a SELECT or PUT DATA without data and with Le, and a
-    ///   GET DATA or GET RESPONSE of any other form.
+    ///   the command the other way. In any class that is a SELECT or PUT DATA (INS `A4`, `DA`)
+    ///   without data and with Le, and a GET DATA or GET RESPONSE (`CA`, `C0`) of any other form.
     /// - [`Error::Memory`]: it ran out.
     /// - [`Error::Buffer`]: as [`Session::select`].
     pub fn send(&mut self, command: &[u8]) -> Result<Answer, Error> {

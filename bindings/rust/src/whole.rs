@@ -125,8 +125,8 @@ impl<A: Application> Card<A> {
     /// is left waits, and `61XX` announces it. Plans are for TPDUs and characters alone.
     ///
     /// The card answers `6700`, and nothing changes, to an extended command and to other bytes with
-    /// wrong lengths. A card of data objects also answers so to SELECT and PUT DATA in case 2, and
-    /// to GET DATA and GET RESPONSE in any other case.
+    /// wrong lengths. A card of data objects also answers so, in any class, to SELECT and PUT DATA
+    /// (INS `A4`, `DA`) in case 2, and to GET DATA and GET RESPONSE (`CA`, `C0`) in any other case.
     ///
     /// A card of your own carries the command out at once, and it settles. At most Le bytes come
     /// back, none without Le, and `61XX` announces the rest. The card answers `6700` to data where

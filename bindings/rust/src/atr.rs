@@ -329,7 +329,8 @@ impl<'a> Atr<'a> {
         }
     }
 
-    /// The same after a PPS that has agreed on this PPS1.
+    /// As [`waits`](Atr::waits), after a PPS that has agreed on this PPS1. `None` if `clock` is 0,
+    /// or if PPS1 has a reserved code.
     #[must_use]
     pub fn waits_at(&self, clock: u32, pps1: u8) -> Option<Waits> {
         let at = [0x3B, 0x10, pps1];

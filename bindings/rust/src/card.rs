@@ -11,7 +11,7 @@ use core::fmt;
 /// The most bytes of a value on a card.
 pub const VALUE_LIMIT: usize = 8_192;
 
-/// The most bytes of such a value with its tag and length: the data of a get.
+/// The most bytes of a value on a card with its tag and length: the data of a get.
 pub const OBJECT_LIMIT: usize = 8_197;
 
 /// The fewest bytes of an application's identifier.

@@ -63,7 +63,8 @@ macro_rules! passes {
             ///
             /// # Errors
             ///
-            /// - [`ReceiveError`]: the first fault. Its state is that of [`take`](Self::take).
+            /// - [`ReceiveError`]: the first fault. The state is as after that of
+            ///   [`take`](Self::take).
             #[inline]
             pub fn receive_bytes(&mut self, bytes: &[u8]) -> Result<(), ReceiveError> {
                 buffers::receive(&self.0, raw::$receive_bytes, bytes)
@@ -111,8 +112,9 @@ macro_rules! passes {
             }
 
             /// Returns the command to send now, for a reader that carries whole commands: see
-            /// [`Level::Apdu`](crate::Level::Apdu). GET RESPONSE follows `61XX`, and after `6CXX` a
-            /// command of case 2 goes once more. `None` if it has ended or failed.
+            /// [`Level::Apdu`](crate::Level::Apdu). GET RESPONSE follows `61XX` if it wants more.
+            /// After `6CXX` a command of case 2 goes once more, unless XX is more than it still
+            /// wants. `None` if it has ended or failed.
             ///
             /// The first character sent, or the first answer that is taken or fails it, sets the
             /// level, for each operation anew. From then on calls of the other level are
@@ -165,7 +167,7 @@ macro_rules! passes {
             }
 
             /// As [`answer`](Self::answer), with the data at the front of `room`. This takes no
-            /// memory, and the data are in the caller's buffer alone.
+            /// memory, and makes no other copy of the data.
             ///
             /// # Errors
             ///

@@ -57,8 +57,8 @@ impl Status {
         self.meaning(0, 0).0
     }
 
-    /// The same after a command with this CLA and INS, with its number. If the command is not
-    /// known, they are 0.
+    /// As [`text`](Status::text), after a command with this CLA and INS, and with its number. If
+    /// the command is not known, they are 0.
     ///
     /// ```
     /// let after_verify = galliumtoad::Status(0x63C2).words(0x00, 0x20);

@@ -220,8 +220,8 @@ impl T1 {
     }
 
     /// Reports that a character of the card's block had a wrong parity: as
-    /// [`missed`](T1::missed), but the R-block says so. The other bytes of the block still come:
-    /// before this call, drop all until none comes for CWT.
+    /// [`missed`](T1::missed), but if an R-block follows, it says so. The other bytes of the block
+    /// still come: before this call, drop all until none comes for CWT.
     ///
     /// # Errors
     ///

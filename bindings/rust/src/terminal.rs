@@ -114,7 +114,8 @@ impl Terminal {
     }
 
     /// Begins an operation, and drops the last answer. By characters and TPDUs all memory that it
-    /// needs, beside what an earlier one has left, is taken here.
+    /// needs, beside what an earlier one has left, is taken here. What [`tpdu`](Terminal::tpdu) and
+    /// [`answer`](Terminal::answer) return takes more.
     ///
     /// # Errors
     ///

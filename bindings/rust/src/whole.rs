@@ -97,7 +97,7 @@ impl<A: Application> Card<A> {
     ///
     /// - [`Error::State`]: characters of a TPDU have passed. Nothing has changed.
     /// - [`Error::NoTpdu`]: the bytes are not a whole TPDU. Nothing has changed.
-    /// - [`Error::Memory`]: it ran out. Nothing has changed.
+    /// - [`Error::Memory`]: it ran out. If no application was called, nothing has changed.
     /// - [`Error::WantsData`], [`Error::SendsData`]: both ends would deadlock, so the card was
     ///   reset, with its application. The plan is used up.
     /// - Those of the application, see [`OwnCard`](crate::OwnCard).

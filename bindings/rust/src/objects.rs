@@ -1,7 +1,7 @@
 //! Data objects in bytes: all of them, the one at a path, and the start of one.
 
 use crate::error::codes;
-use crate::wiped::room_for;
+use crate::wiped::{room_for, wipe};
 use crate::{raw, version};
 use alloc::vec::{self, Vec};
 use core::{fmt, iter, slice};
@@ -281,5 +281,9 @@ pub fn encode(tag: u32, value: &[&[u8]]) -> Result<Vec<u8>, ObjectsError> {
     for part in value {
         bytes.extend_from_slice(part);
     }
-    list(&bytes, &mut []).map(|_| bytes)
+    if let Err(fault) = list(&bytes, &mut []) {
+        wipe(&mut bytes);
+        return Err(fault);
+    }
+    Ok(bytes)
 }

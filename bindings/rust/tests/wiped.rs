@@ -522,6 +522,9 @@ fn objects_leave_nothing() {
             assert!(has_secret(objects.next().expect("one").value));
             assert!(find(list, &[0x5F20]).expect("objects").is_some());
             own(head(0x5F20, 16).expect("a head"), false);
+            own(encode(0x50, &[&SECRET]).expect("an object"), true);
+            let fault = encode(0x70, &[&SECRET]).map(drop);
+            assert!(matches!(fault, Err(ObjectsError::Fault { .. })));
         }),
         NOTHING
     );

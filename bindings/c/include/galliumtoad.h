@@ -516,7 +516,8 @@ typedef struct gt_atr {
     uint8_t extra_guard_time;   /* N: TC1, or 0 */
     uint8_t waiting_integer;    /* WI of T=0: TC2, or 10; 0: reserved */
     uint8_t specific;           /* 1 in specific mode, by TA2; else 0, and the next three are 0 */
-    uint8_t specific_t;         /* the protocol of the card after its answer, at once */
+    uint8_t specific_t;         /* the protocol of the card after its answer, at once, offered or
+                                 * not */
     uint8_t can_change;         /* 1 if the card can change to negotiable mode, else 0 */
     uint8_t implicit;           /* 1 if Fi and Di are implicit, and not those of TA1, else 0 */
     uint8_t clock_stop;         /* where the clock may stop, by the first TA for T=15: GT_STOP_NONE
@@ -1593,8 +1594,8 @@ GT_MUST_CHECK int32_t gt_card_tpdu(gt_card *c, const uint8_t *tpdu, size_t n,
  * response that waits. A card of your own does so in the first case; its section has the others:
  *
  * - bytes whose lengths fit none of the four cases, as those of an extended command;
- * - SELECT and PUT DATA in case 2;
- * - GET DATA and GET RESPONSE in any other case.
+ * - SELECT and PUT DATA, in any class, in case 2;
+ * - GET DATA and GET RESPONSE, in any class, in any other case.
  *
  * Results:
  *
@@ -1711,9 +1712,9 @@ GT_MUST_CHECK int32_t gt_card_t1_damaged(gt_card *c) {
  * - a: it sends INS, and all data bytes that are left move.
  *
  * o and a are skipped if no data bytes are left, as in a TPDU without data; n is not. After the
- * last letter all that are left move. `cut`, 1 to 256, is the most bytes that a status 61XX
- * announces (256 as 6100). It shows only if a response waits, and 256 sets no limit. Without a plan
- * the card answers as with "" and 256.
+ * last letter all that are left move. If the card refuses the header, none do. `cut`, 1 to 256, is
+ * the most bytes that a status 61XX announces (256 as 6100). It shows only if a response waits, and
+ * 256 sets no limit. Without a plan the card answers as with "" and 256.
  *
  * - GT_OK.
  * - GT_STATE: the card is not finished yet, or speaks T=1. Nothing has changed.

@@ -61,9 +61,9 @@ class Holder(Lasting):
         """Adds a plan: how the card answers one more of the TPDUs to come, in turn.
 
         `steps` are its procedure bytes: `n` (NULL), `o` (one byte), `a` (all bytes). If no bytes
-        are left, `o` and `a` are skipped. After the last letter all bytes that are left move.
-        `cut`, 1 to 256, is the most bytes that a status 61XX announces. Without a plan the card
-        answers as with "" and 256.
+        are left, `o` and `a` are skipped. After the last letter all bytes that are left move. If
+        the card refuses the header, none do. `cut`, 1 to 256, is the most bytes that a status 61XX
+        announces. Without a plan the card answers as with "" and 256.
 
         A session's next operation drops the plans that it leaves. Plans are not for `Card.apdu`.
 

@@ -51,7 +51,7 @@ class OwnCard(Lasting):
     """A card of an `Application` of your own: you write what a command does. It goes over T=0, by
     characters, as whole TPDUs and as whole commands, and over T=1. A command is carried out at most
     once, by `send_bytes`, `tpdu`, `apdu` or `block`. The card itself answers GET RESPONSE, the same
-    header after 6CXX, and INS 6X and 9X, for which `apdu` raises `CommandError`.
+    header with the P3 that 6CXX names, and INS 6X and 9X, for which `apdu` raises `CommandError`.
 
     An exception once the application is asked resets the card and the application, and is raised
     again: one of its own, OutOfMemory, or for what no application may return `CallError`,

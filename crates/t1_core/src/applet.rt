@@ -14,12 +14,12 @@ pub struct Requests {
 }
 
 /// The card behind its end of the line. The end calls `carry_out` or `too_long` once for each
-/// command.
+/// command, and again after an error.
 pub trait Applet {
     ghost use Rattle.std.specs.Prelude.{◌≡◌, ◌<◌, ℕ, List, length, MatchResult};
     ghost use Rattle.t1_core.specs.CardSide.{Did};
 
-    /// The longest command in bytes that the end keeps. Of a longer one it keeps nothing.
+    /// The longest command that the end keeps, in bytes. A longer one goes to `too_long`.
     const LIMIT: usize;
 
     ghost LIMIT: { ℕ };
@@ -38,7 +38,8 @@ pub trait Applet {
     /// the requests to make before that response.
     ///
     /// # Errors
-    /// - `AllocError`: memory ran out; the command is not carried out, and the card is unchanged.
+    /// - `AllocError`: memory ran out, or the response must wait (`PatientCard`); the command is
+    ///   not carried out, and the card is unchanged.
     fn carry_out(&mut self, command: &[u8], response: &mut Vec<u8>) -> Result<Requests, AllocError>
         ensures { MatchResult result
             (λ asks. Does (standing self.old) (record {
@@ -51,7 +52,7 @@ pub trait Applet {
     /// As `carry_out`, with a command that is longer than `LIMIT`.
     ///
     /// # Errors
-    /// - `AllocError`: memory ran out; the card is unchanged.
+    /// - `AllocError`: as for `carry_out`.
     fn too_long(&mut self, response: &mut Vec<u8>) -> Result<Requests, AllocError>
         ensures { MatchResult result
             (λ asks. (command : List ℕ) → LIMIT < length command

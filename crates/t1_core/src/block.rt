@@ -30,7 +30,8 @@ pub enum Control {
     /// The sender of the request takes fields of at most this size, 1 to 254 bytes, from now on.
     /// An end does not accept 0 and 255.
     Ifs(u8),
-    /// The chain in progress ends.
+    /// The chain in progress ends. The card's end drops its command or response. The terminal's end
+    /// gives up, and never requests it.
     Abort,
     /// The card asks for this multiple of BWT for the next block.
     Wtx(u8),

@@ -23,10 +23,10 @@ pub struct Conversation<C> {
 /// Sends commands to a card over a line, from a reset of both ends on, until all have their answers
 /// or the terminal gives up. The card itself starts in the state of `applet`.
 ///
-/// Whatever the line damages or loses, the card carries out the first of the commands, in order,
-/// each once. Each answer is the card's response, at most one of them has no answer, and the
-/// outcome in a fault is true. The dialogue ends. On a line that is mild enough for the settings
-/// (`laws::mild_lines_are_survived`) there is no fault.
+/// Whatever the line damages or loses, the card carries out the first ones of the commands, in
+/// order, each once. Each answer is the card's response. At most one command that it carried out
+/// has no answer, and the outcome in a fault is true. The dialogue ends. On a line that is mild
+/// enough for the settings (`laws::mild_lines_are_survived`) there is no fault.
 ///
 /// # Errors
 /// - `AllocError`: memory ran out; both ends and the card are dropped.

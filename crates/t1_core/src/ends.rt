@@ -78,7 +78,8 @@ impl<C: Applet> Ends<C> {
         self.terminal.is_ready()
     }
 
-    /// The response to the last command; after a fault, the part of it that has arrived.
+    /// The response to the last command; after a fault, the part of it that has arrived, without a
+    /// field that goes beyond the limit.
     pub fn response(&self) -> &[u8]
         ensures { result.now ≡ self.now.terminal.got }
     {
@@ -101,9 +102,10 @@ impl<C: Applet> Ends<C> {
 }
 
 /// The commands that `Ends::carry` has carried are a dialogue, once the terminal has stopped. The
-/// card has carried out the first of them, in order, each once. Each answer is its response, at
-/// most one of them has no answer, and the outcome in a fault is true. The dialogue ends. On a line
-/// that is mild enough for the settings (`laws::mild_lines_are_survived`) there is no fault.
+/// card has carried out the first ones of them, in order, each once. Each answer is its response.
+/// At most one command that it carried out has no answer, and the outcome in a fault is true. The
+/// dialogue ends. On a line that is mild enough for the settings
+/// (`laws::mild_lines_are_survived`) there is no fault.
 pub fn carried_commands_are_a_dialogue<C: Applet>()
     ensures { (past : Past C.State) (passed : List Fates) (e : EndsOf C)
         → HasCarried C.Applet past passed e → has_stopped e.terminal.phase ≡ true

@@ -18,14 +18,18 @@ pub enum Found<'a> {
     Cut,
 }
 
-/// Why a block is invalid: the first that holds. LEN is `FF`, or does not suit the PCB
-/// (`spelling::read`). NAD sets bit 8 or 4, or its SAD and DAD are the same but not 0.
+/// Why a block is invalid: the first that holds.
 #[derive(Clone, Copy, Debug, PartialEq, Eq)]
 pub enum Damage {
+    /// The LRC is wrong.
     Lrc,
+    /// The CRC is wrong.
     Crc,
+    /// NAD sets bit 8 or 4, or its SAD and DAD are the same but not 0.
     Nad,
+    /// The PCB has no meaning (`Pcb::of`).
     Pcb,
+    /// LEN is `FF`, or does not suit the PCB (`spelling::read`).
     Len,
 }
 

@@ -22,7 +22,7 @@ pub enum Progress {
     Begun,
     /// All fields.
     Whole,
-    /// An I-block whose role is unknown. No bytes are kept.
+    /// An I-block whose role is unknown, or for which memory ran out. No bytes are kept.
     Unknown,
 }
 
@@ -65,7 +65,8 @@ impl Gathered {
         }
     }
 
-    /// The end that sends it: the terminal a command, the card a response.
+    /// The end that sends it: the terminal a command, the card a response. At `Nothing` it has no
+    /// meaning.
     pub fn from(&self) -> End
         ensures { result ≡ self.now.from }
     {
@@ -89,7 +90,8 @@ impl Gathered {
     /// Adds the next item of the tap.
     ///
     /// # Errors
-    /// - `AllocError`: memory ran out; the command or response is unknown.
+    /// - `AllocError`: memory ran out; the command or response is `Unknown`. Ignore its later
+    ///   fields: they would pass for all of it.
     pub fn add(&mut self, item: Item<'_>) -> Result<(), AllocError>
         ensures ok { OnOk result (self.new ≡ adds self.old (told item.entry)) }
         ensures err { OnErr result (self.new ≡ newly Unknown item.entry.from) }

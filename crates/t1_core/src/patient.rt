@@ -24,10 +24,11 @@ use std::mem::swap;
 /// another machine gives it.
 ///
 /// `take` keeps a block without a reply: the card above returned an error. Give that card what it
-/// needs (`with_applet`), and call `again`. Meanwhile `ask_time` asks the terminal for more
-/// time. The command is carried out once: when there is a reply, the block is dropped. It is
-/// dropped too, and its command is not carried out, at the next block of the terminal, except
-/// for the response to S(WTX request) and S(IFS request) before it.
+/// needs (`with_applet`), and call `again`. Meanwhile `ask_time` asks the terminal for more time.
+///
+/// The command is carried out once: when there is a reply, the block is dropped. The terminal's
+/// next block, valid or not, also drops it, and its command is not carried out. During the card's
+/// S(WTX request) only S(ABORT request) and S(RESYNCH request) do. `reset` always does.
 #[derive(Drop)]
 pub struct PatientCard<C: Applet> {
     end: BlockCard<C>,
@@ -79,7 +80,8 @@ impl<C: Applet> PatientCard<C> {
         self.end.applet()
     }
 
-    /// Lends the card above the end to `f` (`BlockCard::with_applet`).
+    /// Lends the card above the end to `f`, whose contract must accept it
+    /// (`BlockCard::with_applet`).
     pub fn with_applet<F, R>(&mut self, f: F) -> R
     where
         F: FnOnce(&mut C) -> R,
@@ -116,6 +118,8 @@ impl<C: Applet> PatientCard<C> {
     }
 
     /// Returns the command that waits: the bytes of its earlier blocks, and those of the kept one.
+    /// If it is longer than `Applet::LIMIT`, the earlier ones may be missing. `None` if the kept
+    /// block ends no command, or `awaits` does not hold.
     pub fn command(&self) -> Option<(&[u8], &[u8])>
         ensures { option_map (λ parts. parts.0.now ++ parts.1.now) result ≡ command_in self.now }
     {
@@ -135,8 +139,9 @@ impl<C: Applet> PatientCard<C> {
     }
 
     /// Takes the block of a receiver, which is empty afterwards, and returns the reply. `None` if
-    /// the card above returned an error: the block is kept, and its command is not carried out.
-    /// `None` also at the response to S(WTX request): the kept block waits again.
+    /// memory ran out, or the card above returned an error: the block is kept, and its command is
+    /// not carried out. `None` also at the response to S(WTX request) of `ask_time`: the kept block
+    /// waits again.
     pub fn take(&mut self, block: &mut Receiver) -> Option<Reply>
         ensures hears { Hears C.Applet block.old self.old result self.new }
         ensures emptied { block.new ≡ [] }
@@ -151,8 +156,8 @@ impl<C: Applet> PatientCard<C> {
         reply
     }
 
-    /// Gives the end the kept block again, and returns the reply. `None` as for `take`. `awaits`
-    /// must hold.
+    /// Gives the end the kept block again, and returns the reply. `None` if there is an error
+    /// again: the block is still kept. `awaits` must hold.
     pub fn again(&mut self) -> Option<Reply>
         requires { awaits self.old ≡ true }
         ensures { Takes C.Applet self.old.kept self.old result self.new }

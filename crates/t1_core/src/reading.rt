@@ -9,26 +9,31 @@ use crate::found::Found;
 /// An end of the line.
 #[derive(Clone, Copy, Debug, Default, PartialEq, Eq)]
 pub enum End {
+    /// The end that sends commands.
     #[default]
     Terminal,
+    /// The end that sends responses.
     Card,
 }
 
 /// What an item is in its dialogue.
 #[derive(Clone, Copy, Debug, PartialEq, Eq)]
 pub enum Role {
-    /// A new I-block: a field of a command if the terminal sent it, otherwise of a response.
+    /// A new I-block: a field of a command if the terminal sent it, otherwise of a response. It may
+    /// be its first, its last, or both.
     Field { first: bool, last: bool },
-    /// The newest I-block of this end again. If it is cut again, its field replaces the one before.
+    /// The newest I-block of this end again. If it is cut again, its field replaces the one before,
+    /// and may no longer be the last.
     Repetition { last: bool },
     /// An R-block that acknowledges the newest I-block of a chain.
     Acknowledgement,
-    /// An R-block that asks for a block again.
+    /// Another R-block: it asks for a block again.
     Asks,
+    /// An S-block.
     Control,
     /// An I-block or R-block that may be new or not: see `Tap`.
     Unknown,
-    /// No valid block.
+    /// An invalid block, or the first bytes of one.
     Invalid,
 }
 

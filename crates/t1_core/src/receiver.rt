@@ -22,7 +22,8 @@ pub enum Received {
 /// Collects the bytes of a block (ISO/IEC 7816-3, clause 11).
 ///
 /// Call `take` with each byte. At `Whole`, pass `bytes` to an end's `take_bytes`. After a parity
-/// error, or a pause longer than CWT, call the end's `damaged`. After either, call `clear`.
+/// error call the end's `damaged`. After a pause longer than CWT call `timed_out` of a terminal's
+/// end, or `invalid` of a card's. After each of these, call `clear`.
 #[derive(Drop)]
 pub struct Receiver {
     block: [u8; 259],

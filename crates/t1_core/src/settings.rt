@@ -14,7 +14,9 @@ pub const EXTENSIONS: u16 = 1_000;
 /// The error detection code that an answer to reset announces.
 #[derive(Clone, Copy, Debug, PartialEq, Eq)]
 pub enum Edc {
+    /// One byte, the exclusive-or of the others.
     Lrc,
+    /// Two bytes, a cyclic redundancy check.
     Crc,
 }
 

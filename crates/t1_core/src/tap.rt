@@ -14,9 +14,13 @@ use std::marker::Model;
 /// Bytes of one end that belong together: a block, valid or not, or the first bytes of one.
 #[derive(Clone, Copy, Debug)]
 pub struct Item<'a> {
+    /// The end that sent them.
     pub from: End,
+    /// The bytes, 1 to 260.
     pub bytes: &'a [u8],
+    /// The block, or why it is invalid.
     pub found: Found<'a>,
+    /// What it is in the dialogue.
     pub role: Role,
 }
 
@@ -28,7 +32,8 @@ pub struct Item<'a> {
 ///
 /// It hears what one end hears, at its connector. A role is `Unknown` if an I-block has the next
 /// N(S) out of turn, or the other one and is not the newest again: the tap has missed something.
-/// All are, until the card ends a response, with an I-block of the terminal before that.
+/// So are all of later I-blocks and R-blocks, until the card ends a response, with an I-block of
+/// the terminal before that.
 #[derive(Drop)]
 pub struct Tap {
     edc: Edc,
@@ -105,7 +110,8 @@ impl Tap {
         self.push(byte);
     }
 
-    /// Hears bytes of this end up to the end of an item, and returns how many: at least one.
+    /// Hears bytes of this end up to the end of an item, and returns how many: at least one, if
+    /// there are any.
     pub fn hear_run(&mut self, from: End, bytes: &[u8]) -> usize
         ensures heard { self.new ≡ hears_all self.old from (take result bytes.now) }
         ensures progress { 0 < length bytes.now → 0 < result }
@@ -140,7 +146,8 @@ impl Tap {
         })
     }
 
-    /// The card was reset, or the end was reached. The bytes after the last item are one more.
+    /// The card was reset, or the end was reached. The bytes after the last item, if any, are one
+    /// more.
     pub fn reset(&mut self)
         ensures stopped { self.new ≡ stops self.old }
         ensures led { (heard : List Heard) (items : List Told) →

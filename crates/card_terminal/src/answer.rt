@@ -9,7 +9,8 @@ use std::marker::Model;
 use t0_core::Gather;
 use tlv_core::{Obj, Objects};
 
-/// The answer to a command: the data that all its TPDUs brought, and the status of the last.
+/// The answer to a command: the data that all its TPDUs brought, and the status of the last. The
+/// answer to an operation is that to its last command.
 #[derive(Drop)]
 pub struct Answer<A: Allocator = Global> {
     status: Status,

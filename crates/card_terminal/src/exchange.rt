@@ -38,8 +38,8 @@ use taking::{all_taken_by, taken_by};
 /// sent once more with that count, if it is not above what is still wanted (profile).
 ///
 /// `next` returns each character to send, and `take` takes each character of the card, until `next`
-/// returns `Done`. `into_answer` then returns the status and the data. `tpdu` and `answered` pass
-/// whole TPDUs instead.
+/// returns `Done`, or `Failed` after an error. After `Done`, `into_answer` returns the status and
+/// the data. `tpdu` and `answered` pass whole TPDUs instead.
 #[derive(Drop)]
 pub struct Exchange<'a, A: Allocator = Global> {
     end: HostEnd<'a>,
@@ -297,11 +297,12 @@ impl<'a, A: Allocator> Exchange<'a, A> {
     }
 
     /// Whether all data of the command have left the terminal. A card may end a TPDU before it
-    /// takes the data, with any status (ISO/IEC 7816-3, 10.3.3).
+    /// takes the data, with any status (ISO/IEC 7816-3, 10.3.3). The first that holds:
     ///
-    /// - `All`: the terminal has sent each data character, or the command has no data.
-    /// - `NotAll`: it has not. This stays if the card has ended the TPDU.
-    /// - `NotKnown`: a TPDU went as a whole (`answered`), or an error has ended the last.
+    /// - `NotAll`: data characters of the TPDU in progress, or of one that the card has ended, were
+    ///   not sent.
+    /// - `NotKnown`: a TPDU went as a whole (`answered`), or `BadProcedure` or `TooLong` ended one.
+    /// - `All`: each data character was sent, or the command has no data.
     pub fn data_sent(&self) -> DataSent
         ensures { TellsSent self.now result }
     {

@@ -51,7 +51,7 @@ impl<A: Allocator> HeldAnswer<A> {
         self.gather.bytes()
     }
 
-    /// Returns the answer in memory of its size, and frees the rest of the room.
+    /// Returns the answer, and frees the rest of the room, unless memory for that runs out.
     pub fn into_answer(self) -> Answer<A>
         ensures { result ≡ self }
     {

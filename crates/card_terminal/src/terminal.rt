@@ -35,14 +35,15 @@ use tlv_core::ObjectTag;
 /// terminal's characters, and passes it those of the card. It borrows nothing.
 ///
 /// `select`, `get`, `put` and `send` begin an operation, and allocate all its memory. `next` and
-/// `take` pass its characters until `next` returns `Done`. `answer` then returns the status and the
-/// data. The next operation may begin once this one has ended or failed, or `reset` has dropped it.
-/// Contracts see a terminal as the most bytes that a response may have, and the last operation, if
-/// there is one.
+/// `take` pass its characters until `next` returns `Done`, or `Failed` after an error. After `Done`,
+/// `answer` returns the status and the data. The next operation may begin once this one has ended
+/// or failed, or `reset` or `rest` has dropped it: then none has begun. Contracts see a terminal as
+/// the most bytes that a response may have, and the last operation, if there is one.
 ///
 /// The next operation uses the memory of this one: room for the response, and a copy of the data.
-/// It allocates only if its data are longer than any before. This memory keeps sent and received
-/// bytes, secrets included, until they are overwritten, or `reset` or drop frees them.
+/// It allocates only if its data are longer than any before, or after `reset`. This memory keeps
+/// sent and received bytes, secrets included, until they are overwritten, or `reset` or drop frees
+/// them.
 #[derive(Drop)]
 pub struct Terminal<A: Allocator + Copy = Global> {
     alloc: A,
@@ -347,7 +348,7 @@ impl<A: Allocator + Copy> Terminal<A> {
     }
 
     /// The status and the data of the last command, if the operation has ended. They are there
-    /// until the next operation begins or `reset`. `None` if none has begun, or if it is in
+    /// until the next operation begins, `reset` or `rest`. `None` if none has begun, or if it is in
     /// progress or has failed.
     pub fn answer(&self) -> Option<(Status, &[u8])>
         ensures { IsTerminalAnswer self.now.operation (option_map (λ a. (a.0, a.1.now)) result) }
@@ -368,7 +369,8 @@ impl<A: Allocator + Copy> Terminal<A> {
     }
 
     /// Drops the last operation, in any state, with its answer, as `reset`. Its memory stays for
-    /// the next one, with a copy of its data, until that overwrites it or `reset` or drop frees it.
+    /// the next one, with sent and received bytes, until that overwrites it or `reset` or drop
+    /// frees it.
     pub fn rest(&mut self)
         ensures { self.new ≡ at_rest self.old.limit }
     {

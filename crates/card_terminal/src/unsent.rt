@@ -6,8 +6,9 @@ use apdu_core::Command;
 pub struct Unsent<'a> {
     /// The first command.
     pub first: Command<'a>,
-    /// P1-P2 of all commands of a put.
+    /// P1 of the first command, and of all commands of a put.
     pub p1: u8,
+    /// P2 of them.
     pub p2: u8,
     /// The bytes to put after the first command's data; empty if no other command follows.
     pub rest: &'a [u8],

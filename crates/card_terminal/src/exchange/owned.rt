@@ -45,7 +45,7 @@ impl OwnedExchange {
     ghost use Rattle.card_terminal.specs.Gathered.{UnitOf};
 
     /// Begins the exchange of a command. Allocates room for `RESPONSE_LIMIT` bytes, and a copy of
-    /// the command's data. No other call allocates.
+    /// the command's data. The calls of an exchange allocate nothing.
     ///
     /// # Errors
     ///

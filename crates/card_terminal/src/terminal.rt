@@ -35,10 +35,10 @@ use tlv_core::ObjectTag;
 /// terminal's characters, and passes it those of the card. It borrows nothing.
 ///
 /// `select`, `get`, `put` and `send` begin an operation, and allocate all its memory. `next` and
-/// `take` pass its characters until `next` returns `Done`, or `Failed` after an error. After `Done`,
-/// `answer` returns the status and the data. The next operation may begin once this one has ended
-/// or failed, or `reset` or `rest` has dropped it: then none has begun. Contracts see a terminal as
-/// the most bytes that a response may have, and the last operation, if there is one.
+/// `take` pass its characters until `next` returns `Done`, or `Failed` after an error. After
+/// `Done`, `answer` returns the status and the data. The next operation may begin once this one has
+/// ended or failed, or `reset` or `rest` has dropped it: then none has begun. Contracts see a
+/// terminal as the most bytes that a response may have, and the last operation, if there is one.
 ///
 /// The next operation uses the memory of this one: room for the response, and a copy of the data.
 /// It allocates only if its data are longer than any before, or after `reset`. This memory keeps

@@ -11,7 +11,7 @@ pub const GET_RESPONSE: u8 = 0xC0;
 /// An application above the card's end: it gets whole commands, and returns whole responses.
 ///
 /// Each command is carried out once, by `carry_out`. It takes effect at `settle`, once the status
-/// of its TPDU is sent. A reset before that drops it.
+/// of its TPDU is sent; for a whole command, at once. A reset before that drops it.
 pub trait Application {
     ghost use Rattle.std.specs.Prelude.{◌≡◌, [], Bool, IfOk, IfErr};
     ghost use Rattle.apdu_core.specs.declared.header.Header.{Header};

@@ -10,7 +10,7 @@ use t0_core::{DataRun, TpduCard, Verdict};
 /// A card over an application (ISO/IEC 7816-3, 10.3 and 12.2). It carries out each command once, at
 /// the header or after the data, and keeps the rest of a response.
 ///
-/// - After `61XX` GET RESPONSE (INS `C0`, any class) fetches the rest. If nothing waits, `6985`.
+/// - After `61XX` GET RESPONSE (INS `C0`, any class) fetches the rest. If no rest waits, `6985`.
 /// - After `6CXX` the same header with that P3 gets the response, without another step.
 /// - Any other command drops what waits. INS `6X` and `9X` get `6D00`.
 /// - If memory runs out, the status is `6581`. For a response above `OWN_RESPONSE_LIMIT` it is

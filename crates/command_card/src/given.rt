@@ -106,7 +106,7 @@ impl Given {
     }
 
     /// Whether the last command that got a response has settled; `true` before the first. It stays
-    /// `false` if a reset drops the command.
+    /// `false` if a reset or `CommandCard::take_back` drops the command.
     pub fn has_settled(&self) -> bool
         ensures { result ≡ self.now.settled }
     {

@@ -51,7 +51,7 @@ pub fn an_exchange_gathers_what_is_asked_for<A: Application>()
 /// application has been through exactly the resets and the commands that whole TPDUs carried, in
 /// order, each once. The TPDUs without a command are known from the line: an INS of `6X` or `9X`,
 /// GET RESPONSE, and the repetition after `6CXX`. A command whose response is too long gets `6F00`
-/// and has no effect; so has a TPDU that a reset cuts off. The events are those of a
+/// and has no effect; nor has a TPDU that a reset cuts off. The events are those of a
 /// `t0_core::CardEnd` over the card (its clauses `led`), and nothing may be pending at first.
 pub fn each_command_at_most_once<A: Application>()
     ensures { (first last : CardState A.State) (events : List Event)

@@ -148,7 +148,8 @@ impl CommandCard<Given> {
     }
 
     /// States which way the data of the next header go. Returns `true` if the card did not know, and
-    /// no TPDU is in progress. Otherwise returns `false`, and nothing has changed.
+    /// no TPDU is in progress at it (from `header` to `answered`). Otherwise returns `false`, and
+    /// nothing has changed.
     pub fn decide(&mut self, to_card: bool) -> bool
         ensures prepared { prepared_in (λ s. s) settled self.new
             ≡ prepared_in (λ s. s) settled self.old }
@@ -164,7 +165,8 @@ impl CommandCard<Given> {
     }
 
     /// Takes back the response that was given, and what was stated about the next header, for a
-    /// command that is dropped. While a TPDU is in progress nothing changes.
+    /// command that is dropped. While a TPDU is in progress at the card (from `header` to
+    /// `answered`) nothing changes.
     pub fn take_back(&mut self)
         ensures prepared { prepared_in (λ s. s) settled self.new
             ≡ prepared_in (λ s. s) settled self.old }
@@ -176,11 +178,11 @@ impl CommandCard<Given> {
     }
 
     /// Carries out a whole command, which settles. `response` has what the card answers. Le is 1 to
-    /// 256, or `None`.
+    /// 256, or `None`. If the direction of its data is not known, they count as the card's.
     ///
     /// # Errors
-    /// - `AllocError`: memory ran out, a TPDU is in progress, this is no command, or the response
-    ///   that it needs was not given. Nothing is carried out.
+    /// - `AllocError`: memory ran out, a TPDU is in progress at the card, this is no command, or the
+    ///   response that it needs was not given. Nothing is carried out; `response` may be empty.
     pub fn respond(
         &mut self,
         header: Header,
@@ -219,15 +221,16 @@ impl CommandCard<Given> {
         Ok(())
     }
 
-    /// What the card answers to the last whole command: data, SW1 and SW2. It stays until `forget`
-    /// or a TPDU.
+    /// What the card answers to the last whole command: data, SW1 and SW2. It stays until the next,
+    /// `forget`, a TPDU or a reset.
     pub fn response(&self) -> &[u8]
         ensures { result.now ≡ self.now.fresh }
     {
         &self.fresh
     }
 
-    /// Wipes what `response` returns. While a TPDU is in progress nothing changes.
+    /// Wipes what `response` returns. While a TPDU is in progress at the card (from `header` to
+    /// `answered`) nothing changes.
     pub fn forget(&mut self)
         ensures prepared { prepared_in (λ s. s) settled self.new
             ≡ prepared_in (λ s. s) settled self.old }
@@ -403,7 +406,7 @@ pub fn wanted_by_command<'a>(end: &CardEnd<CommandCard<Given>>, command: &Comman
     Wanted::Response(Command::new(header, &[], Some(le.unwrap_or(256))).unwrap())
 }
 
-/// Gives the response to the command in progress (`CommandCard::give`).
+/// Gives the response to the command in progress, with the errors of `CommandCard::give`.
 pub fn give(
     end: &mut CardEnd<CommandCard<Given>>,
     bytes: &[u8],

@@ -89,8 +89,8 @@ impl CommandCard<Given> {
     ghost use Rattle.command_card.specs.View.{standing_in, prepared_in};
 
     /// What the application is needed for, to answer this header, whether or not a response was
-    /// given already. Nothing for INS `6X` or `9X`, for GET RESPONSE, and for the header that gets a
-    /// response after `6CXX`.
+    /// given already. Nothing for INS `6X` or `9X`, for GET RESPONSE, and for the header and P3 that
+    /// get a response after `6CXX`.
     pub fn need(&self, header: Header, p3: u8) -> Need
         ensures { result ≡ need_in (standing_in (λ s. s) self.now) header p3 }
     {
@@ -147,9 +147,9 @@ impl CommandCard<Given> {
         }
     }
 
-    /// States which way the data of the next header go. Returns `true` if the card did not know, and
-    /// no TPDU is in progress at it (from `header` to `answered`). Otherwise returns `false`, and
-    /// nothing has changed.
+    /// States which way the data of the next header go. Returns `true` if the card did not know,
+    /// and no TPDU is in progress at it (from `header` to `answered`). Otherwise returns `false`,
+    /// and nothing has changed.
     pub fn decide(&mut self, to_card: bool) -> bool
         ensures prepared { prepared_in (λ s. s) settled self.new
             ≡ prepared_in (λ s. s) settled self.old }
@@ -181,8 +181,8 @@ impl CommandCard<Given> {
     /// 256, or `None`. If the direction of its data is not known, they count as the card's.
     ///
     /// # Errors
-    /// - `AllocError`: memory ran out, a TPDU is in progress at the card, this is no command, or the
-    ///   response that it needs was not given. Nothing is carried out; `response` may be empty.
+    /// - `AllocError`: memory ran out, a TPDU is in progress at the card, this is no command, or
+    ///   the response that it needs was not given. Nothing is carried out; `response` may be empty.
     pub fn respond(
         &mut self,
         header: Header,

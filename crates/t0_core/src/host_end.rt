@@ -256,8 +256,8 @@ impl<'a> HostEnd<'a> {
 
     /// Whether the end has sent all data of its TPDU: as many characters as P3 states, or none if
     /// it asks for data. The value at SW1 stays: a card may end a TPDU before it takes the data
-    /// (ISO/IEC 7816-3, 10.3.3). `NotKnown` after the answer to the whole TPDU, and after an error
-    /// for good.
+    /// (ISO/IEC 7816-3, 10.3.3). `NotKnown` after the answer to the whole TPDU, and after
+    /// `BadProcedure` or `TooLong`.
     pub fn data_sent(&self) -> DataSent
         ensures value { result ≡ data_sent self.now }
         ensures in_body { (b : Body) → HostStandsAt self.now (In_body b) → result ≡ sent_in b }

@@ -29,8 +29,8 @@ impl<C: TpduCard> CardEnd<C> {
 }
 
 impl<C: TpduCard + Open> CardEnd<C> {
-    /// Lends the card to `f`, between any two characters. It must not change what the card has
-    /// prepared. The dialogue continues as if nothing had happened.
+    /// Lends the card to `f`, whose contract must accept it, between any two characters. `f` must
+    /// not change what the card has prepared. The end itself stays as it is.
     pub fn with_card<F, R>(&mut self, f: F) -> R
     where
         F: FnOnce(&mut C) -> R,

@@ -39,7 +39,8 @@ impl HostMark {
         turn_at(&request, &mut self.stage)
     }
 
-    /// Does what `HostEnd::next_data_bytes` does, on the end over these data.
+    /// Does what `HostEnd::next_data_bytes` does, on the end over these data, which must be as long
+    /// as before.
     #[inline(always)]
     pub fn next_data_bytes(&mut self, content: &[u8], bytes: &mut [u8]) -> usize
         requires { IsInRange (with_data self.old content.now) }
@@ -51,8 +52,9 @@ impl HostMark {
         data_bytes_at(&request, &mut self.stage, bytes)
     }
 
-    /// Takes a character of the card, as `HostEnd::take` does on the end over these data, if it is
-    /// data and `gather` has room. Returns whether it has; if not, nothing changes.
+    /// Takes a character of the card, as `HostEnd::take` does on the end over these data, which
+    /// must be as long as before, if it is data and `gather` has room. Returns whether it has; if
+    /// not, nothing changes.
     #[inline(always)]
     pub fn take_data<A: Allocator>(
         &mut self,

@@ -21,16 +21,16 @@ use t0_core::{CardEnd, Gather, Plan, Plans, TpduCard, TpduFault};
 
 /// Carries out a whole command at a card's end, by TPDUs under cuts of 256 (profile). The first is
 /// the command itself, in case 4 without its Le. After `6CXX` a TPDU of case 2 is sent once more
-/// with that count. After `61XX` GET RESPONSE fetches as much as Le asks for, 256 bytes for `00`,
-/// and nothing without Le. The rest stays pending, and the status announces it. The returned
-/// exchange has ended: it holds the data and the status.
+/// with that count, if Le still asks for as much. After `61XX` GET RESPONSE fetches as much as Le
+/// asks for, 256 bytes for `00`, and nothing without Le. The rest stays pending, and the status
+/// announces it. The returned exchange has ended: it holds the data and the status.
 ///
 /// # Errors
 /// - `UnderWay`: a TPDU is in progress at the card's end. Nothing changes.
 /// - `OutOfMemory`: memory for the response ran out. Nothing changes.
 /// - `Tpdu`: the card did not finish a TPDU, because the command is not agreed with it:
-///   `WantsData` if the card takes data in case 2, `SendsData` if it sends data that no Le asks
-///   for. The TPDUs before it are carried out, and then the card is reset.
+///   `WantsData` if the card takes data in a TPDU of case 2, `SendsData` if it sends data in one
+///   of case 1 or 3. The TPDUs before it are carried out, and then the card is reset.
 /// - `Response` of `Stalled`: a GET RESPONSE brought no data, and the card announces more. The
 ///   TPDUs so far are carried out.
 pub fn apdu<'c, C: TpduCard, A: Allocator + Copy>(

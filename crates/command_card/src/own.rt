@@ -89,8 +89,8 @@ impl CommandCard<Given> {
     ghost use Rattle.command_card.specs.View.{standing_in, prepared_in};
 
     /// What the application is needed for, to answer this header, whether or not a response was
-    /// given already. Nothing for INS `6X` or `9X`, for GET RESPONSE, and for the header and P3 that
-    /// get a response after `6CXX`.
+    /// given already. Nothing for INS `6X` or `9X`, for GET RESPONSE, and for the header and P3
+    /// that get a response after `6CXX`.
     pub fn need(&self, header: Header, p3: u8) -> Need
         ensures { result ≡ need_in (standing_in (λ s. s) self.now) header p3 }
     {

@@ -8,7 +8,7 @@ pub enum AtrReason {
     /// The first byte is neither `3B` nor `3F`.
     NoTs,
     /// The bytes end before an announced character, and there are fewer than 33. One more byte may
-    /// mend this, so a reader may continue to read as long as the error is this one.
+    /// mend this, so a reader may continue to read after this error or `CheckMissing`.
     Cut,
     /// More than 32 characters after TS are announced, counting the check byte. The place is 33,
     /// whether or not a byte is there.

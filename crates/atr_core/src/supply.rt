@@ -8,9 +8,13 @@ use crate::rate::Rfu;
 /// Whether the clock may stop, and at which level (ISO/IEC 7816-3, 8.3).
 #[derive(Clone, Copy, Debug, PartialEq, Eq)]
 pub enum ClockStop {
+    /// It may not.
     NotSupported,
+    /// It may, at the low level alone.
     AtLow,
+    /// It may, at the high level alone.
     AtHigh,
+    /// It may, at both.
     AtEither,
 }
 

@@ -17,8 +17,8 @@ use t1_core::laws::only_commands_change_a_card;
 
 /// Whatever a terminal sends over T=1, only a whole PUT DATA with CLA `00` whose response ends with
 /// `9000` changes applications and their entries. The card carries out `did` in turn, and each
-/// other command keeps them. A reset of the card's end does, too, and a lack of memory. The premise
-/// on the limit holds of a new end.
+/// other command keeps them, as do a reset of the card's end and a lack of memory. The premise on
+/// the limit holds of a new end.
 pub fn only_a_put_changes_entries<C: DataCard>()
     ensures { (state_of : C.State → CardState) → StandsFor C.Does C.after_reset state_of →
         (calls : List Call) (old new : EndOf (CardEndOf C)) (sent : List ℕ) →

@@ -28,8 +28,8 @@ pub struct Operated<C: DataCard> {
 /// terminal gives up. Both ends start as after a reset; the card starts in its own state. No chain
 /// may be pending at it (`DataCard::is_idle`), and without a fault none is afterwards.
 ///
-/// Whatever the line damages or loses, the answers are the first of those of the card that answers
-/// each operation in one step. After a fault the card has carried out the answered operations, and
+/// Whatever the line damages or loses, the answers are the first ones of the card that answers each
+/// operation in one step. After a fault the card has carried out the answered operations, and
 /// at most the next one, and a chain may be pending. The outcome in the fault is true of that
 /// operation. There is no fault on a mild line, where at most f blocks fail between two steps, if
 /// the settings suffice. `tries` must be at least 2 f, `extensions` at least f, and `limit` at

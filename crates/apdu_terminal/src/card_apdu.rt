@@ -28,7 +28,7 @@ use t0_core::{CardEnd, Gather, Plan, Plans, TpduCard, TpduFault};
 /// # Errors
 /// - `UnderWay`: a TPDU is in progress at the card's end. Nothing changes.
 /// - `OutOfMemory`: memory for the response ran out. Nothing changes.
-/// - `Tpdu`: the card did not finish a TPDU, because the command is not agreed with it:
+/// - `Tpdu`: the card did not finish a TPDU, because the command is not agreed with it. It is
 ///   `WantsData` if the card takes data in a TPDU of case 2, `SendsData` if it sends data in one
 ///   of case 1 or 3. The TPDUs before it are carried out, and then the card is reset.
 /// - `Response` of `Stalled`: a GET RESPONSE brought no data, and the card announces more. The

@@ -289,7 +289,8 @@ fn respond_given(
 }
 
 /// What is still needed of the application at a header, if `bytes` are the data to the card. A
-/// response is not needed if one was given, or if data are due and `bytes` are not P3 in number.
+/// response is not needed if one was given, or if the terminal sends data and `bytes` are not P3
+/// in number.
 #[inline(never)]
 pub fn needed_by(card: &CommandCard<Given>, header: Header, p3: u8, bytes: &[u8]) -> Need
     ensures { wanted_by card.now header p3 bytes.now ≡ wanted_as result header p3 bytes.now }

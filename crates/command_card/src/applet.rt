@@ -22,6 +22,9 @@ pub const COMMAND_LIMIT: usize = 261;
 /// An application above its end of a line at T=1, or for whole commands. It gets each command as
 /// T=0 shows it, so it answers alike on both lines. At most Le bytes of a response come. `61XX`
 /// announces the rest, which GET RESPONSE fetches. Responses are wiped once they are sent.
+///
+/// Bytes that are no short command get `6700`, INS `6X` and `9X` `6D00`, and nothing changes. Data
+/// in the wrong direction get `6700`. The other statuses are those of `CommandCard`.
 #[derive(Drop)]
 pub struct AppletOf<A: Application> {
     pub(crate) application: A,

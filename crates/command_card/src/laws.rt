@@ -36,8 +36,9 @@ pub fn an_exchange_gathers_the_response<A: Application>()
         × (last.left ≡ Nothing_left) }
 {}
 
-/// The same for any Le, and none: the first Le bytes of the response come, all if there are fewer.
-/// If none are left, the application's status comes; otherwise `61XX`, and the rest is pending.
+/// The same for any Le, and none: the first Le bytes of the response come, all if there are fewer,
+/// or if Le is 00. If none are left, the application's status comes; otherwise `61XX`, and the rest
+/// is pending.
 pub fn an_exchange_gathers_what_is_asked_for<A: Application>()
     ensures { (first last : CardState A.State) (c : Command) (units : List UnitOf)
         (plans : List Course) (gathered : List ℕ) (status : StatusWord) →

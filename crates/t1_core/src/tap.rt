@@ -32,8 +32,8 @@ pub struct Item<'a> {
 ///
 /// It hears what one end hears, at its connector. A role is `Unknown` if an I-block has the next
 /// N(S) out of turn, or the other one and is not the newest again: the tap has missed something.
-/// So are all of later I-blocks and R-blocks, until the card ends a response, with an I-block of
-/// the terminal before that.
+/// So are those of all later I-blocks and R-blocks, until the card ends a response, with an I-block
+/// of the terminal before that.
 #[derive(Drop)]
 pub struct Tap {
     edc: Edc,

@@ -13,7 +13,7 @@ use t0_core::CardEnd;
 use t1_core::{Applet, Requests};
 
 /// A card of given responses above its end of a line at T=1. It carries out no command without its
-/// response: a `t1_core::PatientCard` keeps the block until then.
+/// response and the direction of its data: a `t1_core::PatientCard` keeps the block until then.
 #[derive(Drop)]
 pub struct GivenApplet {
     /// The card as it was at T=0, where no TPDU may be in progress.

@@ -70,7 +70,7 @@ fn spell(alloc: Global, pcb: Pcb, info: &[u8]) -> Result<Vec<u8>, AllocError>
 }
 
 /// Decodes a whole block. `None` if `parts` returns `None`, or if the field has a wrong size. An
-/// end's `take_bytes` tells these apart.
+/// end's `take_bytes` tells a wrong LRC from the other reasons.
 ///
 /// S(IFS) and S(WTX) have one byte, whose value is not checked. R-blocks and other S-blocks have no
 /// field. An I-block with the more-data bit has at least one byte (profile).

@@ -32,7 +32,7 @@ pub struct Attempt {
     pub before: usize,
     /// Its number in the exchange, from 1.
     pub number: usize,
-    /// Whether the TPDUs before it have sent all their data.
+    /// Whether the TPDUs before it have sent all their data; `NotKnown` among whole commands.
     pub sent: DataSent,
 }
 

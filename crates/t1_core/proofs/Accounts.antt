@@ -1,5 +1,5 @@
 -- A terminal is in a fault exactly if there is a reason, whatever any peer sends.
-use Rattle.std.proofs.Common.{◌≡◌, refl, sym, ap, subst, ◌∙◌, ℕ, zero, suc, ◌+◌, ◌≤◌, ◌<◌, Bool, true, false, List, [], ◌∷◌, ◌++◌, length, length-append, nat_lt, Option, Some, None, cond, ◌==◌, arith}
+use Rattle.std.proofs.Common.{◌≡◌, refl, sym, ap, subst, ◌∙◌, ℕ, zero, suc, ◌+◌, ◌≤◌, ◌<◌, Bool, true, false, List, [], ◌∷◌, ◌++◌, length, length-append, nat_lt, Some, None, cond, ◌==◌, arith}
 use Rattle.t1_core.specs.declared.block.Control.{Control}
 use Rattle.t1_core.specs.declared.block.Control.TheVariants.{Resynch, Ifs, Abort, Wtx}
 use Rattle.t1_core.specs.declared.settings.Settings.{Settings}
@@ -13,7 +13,7 @@ use Rattle.t1_core.specs.declared.pcb.BlockReason.TheVariants.{Other}
 use Rattle.t1_core.specs.Block.{I, R, Request, Response, Arrival, Came, Bad, other, same, is_size}
 use Rattle.t1_core.specs.BlockBytes.{arrival_of}
 use Rattle.t1_core.specs.History.{Event, Begins, Takes, Misses, Resets, happens, Account, nothing, stays, without_step, counted, counts, account, after, accounts, reason, cause_in, IsAccounted}
-use Rattle.t1_core.specs.TerminalSide.{Terminal, fresh, begins, begins_sending, shortened, without_try, first_phase, spend, takes, gathers, acknowledged, answered, asked, extend, longest}
+use Rattle.t1_core.specs.TerminalSide.{Terminal, fresh, begins, begins_sending, shortened, first_phase, spend, takes, gathers, acknowledged, answered, asked, extend, longest}
 use Rattle.t1_core.proofs.Bits.{same_self, same_other_2}
 
 module _ (s : Settings) where

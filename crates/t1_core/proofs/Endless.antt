@@ -1,5 +1,5 @@
 -- A terminal stops, whatever any peer sends.
-use Rattle.std.proofs.Common.{◌≡◌, refl, sym, ap, subst, ◌∙◌, ℕ, zero, suc, ◌+◌, ◌-◌, ◌*◌, ◌≤◌, ◌<◌, Bool, true, false, List, [], ◌∷◌, ◌++◌, take, drop, length, length-append, length-drop, nat_lt, Option, Some, None, cond, ◌==◌, arith, ◌⊎◌, inl, inr}
+use Rattle.std.proofs.Common.{◌≡◌, refl, sym, ap, subst, ◌∙◌, ℕ, zero, suc, ◌+◌, ◌-◌, ◌*◌, ◌≤◌, ◌<◌, Bool, true, false, List, [], ◌∷◌, ◌++◌, take, drop, length, length-append, nat_lt, Option, Some, None, cond, ◌==◌, arith, ◌⊎◌, inl, inr}
 use Rattle.t1_core.specs.declared.block.Control.{Control}
 use Rattle.t1_core.specs.declared.block.Control.TheVariants.{Resynch, Ifs, Abort, Wtx}
 use Rattle.t1_core.specs.declared.pcb.BlockReason.TheVariants.{Other}

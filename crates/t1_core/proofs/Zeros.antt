@@ -1,5 +1,5 @@
 -- The unused room of a buffer holds zeros.
-use Rattle.std.proofs.Common.{arith, ◌≡◌, ℕ, ◌+◌, ◌++◌, ◌-◌, ◌<◌, ◌≤◌, List, length, take, drop, replicate, slice_set, length-append, ap, ◌∙◌, sym}
+use Rattle.std.proofs.Common.{arith, ◌≡◌, ℕ, ◌+◌, ◌++◌, ◌-◌, ◌≤◌, List, length, take, drop, replicate, slice_set, length-append, ap, ◌∙◌, sym}
 use Rattle.std.proofs.lemmas.List.{drop_at, drop-drop, drop-replicate, length-take-le, drop-set-lt, replicate-append-replicate}
 
 -- the bytes behind one that is written

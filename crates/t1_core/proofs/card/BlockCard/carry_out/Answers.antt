@@ -1,4 +1,4 @@
-use Rattle.std.proofs.Common.{arith, List, ℕ, take, drop}
+use Rattle.std.proofs.Common.{arith, take, drop}
 use Rattle.std.proofs.lemmas.List.{take-append-drop}
 use Rattle.t1_core.proofs.CardSteps.{carried_kept}
 use Rattle.t1_core.proofs.card.BlockCard.carry_out.Goals as goal

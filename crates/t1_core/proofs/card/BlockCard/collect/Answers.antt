@@ -1,4 +1,4 @@
-use Rattle.std.proofs.Common.{◌≡◌, ◌+◌, ◌<◌, ◌≤◌, ◌⊎◌, true, ap, sym, ◌∙◌, arith, length, inl, inr}
+use Rattle.std.proofs.Common.{◌≡◌, ◌+◌, ◌<◌, ◌⊎◌, true, ap, sym, ◌∙◌, arith, length, inl, inr}
 use Rattle.t1_core.proofs.CardSteps.{ended, exceeded, forgets_field, on_ok, refused}
 use Rattle.t1_core.proofs.card.BlockCard.collect.Goals as goal
 use Rattle.t1_core.proofs.card.BlockCard.collect.Goals.{then-self-via-then-self, then-self-via-else-self+then-before-field}

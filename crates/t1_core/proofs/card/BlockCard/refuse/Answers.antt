@@ -1,4 +1,4 @@
-use Rattle.std.proofs.Common.{arith, List, ℕ, take, drop}
+use Rattle.std.proofs.Common.{arith, take, drop}
 use Rattle.std.proofs.lemmas.List.{take-append-drop}
 use Rattle.t1_core.proofs.CardSteps.{carried_over}
 use Rattle.t1_core.proofs.card.BlockCard.refuse.Goals as goal

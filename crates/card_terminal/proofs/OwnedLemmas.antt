@@ -54,6 +54,14 @@ pub same_parts : (end : HostMark) (gather : Room) (attempt : Attempt) (wanted : 
 same_parts end gather attempt wanted stalled content host ex is view =
     ap (λ (h : Hosting). of_parts h gather attempt wanted stalled) is ∙ view
 
+-- what holds of an exchange with an end holds of the exchange whose end is made of its mark again
+pub over_mark : (P : ExchangeOf → Type 0) (mark : HostMark) (content : List ℕ) (host : Hosting)
+    (gather : Room) (attempt : Attempt) (wanted : Wanted) (stalled : Bool)
+    → with_data mark content ≡ host → P (of_parts host gather attempt wanted stalled)
+    → P (of_parts (with_data mark content) gather attempt wanted stalled)
+over_mark P mark content host gather attempt wanted stalled is holds =
+    subst (λ (h : Hosting). P (of_parts h gather attempt wanted stalled)) (sym is) holds
+
 pub end_has_only : (mark : HostMark) (content : List ℕ) (host : Hosting)
     → host ≡ with_data mark content → HasOnly content host
 end_has_only mark content host is =

@@ -10,7 +10,9 @@ ghost use Rattle.t0_core.specs.HostSide.{HostStandsAt, IsRequest};
 ghost use Rattle.t0_core.specs.HostMark.{HasOnly};
 ghost use Rattle.t0_core.specs.Buffers.{Steps};
 ghost use Rattle.t0_core.specs.TpduBytes.{asked_of, due_by};
-ghost use Rattle.card_terminal.specs.ExchangeSide.{GoesByCharacters, HostOpensBy, asks_card, response_limit};
+ghost use Rattle.t0_core.specs.Room.{Room};
+ghost use Rattle.card_terminal.specs.ExchangeSide.{UnderWay, IsKept, GoesByCharacters, HostOpensBy, asks_card, response_limit};
+ghost use Rattle.card_terminal.specs.OwnedExchange.{of_parts};
 
 mod exchange_mark;
 mod handing;
@@ -85,7 +87,7 @@ impl<'a, A: Allocator> Exchange<'a, A> {
     ghost use Rattle.card_terminal.specs.ExchangeHistory.{ComesTo, unit_characters};
     ghost use Rattle.card_terminal.specs.SentData.{TellsSent};
     ghost use Rattle.t0_core.specs.Character.{Character};
-    ghost use Rattle.card_terminal.specs.ExchangeSide.{UnderWay, IsKept, exchange_turn};
+    ghost use Rattle.card_terminal.specs.ExchangeSide.{exchange_turn};
 
     /// Begins the exchange of a command, and allocates room for `RESPONSE_LIMIT` bytes.
     ///
@@ -165,22 +167,12 @@ impl<'a, A: Allocator> Exchange<'a, A> {
         ensures room { result.gather ≡ gather }
         ensures by_characters { GoesByCharacters result }
     {
-        let header = command.header();
-        let le = command.le();
-        let (end, asks) = first_end(header, command.data(), le);
+        let (end, attempt, wanted) = beginning(command);
         Exchange {
             end,
             gather,
-            attempt: Attempt {
-                header,
-                asks,
-                fetches: false,
-                repeats: false,
-                before: 0,
-                number: 1,
-                sent: DataSent::All,
-            },
-            wanted: Wanted::by(le),
+            attempt,
+            wanted,
             stalled: false,
         }
     }
@@ -368,6 +360,31 @@ impl<'a, A: Allocator> Exchange<'a, A> {
             Some(status) => Some(Answer::new(status, gather)),
         }
     }
+}
+
+/// Returns the parts of the exchange of a command that begins, apart from its room.
+pub(crate) fn beginning(command: Command<'_>) -> (HostEnd<'_>, Attempt, Wanted)
+    ensures begins { (gather : Room) → gather.bytes ≡ [] →
+        UnderWay command.entry (of_parts result.0 gather result.1 result.2 false) [] None fresh }
+    ensures kept { (gather : Room) → gather.bytes ≡ [] → gather.limit ≤ response_limit →
+        IsKept (of_parts result.0 gather result.1 result.2 false) }
+    ensures data { HasOnly command.entry.content result.0 }
+    ensures by_characters { (gather : Room) →
+        GoesByCharacters (of_parts result.0 gather result.1 result.2 false) }
+{
+    let header = command.header();
+    let le = command.le();
+    let (end, asks) = first_end(header, command.data(), le);
+    let attempt = Attempt {
+        header,
+        asks,
+        fetches: false,
+        repeats: false,
+        before: 0,
+        number: 1,
+        sent: DataSent::All,
+    };
+    (end, attempt, Wanted::by(le))
 }
 
 /// Returns the terminal's end of a command's first TPDU, and whether that TPDU asks the card for

@@ -15,9 +15,9 @@ ghost use Rattle.card_terminal.specs.Unsent.{IsFirst};
 ghost use Rattle.card_terminal.specs.SentData.{TellsSent};
 
 use crate::attempt::Attempt;
-use crate::exchange::Exchange;
 use crate::exchange::handing::handed_in;
 use crate::exchange::taking::{all_taken_by, taken_by};
+use crate::exchange::{Exchange, beginning};
 use crate::handed_out::HandedOut;
 use crate::taken::Taken;
 use crate::wanted::Wanted;
@@ -90,9 +90,12 @@ impl<A: Allocator + Copy> ExchangeMark<A> {
         ensures limit { self.new.gather.limit ≡ self.old.gather.limit }
         ensures by_characters { GoesByCharacters (over_data self.new command.entry.content) }
     {
-        let mut gather = mem::replace(&mut self.gather, Gather::without_room(self.alloc));
-        gather.clear();
-        *self = ExchangeMark::of(self.alloc, Exchange::begin(gather, command));
+        self.gather.clear();
+        let (end, attempt, wanted) = beginning(command);
+        self.end = end.mark();
+        self.attempt = attempt;
+        self.wanted = wanted;
+        self.stalled = false;
     }
 
     /// Makes the mark of an exchange.

@@ -290,20 +290,23 @@ impl<A: Allocator + Copy> Operation<A> {
         }
         match self.turn() {
             HostTurn::Done(status) if status.is_ok() => {
-                self.begin_next();
+                // Here the compiler knows that the end has ended.
+                let sent = self.data_sent();
+                self.begin_next(sent);
                 true
             }
             _ => false,
         }
     }
 
-    /// Begins the exchange of the next piece of a put, in the same room.
-    fn begin_next(&mut self)
+    /// Begins the exchange of the next piece of a put, in the same room. `sent` is what `data_sent`
+    /// returns before.
+    fn begin_next(&mut self, sent: DataSent)
         requires more { self.old.rest ≡ [] → ⊥ }
         requires done { exchange_turn self.old.exchange ≡ HostTurn.Done ok }
+        requires sent { sent ≡ operation_sent self.old }
         ensures { GoesToNext self.old self.new }
     {
-        let sent = self.data_sent();
         let mut commands = pieces(put_header(self.p1, self.p2), &self.content[self.until..]);
         let Some(next) = commands.next() else {
             unreachable!()

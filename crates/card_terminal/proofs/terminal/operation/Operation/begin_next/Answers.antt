@@ -23,7 +23,7 @@ returns g c =
     let (pieces, are, same) = c.pieces-commands.ensures in
     let size = ap length c.data.ensures.value in
     next_begins c.args.self.now _ c.again.new.self c.self.inside.content.items c.deref.result.now _
-    _ _ _ _ _ _ _ pieces _ _ c.in-Some.next c.self.view_is c.data_sent-sent.ensures
+    _ _ _ _ _ _ _ pieces _ _ c.in-Some.next c.self.view_is c.requires.sent
     c.requires.done c.requires.more
     c.deref.ensures.value c.put_header.ensures are same c.in-Some.ensures.steps
     c.self.invariant.within size c.again.ensures.begins c.again.ensures.led

@@ -14,12 +14,12 @@ pub const RESPONSE_LIMIT: usize = 16_384;
 /// Whether the terminal has sent all data of a command, or of an operation's commands so far.
 #[derive(Clone, Copy, Debug, PartialEq, Eq, Hash)]
 pub enum DataSent {
-    /// They have all left it, or it has no data to send.
+    /// Neither of the others: they have all left it, or it has no data to send.
     All,
-    /// Not all have.
+    /// Not all have. This comes first.
     NotAll,
-    /// It is not known: a TPDU or a command went as a whole, also one without data, or an error has
-    /// ended it.
+    /// It is not known: a TPDU or a command went as a whole, also one without data, or
+    /// [`Error::BadProcedure`] or [`Error::TooLong`] has ended it.
     NotKnown,
 }
 

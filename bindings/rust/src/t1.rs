@@ -35,7 +35,8 @@ codes! {
 #[derive(Clone, Copy, Debug, PartialEq, Eq, Hash)]
 #[non_exhaustive]
 pub enum Outcome {
-    /// The card has not carried it out: its last block was never sent.
+    /// The card has not carried it out: its last block was never sent, or has to come again in
+    /// shorter ones.
     NotCarriedOut,
     /// The card may have carried it out. This is the outcome too if the first field of the response
     /// is too long: no part is kept.

@@ -165,8 +165,9 @@ class Machine(Handle):
         return None if found == lib.GT_NOT_DUE else Due(*found)
 
     def data_sent(self) -> Optional[bool]:
-        """Returns whether all data of the commands so far have left the terminal, or None if that
-        is not known: a TPDU or a command went as a whole, or an error has ended it.
+        """Returns whether all data of the commands so far have left the terminal. If no TPDU was
+        ended before that, it is None if one went as a whole, or a command did, also without data,
+        or if GT_BAD_PROCEDURE or GT_TOO_LONG has ended the last.
 
         A card may end a TPDU with any status before it takes the data: then a status 61XX, 62XX,
         63XX or 9XXX is no success. If it ends a piece of a put so, this stays False.

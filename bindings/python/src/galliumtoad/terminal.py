@@ -165,12 +165,13 @@ class Machine(Handle):
         return None if found == lib.GT_NOT_DUE else Due(*found)
 
     def data_sent(self) -> Optional[bool]:
-        """Returns whether all data of the commands so far have left the terminal. If no TPDU was
-        ended before that, it is None if one went as a whole, or a command did, also without data,
-        or if GT_BAD_PROCEDURE or GT_TOO_LONG has ended the last.
+        """Returns whether all data of the commands so far have left the terminal. False if they
+        have not: this comes first, and stays if a card ended a piece of a put before that. None is
+        not known: a TPDU or a command went as a whole, also without data, or GT_BAD_PROCEDURE or
+        GT_TOO_LONG has ended the last TPDU.
 
         A card may end a TPDU with any status before it takes the data: then a status 61XX, 62XX,
-        63XX or 9XXX is no success. If it ends a piece of a put so, this stays False.
+        63XX or 9XXX is no success.
 
         Raises `CallError`, GT_STATE, if no operation has begun.
         """

@@ -184,6 +184,10 @@ def breaks():
         asks = "81" if title == "a wrong LRC" else "82"
         yield Case(f"T=1: {title}", f"{first}{sent}< {bad} " + talk(">", asks, "<", f"00:{NAME}"),
                    select, terminal_cases.SELECTED, echo=False, slack=slack)
+    dropped = f"{first}{sent}< {block('00', NAME)}00E1 " + talk(">", "82", "<", f"00:{NAME}")
+    yield Case("T=1: -v shows the bytes behind a block", dropped, select,
+               terminal_cases.trace_of(dropped) + terminal_cases.SELECTED, options=["-v"],
+               echo=False, slack=slack)
     for error in ("80", "83", "8F"):
         yield Case(f"T=1: R with the own number, {error}", f"{first}{sent}" + talk("<", error)
                    + SELECTS, select, terminal_cases.SELECTED, echo=False, slack=slack)

@@ -116,7 +116,7 @@ static void remove_first(struct line *line, size_t n)
     memmove(line->come, line->come + n, line->come_count * sizeof *line->come);
 }
 
-/* Notes the first faulty one of the characters looked at. */
+/* Notes the first of the characters looked at, which is faulty or dropped. */
 static void note_first(struct line *line)
 {
     line_note(line, other_of(line), by_convention(line, line->come[0].raw));
@@ -142,7 +142,8 @@ const char *line_drop(struct line *line, int64_t first, int64_t quiet)
     size_t i;
     for (i = 0; i < LINE_DROPS; i++) {
         const enum port_result result = come_in(line, 1, port_now() + wait);
-        line->come_count = 0;
+        for (; line->come_count > 0; remove_first(line, 1))
+            note_first(line);
         if (result == PORT_IS_GONE)
             return LINE_IS_GONE;
         if (result != PORT_IS_WELL)

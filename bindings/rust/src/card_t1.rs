@@ -119,6 +119,7 @@ impl<A: Application> CardT1<A> {
 
     /// Resets the card, at any time, and begins T=1 again. A block or command in progress is
     /// dropped, and nothing is selected or pending. Data objects and plans stay; T=1 uses no plans.
+    /// An application of your own is reset too.
     ///
     /// # Errors
     ///

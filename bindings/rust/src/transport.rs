@@ -163,11 +163,12 @@ impl Terminal {
     /// # Errors
     ///
     /// - [`RunError::Terminal`] of [`Terminal::begin`]: nothing was sent, and nothing has changed.
-    /// - [`Error::Memory`] at [`Level::Apdu`]: nothing was sent, and the terminal is reset.
+    /// - [`Error::Memory`] after that, at [`Level::Apdu`]: nothing was sent, and the terminal is
+    ///   reset. The two look alike.
     /// - [`Error::Buffer`]: the operation was carried out, and there is no memory for the data. The
     ///   terminal keeps the answer: ask for [`answer`](Terminal::answer).
     /// - Any other: the terminal is reset, and the next operation may begin. What the card has done
-    ///   is unknown: reset it. Nothing was sent a second time.
+    ///   is unknown: reset it. Nothing was sent after the error.
     ///
     /// The terminal is reset too if the transport panics.
     pub fn run<T: Transport + ?Sized>(

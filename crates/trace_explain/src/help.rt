@@ -39,8 +39,8 @@ pub const FORM_FILE: &str =
 
 pub const NAMES_FILE: &str = "Adds the names in this file to those of the program";
 
-pub const LIST_NAMES: &str =
-    "Lists the names of tags, application identifiers and bits, and reads no trace";
+pub const LIST_NAMES: &str = "Lists the names of tags, application identifiers and bits, and reads \
+    no trace; only `--names-file` adds to that";
 
 pub const SWAP: &str =
     "Takes each sign for that of the other end, if TX is the card's; not with `--unsigned`";

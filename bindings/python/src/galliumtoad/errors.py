@@ -55,15 +55,15 @@ class Error(Exception):
 
 
 class CallError(Error):
-    """The state or the arguments do not fit the call. Nothing has changed, except as the call's
-    comment says.
+    """The state, the arguments, or what an application answered do not fit the call, or memory ran
+    out (`OutOfMemory`). Nothing has changed, except as the comment of the call or its class says.
 
     GT_FAILED of `send_bytes` is one too: the exchange or operation failed before.
     """
 
 
 class OutOfMemory(CallError, MemoryError):
-    """Memory ran out. Nothing has changed, except as the call's comment says."""
+    """Memory ran out. Nothing has changed, except as the comment of the call or its class says."""
 
 
 class BuildError(Error):
@@ -94,7 +94,8 @@ class TransportError(Error):
 
 
 class AtrError(Error):
-    """The bytes are not an answer to reset. This is their first fault from the left.
+    """The bytes are not an answer to reset. This is their first fault from the left; a wrong check
+    byte comes last.
 
     `place` counts from 0 for TS. If a byte is missing, it is the number of bytes, and it is 33 with
     GT_ATR_TOO_LONG. After GT_ATR_CUT or GT_ATR_CHECK_MISSING one more byte may mend them.

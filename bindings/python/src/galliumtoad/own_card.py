@@ -85,14 +85,14 @@ class OwnCard(Lasting):
         self.application.reset()
 
     def receive_bytes(self, data: Bytes) -> int:
-        """Takes characters of the terminal, as that of `Card`."""
+        """Takes characters of the terminal, as that of `Card`. It carries nothing out."""
         taken = ffi.new("size_t *")
         self._call("receive_bytes", *readable(data), taken, but=[lib.GT_NOT_LISTENING])
         return int(taken[0])
 
     def send_bytes(self, room: int = 1024) -> bytes:
         """Returns the card's next characters, as that of `Card`, but with no limit beside `room`.
-        It carries a command out when all its data have arrived."""
+        It carries a command out when all its data have arrived. Errors as `OwnCard` says."""
         (made, count), copies = writable(within(room, 0, 1 << 30, "the room")), b""
 
         def send(*_: object) -> int:
@@ -106,7 +106,7 @@ class OwnCard(Lasting):
 
     def tpdu(self, tpdu: Bytes) -> bytes:
         """Carries out a whole TPDU under the next plan, as that of `Card`. With GT_WANTS_DATA and
-        GT_SENDS_DATA the application is reset too."""
+        GT_SENDS_DATA the application is reset too. Other errors as `OwnCard` says."""
         return self._whole(lib.gt_card_tpdu, tpdu)
 
     def apdu(self, command: Bytes) -> bytes:

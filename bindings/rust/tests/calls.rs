@@ -68,11 +68,6 @@ fn objects_are_found_by_path() {
     assert!(fault.source().is_none());
     let behind = find(b"\x50\x00\x9F\x80\x00", &[0x50]);
     assert_eq!(behind.expect_err("a fault").to_string(), "tag form at 2");
-    for length in [0x80, 0x83, 0xFF] {
-        let fault = find(&[0x50, length, 0, 0, 0, 0], &[0x50]).expect_err("a fault");
-        assert_eq!(placed(fault), Some((0, Reason::LengthForm)));
-    }
-    assert!(find(b"\x50\x81\x00\x51\x82\x00\x00", &[0x51]).is_ok());
 }
 
 /// Returns the tag, the level, the place and the value of each object.
@@ -135,10 +130,7 @@ fn objects_are_written() {
     let template = encode(0x70, &[&name, b"\x50\x00"]).expect("a template");
     assert_eq!(template, b"\x70\x08\x5F\x20\x03JOE\x50\x00");
     for (length, wanted) in [
-        (127, &b"\x9F\x81\x01\x7F"[..]),
-        (128, b"\x9F\x81\x01\x81\x80"),
-        (255, b"\x9F\x81\x01\x81\xFF"),
-        (256, b"\x9F\x81\x01\x82\x01\x00"),
+        (128, &b"\x9F\x81\x01\x81\x80"[..]),
         (65_535, b"\x9F\x81\x01\x82\xFF\xFF"),
     ] {
         let (half, value) = (length / 2, vec![0xA5; length]);
@@ -176,24 +168,6 @@ fn applications_are_found_by_identifier() {
 }
 
 #[test]
-fn a_builder_refuses_and_stays() {
-    let mut builder = builder();
-    assert_eq!(builder.app(&AID), Err(Error::AppTwice));
-    assert_eq!(builder.app(&AID[..4]), Err(Error::Argument));
-    assert_eq!(builder.object(0x70, b"\x50\x05A"), Err(Error::NotObjects));
-    assert_eq!(builder.object(0x50, &[0; 8193]), Err(Error::ValueTooLong));
-    let card = builder.finish().expect("a card");
-    assert_eq!(card.apps().collect::<Vec<_>>(), [AID.to_vec()]);
-    let entries: Vec<_> = card
-        .entries(0)
-        .map(|it| (it.tag, it.value, it.is_locked))
-        .collect();
-    let name = (0x5F20, b"JOE".to_vec(), false);
-    assert_eq!(entries, [name, (0x50, b"VISA".to_vec(), true)]);
-    assert_eq!(card.selected(), None);
-}
-
-#[test]
 fn a_session_that_nobody_listens_to() {
     let card = builder().finish().expect("a card");
     let mut session = Session::start(card).expect("a session");
@@ -201,7 +175,5 @@ fn a_session_that_nobody_listens_to() {
     session.listen().expect("somebody listens");
     assert_eq!(session.heard(), Ok(Vec::new()));
     assert_eq!(session.is_idle(), Ok(true));
-    assert_eq!(session.plan("x", 256), Err(Error::Argument));
-    assert_eq!(session.plan("", 257), Err(Error::Argument));
     assert_eq!(session.run(Operation::Send(&[0x00])), Err(Error::TooShort));
 }

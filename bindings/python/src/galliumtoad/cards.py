@@ -4,6 +4,7 @@ program of any language, or the answers of a capture."""
 import atexit
 import contextlib
 import json
+import os
 import pkgutil
 import re
 import select
@@ -13,13 +14,14 @@ import sys
 import time
 from pathlib import Path
 from subprocess import PIPE, Popen, run
-from typing import Any, Optional, Sequence
+from typing import Any, Callable, Optional, Sequence
 
 from . import Application, Card, Command, Error
-from .faults import Mistake
+from .faults import Mistake, mistakes
 
 Object = dict[str, Any]  # a line, or a TPDU in one, of `trace_explain --json --commands`
-LEAST_ATR, PATIENCE = b"\x3B\x00", 10.0  # seconds for a line of a program
+LEAST_ATR = b"\x3B\x00"
+PATIENCE, LOOKS_EVERY = 10.0, 0.01  # seconds for a line of a program, and between looks at a line
 # A status of an application. What a program answers to a header, and to a command: data if any, SW.
 STATUS = "(?:9[0-9A-F]|6[2-9ABD-F])[0-9A-F]{2}"
 WAY, RESPONSE = "(to|from)-card", f"(?:((?:[0-9A-F]{{2}}){{1,4096}}) )?({STATUS})"
@@ -64,10 +66,8 @@ def application(name: str) -> Application:
     if not re.fullmatch(".+:.+", name):
         raise Mistake(f"{name} is not MODULE:CLASS")
     sys.path.insert(0, "")  # the folder of the program's user
-    try:
+    with mistakes(name):
         made = pkgutil.resolve_name(name)()
-    except (ImportError, AttributeError, ValueError) as why:
-        raise Mistake(f"{name}: {why}") from None
     if not isinstance(made, Application):
         raise Mistake(f"{name} is no Application")
     own = made.carry_out
@@ -85,24 +85,31 @@ def application(name: str) -> Application:
     return made
 
 
+def next_byte(fd: int, until: float, ends: Callable[[], bool] = lambda: False) -> bytes:
+    """Reads a byte, or none if none comes until this time. Raises `OSError` if the line ends."""
+    while not ends():
+        if time.monotonic() > until:
+            return b""
+        if select.select([fd], [], [], LOOKS_EVERY)[0]:
+            if byte := os.read(fd, 1):
+                return byte
+            break
+    raise OSError("it has ended")
+
+
 class Program(Application):
     """An application in a program, which gets a line and answers with one. A program that is
     silent, ends or answers anything else is a `Mistake` with the line.
 
-    >>> from galliumtoad import OwnCard
-    >>> says = "while read a b; do case $a in h*) echo from-card;; c*) echo 4A4F45 9000; esac; done"
-    >>> with OwnCard(Program(f"sh -c '{says}'")) as card:
-    ...     card.apdu(bytes.fromhex("8010000000")).hex()
-    '4a4f459000'
+    >>> Program("sh -c 'read line; echo to-card; read line'").takes_data(bytes(4))
+    True
     """
 
     fault: Optional[Mistake] = None  # the first one
 
     def __init__(self, command: str) -> None:
-        try:
+        with mistakes(command):
             self.program = Popen(shlex.split(command), 0, stdin=PIPE, stdout=PIPE)
-        except (OSError, ValueError, IndexError) as why:
-            raise Mistake(f"{command}: {why}") from None
         atexit.register(self.program.kill)
 
     def takes_data(self, header: bytes) -> bool:
@@ -129,11 +136,8 @@ class Program(Application):
                 raise OSError(f"it had said {said!r}" if said else "it has ended")
             self.program.stdin.write(f"{line}\n".encode())
             while form and said[-1:] != b"\n":
-                left = until - time.monotonic()
-                if left < 0 or not select.select([out], [], [], left)[0]:
+                if not (byte := next_byte(out.fileno(), until)):
                     raise OSError(f"it said {said[:100]!r}, and no more in {PATIENCE:.0f} s")
-                if not (byte := out.read(1)):
-                    raise OSError("it has ended")
                 said += byte
             if found := re.fullmatch(form, said.decode("ascii", "replace").strip(), re.I):
                 return found.groups()
@@ -145,7 +149,7 @@ class Program(Application):
 
 def explained(path: str) -> list[Object]:
     """The objects for a capture, or those in a file. Raises `Mistake`."""
-    try:
+    with mistakes(path):
         text = Path(path).read_bytes()
         if not text.startswith(b'{"type":'):
             if not (name := shutil.which("trace_explain")):
@@ -156,16 +160,13 @@ def explained(path: str) -> list[Object]:
                 raise ValueError(done.stderr.decode("utf-8", "replace").strip())
             text = done.stdout
         return [json.loads(it) for it in text.splitlines() if it]
-    except (OSError, ValueError) as why:
-        raise Mistake(f"{path}: {why}") from None
 
 
 class Replay(Application):
-    """A card that answers as the one in a capture. The same command, by its header and data, gets
-    the same answers, in the order of its session, and then the last one again. Each reset after a
-    command begins the next session, and after the last the first, so that each run of a terminal
-    gets the same. Other commands get the status `unknown`, and so does a response that the capture
-    did not fetch, in zeros. To a strict card all but the session's next command is a `Mistake`."""
+    """A card that answers as the one in a capture, in the order of its session; the last answer to
+    a command comes again. A reset after a command begins the next session, or the first. Other
+    commands, and responses that the capture did not fetch, get the status `unknown`. To a strict
+    card all but the session's next command is a `Mistake`."""
 
     def __init__(self, path: str, unknown: int = 0x6D00, is_strict: bool = False) -> None:
         self.path, self.unknown, self.is_strict, self.atr = path, unknown, is_strict, b""
@@ -206,12 +207,11 @@ class Replay(Application):
         if self.is_strict and [it["sent"] for it in due] != [sent]:
             has = "line {line} has {sent}".format(**due[0]) if due else "the session has ended"
             raise Mistake(f"{self.path}: {has}, not {sent}")
-        known, count = [it for it in session if it["sent"] == sent], self.sent.count(sent)
         self.sent.append(sent)
+        known = [it for it in session if it["sent"] == sent][: self.sent.count(sent)]
         if not known:
             return self.unknown, b""
-        it = known[min(count, len(known) - 1)]
-        status, data = int(it["status"], 16), bytes.fromhex(it["received"])
+        status, data = int(known[-1]["status"], 16), bytes.fromhex(known[-1]["received"])
         if status >> 8 in (0x61, 0x6C):
             return self.unknown, data + bytes(status & 0xFF or 256)
         return status, data
@@ -221,9 +221,8 @@ class Replay(Application):
         self.sent = []
 
     def instead(self, command: bytes) -> Optional[bytes]:
-        """Answers in place of the card, or returns None. It answers a GET RESPONSE that is one of
-        the capture's own commands, as after 9FXX of a SIM. It also answers data after a header that
-        has none there, and P3 00 after one that has some."""
+        """Answers in place of the card, or returns None. It answers a GET RESPONSE of the capture,
+        as after 9FXX of a SIM, data after a header without any there, and P3 00 after one with."""
         header, p3, after = command[:4], command[4:5], command[5:]
         if header[1:2] == b"\xC0" and not after:
             is_odd = any(it["sent"] == header.hex().upper() for it in self.sessions[self.place])

@@ -1,12 +1,13 @@
 """Faults of a card, one a line: when it strikes, and what it does. Only this module changes, drops
 and inserts bytes that a card sends."""
 
+import contextlib
 import random
 import re
-from dataclasses import dataclass
 from functools import reduce
-from pathlib import Path
-from typing import Any, Callable, Iterable, Optional, Union
+from typing import Any, Callable, Iterable, Iterator, NamedTuple, Optional
+
+from .errors import Error
 
 ANYWHERE, LINE, T0, T1, ECHO = "anywhere", "a line", "a line at T=0", "a line at T=1", "an echo"
 GET_RESPONSE, OK, MORE = b"\xC0", b"\x90\x00", b"\x61\x10"
@@ -25,32 +26,37 @@ WHENS: dict[str, Callable[[Any, Any], Any]] = {
     "after N": lambda now, number: now.count > number,
     "p CHANCE": lambda now, chance: now.chance() < chance,
 }
-# The card's requests at T=1, by their PCB (ISO/IEC 7816-3, 11.3.2.2).
-REQUESTS = {"wtx BYTE": 0xC3, "ifs BYTE": 0xC1, "abort": 0xC2}
-# What a fault does: where it can happen, and if it changes data of a response (anywhere) or what a
-# line carries, what it makes of them.
-KINDS: dict[str, tuple[str, Optional[Callable[..., Any]]]] = {
+DATA = ("data HEX", "cut N", "add HEX", "flip N", "wrong tag")
+# Where a fault can happen, and what it makes of data, of a status, of the pauses before an answer,
+# or of what a line carries. It makes True if the card does something else.
+KINDS: dict[str, tuple[str, Callable[..., Any]]] = {
     "data HEX": (ANYWHERE, lambda data, new: new),
     "cut N": (ANYWHERE, lambda data, count: data[: max(len(data) - count, 0)]),
     "add HEX": (ANYWHERE, lambda data, new: data + new),
     "flip N": (ANYWHERE, lambda data, bit: flipped(data, bit)),
     # the last byte of the first tag, which has one or two
     "wrong tag": (ANYWHERE, lambda data: flipped(data, 8 * all(it & 31 == 31 for it in data[:1]))),
+    "status SW": (ANYWHERE, lambda status, new: new),
+    "delay SECONDS": (ANYWHERE, lambda pauses, seconds: [*pauses, seconds]),
+    **dict.fromkeys(["mute", "power off", "reset", "forget", "twice", "6C again",
+                     "61 without end"], (ANYWHERE, lambda _: True)),
     "byte PLACE flip": (LINE, lambda sent, at: flipped(sent, 8 * at - 8)),
     "byte PLACE drop": (LINE, lambda sent, at: sent[: at - 1] + sent[at:]),
     "byte PLACE insert XX": (LINE, lambda sent, at, new: (
         sent[: at - 1] + new + sent[at - 1 :] if at <= len(sent) else sent)),
+    "early status": (T0, lambda _: True),
     # its first byte is a procedure byte, unless it is one of a status
     "procedure XX": (T0, lambda sent, new: new + sent[sent.hex()[:1] not in "69" :]),
     "nulls N": (T0, lambda sent, count: b"\x60" * count + sent),
+    # the card's requests (ISO/IEC 7816-3, 11.3.2.2)
+    "wtx BYTE": (T1, lambda sent, value: sent or block(0, 0xC3, bytes([value]))),
+    "ifs BYTE": (T1, lambda sent, value: sent or block(0, 0xC1, bytes([value]))),
+    "abort": (T1, lambda sent: sent or block(0, 0xC2, b"")),
     "nad": (T1, lambda sent: flipped(sent[:-1], 0, 5) + flipped(sent[-1:], 0, 5)),
     "lrc": (T1, lambda sent: sent[:-1] + flipped(sent[-1:], *range(8))),
     "double": (T1, lambda sent: sent + sent),
     "lose": (T1, lambda sent: b""),
     "wrong echo": (ECHO, lambda sent: flipped(sent, 0)),
-    **dict.fromkeys(["status SW", "delay SECONDS", "mute", "power off", "reset", "forget", "twice",
-                     "6C again", "61 without end"], (ANYWHERE, None)),
-    **dict.fromkeys(REQUESTS, (T1, None)), "early status": (T0, None),
 }
 
 
@@ -62,8 +68,16 @@ class Gone(Exception):
     """The card does not answer any more: it is `mute`, or its `power off`."""
 
 
-@dataclass
-class Fault:
+@contextlib.contextmanager
+def mistakes(what: str) -> Iterator[None]:
+    """Makes errors about a word or a file, which is `what`, a `Mistake`."""
+    try:
+        yield
+    except (AttributeError, ImportError, IndexError, OSError, ValueError, Error) as why:
+        raise Mistake(f"{what}: {why}") from None
+
+
+class Fault(NamedTuple):
     """A line of a file. `text` is its place and the line. `when` and `kind`, with their values, are
     of the tables above, and so are where it can happen and what it changes."""
 
@@ -73,7 +87,7 @@ class Fault:
     kind: str
     values: list[Any]
     place: str
-    change: Optional[Callable[..., Any]]
+    change: Callable[..., Any]
 
 
 def matched(table: Iterable[str], words: str, wrong: str) -> tuple[str, list[Any]]:
@@ -119,25 +133,15 @@ class Faults:
     counts, before one that begins with the bytes `since`, as far as they are known.
 
     `command N` counts commands from 1, without GET RESPONSE and a repetition after 6CXX: these are
-    of the same command. What changes data waits for the response that has some.
-    """
+    of the same command. What changes data waits for the response that has some."""
 
     def __init__(self, found: Iterable[Fault] = (), seed: int = 0,
                  tell: Callable[[str], None] = print, since: bytes = b"") -> None:
         self.all, self.tell, self.since = list(found), tell, since
         self.chance = random.Random(seed).random
-        self.count, self.header, self.was_6c, self.loop = 0, b"", False, ""
-        self.ins, self.is_next = b"", False
-        self.due, self.pauses = list[Fault](), list[float]()
+        self.count, self.header, self.ins, self.is_next, self.was_6c = 0, b"", b"", False, False
+        self.due, self.struck, self.pauses = list[Fault](), list[str](), list[float]()
         self.gone: Optional[Gone] = None  # from then on the card is silent until a reset
-
-    @classmethod
-    def of_file(cls, path: str, seed: int) -> "Faults":
-        """Reads a file. Raises `Mistake` if it can't be read or has a wrong line."""
-        try:
-            return cls(read(Path(path).read_text("utf-8"), path), seed)
-        except (OSError, UnicodeDecodeError) as why:
-            raise Mistake(f"{path}: {why}") from None
 
     def check(self, places: Iterable[str], where: str) -> None:
         """Raises `Mistake` for the faults that can't happen at these places."""
@@ -146,64 +150,51 @@ class Faults:
                                     for it in wrong))
 
     def begin(self, header: bytes, reset: Callable[[], None] = lambda: None) -> Optional[bytes]:
-        """A TPDU or command begins: its header, or all of it. Chooses the faults that strike at it,
-        and calls `reset` if one resets the card. Returns the answer of a card that does not carry
-        it out, or None if it does."""
+        """Chooses the faults of a TPDU or command, by its header or all of it. Calls `reset` if one
+        resets the card. Returns the answer of a card that does not carry it out, or None."""
         if header[: len(self.since)] != self.since[: len(header)]:
             self.due = []
             return None
         self.since, self.ins, le = b"", header[1:2], sum(header[4:5])
-        is_again = self.was_6c and header[:4] == self.header
-        self.is_next = not is_again and self.ins != GET_RESPONSE
+        self.is_next = self.ins != GET_RESPONSE and (header[:4] != self.header or not self.was_6c)
         if self.is_next:
-            self.count, self.header, self.loop, self.due = self.count + 1, header[:4], "", []
-        self.due = [it for it in self.due if it.change and it.place in (ANYWHERE, LINE)]
+            self.count, self.header, self.due, self.struck = self.count + 1, header[:4], [], []
+        self.due = [it for it in self.due if it.kind in DATA or it.place == LINE]
         self.due += [it for it in self.all
                      if it not in self.due and WHENS[it.when](self, it.number)]
-        self.was_6c = False
-        if self.strikes("forget"):
+        if self.edited(False, "forget"):
             return OK
-        if self.strikes("6C again") or self.loop == "6C":
-            self.loop, self.was_6c = "6C", True
+        if self.edited(False, "6C again") or "6C again" in self.struck:
             return bytes([0x6C, le % 255 + 1])  # never the length that was asked for
-        if self.loop == "61" and self.ins == GET_RESPONSE:
+        if "61 without end" in self.struck and self.ins == GET_RESPONSE:
             return bytes(le or 256) + MORE
-        if self.strikes("reset"):
+        if self.edited(False, "reset"):
             reset()
         return None
 
-    def strikes(self, *which: Union[str, Fault]) -> Optional[Fault]:
-        """Prints and returns the first chosen fault that is, or whose kind is, one of these."""
-        it = next((it for it in self.due if it.kind in which or it in which), None)
-        if it:
-            self.due.remove(it)
-            if it.when == "INS XX once":
-                self.all.remove(it)
-            self.tell(f"fault at command {self.count}: {it.text}")
-        return it
-
-    def edited(self, data: bytes, *places: str) -> bytes:
-        """What the card sends with the chosen faults of these places in it, in the order of their
-        lines. One that changes nothing does not strike."""
-        for it in [it for it in self.due if it.place in places]:
-            new = it.change(data, *it.values) if it.change else data
-            if new != data and self.strikes(it):
-                data = new
-        return data
+    def edited(self, value: Any, *which: str) -> Any:
+        """What the chosen faults of these kinds or places make of a value, in the order of their
+        lines. Prints those that strike. One that changes nothing does not."""
+        for it in [it for it in self.due if it.kind in which or it.place in which]:
+            if (new := it.change(value, *it.values)) != value:
+                value = new
+                self.due.remove(it)
+                self.struck.append(it.kind)
+                if it.when == "INS XX once":
+                    self.all.remove(it)
+                self.tell(f"fault at command {self.count}: {it.text}")
+        return value
 
     def changed(self, answer: bytes) -> bytes:
         """The answer with the faults in it. `pauses` gets the seconds before it. Raises `Gone`."""
         data, status = answer[:-2], answer[-2:]
-        self.was_6c |= status[:1] == b"\x6C"
+        self.was_6c = status[:1] == b"\x6C"
         if data or status[0] not in (0x61, 0x6C):
-            data = self.edited(data, ANYWHERE)
-        if self.strikes("61 without end"):
-            self.loop, status = "61", MORE
-        if other := self.strikes("status SW"):
-            [status] = other.values
-        if late := self.strikes("delay SECONDS"):
-            self.pauses += late.values
-        if silent := self.strikes("mute", "power off"):
-            self.gone = Gone(silent.kind)
+            data = self.edited(data, *DATA)
+        status = MORE if self.edited(False, "61 without end") else status
+        status = self.edited(status, "status SW")
+        self.pauses = self.edited(self.pauses, "delay SECONDS")
+        if self.edited(False, "mute", "power off"):
+            self.gone = Gone(self.struck[-1])
             raise self.gone
         return data + status

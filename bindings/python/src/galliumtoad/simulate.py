@@ -13,17 +13,19 @@ import termios
 import threading
 import time
 import tty
+from pathlib import Path
 from typing import Callable, Optional, Union
 
 from . import (Application, Atr, AtrError, Card, Code, Command, CommandError, Edc, Level, OwnCard,
                Pps, PpsError)
-from .cards import LEAST_ATR, Program, Replay, application, read_table, status_of
-from .faults import ECHO, LINE, OK, REQUESTS, T0, T1, Faults, Gone, Mistake, block
+from .cards import (LEAST_ATR, LOOKS_EVERY, Program, Replay, application, next_byte, read_table,
+                    status_of)
+from .faults import ECHO, LINE, OK, T0, T1, Faults, Gone, Mistake, block, mistakes, read
 
 VPCD = "localhost:35963"
 POWER_OFF, POWER_ON, RESET, GET_ATR = (bytes([it]) for it in (0, 1, 2, 4))  # vpcd's own messages
 MUTE_FOR, AWAY_FOR = 10.0, 2.0  # seconds until the connection to vpcd closes, and opens again
-PPSS, DEFAULT_RATE, LOOKS_EVERY, FOREVER = b"\xFF", 0x11, 0.01, float("inf")
+PPSS, DEFAULT_RATE, FOREVER = b"\xFF", 0x11, float("inf")
 RESYNCH, ABORT, RESPONSE, IS_PART = 0xC0, 0xC2, 0x20, 0x20  # of the PCB at T=1
 SIGNALS = {"cts": termios.TIOCM_CTS, "dsr": termios.TIOCM_DSR, "dcd": termios.TIOCM_CAR}
 TURNED = bytes(int(f"{byte:08b}"[::-1], 2) ^ 0xFF for byte in range(256))  # inverse convention
@@ -35,7 +37,6 @@ class Simulator(contextlib.ExitStack):
     whole commands otherwise. It raises `Gone` if the card is mute or has no power. `carried_out`
     gets each TPDU or command that the card has carried out. The end of `with` frees the card.
 
-    >>> from galliumtoad.faults import read
     >>> with Simulator(Card({bytes(5): {}}), faults=Faults(read("p 1, status 6A82"))) as reader:
     ...     reader(bytes.fromhex("00A40400050000000000")).hex()
     fault at command 1: faults:1: p 1, status 6A82
@@ -53,17 +54,16 @@ class Simulator(contextlib.ExitStack):
         self.instead = own.instead if isinstance(own, Replay) else lambda header: None
         self.carried_out: Callable[[bytes], object] = lambda command: None
         self.faults.tell = self.tell
-        self.says: Optional[Atr] = None
+        self.level = Level.APDU if own else Level.TPDU
         with contextlib.suppress(AtrError):  # whole commands reach a card with any answer
-            self.says = Atr(atr)
-        is_t1 = self.says is not None and self.says.protocols[0] > 0
-        self.level = Level.APDU if is_t1 or own else Level.TPDU
+            self.level = Level.APDU if Atr(atr).protocols[0] else self.level
 
     def __call__(self, data: bytes, /) -> bytes:
         self.faults.check([], "a card in this process")
         self.tell(data.hex().upper(), ">")
         answer = self.whole(data)
-        self.wait()
+        while self.faults.pauses:
+            self.is_over.wait(self.faults.pauses.pop())
         self.tell(answer.hex().upper(), "<")
         return answer
 
@@ -77,99 +77,64 @@ class Simulator(contextlib.ExitStack):
     def tell(self, text: str, sign: str = "") -> None:
         """Prints a line; or if the card `shows` them, bytes that the terminal (`>`) or the card
         (`<`) sent. Bytes of one end are one line, as `trace_explain` reads it."""
-        if sign and not (self.shows and text):
-            return
-        if sign != self.sign:
-            print("\n" * bool(self.sign) + sign, end=" " * bool(sign))
-        print(text, end="" if sign else "\n", flush=True)
-        self.sign = sign
+        if not sign or self.shows and text:
+            if sign != self.sign:
+                print("\n" * bool(self.sign) + sign, end=" " * bool(sign))
+            print(text, end="" if sign else "\n", flush=True)
+            self.sign = sign
 
-    def carry_out(self, data: bytes) -> bytes:
-        """Carries out a whole TPDU or command, as the `level` says. A card answers bytes that are
-        no command with 6D00 or 6700. Bytes that are no TPDU raise `TransportError`."""
+    def carry_out(self, data: bytes, more: Optional[Callable[[], bytes]] = None) -> bytes:
+        """Carries out a whole TPDU or command, as the `level` says; or a header, if `more` gets its
+        data. Bytes that are no command get 6D00 or 6700; no TPDU raises `TransportError`."""
+        if more:
+            self.card.receive_bytes(data)
+            if len(sent := self.card.send_bytes()) == 1:
+                self.came = data + more()
+                self.card.receive_bytes(self.came[5:])
+                return self.card.send_bytes()
+            return sent[len(sent) != 2 :]  # without its procedure byte
         try:
             return self.card.tpdu(data) if self.level is Level.TPDU else self.card.apdu(data)
         except CommandError as why:
             return b"\x6D\x00" if why.code is Code.INVALID_INS else b"\x67\x00"
 
-    def whole(self, data: bytes) -> bytes:
-        """Carries out a whole TPDU or command, with the faults that strike."""
+    def whole(self, data: bytes, more: Optional[Callable[[], bytes]] = None) -> bytes:
+        """As `carry_out`, with the faults that strike."""
         if self.faults.gone:
             raise self.faults.gone
-        answer = self.faults.begin(data, self.card.reset) or self.instead(data)
-        if answer is None:
-            answer = self.carry_out(data)
-            self.carried_out(data)
-            if self.faults.strikes("twice"):
-                answer = self.carry_out(data)
+        self.came, answer = data, self.faults.begin(data, self.card.reset) or self.instead(data)
+        if more and self.faults.edited(False, "early status"):
+            answer = OK
+        elif answer is None:
+            answer = self.carry_out(data, more)
+            self.carried_out(self.came)
+            if self.faults.edited(False, "twice"):
+                answer = self.carry_out(self.came)
+        elif more and data[4] and self.takes_data(data[:4]):
+            self.came = data + more()
         return self.faults.changed(answer)
 
-    def wait(self) -> None:
-        """Waits before an answer, if a fault says so."""
-        while self.faults.pauses:
-            self.is_over.wait(self.faults.pauses.pop())
 
-
-class Blocks(Application):
-    """The library's end of a line at T=1: it numbers, acknowledges and repeats blocks. In place of
-    a command it gets one of its own, with a response as long as the card's, which replaces it. The
-    last block has what is longer than the response to a short command."""
-
-    def __init__(self, line: "Line") -> None:
-        self.line, self.of, self.end = line, line.of, OwnCard(self)
-        self.command, self.asked, self.response, self.last = b"", b"", b"", b""
-        self.end.begin_t1()
-
-    def takes_data(self, header: bytes) -> bool:
-        return False
-
-    def carry_out(self, command: Command) -> tuple[int, bytes]:
-        self.response, self.command, self.last = self.of.whole(self.asked), b"", b""
-        if fault := self.of.faults.strikes(*REQUESTS):
-            pcb, field = REQUESTS[fault.kind], bytes(fault.values)
-            for _ in range(4):
-                self.line.write(block(0, pcb, field))
-                if self.line.block() == block(0, pcb | RESPONSE, field):
-                    break
-        return 0x9000, bytes(min(len(self.response), 258) - 2)
-
-    def answer(self, came: bytes) -> bytes:
-        """What the card sends after the received bytes of a block."""
-        field = came[3:-1][:254]
-        if came[1:2] in (b"\0", b"\x40") and came == block(0, came[1], field):  # a command ends
-            self.asked = self.command + field
-            if self.command:
-                self.end.block(block(0, ABORT, b""))
-            came = block(0, came[1], bytes(5))
-        sent = self.end.block(came)
-        if came[1:2] in (b"\x20", b"\x60") and sent[1] & 0xEF == 0x80:  # a part is acknowledged
-            self.command += field
-        elif sent[1] in (ABORT | RESPONSE, RESYNCH | RESPONSE):
-            self.command = b""
-        elif sent[1] < 0x80 and sent[1:2] != self.last[1:2]:
-            is_first, size = not self.last, sent[2] if sent[1] & IS_PART else 254
-            self.last = block(0, sent[1], self.response[:size])
-            self.response = self.response[size:]
-            return self.of.faults.edited(self.last, T1, LINE) if is_first else self.last
-        return self.last if sent[1] < 0x80 else sent  # the same block again, or no response
-
-
-class Line:
-    """A card's end of a line of characters."""
+class Line(Application):
+    """A card's end of a line of characters. At T=1 the library's end numbers, acknowledges and
+    repeats blocks. In place of a command it gets one of its own, with a response as long as the
+    card's, which replaces it. The last block has what exceeds the response to a short command."""
 
     ahead = b""  # the first character, which may begin a PPS request
 
     def __init__(self, of: Simulator, fd: int, has_echo: bool = False, baud: int = 9600,
                  signal: str = "") -> None:
-        if of.says is None or of.says.protocols[0] > 1 or of.says.t1.edc != Edc.LRC or (
-                of.says.specific and of.says.rate_code != DEFAULT_RATE):
-            raise Mistake("a line needs an answer to reset that offers T=0, or T=1 with LRC, first,"
-                          " at the rate of a reset")
-        self.of, self.fd, self.says, self.has_echo, self.heard = of, fd, of.says, has_echo, b""
+        with mistakes("a line needs an answer to reset that offers T=0, or T=1 with LRC, first, at"
+                      " the rate of a reset"):
+            says = self.says = Atr(of.atr)
+            if says.protocols[0] > 1 or says.t1.edc != Edc.LRC or (
+                    says.specific and says.rate_code != DEFAULT_RATE):
+                raise ValueError(of.atr.hex().upper())
+        self.of, self.fd, self.has_echo, self.heard = of, fd, has_echo, b""
         self.turned = TURNED if of.atr[0] == 0x3F else None
-        self.bit, self.cwt = SIGNALS.get(signal, 0), 0.2 + of.says.t1.cwt_etu / baud
-        of.faults.check([LINE, *(it for it, t in ((T0, 0), (T1, 1)) if t in of.says.protocols),
-                         *[ECHO] * has_echo], "this line")
+        self.bit, self.cwt = SIGNALS.get(signal, 0), 0.2 + says.t1.cwt_etu / baud
+        places = {LINE: True, T0: 0 in says.protocols, T1: 1 in says.protocols, ECHO: has_echo}
+        of.faults.check([it for it in places if places[it]], "this line")
 
     def is_reset(self) -> bool:
         """Whether the terminal holds the card in reset, by a signal of the line if it has one."""
@@ -180,23 +145,18 @@ class Line:
         """Returns the next character, or none if none came in this time. Raises `OSError` if the
         card is reset, or the line or the program ends."""
         self.write(b"")
-        until = time.monotonic() + seconds
-        while not (self.of.is_over.is_set() or self.is_reset()):
-            if select.select([self.fd], [], [], LOOKS_EVERY)[0]:
-                if not (byte := os.read(self.fd, 1)):
-                    raise OSError("the line is gone")
-                self.heard = byte.translate(self.turned)
-                self.of.tell(self.heard.hex().upper(), ">")
-                return self.heard
-            if time.monotonic() > until:
-                return b""
-        raise OSError
+        byte = next_byte(self.fd, time.monotonic() + seconds,
+                         lambda: self.of.is_over.is_set() or self.is_reset())
+        self.heard = byte.translate(self.turned)
+        self.of.tell(self.heard.hex().upper(), ">")
+        return self.heard
 
     def write(self, data: bytes) -> None:
         """Sends the echo of the last character, if there is one, and then characters."""
         echo, self.heard = self.of.faults.edited(self.heard, ECHO) * self.has_echo, b""
         os.write(self.fd, echo.translate(self.turned))
-        self.of.wait()
+        while self.of.faults.pauses:
+            self.of.is_over.wait(self.of.faults.pauses.pop())
         if not self.is_reset():
             self.of.tell(data.hex().upper(), "<")
             os.write(self.fd, data.translate(self.turned))
@@ -227,44 +187,63 @@ class Line:
             self.read()
 
     def talk_t0(self) -> None:
-        of, faults = self.of, self.of.faults
+        self.of.level = Level.TPDU
 
-        def answered(characters: bytes) -> bytes:
-            of.card.receive_bytes(characters)
-            sent = of.card.send_bytes()
-            return sent[len(sent) != 2 :]  # without its procedure byte
+        def more() -> bytes:
+            """Takes the data of a TPDU, after a procedure byte."""
+            self.begun = self.of.faults.edited(header[1:2], T0, LINE)
+            self.write(self.begun)
+            return self.take(lambda it: header[4])
 
         while True:
-            header = self.take(lambda it: 5)
-            ins, data, sent = header[1:2], b"", b""
-            instead = faults.begin(header, of.card.reset) or of.instead(header)
-            if faults.strikes("early status"):
-                answer = instead = OK
-            elif instead is None:
-                answer = answered(header)
-            else:
-                answer = b"" if header[4] and of.takes_data(header[:4]) else instead
-            if not answer:
-                sent = faults.edited(ins, T0, LINE)
-                self.write(sent)
-                data = self.take(lambda it: header[4])
-                answer = instead or answered(data)
-            if instead is None:
-                of.carried_out(header + data)
-                if faults.strikes("twice"):
-                    of.card.tpdu(header + data)
-            answer = faults.changed(answer)
-            answer = ins + answer if len(answer) > 2 and not data else answer
-            self.write(faults.edited(sent + answer, T0, LINE)[len(sent) :])
-
-    def talk_t1(self) -> None:
-        self.of.level, end = Level.APDU, Blocks(self)
-        while True:
-            self.write(end.answer(self.block()))
+            header, self.begun = self.take(lambda it: 5), b""
+            answer = self.of.whole(header, more)
+            if len(answer) > 2 and self.of.came == header:
+                answer = header[1:2] + answer
+            sent = self.of.faults.edited(self.begun + answer, T0, LINE)
+            self.write(sent[len(self.begun) :])
 
     def block(self) -> bytes:
         """Takes a block, or as much of it as comes."""
         return self.take(lambda it: it[2] + 4 if it[2:] else 4, self.cwt)
+
+    def talk_t1(self) -> None:
+        self.of.level, end = Level.APDU, OwnCard(self)
+        self.command, self.asked, self.response, self.last = b"", b"", b"", b""
+        end.begin_t1()
+        while True:
+            came = self.block()
+            field = came[3:-1][:254]
+            if came[1:2] in (b"\0", b"\x40") and came == block(0, came[1], field):  # the last part
+                self.asked = self.command + field
+                if self.command:
+                    end.block(block(0, ABORT, b""))
+                came = block(0, came[1], bytes(5))
+            sent = end.block(came)
+            if came[1:2] in (b"\x20", b"\x60") and sent[1] & 0xEF == 0x80:  # acknowledges a part
+                self.command += field
+            elif sent[1] in (ABORT | RESPONSE, RESYNCH | RESPONSE):
+                self.command = b""
+            elif sent[1] < 0x80 and sent[1:2] != self.last[1:2]:
+                is_first, size = not self.last, sent[2] if sent[1] & IS_PART else 254
+                self.last = sent = block(0, sent[1], self.response[:size])
+                self.response = self.response[size:]
+                sent = self.of.faults.edited(sent, T1, LINE) if is_first else sent
+            elif sent[1] < 0x80:
+                sent = self.last  # the same block again
+            self.write(sent)
+
+    def takes_data(self, header: bytes) -> bool:
+        return False
+
+    def carry_out(self, command: Command) -> tuple[int, bytes]:
+        self.response, self.command, self.last = self.of.whole(self.asked), b"", b""
+        if request := self.of.faults.edited(b"", "wtx BYTE", "ifs BYTE", "abort"):
+            for _ in range(4):
+                self.write(request)
+                if self.block() == block(0, request[1] | RESPONSE, request[3:-1]):
+                    break
+        return 0x9000, bytes(min(len(self.response), 258) - 2)
 
 
 def serve_tty(of: Simulator, path: str, baud: int, signal: str) -> None:
@@ -290,19 +269,18 @@ def serve_tty(of: Simulator, path: str, baud: int, signal: str) -> None:
 def serve_pty(of: Simulator, has_echo: bool, tell: Callable[[str], object]) -> None:
     """Serves a pseudo terminal, whose name `tell` gets, until `is_over`. Each opening resets."""
     ours, theirs = pty.openpty()
-    name, closed, line = os.ttyname(theirs), select.poll(), Line(of, ours, has_echo)
+    closed, line = select.poll(), Line(of, ours, has_echo)
     closed.register(ours, 0)
-    tell(name)
+    tty.setraw(ours)
+    tell(os.ttyname(theirs))
+    os.close(theirs)
     while not of.is_over.is_set():
-        tty.setraw(theirs)
-        termios.tcflush(theirs, termios.TCIOFLUSH)
-        os.close(theirs)
         while closed.poll(0) and not of.is_over.is_set():
             time.sleep(LOOKS_EVERY)
         with contextlib.suppress(OSError):
             line.talk()
-        theirs = os.open(name, os.O_RDWR | os.O_NOCTTY)
-    os.close(theirs)
+        termios.tcflush(ours, termios.TCIOFLUSH)
+        tty.setraw(ours)
     os.close(ours)
 
 
@@ -311,37 +289,30 @@ def connected(address: str) -> socket.socket:
     host, _, port = address.rpartition(":")
     if not port.isdigit():
         raise Mistake(f"argument --vpcd: HOST:PORT is expected: {address}")
-    line = socket.create_connection((host or "localhost", int(port)))
-    line.setsockopt(socket.IPPROTO_TCP, socket.TCP_NODELAY, 1)
-    return line
+    return socket.create_connection((host or "localhost", int(port)))
 
 
 def talk_vpcd(of: Simulator, line: socket.socket, tell: Callable[[str], object]) -> None:
     """Answers vpcd until the connection or the program ends. `tell` gets a call when pcscd, which
     has given the card power and read its answer, looks for it again."""
     of.level, looks = Level.APDU, -1
-    with line, contextlib.suppress(OSError):
-        while not of.is_over.is_set():
-            if not select.select([line], [], [], LOOKS_EVERY)[0]:
-                continue
-            if len(size := line.recv(2, socket.MSG_WAITALL)) < 2:
-                break
-            # vpcd sends the rest once the length is acknowledged, else 40 ms later.
-            line.setsockopt(socket.IPPROTO_TCP, socket.TCP_QUICKACK, 1)
-            data = line.recv(int.from_bytes(size, "big"), socket.MSG_WAITALL)
-            if data in (POWER_OFF, POWER_ON, RESET):
-                of.reset()
-                looks = 2
-                continue
-            looks -= data == GET_ATR
-            if looks == 0:
-                tell("")
-            try:
+    with line:
+        with contextlib.suppress(OSError, Gone):
+            while True:
+                size = next_byte(line.fileno(), FOREVER, of.is_over.is_set) + line.recv(1)
+                # vpcd sends the rest once the length is acknowledged, else 40 ms later.
+                line.setsockopt(socket.IPPROTO_TCP, socket.TCP_QUICKACK, 1)
+                data = line.recv(int.from_bytes(size, "big"), socket.MSG_WAITALL)
+                if data in (POWER_OFF, POWER_ON, RESET):
+                    of.reset()
+                    looks = 2
+                    continue
+                looks -= data == GET_ATR
+                if looks == 0:
+                    tell("")
                 answer = of.atr if data == GET_ATR else of(data)
-            except Gone as gone:
-                of.is_over.wait(MUTE_FOR if str(gone) == "mute" else 0)
-                break
-            line.sendall(len(answer).to_bytes(2, "big") + answer)
+                line.sendall(len(answer).to_bytes(2, "big") + answer)
+        of.is_over.wait(MUTE_FOR if str(of.faults.gone) == "mute" else 0)
 
 
 def serve_vpcd(of: Simulator, address: str) -> None:
@@ -365,34 +336,28 @@ def serve_vpcd(of: Simulator, address: str) -> None:
 def parser() -> argparse.ArgumentParser:
     it = argparse.ArgumentParser("galliumtoad.simulate", description="A card with faults.",
                                  epilog="docs/FAULTS.md says more.")
-    what = it.add_mutually_exclusive_group(required=True).add_argument
-    where = it.add_mutually_exclusive_group(required=True).add_argument
-    option = it.add_argument
-    what("--table", metavar="FILE", type=read_table,
-         help="a card of data objects: lines `app`, `object`, `locked` and `atr`")
-    what("--application", metavar="MODULE:CLASS", dest="own", type=application,
-         help="a card of your own: a class of a module in this folder, or of one that is installed")
-    what("--program", metavar="COMMAND", dest="own", type=Program, help="one in any language")
-    what("--replay", metavar="FILE", help="one that answers as in a capture that trace_explain "
-         "reads, or in what it wrote with --json --commands")
-    where("--vpcd", nargs="?", const=VPCD, metavar="HOST:PORT",
-          help=f"puts the card into vsmartcard's reader; {VPCD} if nothing else is given")
-    where("--pty", action="store_true",
-          help="makes a pseudo terminal, and prints its name; each opening resets the card")
-    where("--tty", metavar="PATH", help="puts the card behind this serial line")
-    option("--atr", type=bytes.fromhex, metavar="HEX",
-           help="the answer to reset; without it that of the card, else 3B00")
-    option("--faults", metavar="FILE", help="lines WHEN, WHAT, as `command 2, cut 1`")
-    option("--seed", type=int, default=0, help="the seed of faults with p; 0")
-    option("-v", action="store_true", help="prints the dialogue for trace_explain")
-    option("--no-echo", action="store_true", help="the pseudo terminal has no echo")
-    option("--baud", type=int, default=9600, choices=[9600, 19200, 38400, 57600, 115200],
-           help="the tty's rate at a reset; 9600")
-    option("--reset", choices=SIGNALS, default="", help="the tty's line that holds the card in "
-           "reset while it is on; without it the only reset is the start")
-    option("--unknown", metavar="SW", type=status_of, default="6D00",
-           help="the status of a command that the capture lacks; 6D00")
-    option("--strict", action="store_true", help="ends at a command that is not the capture's next")
+    card = it.add_mutually_exclusive_group(required=True).add_argument
+    place = it.add_mutually_exclusive_group(required=True).add_argument
+    add = it.add_argument
+    card("--table", metavar="FILE", type=read_table, help="lines `app`, `object`, `locked`, `atr`")
+    card("--application", metavar="MODULE:CLASS", dest="own", type=application,
+         help="a class of Python, of a module in this folder or of an installed one")
+    card("--program", metavar="COMMAND", dest="own", type=Program, help="one in any language")
+    card("--replay", metavar="FILE", help="a capture, or trace_explain's --json --commands of it")
+    place("--vpcd", nargs="?", const=VPCD, metavar="HOST:PORT", help=f"vsmartcard's reader; {VPCD}")
+    place("--pty", action="store_true", help="prints a pseudo terminal's name; each opening resets")
+    place("--tty", metavar="PATH", help="a serial line")
+    add("--atr", type=bytes.fromhex, metavar="HEX", help="the answer to reset; the card's, or 3B00")
+    add("--faults", metavar="FILE", help="lines WHEN, WHAT, as `command 2, cut 1`")
+    add("--seed", type=int, default=0, help="the seed of faults with p; 0")
+    add("-v", action="store_true", help="prints the dialogue for trace_explain")
+    add("--no-echo", action="store_true", help="the pseudo terminal has no echo")
+    add("--baud", type=int, default=9600, choices=[9600, 19200, 38400, 57600, 115200],
+        help="the tty's rate at a reset; 9600")
+    add("--reset", choices=SIGNALS, default="", help="the tty's line that holds the card in reset "
+        "while it is on; without it the only reset is the start")
+    add("--unknown", metavar="SW", type=status_of, default="6D00", help="of unknown commands; 6D00")
+    add("--strict", action="store_true", help="ends at a command that is not the capture's next")
     return it
 
 
@@ -402,7 +367,9 @@ def main(words: Optional[list[str]] = None) -> int:
         given = parser().parse_args(words)
         own = Replay(given.replay, given.unknown, given.strict) if given.replay else given.own
         card, atr = given.table or (OwnCard(own), getattr(own, "atr", b"") or LEAST_ATR)
-        faults = Faults.of_file(given.faults, given.seed) if given.faults else None
+        with mistakes(given.faults):
+            text = Path(given.faults).read_text("utf-8") if given.faults else ""
+        faults = Faults(read(text, given.faults), given.seed)
         with Simulator(card, given.atr or atr, faults, given.v) as simulator:
             if given.vpcd:
                 serve_vpcd(simulator, given.vpcd)

@@ -10,7 +10,6 @@ import signal
 import sys
 import threading
 import time
-from collections import Counter
 from dataclasses import asdict, dataclass
 from pathlib import Path
 from queue import Empty, SimpleQueue
@@ -40,9 +39,8 @@ serial line. Its exit status is 0 if all of that succeeded."""
 
 @dataclass
 class Trial:
-    """A fault of the list: `faults` are its lines, `says` the clause and what a good terminal
-    does. If `is_unseen`, no terminal can see it, and no verdict counts. The rest is what a terminal
-    made of it. It is `unmet` if the fault did not strike."""
+    """A fault of the list: its lines, its clause and what a good terminal does. If `is_unseen`, no
+    terminal can see it, and no verdict counts. The rest is what a terminal made of it."""
 
     name: str
     faults: str
@@ -174,9 +172,9 @@ def main(words: Optional[list[str]] = None) -> int:
             tried(it, given)
             print(f"{it.name:{width}}  {it.verdict:7}{'*' * it.is_unseen:1} {it.said}".rstrip(),
                   flush=True)
-        counts = Counter(it.verdict for it in results if not it.is_unseen)
-        print(", ".join(f"{counts[it]} {it}" for it in VERDICTS if counts[it]))
-        if any(it.is_unseen for it in results):
+        counted = [it.verdict for it in results if not it.is_unseen]
+        print(", ".join(f"{counted.count(it)} {it}" for it in VERDICTS if it in counted))
+        if len(counted) < len(results):
             print(STAR)
         if given.json:
             Path(given.json).write_text(json.dumps([asdict(it) for it in results], indent=1) + "\n")
@@ -185,7 +183,7 @@ def main(words: Optional[list[str]] = None) -> int:
     except (Mistake, OSError) as why:
         print(why, file=sys.stderr)
         return 2
-    return int(any(counts[it] for it in BAD))
+    return int(not set(BAD).isdisjoint(counted))
 
 
 if __name__ == "__main__":

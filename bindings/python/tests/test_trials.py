@@ -104,6 +104,9 @@ def test_what_can_be_tried():
 
 def test_other_words(capsys):
     assert main(["--", "true"]) == 2 and "neither" in capsys.readouterr().err
+    for limit in ("nan", "inf", "0.09", "86401"):
+        assert main(["--limit", limit, "--", "true", "{tty}"]) == 2
+        assert f"--limit is {limit}" in capsys.readouterr().err.replace(".0,", ",")
     assert main(["--list"]) == 0 and capsys.readouterr().out.count("\n\n") == 59
     assert main(["--vpcd", "localhost:1", "--", "{reader}"]) == 2
     assert main(["--only", "late", "--", "/none/at/all", "{tty}"]) == 2

@@ -342,22 +342,24 @@ def parser() -> argparse.ArgumentParser:
     card("--table", metavar="FILE", type=read_table, help="lines `app`, `object`, `locked`, `atr`")
     card("--application", metavar="MODULE:CLASS", dest="own", type=application,
          help="a class of Python, of a module in this folder or of an installed one")
-    card("--program", metavar="COMMAND", dest="own", type=Program, help="one in any language")
+    card("--program", metavar="COMMAND", dest="own", type=Program, help="by lines, in any language")
     card("--replay", metavar="FILE", help="a capture, or trace_explain's --json --commands of it")
     place("--vpcd", nargs="?", const=VPCD, metavar="HOST:PORT", help=f"vsmartcard's reader; {VPCD}")
     place("--pty", action="store_true", help="prints a pseudo terminal's name; each opening resets")
     place("--tty", metavar="PATH", help="a serial line")
-    add("--atr", type=bytes.fromhex, metavar="HEX", help="the answer to reset; the card's, or 3B00")
+    add("--atr", type=bytes.fromhex, metavar="HEX",
+        help="the answer to reset; without it that of the card, else 3B00")
     add("--faults", metavar="FILE", help="lines WHEN, WHAT, as `command 2, cut 1`")
-    add("--seed", type=int, default=0, help="the seed of faults with p; 0")
-    add("-v", action="store_true", help="prints the dialogue for trace_explain")
-    add("--no-echo", action="store_true", help="the pseudo terminal has no echo")
+    add("--seed", type=int, default=0, help="the seed of faults `p CHANCE`; 0 without it")
+    add("-v", action="store_true", help="prints the dialogue for trace_explain (vpcd: --tpdu)")
+    add("--no-echo", action="store_true", help="with --pty: the terminal gets no echo")
     add("--baud", type=int, default=9600, choices=[9600, 19200, 38400, 57600, 115200],
-        help="the tty's rate at a reset; 9600")
-    add("--reset", choices=SIGNALS, default="", help="the tty's line that holds the card in reset "
-        "while it is on; without it the only reset is the start")
-    add("--unknown", metavar="SW", type=status_of, default="6D00", help="of unknown commands; 6D00")
-    add("--strict", action="store_true", help="ends at a command that is not the capture's next")
+        help="with --tty: its rate at a reset; 9600")
+    add("--reset", choices=SIGNALS, default="", help="with --tty: the line that holds the card in "
+        "reset while it is on; without it the only reset is the start")
+    add("--unknown", metavar="SW", type=status_of, default="6D00",
+        help="with --replay: the status of a command that the capture lacks; 6D00")
+    add("--strict", action="store_true", help="--replay ends at a command that is not the next")
     return it
 
 
@@ -377,7 +379,7 @@ def main(words: Optional[list[str]] = None) -> int:
                 serve_pty(simulator, not given.no_echo, lambda name: print(name, flush=True))
             else:
                 serve_tty(simulator, given.tty, given.baud, given.reset)
-    except (Mistake, OSError) as why:
+    except (Mistake, OSError, termios.error) as why:
         print(why, file=sys.stderr)
         return 2 if isinstance(why, Mistake) else 1
     except KeyboardInterrupt:

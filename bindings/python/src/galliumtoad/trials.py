@@ -138,14 +138,15 @@ def as_html(results: list[Trial]) -> str:
 def parser() -> argparse.ArgumentParser:
     it = argparse.ArgumentParser("galliumtoad.trials", epilog=USAGE,
                                  description="Lets a terminal do a job with cards that misbehave.")
-    it.add_argument("--vpcd", default=VPCD, metavar="HOST:PORT", help=f"where vpcd is; {VPCD}")
-    it.add_argument("--reader", default="Virtual PCD 00 00", help="vpcd's reader for PC/SC")
-    it.add_argument("--protocol", type=int, choices=[0, 1], default=0, help="T of the card; 0")
-    it.add_argument("--limit", type=float, default=60, metavar="S", help="seconds for a job; 60")
-    it.add_argument("--only", metavar="WORD", default="", help="the trials with it in their names")
-    it.add_argument("--list", action="store_true", help="prints the trials, and runs none")
+    it.add_argument("--vpcd", default=VPCD, metavar="HOST:PORT", help=f"vpcd of {{reader}}; {VPCD}")
+    it.add_argument("--reader", default="Virtual PCD 00 00", help="the {reader}; %(default)s")
+    it.add_argument("--protocol", type=int, choices=[0, 1], default=0, help="T, if both can be; 0")
+    it.add_argument("--limit", type=float, default=60, metavar="S",
+                    help="seconds for a job, 0.1 to 86400; 60")
+    it.add_argument("--only", metavar="WORD", default="", help="runs those with it in their names")
+    it.add_argument("--list", action="store_true", help="prints all trials, and runs none")
     it.add_argument("--json", metavar="FILE", help="writes the results there too")
-    it.add_argument("--html", metavar="FILE", help="writes a page")
+    it.add_argument("--html", metavar="FILE", help="writes them there too, as a page")
     it.add_argument("terminal", nargs="*", metavar="TERMINAL ..", help="a command line, after --")
     return it
 
@@ -155,6 +156,8 @@ def possible(given: argparse.Namespace) -> list[Trial]:
     given.is_line = any("{tty}" in it for it in given.terminal)
     if not given.is_line and not any("{reader}" in it for it in given.terminal):
         raise Mistake("the command line of the terminal has neither {reader} nor {tty}")
+    if not 0.1 <= given.limit <= 86400:
+        raise Mistake(f"--limit is {given.limit}, not from 0.1 to 86400 seconds")
     return [it for it in trials() if given.only in it.name and (
         given.is_line or it.places == {ANYWHERE})]
 

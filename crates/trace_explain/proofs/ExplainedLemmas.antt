@@ -1,5 +1,5 @@
 -- What an explainer has explained after one more character or line.
-use Rattle.std.proofs.Common.{◌≡◌, ℕ, List, [], ◌∷◌, ◌++◌, length, sym, subst, ◌∙◌, ap, true, false, ◌==◌, refl, append-nil, Result, Ok, Err, OnOk, arith, ◌+◌, ◌<◌, take, append_assoc, get_or, map, Bool, Option, Some, None}
+use Rattle.std.proofs.Common.{◌≡◌, ℕ, List, [], ◌∷◌, ◌++◌, length, sym, subst, ◌∙◌, ap, true, false, ◌==◌, refl, append-nil, Result, Ok, Err, OnOk, arith, ◌+◌, ◌<◌, take, append_assoc, get_or, map, Bool, Option, Some, None, inl}
 use Rattle.std.proofs.lemmas.Bool.{eqb-true}
 use Rattle.std.proofs.lemmas.List.{nil_from_length, take_more}
 use Rattle.t0_core.specs.declared.end.End.{End}
@@ -17,10 +17,10 @@ use Rattle.trace_explain.specs.declared.write.teller.Teller.{Teller}
 use Rattle.trace_explain.specs.declared.read.entry.Source.{Source}
 use Rattle.trace_explain.specs.declared.read.entry.Source.TheVariants.{Sign, Turn}
 use Rattle.trace_explain.specs.Reports.{Report, report_of, ReportsFront}
-use Rattle.trace_explain.specs.Openings.{opening_of}
+use Rattle.trace_explain.specs.Openings.{begun, opening_of}
 use Rattle.trace_explain.specs.Lines.{AreOver, IsBadLine, Says, Position, TakesCharacters, read_on, IsSent, TakesCharacter}
-use Rattle.trace_explain.specs.Noted.{Event, HasNoted, are_loose, ended_by, events_in, on_line}
-use Rattle.trace_explain.specs.Explained.{HasExplained, ExplainsMore, ExplainsCharacter, ExplainsCharacters, IsRight, Leaves, StopsAmong, StopsAtLine, StopsIfAt, StopsRightly, line_of, next_line, refused, position_of}
+use Rattle.trace_explain.specs.Noted.{Event, HasNoted, NotesRun, Passed, are_loose, ended_by, events_in, on_line}
+use Rattle.trace_explain.specs.Explained.{HasExplained, ExplainsMore, ExplainsCharacter, ExplainsCharacters, IsPlain, IsRight, Leaves, StopsAmong, StopsAtLine, StopsIfAt, StopsRightly, line_of, next_line, refused, position_of}
 use Rattle.trace_explain.specs.Account.{AddsBoxes}
 use Rattle.trace_explain.proofs.AccountLemmas.{boxes_both}
 use Rattle.trace_explain.specs.Turns.{source_at}
@@ -32,6 +32,11 @@ use Rattle.trace_explain.proofs.NotedLemmas.{size_of}
 pub on_ok_too : {T E : Type 0} (r : Result T E) (P Q : Type 0) → OnOk r P → (P → Q) → OnOk r Q
 on_ok_too (Ok x) P Q h next = next h
 on_ok_too (Err e) P Q h next = tt
+
+-- What holds whether it succeeded or not.
+pub ok_too : {T E : Type 0} (r : Result T E) (P : Type 0) → P → OnOk r P
+ok_too (Ok x) P h = h
+ok_too (Err e) P h = tt
 
 pub explains_nothing : (events : List Event) (before : List Report) {old : Explainer}
     (e : Explainer) → HasExplained events before e → AddsBoxes [] old.teller e.teller
@@ -227,5 +232,61 @@ taken_on source bytes place {from} {events} {before} {old} {mid} {new} within se
               goes.reports,
         ) goes.explained;
         boxes = boxes_both explained.boxes goes.boxes;
+      },
+    )
+
+-- The characters of a run, which are this end's.
+abbrev pub in_dialogue : Reading → Position
+in_dialogue reading =
+    record { opening = begun; has_characters = true; reading = reading }
+
+pub run_taken : (source : Source) (from : End) (bytes : List ℕ) (events : List Event)
+    (before : List Report) (reading : Reading) (l : Listener)
+    → ((at : Listener) (b : ℕ) → source_at source reading begun at b ≡ Ok from)
+    → NotesRun from false bytes events before l
+    → (more : List Event)
+    × TakesCharacters source events (in_dialogue reading) bytes more (in_dialogue reading)
+    × HasNoted (events ++ more) before l
+run_taken source from [] events before reading l sent noted =
+    ([], (refl, refl), rw append-nil noted)
+run_taken source from (b ∷ bytes) events before reading l sent ((at, noted), rest) =
+    let one : List Event = Passed (from, b) false ∷ [] in
+    let (more, takes, others) =
+    run_taken source from bytes (events ++ one) before reading l sent rest in
+    let P : List Event → Type 0 = λ es. HasNoted es before l in (
+      one ++ more,
+      (
+        from,
+        record { reports = before; listener = at; noted = noted; sent = sent at b },
+        one,
+        more,
+        in_dialogue reading,
+        inl (refl, refl),
+        refl,
+        takes,
+      ),
+      subst P (append_assoc events one more) others,
+    )
+
+-- An explainer has heard a run.
+pub run_explained : (source : Source) (from : End) (bytes : List ℕ) (events : List Event)
+    (before : List Report) (old new : Explainer)
+    → position_of old ≡ in_dialogue old.reading → position_of new ≡ position_of old
+    → ((at : Listener) (b : ℕ) → source_at source old.reading begun at b ≡ Ok from)
+    → NotesRun from false bytes events before new.listener → IsPlain new
+    → AddsBoxes [] old.teller new.teller
+    → ExplainsCharacters source bytes events before old new
+run_explained source from bytes events before old new is same sent run plain boxes =
+    let (more, takes, noted) =
+    run_taken source from bytes events before old.reading new.listener sent run in
+    let P : Position → Type 0 = λ at. TakesCharacters source events at bytes more at in
+    let Q : Position → Type 0 =
+    λ at. TakesCharacters source events (position_of old) bytes more at in (
+      more,
+      subst Q (sym same) (subst P (sym is) takes),
+      record {
+        reports = [];
+        explained = (rw append-nil noted, plain);
+        boxes = boxes;
       },
     )

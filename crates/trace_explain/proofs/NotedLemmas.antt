@@ -5,17 +5,18 @@ use Rattle.std.proofs.lemmas.Bool.{ne_eqb, eqb-true}
 use Rattle.std.proofs.lemmas.List.{map-append}
 use Rattle.std.proofs.lemmas.List.Sums.{fold-append}
 use Rattle.t0_core.specs.declared.direction.Direction.{Direction}
+use Rattle.t0_core.specs.declared.end.End.{End}
 use Rattle.t0_core.specs.declared.heard.Heard.{Heard}
 use Rattle.t0_core.specs.Character.{Character, sent_by}
 use Rattle.t0_core.specs.Dialogue.{Dialogue, Body, IsDialogue, all_moves, characters, foreseen, segment_characters}
 use Rattle.t0_core.specs.Front.{Front, In_header, In_body, After_first, GoesOn, Ends, fresh, front_characters, EndInLast, IsFront}
 use Rattle.t0_core.specs.History as history
 use Rattle.t0_core.specs.History.{Item, Whole, Cut_off, events_of, passed}
-use Rattle.t0_core.specs.TapSide.{Makes, Concludes, TapStandsAt, turned, afresh, Place, heard_at, tap_fault_at}
+use Rattle.t0_core.specs.TapSide.{After_sw1, Between, In_data, In_opening, Makes, Concludes, TapStandsAt, turned, afresh, due_at, Place, heard_at, heard_procedure, tap_fault_at}
 use Rattle.t0_core.specs.TapHistory.{HasHeard, HearsOn, IsOverheard}
 use Rattle.trace_explain.specs.declared.follow.listener.Listener.{Listener}
-use Rattle.trace_explain.specs.Reports.{Report, loosened, report_of, counted, uncounted, no_report, noted, is_last, reported, Reports, ReportsFront, reported_body}
-use Rattle.trace_explain.specs.Noted.{Carried, Event, HasNoted, IsNoted, IsNotedItem, Part, Passed, ReportItems, AreStatus, IsBare, Reset, are_loose, bared, carried_in, ended_by, events_in, is_bare, on_line}
+use Rattle.trace_explain.specs.Reports.{Report, ends_next, loosened, report_of, counted, uncounted, no_report, noted, is_last, reported, Reports, ReportsFront, reported_body}
+use Rattle.trace_explain.specs.Noted.{Carried, Event, HasNoted, IsNoted, IsNotedItem, NotesRun, Part, Passed, ReportItems, AreStatus, IsBare, Reset, are_loose, bared, carried_in, ended_by, events_in, is_bare, on_line}
 use Rattle.apdu_core.specs.HeaderBytes.{header_bytes}
 use Rattle.apdu_core.specs.StatusWord.{IsStatusWord, count}
 use Rattle.t0_core.specs.declared.direction.Direction.TheVariants.{ToCard, FromCard}
@@ -223,6 +224,31 @@ noted_more events reports later old new e item n now items_are front_is are is =
     ))
     (reports_both n.parts reports (part ∷ []) later n.are_reported are)
     (subst S front_is now.stands) is
+
+-- Not each character ends a dialogue.
+none_last : (o : Option Step) → is_last (heard_procedure o) ≡ false
+none_last None = refl
+none_last (Some step) = refl
+
+pub not_last : (p : Place) (from : End) (byte : ℕ) → ends_next (due_at p) ≡ false
+    → is_last (heard_at p from byte) ≡ false
+not_last (In_opening bytes) from byte inside = refl
+not_last (Between said) from byte inside = none_last _
+not_last (In_data said until) from byte inside = refl
+not_last (After_sw1 said sw1) from byte inside = absurd (cc)
+
+-- One more character after others.
+pub notes_more : (from : End) (loose : Bool) (bytes : List ℕ) (byte : ℕ) (events : List Event)
+    (reports : List Report) (mid new : Listener)
+    → ((es : List Event) → HasNoted es reports mid
+    → HasNoted (es ++ Passed (from, byte) loose ∷ []) reports new)
+    → NotesRun from loose bytes events reports mid
+    → NotesRun from loose (bytes ++ byte ∷ []) events reports new
+notes_more from loose [] byte events reports mid new one h = ((mid, h), one events h)
+notes_more from loose (b ∷ bytes) byte events reports mid new one (at, rest) = (
+  at,
+  notes_more from loose bytes byte (events ++ Passed (from, b) loose ∷ []) reports mid new one rest,
+)
 
 -- A character that does not end a dialogue, or one that does.
 pub hears_inside : (events : List Event) (reports : List Report) (old new : Listener) (h : Heard)

@@ -3,6 +3,7 @@ use Rattle.std.specs.Prelude.{◌≡◌, ◌⊎◌, ℕ, List, [], ◌∷◌, �
 use Rattle.std.specs.List.{AllByRecursion, flat_map}
 use Rattle.apdu_core.specs.StatusWord.{IsStatusWord, is_first_status}
 use Rattle.t0_core.specs.declared.direction.Direction.TheVariants.{ToCard}
+use Rattle.t0_core.specs.declared.end.End.{End}
 use Rattle.t0_core.specs.declared.end.End.TheVariants.{Terminal}
 use Rattle.t0_core.specs.declared.plan.Step.{Step}
 use Rattle.t0_core.specs.declared.plan.Step.TheVariants.{Null, All}
@@ -126,6 +127,14 @@ pub record HasNoted (events : List Event) (reports : List Report) (l : Listener)
   pub is_at : TapStandsAt l.tap front
   pub are_reported : ReportItems parts reports
   pub under_way : ReportsFront (report_of l.under_way) (are_loose last) front
+
+-- After these events a listener has noted these characters of an end, and none ended a dialogue.
+-- Before each of them a listener was at its front.
+abbrev pub NotesRun : End → Bool → List ℕ → List Event → List Report → Listener → Type 0
+NotesRun from is_loose [] events reports l = HasNoted events reports l
+NotesRun from is_loose (b ∷ bytes) events reports l =
+    ((at : Listener) × HasNoted events reports at)
+    × NotesRun from is_loose bytes (events ++ Passed (from, b) is_loose ∷ []) reports l
 
 -- No dialogue of a tap continues or ends with this character, and no bare command ended before it.
 pub record NoneContinues (l : Listener) (c : Character) : Type 0 where

@@ -5,6 +5,8 @@ use Rattle.apdu_core.specs.declared.header.Header.{Header}
 use Rattle.t0_core.specs.declared.direction.Direction.{Direction}
 use Rattle.t0_core.specs.declared.plan.Step.{Step}
 use Rattle.t0_core.specs.declared.plan.Step.TheVariants.{Null, One, All}
+use Rattle.t0_core.specs.declared.heard.Due.{Due}
+use Rattle.t0_core.specs.declared.heard.Due.TheVariants.{SecondStatus}
 use Rattle.t0_core.specs.declared.heard.Heard.{Heard}
 use Rattle.t0_core.specs.declared.heard.Heard.TheVariants as heard
 use Rattle.t0_core.specs.Dialogue.{Body, Dialogue}
@@ -124,6 +126,11 @@ noted t (heard.SecondStatus said status) byte =
 abbrev pub is_last : Heard → Bool
 is_last (heard.SecondStatus said status) = true
 is_last other = false
+
+-- A dialogue ends with the next character.
+abbrev pub ends_next : Due → Bool
+ends_next SecondStatus = true
+ends_next other = false
 
 -- The header of the TPDU with these first characters.
 pub record IsOfCommand (bytes : List ℕ) (header : Header) : Type 0 where

@@ -1,6 +1,6 @@
 //! Explains a trace line by line: finds who sent each character, hears it, and lets a `Teller`
 //! print what ends with it.
-ghost use Rattle.std.specs.Prelude.{◌≡◌, ◌∷◌, ◌==◌, ◌&&◌, List, [], None, true, false, length, OnOk, IfErr, IfOk};
+ghost use Rattle.std.specs.Prelude.{◌≡◌, ◌∷◌, ◌==◌, ◌&&◌, List, [], None, take, true, false, length, OnOk, IfErr, IfOk};
 ghost use Rattle.t0_core.specs.TapSide.{due_at};
 ghost use Rattle.trace_explain.specs.Account.{AddsBoxes, HasWritten, first_out};
 ghost use Rattle.trace_explain.specs.Explained.{HasExplained, ExplainsCharacters, ExplainsLine, ExplainsMore, Leaves, StopsAmong, StopsAtLine, TakesOrStops, is_astray, next_line, refused, position_of};
@@ -161,7 +161,8 @@ impl Explainer {
         if self.is_passed_over(source, bytes) {
             return Ok(());
         }
-        for place in 0..bytes.len() {
+        let heard = self.run(source, bytes)?;
+        for place in heard..bytes.len() {
             match self.sender(source, bytes[place]) {
                 Ok(from) => {
                     let stops = self.character(from, bytes[place], &bytes[place..])?;
@@ -185,6 +186,27 @@ impl Explainer {
             }
         }
         Ok(())
+    }
+
+    /// Hears the first characters of a line with a sign, if the dialogue at T=0 has begun: up to
+    /// one that ends a TPDU or that no dialogue continues with. Returns how many.
+    fn run(&mut self, source: Source, bytes: &[u8]) -> Result<usize, AllocError>
+        ensures explained { (events : List Event) (before : List Report) →
+            HasExplained events before self.old → IfOk result (λ count.
+            ExplainsCharacters source (take count bytes.now) events before self.old self.new) }
+        ensures counts { OnOk result (self.new.line ≡ self.old.line) }
+    {
+        let Source::Sign(_, of) = source else {
+            return Ok(0);
+        };
+        if bytes.is_empty() || !self.has_characters || !self.preface.is_over() {
+            return Ok(0);
+        }
+        let from = self.reading.sender(of);
+        let count = self
+            .teller
+            .hear_run(&mut self.listener, from, bytes, false)?;
+        Ok(count)
     }
 
     /// Whether a line is passed over; a header ends that.

@@ -1,9 +1,9 @@
 //! A tap that keeps what it has heard of the current TPDU.
-ghost use Rattle.std.specs.Prelude.{◌≡◌, ◌++◌, ◌∷◌, [], List, true, IfOk, IfErr, OnOk};
+ghost use Rattle.std.specs.Prelude.{◌≡◌, ◌++◌, ◌∷◌, [], List, take, true, IfOk, IfErr, OnOk};
 ghost use Rattle.t0_core.specs.declared.end.End.TheVariants.{Terminal};
 ghost use Rattle.t0_core.specs.TapSide.{due_at};
-ghost use Rattle.trace_explain.specs.Reports.{Report, loosened, noted, report_of, reports_of, no_report, is_last};
-ghost use Rattle.trace_explain.specs.Noted.{AreStatus, Event, HasNoted, IsRefused, Passed, Reset, as_ended, ended_by, is_bare};
+ghost use Rattle.trace_explain.specs.Reports.{Report, ends_next, loosened, noted, report_of, reports_of, no_report, is_last};
+ghost use Rattle.trace_explain.specs.Noted.{AreStatus, Event, HasNoted, IsRefused, NotesRun, Passed, Reset, as_ended, ended_by, is_bare};
 
 use crate::follow::tpdu::Tpdu;
 use std::alloc::{AllocError, Global};
@@ -92,6 +92,29 @@ impl Listener {
         Ok(None)
     }
 
+    /// Hears the first of these characters of one end, up to one that ends a TPDU or that no
+    /// dialogue continues with, and none after a bare status. Returns how many it has heard, or
+    /// `AllocError` if memory ran out: don't use the listener any more.
+    pub fn hear_run(&mut self, from: End, bytes: &[u8], is_loose: bool) -> Result<usize, AllocError>
+        ensures { (events : List Event) (before : List Report) →
+            HasNoted events before self.old → IfOk result (λ count.
+            NotesRun from is_loose (take count bytes.now) events before self.new) }
+    {
+        if from == End::Terminal && self.under_way.is_bare() {
+            return Ok(0);
+        }
+        for place in 0..bytes.len() {
+            if ends_next(self.tap.due()) {
+                return Ok(place);
+            }
+            match self.tap.hear(from, bytes[place]) {
+                Ok(heard) => self.note(&heard, bytes[place], is_loose)?,
+                Err(_) => return Ok(place),
+            }
+        }
+        Ok(bytes.len())
+    }
+
     /// Hears a character of the terminal after a bare status: the card has repeated INS of a
     /// command without data, and sent its status. The character begins the next header.
     fn hear_behind_bare(&mut self, byte: u8, is_loose: bool) -> Result<Option<Tpdu>, ListenerFault>
@@ -165,4 +188,11 @@ fn is_last(heard: &Heard) -> bool
     ensures { result ≡ is_last heard.now }
 {
     matches!(heard, Heard::SecondStatus { .. })
+}
+
+/// Whether a TPDU ends with the next character.
+fn ends_next(due: Due) -> bool
+    ensures { result ≡ ends_next due }
+{
+    matches!(due, Due::SecondStatus)
 }

@@ -1,10 +1,10 @@
 //! Writes an explanation: the boxes of TPDUs in turn, notes between them, and the counts.
-ghost use Rattle.std.specs.Prelude.{◌≡◌, ◌∷◌, ◌++◌, List, [], false, not, true, IfOk, OnOk};
+ghost use Rattle.std.specs.Prelude.{◌≡◌, ◌∷◌, ◌++◌, List, [], false, not, take, true, IfOk, OnOk};
 ghost use Rattle.std.specs.String.{string_bytes};
 ghost use Rattle.trace_explain.specs.Account.{AddsBox, AddsBoxes, HasBox, StaysWritten, account_of};
 ghost use Rattle.trace_explain.specs.Boxes.{HasAsker};
 ghost use Rattle.trace_explain.specs.Explained.{CarriesAll, Hears};
-ghost use Rattle.trace_explain.specs.Noted.{Event, HasNoted, Reset, ended_by};
+ghost use Rattle.trace_explain.specs.Noted.{Event, HasNoted, NotesRun, Reset, ended_by};
 ghost use Rattle.trace_explain.specs.Openings.{is_block, is_dialogue, opening_of, opens, reports_with, role_of, unopened};
 ghost use Rattle.trace_explain.specs.Overheard.{answered, exchanged, overheard_by};
 ghost use Rattle.trace_explain.specs.Pairs.{is_refusal};
@@ -225,6 +225,26 @@ impl Teller {
             Err(ListenerFault::NoDialogue(_)) => Ok(false),
             Err(ListenerFault::OutOfMemory) => Err(AllocError),
         }
+    }
+
+    /// Hears the first of these characters of a dialogue, as `Listener::hear_run`, and notes the
+    /// line where a TPDU begins. `bytes` is not empty. Returns how many it has heard, or
+    /// `AllocError` if memory ran out: use neither the teller nor the listener any more.
+    pub fn hear_run(
+        &mut self,
+        listener: &mut Listener,
+        from: End,
+        bytes: &[u8],
+        is_loose: bool,
+    ) -> Result<usize, AllocError>
+        ensures noted { (events : List Event) (before : List Report) →
+            HasNoted events before listener.old → IfOk result (λ count.
+            NotesRun from is_loose (take count bytes.now) events before listener.new) }
+        ensures boxes { OnOk result (AddsBoxes [] self.old self.new) }
+    {
+        self.clock.count(from == End::Card);
+        self.begin_if(from == End::Terminal && listener.under_way.is_empty());
+        listener.hear_run(from, bytes, is_loose)
     }
 
     /// Hears a byte of a block, which has this role, and writes the command that gets its

@@ -1,18 +1,22 @@
-use Rattle.std.proofs.Common.{◌≡◌, ◌≤◌, ◌∙◌, ◌++◌, [], true, false, ap, append-nil, append_assoc, arith, length, refl, sym}
+use Rattle.std.proofs.Common.{◌≡◌, ◌≤◌, ◌∙◌, ◌++◌, true, false, ap, append-nil, append_assoc, arith, length, refl, subst, sym, take}
 use Rattle.std.proofs.lemmas.List.{take_all}
-use Rattle.trace_explain.specs.Explained.{position_of}
+use Rattle.trace_explain.specs.declared.explainer.Explainer.{Explainer}
+use Rattle.trace_explain.specs.Explained.{ExplainsCharacters, HasExplained, position_of}
 use Rattle.trace_explain.specs.Noted.{ended_by}
 use Rattle.trace_explain.specs.Reports.{loose, report_of}
-use Rattle.trace_explain.proofs.AccountLemmas.{boxes_both, boxes_stay}
-use Rattle.trace_explain.proofs.ExplainedLemmas.{explains_nothing, taken_on}
+use Rattle.trace_explain.proofs.AccountLemmas.{boxes_both}
+use Rattle.trace_explain.proofs.ExplainedLemmas.{taken_on}
 use Rattle.trace_explain.proofs.explainer.Explainer.characters.Goals as goal
 
 pub loop-place-init : goal.loop-place-init
 loop-place-init c = (
   λ events before h.
-      rw (c.is_passed_over.ensures.none h.1.1).1
-      ([], (refl, refl), explains_nothing events before c.args.self.now h boxes_stay),
-  c.is_passed_over.ensures.counts,
+      let same = (c.is_passed_over.ensures.none h.1.1).1 in
+      let P : Explainer → Type 0 = λ e. ExplainsCharacters c.args.source
+      (take c.in_ok-heard.heard c.args.bytes.now) events before e c.run.new.self in
+      let Q : Explainer → Type 0 = λ e. HasExplained events before e in
+      subst P same (c.in_ok-heard.ensures.explained events before (subst Q (sym same) h)),
+  c.in_ok-heard.ensures.counts ∙ c.is_passed_over.ensures.counts,
 )
 
 pub loop-place-preserved : goal.loop-place-preserved

@@ -1,5 +1,5 @@
 //! A text with proved contents: the contract of each call says what it adds.
-ghost use Rattle.std.specs.Prelude.{◌≡◌, ◌<◌, ◌∷◌, ℕ, List, [], slice_index, true, false, IfErr, IfOk, OnOk};
+ghost use Rattle.std.specs.Prelude.{◌≡◌, ◌<◌, ◌∷◌, ℕ, List, [], slice_index, true, false, IfErr, IfOk, IfSome, OnOk};
 ghost use Rattle.std.specs.String.{string_bytes};
 ghost use Rattle.std.specs.Char.{encode_utf8};
 ghost use Rattle.std.specs.Fmt.{decimal};
@@ -93,6 +93,16 @@ impl Sheet {
     pub fn push_spaces(&mut self, count: usize)
         ensures { Adds self.old (spaces count) self.new }
     {
+        match few_spaces(count) {
+            Some(few) => self.push_str(few),
+            None => self.push_many_spaces(count),
+        }
+    }
+
+    /// Adds spaces, one by one.
+    fn push_many_spaces(&mut self, count: usize)
+        ensures { Adds self.old (spaces count) self.new }
+    {
         for _ in 0..count {
             self.push(' ');
         }
@@ -165,6 +175,25 @@ impl Sheet {
     {
         self.is_whole()?;
         Ok(self.text)
+    }
+}
+
+/// As many spaces, if they are at most nine.
+fn few_spaces(count: usize) -> Option<&'static str>
+    ensures { IfSome result (λ few. few.now ≡ spaces count) }
+{
+    match count {
+        0 => Some(""),
+        1 => Some(" "),
+        2 => Some("  "),
+        3 => Some("   "),
+        4 => Some("    "),
+        5 => Some("     "),
+        6 => Some("      "),
+        7 => Some("       "),
+        8 => Some("        "),
+        9 => Some("         "),
+        _ => None,
     }
 }
 

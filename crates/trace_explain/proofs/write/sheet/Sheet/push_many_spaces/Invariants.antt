@@ -1,7 +1,7 @@
 use Rattle.std.proofs.Common.{◌-◌}
 use Rattle.trace_explain.specs.Written.{spaces}
 use Rattle.trace_explain.proofs.SheetLemmas.{Completes}
-use Rattle.trace_explain.proofs.write.sheet.Sheet.push_spaces.Given as goal
+use Rattle.trace_explain.proofs.write.sheet.Sheet.push_many_spaces.Given as goal
 
 -- those that are left complete it
 abbrev pub invariant-loop : goal.invariant-loop

@@ -1,5 +1,5 @@
 use Rattle.trace_explain.proofs.SheetLemmas.{spaces_done, spaces_more}
-use Rattle.trace_explain.proofs.write.sheet.Sheet.push_spaces.Goals as goal
+use Rattle.trace_explain.proofs.write.sheet.Sheet.push_many_spaces.Goals as goal
 
 pub loop-preserved : goal.loop-preserved
 loop-preserved c =

@@ -2,6 +2,7 @@ pub mod NotedLemmas
 pub mod ExplainedLemmas
 pub mod TraceLemmas
 pub mod LogLemmas
+mod DigitLemmas
 pub mod SheetLemmas
 mod TreeLemmas
 mod JsonTreeLemmas

@@ -37,6 +37,12 @@ next_spot Behind b = if b == 58 then Bound else if (b == 32) || (b == 44) then B
 next_spot Bound b = Within b
 next_spot (Within high) b = if b == 32 then Between else Behind
 
+-- A byte may begin here.
+abbrev pub begins : Spot → Bool
+begins Between = true
+begins Behind = true
+begins other = false
+
 -- The bytes that digits spell: any spaces between them, or right behind a byte a comma or a colon;
 -- `0x` may precede a byte. These bytes precede them.
 abbrev pub spelled_from : Bool → List ℕ → Spot → List ℕ → Option (List ℕ)

@@ -1,7 +1,8 @@
 //! Bytes as hexadecimal digits, with separators between them.
-ghost use Rattle.std.specs.Prelude.{◌≡◌, ◌++◌, ◌∷◌, [], IfOk, IfErr, OnOk};
+ghost use Rattle.std.specs.Prelude.{◌≡◌, ◌<◌, ◌++◌, ◌∷◌, [], Bool, List, ℕ, drop, length, true, IfOk, IfErr, IfSome, OnOk};
 ghost use Rattle.hex.specs.Hex.{hex_digit_value};
-ghost use Rattle.trace_explain.specs.Patterns.{IsBadField, byte_at, byte_of, bytes_in, is_digits, next_spot, spelled};
+ghost use Rattle.trace_explain.specs.Patterns.{IsBadField, begins, byte_at, byte_of, bytes_in, is_digits, next_spot, spelled, spelled_from};
+ghost use Rattle.trace_explain.specs.declared.read.digits.Spot.TheVariants.{Behind};
 
 use crate::read::trace_line::LineFault;
 use std::alloc::{AllocError, Global};
@@ -33,11 +34,20 @@ pub fn spelled(alloc: Global, is_short: bool, digits: &[u8]) -> Result<Vec<u8>, 
 {
     let mut bytes = Vec::with_capacity(alloc, digits.len() / 2)?;
     let mut spot = Spot::Between;
-    for &digit in digits {
+    let mut rest = digits;
+    'digits: while !rest.is_empty() {
+        if let Some(byte) = pair_at(spot, rest) {
+            push(&mut bytes, byte)?;
+            spot = Spot::Behind;
+            rest = &rest[2..];
+            continue 'digits;
+        }
+        let digit = rest[0];
+        rest = &rest[1..];
         if let Spot::Within(high) = spot {
             if high == b'0' && digit == b'x' {
                 spot = Spot::Bound;
-                continue;
+                continue 'digits;
             }
             let byte = byte_at(is_short, high, digit).ok_or(LineFault::Hex)?;
             push(&mut bytes, byte)?;
@@ -48,6 +58,35 @@ pub fn spelled(alloc: Global, is_short: bool, digits: &[u8]) -> Result<Vec<u8>, 
         Spot::Between | Spot::Behind => Ok(bytes),
         Spot::Bound | Spot::Within(_) => Err(LineFault::Hex),
     }
+}
+
+/// Returns the byte of the first two characters, if a byte may begin there and both are digits.
+fn pair_at(spot: Spot, digits: &[u8]) -> Option<u8>
+    ensures { IfSome result (λ byte. (1 < length digits.now) × ((is_short : Bool)
+        (bytes : List ℕ) → spelled_from is_short bytes spot digits.now
+        ≡ spelled_from is_short (bytes ++ byte ∷ []) Behind (drop 2 digits.now))) }
+{
+    if !begins(spot) {
+        return None;
+    }
+    if !has_pair(digits) {
+        return None;
+    }
+    byte_of(digits[0], digits[1])
+}
+
+/// Whether a byte may begin here.
+fn begins(spot: Spot) -> bool
+    ensures { result ≡ begins spot }
+{
+    matches!(spot, Spot::Between | Spot::Behind)
+}
+
+/// Whether there are two characters.
+fn has_pair(digits: &[u8]) -> bool
+    ensures { result ≡ true → 1 < length digits.now }
+{
+    digits.len() > 1
 }
 
 /// Returns the place behind this character.

@@ -1,8 +1,7 @@
 -- A whole trace after one more byte or line.
-use Rattle.std.proofs.Common.{◌≡◌, ℕ, ◌+◌, ◌-◌, ◌^◌, min, ◌<◌, ◌≤◌, slice_index, List, [], ◌∷◌, ◌++◌, length, drop, add-one, get_or, Bool, true, false, ◌==◌, refl, sym, ap, subst, ◌∙◌, append-nil, append_assoc, Result, Ok, Err, IfErr, OnOk, IsErrAnd, Option, Some, None, IfSome, take, arith, length-take}
-use Rattle.std.proofs.Math.Seq.{drop-cons}
+use Rattle.std.proofs.Common.{◌≡◌, ℕ, ◌+◌, ◌-◌, ◌^◌, min, ◌<◌, ◌≤◌, slice_index, List, [], ◌∷◌, ◌++◌, length, drop, get_or, Bool, true, false, ◌==◌, refl, sym, ap, subst, ◌∙◌, append-nil, append_assoc, Result, Ok, Err, IfErr, OnOk, IsErrAnd, Option, Some, None, IfSome, take, arith, length-drop, length-take, take-append-drop}
 use Rattle.std.proofs.lemmas.Bool.{ne_eqb}
-use Rattle.std.proofs.lemmas.List.{drop_all, length-append}
+use Rattle.std.proofs.lemmas.List.{drop_more, get_or-drop, length-append, take_more}
 use Rattle.std.specs.Io.KnownBytes.{Consumes, IsAtEnd}
 use Rattle.std.specs.Str.Lines.{strip_carriage_return}
 use Rattle.std.specs.String.{string_bytes}
@@ -16,7 +15,7 @@ use Rattle.trace_explain.specs.Noted.{Event, ended_by}
 use Rattle.trace_explain.specs.Reports.{Report, report_of}
 use Rattle.trace_explain.specs.Lines.{LineLeads, Position, first_of_all}
 use Rattle.trace_explain.specs.Explained.{HasExplained, ExplainsLine, Leaves, StopsAtLine, StopsIfAt, line_of, next_line, position_of}
-use Rattle.trace_explain.specs.Trace.{HasLeft, HasReceived, IsExplained, IsOfEnd, IsOfLines, IsOfSink, IsOver, IsReached, IsReady, KeepsLimit, SayAll, SayInTurn, StopsIn, StopsInLine, lines_from}
+use Rattle.trace_explain.specs.Trace.{AreOfLine, HasLeft, HasReceived, IsExplained, IsOfEnd, IsOfLines, IsOfSink, IsOver, IsReached, IsReady, KeepsLimit, SayAll, SayInTurn, StopsIn, StopsInLine, lines_from}
 use Rattle.trace_explain.proofs.AccountLemmas.{written_more, written_out}
 use Rattle.trace_explain.proofs.ExplainedLemmas.{rightly_as}
 
@@ -107,16 +106,31 @@ pub line_fed : {front : Out} {reading : Reading} {all : List (List ℕ)} {line b
 line_fed {line = line} {bytes = bytes} given left b new come counts left_is is same explains =
     line_more given [] left new come counts (fed line given left bytes b left_is is same) explains
 
--- One more byte of a line was received.
-pub byte_more : {front : Out} {reading : Reading} {all : List (List ℕ)} {line bytes : List ℕ}
-    (next left : List ℕ) (b : ℕ) {e : Explainer} → HasReceived front reading all line bytes e
-    → bytes ≡ b ∷ left → (b == 10) ≡ false → next ≡ line ++ b ∷ []
+-- A run of bytes, and one more.
+pub run_of_none : AreOfLine []
+run_of_none line left = ap (λ l. lines_from l left) (sym (append-nil line))
+
+pub run_of_more : (bytes : List ℕ) (i : ℕ) → i < length bytes → (get_or bytes i 0 == 10) ≡ false
+    → AreOfLine (take i bytes) → AreOfLine (take (i + 1) bytes)
+run_of_more bytes i within other so_far line left =
+    let b : ℕ = get_or bytes i 0 in
+    let front : List ℕ = take i bytes in
+    let more : take (i + 1) bytes ≡ front ++ b ∷ [] = take_more bytes i 0 within in
+    ap (λ x. lines_from line (x ++ left)) more
+    ∙ ap (lines_from line) (append_assoc front (b ∷ []) left) ∙ so_far line (b ∷ left)
+    ∙ line_continues (line ++ front) left b other
+    ∙ ap (λ l. lines_from l left) (append_assoc line front (b ∷ []))
+    ∙ ap (λ x. lines_from (line ++ x) left) (sym more)
+
+-- A run of a line was received.
+pub run_more : {front : Out} {reading : Reading} {all : List (List ℕ)} {line bytes : List ℕ}
+    (next run left : List ℕ) {e : Explainer} → HasReceived front reading all line bytes e
+    → bytes ≡ run ++ left → AreOfLine run → next ≡ line ++ run
     → HasReceived front reading all next left e
-byte_more {line = line} next left b come left_is other same = record {
+run_more {line = line} next run left come left_is of same = record {
   before = come.before;
   is_cut = come.is_cut ∙ ap (λ ls. come.before ++ ls)
-      (ap (lines_from line) left_is ∙ line_continues line left b other
-      ∙ ap (λ l. lines_from l left) (sym same));
+      (ap (lines_from line) left_is ∙ of line left ∙ ap (λ l. lines_from l left) (sym same));
   number_is = come.number_is;
   events = come.events;
   says = come.says;
@@ -125,10 +139,25 @@ byte_more {line = line} next left b come left_is other same = record {
   written = come.written;
 }
 
--- The rest of a chunk, and what follows it.
-pub next_byte : (chunk left : List ℕ) (i : ℕ) → i < length chunk
-    → drop i chunk ++ left ≡ get_or chunk i 0 ∷ (drop (i + 1) chunk ++ left)
-next_byte chunk left i within = grind (arith, add-one, drop-cons)
+-- A chunk is a run and others, and more follows.
+pub chunk_cut : (chunk run others left : List ℕ) (n : ℕ) → run ≡ take n chunk
+    → others ≡ drop n chunk → chunk ++ left ≡ run ++ (others ++ left)
+chunk_cut chunk run others left n run_is others_is =
+    ap (λ x. x ++ left) (sym (take-append-drop n chunk))
+    ∙ append_assoc (take n chunk) (drop n chunk) left
+    ∙ ap (λ x. x ++ (drop n chunk ++ left)) (sym run_is)
+    ∙ ap (λ x. run ++ (x ++ left)) (sym others_is)
+
+-- What follows a run begins with LF.
+pub ends_line : (rest others left : List ℕ) (n : ℕ) → others ≡ drop n rest → 0 < length others
+    → (n < length rest → get_or rest n 0 ≡ 10) → others ++ left ≡ 10 ∷ (drop 1 others ++ left)
+ends_line rest others left n others_is some ends =
+    let size : length others ≡ length (drop n rest) = ap length others_is in
+    let more : n < length rest = omega (arith, length-drop n rest, size, some) in
+    let same : n + 0 ≡ n = omega arith in
+    let at : get_or others 0 0 ≡ 10 = ap (λ x. get_or x 0 0) others_is ∙ get_or-drop n rest 0 0
+    ∙ ap (λ k. get_or rest k 0) same ∙ ends more in
+    ap (λ x. x ++ left) (drop_more others 0 0 some) ∙ ap (λ b. b ∷ (drop 1 others ++ left)) at
 
 -- At the end all lines are explained.
 still_left : {front : Out} {reading : Reading} {all : List (List ℕ)} {line left : List ℕ}
@@ -218,16 +247,14 @@ first_longer line (b ∷ left) n more =
         (first, others, line_continues line left b e ∙ is, long)
 
 pub too_long : {front : Out} {reading : Reading} {all : List (List ℕ)} {line bytes : List ℕ}
-    (left : List ℕ) (b n : ℕ) {e : Explainer} → HasReceived front reading all line bytes e
-    → bytes ≡ b ∷ left → (b == 10) ≡ false → 4194304 ≤ length line → n ≡ next_line e
+    (run left : List ℕ) (n : ℕ) {e : Explainer} → HasReceived front reading all line bytes e
+    → bytes ≡ run ++ left → AreOfLine run → 4194304 < length line + length run → n ≡ next_line e
     → StopsIn (HasLeft front e) reading all (fault.LineTooLong n)
 unfolding reached
-too_long {line = line} left b n come bytes_is other long number =
-    let (first, others, is, first_long) = first_longer (line ++ b ∷ []) left 4194304
-    (omega (arith, length-append line (b ∷ []), long)) in (
-      reached n first others come
-          (ap (lines_from line) bytes_is ∙ line_continues line left b other ∙ is)
-          number,
+too_long {line = line} run left n come bytes_is of long number =
+    let (first, others, is, first_long) = first_longer (line ++ run) left 4194304
+    (omega (arith, length-append line run, long)) in (
+      reached n first others come (ap (lines_from line) bytes_is ∙ of line left ∙ is) number,
       (first_long, still_left come),
     )
 
@@ -291,13 +318,6 @@ pub last_stops : {T : Type 0} {front : Out} {reading : Reading} {all : List (Lis
 last_stops (Ok x) line new some come stops of = tt
 last_stops (Err f) line new some come stops of =
     line_stops_in f line [] new of come (last_line line some) stops
-
--- A chunk has ended.
-pub none_of_chunk : {front : Out} {reading : Reading} {all : List (List ℕ)} {line : List ℕ}
-    (chunk left : List ℕ) (i : ℕ) {e : Explainer} → length chunk ≤ i
-    → HasReceived front reading all line (drop i chunk ++ left) e
-    → HasReceived front reading all line left e
-none_of_chunk {front} {reading} {all} {line} chunk left i {e} past come = grind (arith, drop_all)
 
 -- Before the first byte.
 pub is_ready : {front : Out} {reading : Reading} {e : Explainer} → HasExplained [] [] e

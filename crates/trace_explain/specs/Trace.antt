@@ -20,6 +20,11 @@ lines_from line (b ∷ bytes) =
     if b == 10 then strip_carriage_return line ∷ lines_from [] bytes
     else lines_from (line ++ b ∷ []) bytes
 
+-- These bytes continue a line, and end none.
+abbrev pub AreOfLine : List ℕ → Type 0
+AreOfLine run = (line left : List ℕ)
+    → lines_from line (run ++ left) ≡ lines_from (line ++ run) left
+
 abbrev pub lines_of : List ℕ → List (List ℕ)
 lines_of bytes = lines_from [] bytes
 

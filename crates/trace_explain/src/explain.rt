@@ -1,22 +1,21 @@
 //! Explains a whole trace: reads it in chunks, and gives its lines to an `Explainer`.
-ghost use Rattle.std.specs.Prelude.{◌≡◌, ◌++◌, List, [], ℕ, false, IfErr, IfSome, OnOk};
+ghost use Rattle.std.specs.Prelude.{◌≡◌, ◌≤◌, ◌<◌, ◌+◌, ◌++◌, List, [], ℕ, false, true, get_or, length, take, IfErr, IfSome, OnOk};
 ghost use Rattle.std.specs.Io.KnownBytes.{Appends};
 ghost use Rattle.std.specs.String.{string_bytes};
 ghost use Rattle.std.specs.Str.Lines.{strip_carriage_return};
 ghost use Rattle.trace_explain.specs.declared.read.reading.Reading.{Reading};
 ghost use Rattle.trace_explain.specs.Account.{HasWritten, Out, WritesOut, WritesReports, out_with};
 ghost use Rattle.trace_explain.specs.Explained.{position_of};
-ghost use Rattle.trace_explain.specs.Trace.{HasLeft, HasReceived, IsExplained, IsOfLines, IsOfSink, IsOfWriting, IsReady, IsWhole, KeepsLimit, StopsIn, lines_of};
+ghost use Rattle.trace_explain.specs.Trace.{AreOfLine, HasLeft, HasReceived, IsExplained, IsOfLines, IsOfSink, IsOfWriting, IsReady, IsWhole, KeepsLimit, StopsIn, lines_of};
 
 use crate::describe::mask::Mask;
 use crate::explain_fault::ExplainFault;
 use crate::explainer::Explainer;
-use crate::read::digits::push;
 use crate::read::reading::Reading;
 use crate::write::layout::Layout;
 use crate::write::sheet::Sheet;
 use crate::write::sink::Sink;
-use std::alloc::Global;
+use std::alloc::{AllocError, Global};
 use std::io::Read;
 
 /// The most bytes of a trace (this project's profile).
@@ -124,19 +123,51 @@ pub fn explain_chunk(
         IfErr result (StopsIn (HasLeft front explainer.new) reading all) }
     ensures of_lines { IfErr result IsOfLines }
 {
-    for &byte in chunk {
-        if byte == b'\n' {
-            explainer.line(without_return(line.as_slice()))?;
-            line.clear();
-        } else if line.len() < LINE_LIMIT {
-            push(line, byte)?;
-        } else {
+    let mut rest = chunk;
+    'lines: while !rest.is_empty() {
+        let (front, others) = rest.split_at(line_len(rest));
+        if is_too_long(line.len(), front.len()) {
             return Err(ExplainFault::LineTooLong {
                 line: explainer.next_line(),
             });
         }
+        append(line, front)?;
+        if others.is_empty() {
+            return Ok(());
+        }
+        explainer.line(without_return(line.as_slice()))?;
+        line.clear();
+        rest = &others[1..];
     }
     Ok(())
+}
+
+/// Whether a line of `line` bytes exceeds the limit with `more` bytes more.
+fn is_too_long(line: usize, more: usize) -> bool
+    ensures { result ≡ true → 4_194_304 < line + more }
+{
+    more > LINE_LIMIT.saturating_sub(line)
+}
+
+/// Appends bytes. Returns `AllocError` if memory ran out.
+fn append(line: &mut Vec<u8>, run: &[u8]) -> Result<(), AllocError>
+    ensures { OnOk result (line.new.items ≡ line.old.items ++ run.now) }
+{
+    line.extend_from_slice(run)
+}
+
+/// Returns the number of bytes before the first LF, or of all bytes without one.
+fn line_len(bytes: &[u8]) -> usize
+    ensures within { result ≤ length bytes.now }
+    ensures ends { result < length bytes.now → get_or bytes.now result 0 ≡ 10 }
+    ensures runs { AreOfLine (take result bytes.now) }
+{
+    for place in 0..bytes.len() {
+        if bytes[place] == b'\n' {
+            return place;
+        }
+    }
+    bytes.len()
 }
 
 /// Explains the last line, if it has no LF. `line` is what `explain_chunk` left: it is empty if

@@ -128,15 +128,15 @@ none_written layout mask e hears manner number text = record {
 }
 
 -- one box, after it was counted
-pub boxes_one : (t : Report) (number line n : ℕ) {a c : Account} → n ≡ one_more a.number
-    → number ≡ n → AddsBox number line t (record a { number = n }) c → Shows (t ∷ []) a c
-boxes_one t number line n {a} {c} counted number_is h = record {
+pub boxes_one : (t : Report) (number n : ℕ) {a c : Account} → n ≡ one_more a.number
+    → number ≡ n → AddsBox number t (record a { number = n }) c → Shows (t ∷ []) a c
+boxes_one t number n {a} {c} counted number_is h = record {
   manner = h.manner;
   adds = λ writes w.
-      let P : ℕ → Type 0 = λ k. PutsBox a.mask k line t a.sheet c.sheet in
+      let P : ℕ → Type 0 = λ k. PutsBox a.mask k t a.sheet c.sheet in
       let (more, (before, rest, is, words, (text, none, rest_is, is_box, none_is)), adds) =
       subst P (number_is ∙ counted) (h.box writes) in
-      let one : Boxed = record { report = t; line = line; text = text } in
+      let one : Boxed = record { report = t; text = text } in
       record {
         whole = adds.whole w;
         more = more;

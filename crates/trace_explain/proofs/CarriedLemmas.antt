@@ -1,5 +1,5 @@
 -- Commands at T=1 that are reported.
-use Rattle.std.proofs.Common.{◌≡◌, ◌<◌, ℕ, ◌+◌, List, [], ◌∷◌, ◌++◌, ◌∙◌, ap, refl, sym, subst, lit<, append-nil, append_assoc, length, Bool, true, false, Option, Some, None, OnOk, Result, Ok, Err, arith, ◌==◌, if◌then◌else◌}
+use Rattle.std.proofs.Common.{◌≡◌, ◌<◌, ℕ, ◌+◌, List, [], ◌∷◌, ◌++◌, ◌∙◌, ap, refl, sym, subst, lit<, append-nil, append_assoc, length, true, false, Option, Some, None, OnOk, Result, Ok, Err, arith, ◌==◌, if◌then◌else◌}
 use Rattle.std.proofs.lemmas.List.{length-drop}
 use Rattle.t0_core.specs.declared.end.End.{End}
 use Rattle.t0_core.specs.DialogueLaws.{all_more, flat_map_last}
@@ -11,12 +11,13 @@ use Rattle.trace_explain.specs.declared.follow.opening.Role.{Role}
 use Rattle.trace_explain.specs.declared.follow.opening.Role.TheVariants as role
 use Rattle.trace_explain.specs.declared.follow.pair.PairFault.{PairFault}
 use Rattle.trace_explain.specs.declared.follow.pair.PairFault.TheVariants as bad
+use Rattle.trace_explain.specs.declared.follow.tpdu.Mark.{Mark}
 use Rattle.trace_explain.specs.declared.follow.tpdu.Tpdu.{Tpdu}
 use Rattle.trace_explain.specs.declared.write.teller.Teller.{Teller}
 use Rattle.trace_explain.specs.Account.{AddsBoxes}
 use Rattle.trace_explain.specs.Explained.{CarriesAll}
 use Rattle.trace_explain.specs.Lines.{block_events, dialogue_events}
-use Rattle.trace_explain.specs.Noted.{Carried, Event, HasNoted, IsNoted, Part, Passed, Reset, are_loose, ended_by, events_in}
+use Rattle.trace_explain.specs.Noted.{Carried, Event, HasNoted, IsNoted, Part, Passed, Reset, ended_by, events_in, mark_of}
 use Rattle.trace_explain.specs.Openings.{Opening, is_block, is_dialogue, is_loose, opens, reports_with, role_of}
 use Rattle.trace_explain.specs.Overheard.{Overheard, answered, exchanged}
 use Rattle.trace_explain.specs.Pairs.{IsBadPair, IsPair, beside, command_in, data_in, is_refusal, moved_of, status_in, way_of}
@@ -25,7 +26,7 @@ use Rattle.trace_explain.proofs.AccountLemmas.{boxes_both}
 use Rattle.trace_explain.proofs.ExplainedLemmas.{front_of_none, none_on_line}
 use Rattle.trace_explain.proofs.NotedLemmas.{noted_between, reports_both, size_of}
 
-front_is_fresh : (t : Report) (loose : Bool) (front : Front) → ReportsFront t loose front
+front_is_fresh : (t : Report) (loose : Mark) (front : Front) → ReportsFront t loose front
     → t ≡ no_report → front ≡ fresh
 front_is_fresh t loose (In_header []) reports none = refl
 front_is_fresh t loose (In_header (b ∷ bytes)) reports none =
@@ -43,7 +44,7 @@ carries_on events reports l t n none =
     let part : Part = (Cut_off [], Carried t ∷ []) in
     let S : Front → Type 0 = λ f. TapStandsAt l.tap f in
     let last_is : n.last ≡ [] = none_on_line n.last (n.last_are
-    ∙ front_of_none (report_of l.under_way) (are_loose n.last) n.front n.under_way
+    ∙ front_of_none (report_of l.under_way) (mark_of n.last) n.front n.under_way
     (size_of none)) in
     noted_between (n.parts ++ part ∷ []) (events ++ Carried t ∷ []) (reports ++ t ∷ []) l
     (ap (λ es. es ++ Carried t ∷ []) (n.events_are
@@ -51,7 +52,7 @@ carries_on events reports l t n none =
     ∙ sym (flat_map_last (λ (p : Part). p.1) n.parts part))
     (all_more IsNoted n.parts part n.are_noted ((fresh, lit< tt, tt, refl), refl))
     (reports_both n.parts reports (part ∷ []) (t ∷ []) n.are_reported ([], refl, tt))
-    (subst S (front_is_fresh (report_of l.under_way) (are_loose n.last) n.front n.under_way none)
+    (subst S (front_is_fresh (report_of l.under_way) (mark_of n.last) n.front n.under_way none)
     n.is_at) none
 
 -- What is reported after a reset of the listener.
@@ -92,8 +93,11 @@ carries_none events before l noted boxes = record {
 }
 
 -- The report of a command with its response.
-pub exchanged_is : (loose : Bool) (command answer : List ℕ) (t : Tpdu) → IsPair command answer t
-    → exchanged loose command answer ≡ record (report_of t) { is_loose = loose } ∷ []
+abbrev pub with_mark : Mark → Report → Report
+with_mark m t = record t { is_loose = m.is_loose; line = m.line }
+
+pub exchanged_is : (loose : Mark) (command answer : List ℕ) (t : Tpdu) → IsPair command answer t
+    → exchanged loose command answer ≡ with_mark loose (report_of t) ∷ []
 exchanged_is loose command answer t (c, is, r, ok) =
     let header : t.header.items ≡ c.header = r.header_is in
     let tally : t.tally ≡ uncounted = r.tally_is in
@@ -104,11 +108,11 @@ exchanged_is loose command answer t (c, is, r, ok) =
     rw (is, ok) (cc)
 
 -- An invalid command or answer has no report.
-exchanged_by : (loose : Bool) (command answer : List ℕ) → command_in command ≡ None
+exchanged_by : (loose : Mark) (command answer : List ℕ) → command_in command ≡ None
     → exchanged loose command answer ≡ []
 exchanged_by loose command answer none = rw none refl
 
-pub exchanged_none : (why : PairFault) (loose : Bool) (command answer : List ℕ)
+pub exchanged_none : (why : PairFault) (loose : Mark) (command answer : List ℕ)
     → IsBadPair why command answer → is_refusal why ≡ true
     → exchanged loose command answer ≡ []
 exchanged_none bad.Short loose command answer h other =
@@ -122,16 +126,16 @@ exchanged_none bad.OutOfMemory loose command answer h other =
     absurd (let bad : false ≡ true = other in cc)
 
 -- A command with its response was reported, or is no TPDU.
-pub carries_pair : {T E : Type 0} (r : Result T E) (loose : Bool) (command answer : List ℕ)
+pub carries_pair : {T E : Type 0} (r : Result T E) (loose : Mark) (command answer : List ℕ)
     (t : Tpdu) (events : List Event) (before : List Report) (l : Listener) (old new : Teller)
     → IsPair command answer t
-    → OnOk r (CarriesAll (record (report_of t) { is_loose = loose } ∷ []) events before l old new)
+    → OnOk r (CarriesAll (with_mark loose (report_of t) ∷ []) events before l old new)
     → OnOk r (CarriesAll (exchanged loose command answer) events before l old new)
 carries_pair r loose command answer t events before l old new is h =
     let P : List Report → Type 0 = λ ts. OnOk r (CarriesAll ts events before l old new) in
     subst P (sym (exchanged_is loose command answer t is)) h
 
-pub carries_refused : {T E : Type 0} (r : Result T E) (why : PairFault) (loose : Bool)
+pub carries_refused : {T E : Type 0} (r : Result T E) (why : PairFault) (loose : Mark)
     (command answer : List ℕ) (events : List Event) (before : List Report) (l : Listener)
     (old new : Teller) → IsBadPair why command answer → OnOk r (is_refusal why ≡ true)
     → HasNoted events before l → OnOk r (AddsBoxes [] old new)
@@ -147,9 +151,9 @@ pub answered_none : (o : Overheard) → o.is_answered ≡ false → answered o �
 answered_none o none = rw none refl
 
 pub answered_one : (o mid : Overheard) → mid ≡ o → o.is_answered ≡ true
-    → exchanged mid.is_loose mid.command mid.gathered.bytes ≡ answered o
+    → exchanged mid.mark mid.command mid.gathered.bytes ≡ answered o
 answered_one o mid same is =
-    ap (λ (x : Overheard). exchanged x.is_loose x.command x.gathered.bytes) same ∙ rw is refl
+    ap (λ (x : Overheard). exchanged x.mark x.command x.gathered.bytes) same ∙ rw is refl
 
 -- A byte of a block reports the command that gets its response with it.
 pub reports_some : (r : Role) (o : Overheard) → is_block r ≡ true
@@ -177,17 +181,20 @@ none_with role.Response o other = refl
 none_with role.Stray o other = refl
 
 -- The events of a character, by what it is.
-pub none_opens : (o : Opening) (from : End) (b : ℕ) → is_dialogue (role_of o from b) ≡ false
-    → is_block (role_of o from b) ≡ false → [] ≡ dialogue_events o from b
-none_opens o from b other block = rw (
+pub none_opens : (o : Opening) (line : ℕ) (from : End) (b : ℕ)
+    → is_dialogue (role_of o from b) ≡ false → is_block (role_of o from b) ≡ false
+    → [] ≡ dialogue_events o line from b
+none_opens o line from b other block = rw (
   other,
   none_with (role_of o from b)
-      (opens o (role_of o from b) b).blocks block,
+      (opens o (role_of o from b) b line).blocks block,
 ) refl
 
-pub one_passes : (o : Opening) (from : End) (b : ℕ) → is_dialogue (role_of o from b) ≡ true
-    → Passed (from, b) (is_loose o.stage) ∷ [] ≡ dialogue_events o from b
-one_passes o from b is = rw is refl
+pub one_passes : (o : Opening) (line : ℕ) (from : End) (b : ℕ)
+    → is_dialogue (role_of o from b) ≡ true
+    → Passed (from, b) (record { is_loose = is_loose o.stage; line = line }) ∷ []
+    ≡ dialogue_events o line from b
+one_passes o line from b is = rw is refl
 
 no_dialogue : (r : Role) → is_block r ≡ true → is_dialogue r ≡ false
 no_dialogue (role.Block from) block = refl
@@ -200,12 +207,13 @@ no_dialogue role.ResponsePpss block = refl
 no_dialogue role.Response block = refl
 no_dialogue role.Stray block = refl
 
-pub block_takes : (o : Opening) (from : End) (b : ℕ) (r : Role) (after : Opening)
-    → r ≡ role_of o from b → is_block r ≡ true → after ≡ opens o r b
-    → block_events (reports_with r after.blocks) ≡ dialogue_events o from b
-block_takes o from b r after r_is block after_is =
-    let E : Role → List Event = λ x. if is_dialogue x then Passed (from, b) (is_loose o.stage) ∷ []
-    else block_events (reports_with x (opens o x b).blocks) in
-    let P : Role → Type 0 = λ x. block_events (reports_with r (opens o r b).blocks) ≡ E x in
+pub block_takes : (o : Opening) (line : ℕ) (from : End) (b : ℕ) (r : Role) (after : Opening)
+    → r ≡ role_of o from b → is_block r ≡ true → after ≡ opens o r b line
+    → block_events (reports_with r after.blocks) ≡ dialogue_events o line from b
+block_takes o line from b r after r_is block after_is =
+    let E : Role → List Event = λ x. if is_dialogue x
+    then Passed (from, b) (record { is_loose = is_loose o.stage; line = line }) ∷ []
+    else block_events (reports_with x (opens o x b line).blocks) in
+    let P : Role → Type 0 = λ x. block_events (reports_with r (opens o r b line).blocks) ≡ E x in
     ap (λ (x : Opening). block_events (reports_with r x.blocks)) after_is
     ∙ subst P r_is (rw (no_dialogue r block) refl)

@@ -10,6 +10,7 @@ use Rattle.trace_explain.specs.declared.explain_fault.ExplainFault.{ExplainFault
 use Rattle.trace_explain.specs.declared.explain_fault.ExplainFault.TheVariants as fault
 use Rattle.trace_explain.specs.declared.explainer.Explainer.{Explainer}
 use Rattle.trace_explain.specs.declared.follow.listener.Listener.{Listener}
+use Rattle.trace_explain.specs.declared.follow.tpdu.Mark.{Mark}
 use Rattle.trace_explain.specs.declared.read.reading.Reading.{Reading}
 use Rattle.trace_explain.specs.declared.read.trace_line.LineFault.{LineFault}
 use Rattle.trace_explain.specs.declared.read.trace_line.LineFault.TheVariants as bad
@@ -18,8 +19,8 @@ use Rattle.trace_explain.specs.declared.read.entry.Source.{Source}
 use Rattle.trace_explain.specs.declared.read.entry.Source.TheVariants.{Sign, Turn}
 use Rattle.trace_explain.specs.Reports.{Report, report_of, ReportsFront}
 use Rattle.trace_explain.specs.Openings.{begun, opening_of}
-use Rattle.trace_explain.specs.Lines.{AreOver, IsBadLine, Says, Position, TakesCharacters, read_on, IsSent, TakesCharacter}
-use Rattle.trace_explain.specs.Noted.{Event, HasNoted, NotesRun, Passed, are_loose, ended_by, events_in, on_line}
+use Rattle.trace_explain.specs.Lines.{AreOver, entered, IsBadLine, Says, Position, TakesCharacters, read_on, IsSent, TakesCharacter}
+use Rattle.trace_explain.specs.Noted.{Event, HasNoted, NotesRun, Passed, ended_by, events_in, mark_of, on_line}
 use Rattle.trace_explain.specs.Explained.{HasExplained, ExplainsMore, ExplainsCharacter, ExplainsCharacters, IsPlain, IsRight, Leaves, StopsAmong, StopsAtLine, StopsIfAt, StopsRightly, line_of, next_line, refused, position_of}
 use Rattle.trace_explain.specs.Account.{AddsBoxes}
 use Rattle.trace_explain.proofs.AccountLemmas.{boxes_both}
@@ -51,7 +52,7 @@ explains_from begins h =
     record { reports = h.reports; explained = h.explained; boxes = boxes_both begins h.boxes }
 
 -- If no character of a header is reported, no dialogue has started.
-pub front_of_none : (t : Report) (loose : Bool) (front : Front) → ReportsFront t loose front
+pub front_of_none : (t : Report) (loose : Mark) (front : Front) → ReportsFront t loose front
     → length t.header ≡ 0 → passed (front_characters front) ≡ []
 front_of_none t loose (In_header bytes) reports none = grind (arith, nil_from_length, size_of)
 front_of_none t loose (In_body b) reports none = absurd (omega (arith, none, size_of reports))
@@ -69,7 +70,7 @@ over_behind l noted none = record {
   parts = noted.parts;
   events_are = noted.events_are
       ∙ ap (λ es. events_in noted.parts ++ es) (none_on_line noted.last (noted.last_are
-      ∙ front_of_none (report_of l.under_way) (are_loose noted.last) noted.front noted.under_way
+      ∙ front_of_none (report_of l.under_way) (mark_of noted.last) noted.front noted.under_way
       (eqb-true _ 0 none)))
       ∙ append-nil (events_in noted.parts);
   are_noted = noted.are_noted;
@@ -139,7 +140,7 @@ pub line_refused : (why : LineFault) (line : List ℕ) (n : ℕ) (events : List 
     → IsBadLine why old.reading line → n ≡ next_line old → AddsBoxes [] old.teller new.teller
     → new.listener ≡ old.listener → new.reading ≡ old.reading
     → StopsAtLine (Leaves before old.teller new) (refused n why) (next_line old) line
-    (position_of old) events before (report_of old.listener.under_way)
+    (entered (position_of old)) events before (report_of old.listener.under_way)
 line_refused bad.OutOfMemory line n events before old new has h n_is boxes same reads = tt
 line_refused other line n events before old new has h n_is boxes same reads = (
   n_is,
@@ -236,23 +237,26 @@ taken_on source bytes place {from} {events} {before} {old} {mid} {new} within se
     )
 
 -- The characters of a run, which are this end's.
-abbrev pub in_dialogue : Reading → Position
-in_dialogue reading =
-    record { opening = begun; has_characters = true; reading = reading }
+abbrev pub in_dialogue : Position → Position
+in_dialogue at = record at { opening = begun; has_characters = true }
+
+-- The mark of its characters.
+abbrev pub mark_at : Position → Mark
+mark_at at = record { is_loose = false; line = at.number }
 
 pub run_taken : (source : Source) (from : End) (bytes : List ℕ) (events : List Event)
-    (before : List Report) (reading : Reading) (l : Listener)
-    → ((at : Listener) (b : ℕ) → source_at source reading begun at b ≡ Ok from)
-    → NotesRun from false bytes events before l
+    (before : List Report) (p : Position) (l : Listener)
+    → ((at : Listener) (b : ℕ) → source_at source p.reading begun at b ≡ Ok from)
+    → NotesRun from (mark_at p) bytes events before l
     → (more : List Event)
-    × TakesCharacters source events (in_dialogue reading) bytes more (in_dialogue reading)
+    × TakesCharacters source events (in_dialogue p) bytes more (in_dialogue p)
     × HasNoted (events ++ more) before l
-run_taken source from [] events before reading l sent noted =
+run_taken source from [] events before p l sent noted =
     ([], (refl, refl), rw append-nil noted)
-run_taken source from (b ∷ bytes) events before reading l sent ((at, noted), rest) =
-    let one : List Event = Passed (from, b) false ∷ [] in
+run_taken source from (b ∷ bytes) events before p l sent ((at, noted), rest) =
+    let one : List Event = Passed (from, b) (mark_at p) ∷ [] in
     let (more, takes, others) =
-    run_taken source from bytes (events ++ one) before reading l sent rest in
+    run_taken source from bytes (events ++ one) before p l sent rest in
     let P : List Event → Type 0 = λ es. HasNoted es before l in (
       one ++ more,
       (
@@ -260,7 +264,7 @@ run_taken source from (b ∷ bytes) events before reading l sent ((at, noted), r
         record { reports = before; listener = at; noted = noted; sent = sent at b },
         one,
         more,
-        in_dialogue reading,
+        in_dialogue p,
         inl (refl, refl),
         refl,
         takes,
@@ -271,14 +275,14 @@ run_taken source from (b ∷ bytes) events before reading l sent ((at, noted), r
 -- An explainer has heard a run.
 pub run_explained : (source : Source) (from : End) (bytes : List ℕ) (events : List Event)
     (before : List Report) (old new : Explainer)
-    → position_of old ≡ in_dialogue old.reading → position_of new ≡ position_of old
+    → position_of old ≡ in_dialogue (position_of old) → position_of new ≡ position_of old
     → ((at : Listener) (b : ℕ) → source_at source old.reading begun at b ≡ Ok from)
-    → NotesRun from false bytes events before new.listener → IsPlain new
+    → NotesRun from (mark_at (position_of old)) bytes events before new.listener → IsPlain new
     → AddsBoxes [] old.teller new.teller
     → ExplainsCharacters source bytes events before old new
 run_explained source from bytes events before old new is same sent run plain boxes =
     let (more, takes, noted) =
-    run_taken source from bytes events before old.reading new.listener sent run in
+    run_taken source from bytes events before (position_of old) new.listener sent run in
     let P : Position → Type 0 = λ at. TakesCharacters source events at bytes more at in
     let Q : Position → Type 0 =
     λ at. TakesCharacters source events (position_of old) bytes more at in (

@@ -1,5 +1,5 @@
 -- The reports of dialogues after one more character or reset.
-use Rattle.std.proofs.Common.{◌≡◌, ◌<◌, ℕ, List, [], ◌∷◌, ◌++◌, ◌==◌, if◌then◌else◌, Option, Some, refl, sym, subst, ◌∙◌, ap, inl, inr, lit<, true, false, append_assoc, append-nil, length, arith, ◌≤◌, slice_index, fold, Bool, None, ◌&&◌, ◌||◌, map}
+use Rattle.std.proofs.Common.{◌≡◌, ◌<◌, ℕ, List, [], ◌∷◌, ◌++◌, ◌==◌, if◌then◌else◌, Option, Some, refl, sym, subst, ◌∙◌, ap, inl, inr, lit<, true, false, append_assoc, append-nil, length, arith, ◌≤◌, slice_index, fold, Bool, None, ◌&&◌, map}
 use Rattle.std.specs.List.{AllByRecursion, flat_map}
 use Rattle.std.proofs.lemmas.Bool.{ne_eqb, eqb-true}
 use Rattle.std.proofs.lemmas.List.{map-append}
@@ -15,8 +15,8 @@ use Rattle.t0_core.specs.History.{Item, Whole, Cut_off, events_of, passed}
 use Rattle.t0_core.specs.TapSide.{After_sw1, Between, In_data, In_opening, Makes, Concludes, TapStandsAt, turned, afresh, due_at, Place, heard_at, heard_procedure, tap_fault_at}
 use Rattle.t0_core.specs.TapHistory.{HasHeard, HearsOn, IsOverheard}
 use Rattle.trace_explain.specs.declared.follow.listener.Listener.{Listener}
-use Rattle.trace_explain.specs.Reports.{Report, ends_next, loosened, report_of, counted, uncounted, no_report, noted, is_last, reported, Reports, ReportsFront, reported_body}
-use Rattle.trace_explain.specs.Noted.{Carried, Event, HasNoted, IsNoted, IsNotedItem, NotesRun, Part, Passed, ReportItems, AreStatus, IsBare, Reset, are_loose, bared, carried_in, ended_by, events_in, is_bare, on_line}
+use Rattle.trace_explain.specs.Reports.{Report, both_marks, ends_next, marked, no_mark, report_of, counted, uncounted, no_report, noted, is_last, reported, Reports, ReportsFront, reported_body}
+use Rattle.trace_explain.specs.Noted.{Carried, Event, HasNoted, IsNoted, IsNotedItem, NotesRun, Part, Passed, ReportItems, AreStatus, IsBare, Reset, bared, carried_in, ended_by, events_in, is_bare, mark_of, on_line, with_event}
 use Rattle.apdu_core.specs.HeaderBytes.{header_bytes}
 use Rattle.apdu_core.specs.StatusWord.{IsStatusWord, count}
 use Rattle.t0_core.specs.declared.direction.Direction.TheVariants.{ToCard, FromCard}
@@ -28,25 +28,26 @@ use Rattle.t0_core.specs.FrontLaws.{all_moves-within}
 use Rattle.t0_core.specs.WholeLaws.{owes}
 use Rattle.t0_core.specs.declared.tap_fault.TapFault.{TapFault}
 use Rattle.trace_explain.specs.declared.follow.tally.Tally.{Tally}
+use Rattle.trace_explain.specs.declared.follow.tpdu.Mark.{Mark}
 use Rattle.trace_explain.specs.declared.follow.tpdu.Tpdu.{Tpdu}
 use Rattle.t0_core.specs.declared.heard.Heard.TheVariants as heard
 use Rattle.t0_core.specs.TapLaws as law
 
 -- A report has no direction that nobody has seen.
-reports_turned : (t : Report) (loose : Bool) (way : Direction) (front : Front)
+reports_turned : (t : Report) (loose : Mark) (way : Direction) (front : Front)
     → ReportsFront t loose front → ReportsFront t loose (turned way front)
 reports_turned t loose way (In_header bytes) h = h
 reports_turned t loose way (In_body b) h = h
 reports_turned t loose way (After_first b sw1) h = h
 
 -- One more character.
-in_header : (way : Option Direction) (loose : Bool) (bytes : List ℕ) (c : Character) (new : Front)
+in_header : (way : Option Direction) (loose : Mark) (bytes : List ℕ) (c : Character) (new : Front)
     → GoesOn (In_header bytes) c new
     → noted (reported way loose (In_header bytes)) heard.Header c.1 ≡ reported way loose new
 in_header way loose bytes c new (from, inl (short, is)) = ap (reported way loose) (sym is)
 in_header way loose bytes c new (from, inr (header, direction, bytes_are, is)) = grind (arith)
 
-noted_continues : (t : Report) (loose : Bool) (front new : Front) (h : Heard) (c : Character)
+noted_continues : (t : Report) (loose : Mark) (front new : Front) (h : Heard) (c : Character)
     → ReportsFront t loose front
     → GoesOn front c new → Makes h front c new → ReportsFront (noted t h c.1) loose new
 noted_continues t loose front new heard.Header c reports goes (bytes, is) = grind (arith, in_header)
@@ -58,7 +59,7 @@ noted_continues t loose front new heard.FirstStatus c reports goes (b, is, next)
 noted_continues t loose front new (heard.SecondStatus said status) c reports goes bad = absurd bad
 
 -- The last character.
-noted_ends : (t : Report) (loose : Bool) (front : Front) (d : Dialogue) (h : Heard) (c : Character)
+noted_ends : (t : Report) (loose : Mark) (front : Front) (d : Dialogue) (h : Heard) (c : Character)
     → ReportsFront t loose front → Ends front c d → Concludes h d → Reports (noted t h c.1) loose d
 noted_ends t loose (In_header bytes) d h c reports ends ends_so = absurd ends
 noted_ends t loose (In_body b) d h c reports ends ends_so = absurd ends
@@ -66,22 +67,10 @@ noted_ends t loose (After_first b sw1) d (heard.SecondStatus said status) c repo
     grind (arith)
 noted_ends t loose (After_first b sw1) d other c reports ends bad = absurd bad
 
--- The last character may make the header loose; a reset does not.
-loose_last : (events : List Event) (c : Character) (is : Bool)
-    → are_loose (events ++ Passed c is ∷ []) ≡ (are_loose events || is)
-loose_last [] c true = refl
-loose_last [] c false = refl
-loose_last (Passed d true ∷ events) c is = refl
-loose_last (Passed d false ∷ events) c is = loose_last events c is
-loose_last (Reset ∷ events) c is = loose_last events c is
-loose_last (Carried t ∷ events) c is = loose_last events c is
-
-loose_reset : (events : List Event) → are_loose (events ++ Reset ∷ []) ≡ are_loose events
-loose_reset [] = refl
-loose_reset (Passed d true ∷ events) = refl
-loose_reset (Passed d false ∷ events) = loose_reset events
-loose_reset (Reset ∷ events) = loose_reset events
-loose_reset (Carried t ∷ events) = loose_reset events
+-- The mark after one more event.
+mark_last : (events : List Event) (e : Event)
+    → mark_of (events ++ e ∷ []) ≡ with_event (mark_of events) e
+mark_last events e = fold-append with_event no_mark events (e ∷ [])
 
 -- A dialogue at T=0 carries nothing at T=1.
 none_carried : (events : List Event) (cs : List Character) → map on_line events ≡ passed cs
@@ -94,11 +83,11 @@ none_carried (Reset ∷ events) (d ∷ cs) is = absurd (cc)
 none_carried (Carried t ∷ events) [] is = absurd (cc)
 none_carried (Carried t ∷ events) (d ∷ cs) is = absurd (cc)
 
-loosened_front : (t : Report) (loose is : Bool) (front : Front) → ReportsFront t loose front
-    → ReportsFront (loosened is t) (loose || is) front
-loosened_front t loose is (In_header bytes) h = ap (loosened is) h
-loosened_front t loose is (In_body b) h = ap (loosened is) h
-loosened_front t loose is (After_first b sw1) h = ap (loosened is) h
+marked_front : (t : Report) (m n : Mark) (front : Front) → ReportsFront t m front
+    → ReportsFront (marked n t) (both_marks m n) front
+marked_front t m n (In_header bytes) h = ap (marked n) h
+marked_front t m n (In_body b) h = ap (marked n) h
+marked_front t m n (After_first b sw1) h = ap (marked n) h
 
 -- Which of the two it is.
 makes_no_last : (h : Heard) (front new : Front) (c : Character) → Makes h front c new
@@ -140,7 +129,7 @@ pub size_of : {t u : Report} → t ≡ u → length t.header ≡ length u.header
 size_of is = ap (λ (x : Report). length x.header) is
 
 reports_part : (t : Report) (front : Front) (events : List Event)
-    → ReportsFront t (are_loose events) front → carried_in events ≡ []
+    → ReportsFront t (mark_of events) front → carried_in events ≡ []
     → ReportItems ((Cut_off (front_characters front), events) ∷ []) (cut_of t)
 reports_part t (In_header []) events h none = rw (ap (λ (x : Report). x.header) h)
     ([], sym (ap (λ ts. ts ++ []) none), tt)
@@ -164,7 +153,7 @@ alone events reports l n = record {
 }
 
 -- Between two dialogues.
-reports_nothing : {t : Report} → t ≡ no_report → ReportsFront t false fresh
+reports_nothing : {t : Report} → t ≡ no_report → ReportsFront t no_mark fresh
 reports_nothing is = rw is refl
 
 pub noted_between : (parts : List Part) (events : List Event) (reports : List Report)
@@ -238,7 +227,7 @@ not_last (In_data said until) from byte inside = refl
 not_last (After_sw1 said sw1) from byte inside = absurd (cc)
 
 -- One more character after others.
-pub notes_more : (from : End) (loose : Bool) (bytes : List ℕ) (byte : ℕ) (events : List Event)
+pub notes_more : (from : End) (loose : Mark) (bytes : List ℕ) (byte : ℕ) (events : List Event)
     (reports : List Report) (mid new : Listener)
     → ((es : List Event) → HasNoted es reports mid
     → HasNoted (es ++ Passed (from, byte) loose ∷ []) reports new)
@@ -252,17 +241,17 @@ notes_more from loose (b ∷ bytes) byte events reports mid new one (at, rest) =
 
 -- A character that does not end a dialogue, or one that does.
 pub hears_inside : (events : List Event) (reports : List Report) (old new : Listener) (h : Heard)
-    (c : Character) (loose : Bool) (n : HasNoted events reports old)
+    (c : Character) (loose : Mark) (n : HasNoted events reports old)
     → HearsOn (alone events reports old n) h c new.tap → is_last h ≡ false
-    → report_of new.under_way ≡ loosened loose (noted (report_of old.under_way) h c.1)
+    → report_of new.under_way ≡ marked loose (noted (report_of old.under_way) h c.1)
     → HasNoted (events ++ Passed c loose ∷ []) reports new
 hears_inside events reports old new h c loose n on inside is = elim on.goes [
   | inl (goes, makes, items_are) ↦
-      let so = are_loose n.last in
+      let so = mark_of n.last in
       let t = report_of old.under_way in
-      let Q : Bool → Report → Type 0 = λ v x. ReportsFront x v on.now.front in
-      let R : Report → Type 0 = Q (are_loose (n.last ++ Passed c loose ∷ [])) in
-      let V : Bool → Type 0 = λ v. Q v (loosened loose (noted t h c.1)) in
+      let Q : Mark → Report → Type 0 = λ v x. ReportsFront x v on.now.front in
+      let R : Report → Type 0 = Q (mark_of (n.last ++ Passed c loose ∷ [])) in
+      let V : Mark → Type 0 = λ v. Q v (marked loose (noted t h c.1)) in
       record {
         parts = n.parts;
         last = n.last ++ Passed c loose ∷ [];
@@ -276,8 +265,8 @@ hears_inside events reports old new h c loose n on inside is = elim on.goes [
         is_front = on.now.is_front;
         is_at = on.now.stands;
         are_reported = n.are_reported;
-        under_way = subst R (sym is) (subst V (sym (loose_last n.last c loose))
-            (loosened_front (noted t h c.1) so loose on.now.front
+        under_way = subst R (sym is) (subst V (sym (mark_last n.last (Passed c loose)))
+            (marked_front (noted t h c.1) so loose on.now.front
             (noted_continues t so (turned on.way n.front) on.now.front h c
             (reports_turned t so on.way n.front n.under_way) goes makes)));
       }
@@ -285,24 +274,25 @@ hears_inside events reports old new h c loose n on inside is = elim on.goes [
 ]
 
 pub hears_last : (events : List Event) (reports : List Report) (old new : Listener) (h : Heard)
-    (c : Character) (loose : Bool) (n : HasNoted events reports old)
+    (c : Character) (loose : Mark) (n : HasNoted events reports old)
     → HearsOn (alone events reports old n) h c new.tap
     → is_last h ≡ true → report_of new.under_way ≡ no_report
     → HasNoted (events ++ Passed c loose ∷ [])
-    (reports ++ loosened loose (noted (report_of old.under_way) h c.1) ∷ []) new
+    (reports ++ marked loose (noted (report_of old.under_way) h c.1) ∷ []) new
 hears_last events reports old new h c loose n on last is = elim on.goes [
   | inl (goes, makes, items_are) ↦
       absurd (makes_no_last h (turned on.way n.front) on.now.front c makes last)
   | inr (d, ends, ends_so, front_is, items_are) ↦
-      let so = are_loose n.last in
+      let so = mark_of n.last in
       let t = report_of old.under_way in
-      let t2 : Report = loosened loose (noted t h c.1) in
-      let V : Bool → Type 0 = λ v. Reports t2 v d in
+      let t2 : Report = marked loose (noted t h c.1) in
+      let V : Mark → Type 0 = λ v. Reports t2 v d in
       let ended = noted_ends t so (turned on.way n.front) d h c
       (reports_turned t so on.way n.front n.under_way) ends ends_so in
       noted_more events reports (t2 ∷ []) old new (Passed c loose) (Whole d) n on.now items_are
       front_is
-      (subst V (sym (loose_last n.last c loose)) (ap (loosened loose) ended.0, ended.1), tt) is
+      (subst V (sym (mark_last n.last (Passed c loose))) (ap (marked loose) ended.0, ended.1), tt)
+      is
 ]
 
 -- A reset.
@@ -312,12 +302,12 @@ pub hears_reset : (events : List Event) (reports : List Report) (old new : Liste
 hears_reset events reports old new n tap_is is =
     let t = report_of old.under_way in
     let part = front_characters n.front in
-    let V : Bool → Type 0 = λ v. ReportsFront t v n.front in
+    let V : Mark → Type 0 = λ v. ReportsFront t v n.front in
     let (cut, items_are, front_is) =
     law.heard_reset (passed part) old.tap new.tap tap_is (alone events reports old n) in
     noted_more events reports (cut_of t) old new Reset (Cut_off part) n cut items_are front_is
     (reports_part t n.front (n.last ++ Reset ∷ [])
-    (subst V (sym (loose_reset n.last)) n.under_way)
+    (subst V (sym (mark_last n.last Reset)) n.under_way)
     (none_carried n.last (front_characters n.front) n.last_are)) is
 
 pub both_hold : (a b : Bool) → (a && b) ≡ true → (a ≡ true) × (b ≡ true)
@@ -380,11 +370,11 @@ as_dialogue b sw1 sw2 = record {
   status = (sw1, sw2);
 }
 
-abbrev IsOfBare : Report → Bool → Front → Dialogue → Type 0
+abbrev IsOfBare : Report → Mark → Front → Dialogue → Type 0
 IsOfBare t loose front d = IsDialogue d × IsBare d.body
     × (front_characters front ≡ characters d) × Reports (bared t) loose d
 
-bare_body : (t : Report) (loose : Bool) (b : Body) (sw1 sw2 : ℕ)
+bare_body : (t : Report) (loose : Mark) (b : Body) (sw1 sw2 : ℕ)
     → ReportsFront t loose (In_body b) → IsFront (In_body b)
     → slice_index t.header 4 ≡ 0 → t.tally.ones ≡ 0 → t.moved ≡ sw1 ∷ sw2 ∷ []
     → IsStatusWord (sw1, sw2) → IsOfBare t loose (In_body b) (as_dialogue b sw1 sw2)
@@ -427,7 +417,7 @@ bare_body t loose b sw1 sw2 reports front p3_read none moved_is status =
       (ap bared reports ∙ ap (reported_body None loose d.body) data_are, refl),
     )
 
-bare_front : (t : Report) (loose : Bool) (front : Front) → ReportsFront t loose front
+bare_front : (t : Report) (loose : Mark) (front : Front) → ReportsFront t loose front
     → IsFront front → is_bare t ≡ true
     → AreStatus t.moved → (d : Dialogue) × IsOfBare t loose front d
 bare_front t loose (In_header bytes) reports front bare status = absurd (rw reports at status)
@@ -454,7 +444,7 @@ pub hears_bare : (events : List Event) (reports : List Report) (old new : Listen
 hears_bare events reports old new n bare status tap_is is =
     let t = report_of old.under_way in
     let (d, is_so) =
-    bare_front t (are_loose n.last) n.front n.under_way n.is_front bare status in
+    bare_front t (mark_of n.last) n.front n.under_way n.is_front bare status in
     let part : Part = (Whole d, n.last) in
     noted_between (n.parts ++ part ∷ []) events (reports ++ bared t ∷ []) new
     (n.events_are ∙ sym (flat_map_last (λ (p : Part). p.1) n.parts part))
@@ -465,7 +455,7 @@ hears_bare events reports old new n bare status tap_is is =
 
 -- The next character of the terminal begins a header.
 pub hears_behind : (events : List Event) (before : List Report) (whole : Tpdu)
-    (old mid new : Listener) (h : Heard) (byte : ℕ) (loose : Bool)
+    (old mid new : Listener) (h : Heard) (byte : ℕ) (loose : Mark)
     → HasNoted events before old → is_bare (report_of old.under_way) ≡ true
     → AreStatus (report_of old.under_way).moved → mid.tap ≡ afresh
     → report_of mid.under_way ≡ no_report
@@ -473,7 +463,7 @@ pub hears_behind : (events : List Event) (before : List Report) (whole : Tpdu)
     → ((es : List history.Event) (led : HasHeard es mid.tap)
     → HearsOn led h (Terminal, byte) new.tap)
     → h ≡ heard_at mid.tap Terminal byte
-    → report_of new.under_way ≡ loosened loose (noted (report_of mid.under_way) h byte)
+    → report_of new.under_way ≡ marked loose (noted (report_of mid.under_way) h byte)
     → HasNoted (events ++ Passed (Terminal, byte) loose ∷ []) (before ++ report_of whole ∷ []) new
 hears_behind events before whole old mid new h byte loose n bare status tap_is is whole_is on h_is
     noted_is =
@@ -490,7 +480,7 @@ pub header_refused : (p : Place) (byte : ℕ) (why : TapFault) → p ≡ afresh
 header_refused p byte why is refused = grind (arith)
 
 -- Something of such a command was received.
-bare_some : (t : Report) (loose : Bool) (front : Front) → ReportsFront t loose front
+bare_some : (t : Report) (loose : Mark) (front : Front) → ReportsFront t loose front
     → AreStatus t.moved → 0 < length t.header
 bare_some t loose (In_header bytes) reports status = absurd (rw reports at status)
 bare_some t loose (In_body b) reports status = omega (arith, size_of reports)
@@ -512,7 +502,7 @@ reset_noted events reports old new n tap_is is status = split (is_bare t) refl
     split : (v : Bool) → is_bare t ≡ v → P (ended_by t)
     split true e =
         let mid = hears_bare events reports old new n e (status e) tap_is is in
-        let some = bare_some t (are_loose n.last) n.front n.under_way (status e) in
+        let some = bare_some t (mark_of n.last) n.front n.under_way (status e) in
         let same : ended_by t ≡ bared t ∷ [] =
         rw (ne_eqb (length t.header) 0 (omega (arith, some))) (rw e refl) in
         let Q : List Report → Type 0 = λ ts. HasNoted (events ++ Reset ∷ []) ts new in

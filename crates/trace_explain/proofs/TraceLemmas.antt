@@ -13,7 +13,7 @@ use Rattle.trace_explain.specs.declared.write.sheet.Sheet.{Sheet}
 use Rattle.trace_explain.specs.Account.{HasWritten, Out, WritesOut, out_with}
 use Rattle.trace_explain.specs.Noted.{Event, ended_by}
 use Rattle.trace_explain.specs.Reports.{Report, report_of}
-use Rattle.trace_explain.specs.Lines.{LineLeads, Position, first_of_all}
+use Rattle.trace_explain.specs.Lines.{LineLeads, Position, entered, first_of_all}
 use Rattle.trace_explain.specs.Explained.{HasExplained, ExplainsLine, Leaves, StopsAtLine, StopsIfAt, line_of, next_line, position_of}
 use Rattle.trace_explain.specs.Trace.{AreOfLine, HasLeft, HasReceived, IsExplained, IsOfEnd, IsOfLines, IsOfSink, IsOver, IsReached, IsReady, KeepsLimit, SayAll, SayInTurn, StopsIn, StopsInLine, lines_from}
 use Rattle.trace_explain.proofs.AccountLemmas.{written_more, written_out}
@@ -22,12 +22,12 @@ use Rattle.trace_explain.proofs.ExplainedLemmas.{rightly_as}
 -- The events of one more line follow the others.
 say_more : (so_far : List Event) (at mid after : Position) (before : List (List ℕ))
     (line : List ℕ) (events more : List Event) → SayInTurn so_far at before events mid
-    → LineLeads (so_far ++ events) mid line more after
+    → LineLeads (so_far ++ events) (entered mid) line more after
     → SayInTurn so_far at (before ++ line ∷ []) (events ++ more) after
 say_more so_far at mid after [] line events more (none, same) leads =
-    let P : List Event → Type 0 = λ es. LineLeads (so_far ++ es) mid line more after in
-    let Q : List Event → Type 0 = λ es. LineLeads es mid line more after in
-    let R : Position → Type 0 = λ s. LineLeads so_far s line more after in (
+    let P : List Event → Type 0 = λ es. LineLeads (so_far ++ es) (entered mid) line more after in
+    let Q : List Event → Type 0 = λ es. LineLeads es (entered mid) line more after in
+    let R : Position → Type 0 = λ s. LineLeads so_far (entered s) line more after in (
       more,
       [],
       after,
@@ -37,7 +37,7 @@ say_more so_far at mid after [] line events more (none, same) leads =
     )
 say_more so_far at mid after (one ∷ before) line events more
     (first, rest, next, first_leads, cut, others) leads =
-    let P : List Event → Type 0 = λ es. LineLeads es mid line more after in (
+    let P : List Event → Type 0 = λ es. LineLeads es (entered mid) line more after in (
       first,
       rest ++ more,
       next,
@@ -70,7 +70,8 @@ counted_on n before all n_is all_is = omega (arith, n_is, all_is)
 -- What an explainer explains of a line at any position.
 abbrev pub Explains : List ℕ → Explainer → Explainer → Type 0
 Explains line old new = (events : List Event) (before : List Report)
-    → HasExplained events before old → ExplainsLine line events before old new
+    → HasExplained events before old
+    → ExplainsLine (entered (position_of old)) line events before old new
 
 -- This line has ended.
 pub line_more : {front : Out} {reading : Reading} {all : List (List ℕ)} {line bytes : List ℕ}
@@ -193,7 +194,7 @@ pub last_explained : {T : Type 0} {front : Out} {reading : Reading} {all : List 
     → (length line == 0) ≡ false → HasReceived front reading all line [] old
     → OnOk result (new.line ≡ next_line old)
     → ((events : List Event) (before : List Report) → HasExplained events before old
-    → OnOk result (ExplainsLine line events before old new))
+    → OnOk result (ExplainsLine (entered (position_of old)) line events before old new))
     → OnOk result (IsExplained (HasLeft front new) reading all (position_of new))
 last_explained (Err f) line new some come counts explains = tt
 last_explained (Ok x) line new some come counts explains =
@@ -261,16 +262,16 @@ too_long {line = line} run left n come bytes_is of long number =
 -- A line that stops an explainer.
 abbrev pub Stops : ExplainFault → List ℕ → Explainer → Explainer → Type 0
 Stops f line old new = (events : List Event) (before : List Report) → HasExplained events before old
-    → StopsAtLine (Leaves before old.teller new) f (next_line old) line (position_of old) events
-    before (report_of old.listener.under_way)
+    → StopsAtLine (Leaves before old.teller new) f (next_line old) line (entered (position_of old))
+    events before (report_of old.listener.under_way)
 
 stops_at : {front : Out} {reading : Reading} {all : List (List ℕ)} {line left : List ℕ}
     (f : ExplainFault) (n : Option ℕ) (given : List ℕ) (others : List (List ℕ))
     {old : Explainer} (new : Explainer)
     → HasReceived front reading all line left old → lines_from line left ≡ given ∷ others
     → ((events : List Event) (before : List Report) → HasExplained events before old
-    → StopsIfAt (Leaves before old.teller new) n f (next_line old) given (position_of old) events
-    before (report_of old.listener.under_way))
+    → StopsIfAt (Leaves before old.teller new) n f (next_line old) given (entered (position_of old))
+    events before (report_of old.listener.under_way))
     → StopsInLine (HasLeft front new) reading all f n
 unfolding reached
 stops_at f None given others new come ends stops = tt
@@ -278,8 +279,8 @@ stops_at {front} f (Some n) given others {old} new come ends stops =
     let before = come.reports in
     let (number, is) = stops come.events before come.explained in (
       reached n given others come ends number,
-      rightly_as (Leaves before old.teller new) (HasLeft front new) f (position_of old) given
-          come.events before (report_of old.listener.under_way) (λ all t h. record {
+      rightly_as (Leaves before old.teller new) (HasLeft front new) f (entered (position_of old))
+          given come.events before (report_of old.listener.under_way) (λ all t h. record {
             reports = before ++ h.reports;
             written = written_more front before h.reports old new h.hears come.written h.boxes;
             all_are = h.all_are ∙ sym (append_assoc before h.reports
@@ -313,7 +314,7 @@ pub last_stops : {T : Type 0} {front : Out} {reading : Reading} {all : List (Lis
     → (length line == 0) ≡ false → HasReceived front reading all line [] old
     → ((events : List Event) (before : List Report) → HasExplained events before old
     → IfErr result (λ f. StopsAtLine (Leaves before old.teller new) f (next_line old) line
-    (position_of old) events before (report_of old.listener.under_way)))
+    (entered (position_of old)) events before (report_of old.listener.under_way)))
     → IfErr result IsOfLines → IfErr result (StopsIn (HasLeft front new) reading all)
 last_stops (Ok x) line new some come stops of = tt
 last_stops (Err f) line new some come stops of =
@@ -433,7 +434,7 @@ stops_in_line_as : (P Q : List Report → Report → Type 0) (reading : Reading)
 stops_in_line_as P Q reading all f None so h = tt
 stops_in_line_as P Q reading all f (Some n) so (reached, h) = (
   reached,
-  rightly_as P Q f reached.at reached.line reached.events reached.reports
+  rightly_as P Q f (entered reached.at) reached.line reached.events reached.reports
       (report_of reached.listener.under_way) so h,
 )
 

@@ -29,14 +29,13 @@ Writes w = (w.keeps ≡ false) × (w.layout.is_summary ≡ false)
 -- the box of a TPDU, whole or cut off
 pub record Boxed : Type 0 where
   pub report : Report
-  pub line : ℕ
   pub text : List ℕ
 
 -- after n boxes, each has the next number, and shows its TPDU
 abbrev pub AreBoxes : Manner → ℕ → List Boxed → Type 0
 AreBoxes w n [] = Unit {0}
 AreBoxes w n (b ∷ boxes) =
-    IsBox w.mask (one_more n) b.line b.report w.layout.medium b.text
+    IsBox w.mask (one_more n) b.report w.layout.medium b.text
     × AreBoxes w (one_more n) boxes
 
 abbrev pub number_after : ℕ → List Boxed → ℕ
@@ -98,17 +97,17 @@ abbrev pub AddsBoxes : List Report → Teller → Teller → Type 0
 AddsBoxes reports old new = Shows reports (account_of old) (account_of new)
 
 -- the same for one box with this number, which is counted already
-pub record AddsBox (number line : ℕ) (t : Report) (old new : Account) : Type 0 where
+pub record AddsBox (number : ℕ) (t : Report) (old new : Account) : Type 0 where
   pub manner : manner_of new ≡ manner_of old
   pub counted : new.number ≡ old.number
-  pub box : Writes (manner_of old) → PutsBox old.mask number line t old.sheet new.sheet
+  pub box : Writes (manner_of old) → PutsBox old.mask number t old.sheet new.sheet
 
 -- a text is that box after an empty sheet, unless that is of a summary
-abbrev pub HasBox : Mask → ℕ → ℕ → Report → Sheet → List ℕ → Type 0
-HasBox mask number line t empty text =
+abbrev pub HasBox : Mask → ℕ → Report → Sheet → List ℕ → Type 0
+HasBox mask number t empty text =
     empty.layout.is_summary ≡ false → (last : Sheet) × (last.is_cut ≡ false)
     × (string_bytes last.text ≡ text)
-    × PutsBox mask number line t empty last
+    × PutsBox mask number t empty last
 
 -- the output is the same
 abbrev pub StaysWritten : Teller → Teller → Type 0

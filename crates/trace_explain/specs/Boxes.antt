@@ -177,12 +177,12 @@ InOrder (Is ∷ others) m text =
 
 -- The box of a TPDU: its number, line, header, data and status, with rows of words between. A mask
 -- hides a doubtful header.
-abbrev pub IsBox : Mask → ℕ → ℕ → Report → Medium → List ℕ → Type 0
-IsBox mask number line t = InOrder
+abbrev pub IsBox : Mask → ℕ → Report → Medium → List ℕ → Type 0
+IsBox mask number t = InOrder
     (IsTitle number t.status
     ∷ IsBeside mask t.is_loose t.way t.header t.moved
     ∷ IsBar
-    ∷ (λ m text. text ≡ line_text m line)
+    ∷ (λ m text. text ≡ line_text m t.line)
     ∷ IsFields
     ∷ IsRow side.Nobody (codes "file")
     ∷ IsRow side.Nobody (codes "time")
@@ -199,5 +199,5 @@ IsBox mask number line t = InOrder
     ∷ (λ m text. text ≡ box_end m) ∷ [])
 
 -- the box of a TPDU was added, after words
-abbrev pub PutsBox : Mask → ℕ → ℕ → Report → Sheet → Sheet → Type 0
-PutsBox mask number line t = Puts (InOrder (IsWords ∷ IsBox mask number line t ∷ []))
+abbrev pub PutsBox : Mask → ℕ → Report → Sheet → Sheet → Type 0
+PutsBox mask number t = Puts (InOrder (IsWords ∷ IsBox mask number t ∷ []))

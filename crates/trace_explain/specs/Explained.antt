@@ -1,5 +1,5 @@
 -- What an explainer without `--resume` has explained, line by line.
-use Rattle.std.specs.Prelude.{◌≡◌, ◌<◌, ◌≤◌, ℕ, ◌+◌, ◌-◌, ◌^◌, min, List, [], ◌∷◌, ◌++◌, length, take, get_or, Bool, Option, Some, None, true, false, ◌==◌, ◌&&◌, not, Ok, Err}
+use Rattle.std.specs.Prelude.{◌≡◌, ◌<◌, ◌≤◌, ℕ, List, [], ◌∷◌, ◌++◌, length, take, get_or, Bool, Option, Some, None, true, false, ◌==◌, ◌&&◌, not, Ok, Err}
 use Rattle.std.specs.Global.{Vec}
 use Rattle.t0_core.specs.declared.end.End.{End}
 use Rattle.t0_core.specs.Character.{Character}
@@ -9,6 +9,7 @@ use Rattle.trace_explain.specs.declared.explain_fault.ExplainFault.{ExplainFault
 use Rattle.trace_explain.specs.declared.explain_fault.ExplainFault.TheVariants as fault
 use Rattle.trace_explain.specs.declared.explainer.Explainer.{Explainer}
 use Rattle.trace_explain.specs.declared.follow.listener.Listener.{Listener}
+use Rattle.trace_explain.specs.declared.follow.tpdu.Mark.{Mark}
 use Rattle.trace_explain.specs.declared.read.trace_line.LineFault.{LineFault}
 use Rattle.trace_explain.specs.declared.read.trace_line.LineFault.TheVariants as bad
 use Rattle.trace_explain.specs.declared.read.entry.Source.{Source}
@@ -19,7 +20,7 @@ use Rattle.trace_explain.specs.Account.{AddsBoxes}
 use Rattle.trace_explain.specs.Lines.{block_events, IsBadLine, LineLeads, Says, Position, TakesCharacter, TakesCharacters, read_on}
 use Rattle.trace_explain.specs.Noted.{Event, HasNoted, NoneContinues, Passed, ended_by}
 use Rattle.trace_explain.specs.Openings.{Opening, begins_answer, has_begun, is_dialogue, opening_of, role_of}
-use Rattle.trace_explain.specs.Reports.{Report, loose, report_of}
+use Rattle.trace_explain.specs.Reports.{Report, loose, no_mark, one_more, report_of}
 use Rattle.trace_explain.specs.Turns.{source_at}
 
 -- It reads characters, does not resume, and passes nothing over.
@@ -37,6 +38,8 @@ position_of e = record {
   opening = opening_of e.preface;
   has_characters = e.has_characters;
   reading = e.reading;
+  line = e.line;
+  number = e.number;
 }
 
 -- After these events more it has these reports more, and has added their boxes.
@@ -66,10 +69,11 @@ ExplainsCharacters source bytes events before old new = (more : List Event)
     × TakesCharacters source events (position_of old) bytes more (position_of new)
     × ExplainsMore more events before old new
 
--- The events are those of a line.
-abbrev pub ExplainsLine : List ℕ → List Event → List Report → Explainer → Explainer → Type 0
-ExplainsLine line events before old new = (more : List Event)
-    × LineLeads events (position_of old) line more (position_of new)
+-- The events are those of the line at this position.
+abbrev pub ExplainsLine
+    : Position → List ℕ → List Event → List Report → Explainer → Explainer → Type 0
+ExplainsLine at line events before old new = (more : List Event)
+    × LineLeads events at line more (position_of new)
     × ExplainsMore more events before old new
 
 -- The card answers again with this character.
@@ -127,7 +131,7 @@ StopsAmong IsShown other source line at bytes events before = ⊥
 
 -- The number of the next line.
 abbrev pub next_line : Explainer → ℕ
-next_line e = min (e.line + 1) (2 ^ 64 - 1)
+next_line e = one_more e.line
 
 -- The number of the line in a fault.
 abbrev pub line_of : ExplainFault → Option ℕ
@@ -195,12 +199,12 @@ is_astray e = e.reading.is_unsigned && not e.teller.is_led
 
 -- It has heard this character of a dialogue, and reported what ended; or none continues with it.
 abbrev pub Hears
-    : Bool → Character → Bool → List Event → List Report → Listener → Listener → Teller → Teller
+    : Bool → Character → Mark → List Event → List Report → Listener → Listener → Teller → Teller
     → Type 0
-Hears true c is_loose events before l after old new = (reports : List Report)
-    × HasNoted (events ++ Passed c is_loose ∷ []) (before ++ reports) after
+Hears true c m events before l after old new = (reports : List Report)
+    × HasNoted (events ++ Passed c m ∷ []) (before ++ reports) after
     × AddsBoxes reports old new
-Hears false c is_loose events before l after old new =
+Hears false c m events before l after old new =
     (after ≡ l) × NoneContinues after c × AddsBoxes [] old new
 
 -- It has taken this character; or it stops because no dialogue continues with it.
@@ -208,6 +212,6 @@ abbrev pub TakesOrStops : Bool → End → ℕ → List Event → List Report �
 TakesOrStops false from b events before old new =
     ExplainsCharacter from b events before old new
 TakesOrStops true from b events before old new = HasExplained events before new
-    × Hears false (from, b) false events before old.listener new.listener old.teller new.teller
+    × Hears false (from, b) no_mark events before old.listener new.listener old.teller new.teller
     × (is_dialogue (role_of (opening_of old.preface) from b) ≡ true)
     × (answers_again (opening_of old.preface) new.listener from b ≡ false)

@@ -12,11 +12,12 @@ use Rattle.trace_explain.specs.declared.read.entry.Source.{Source}
 use Rattle.trace_explain.specs.declared.read.entry.Source.TheVariants.{Sign, Turn}
 use Rattle.trace_explain.specs.declared.read.entry.Entry.{Entry}
 use Rattle.trace_explain.specs.declared.read.entry.Entry.TheVariants as entry
+use Rattle.trace_explain.specs.Files.{number_at}
 use Rattle.trace_explain.specs.Noted.{Carried, Event, HasNoted, IsNoted, NoneContinues, Part, Passed, Reset, events_in}
 use Rattle.trace_explain.specs.Openings.{Opening, begins_answer, first_opening, has_begun, is_dialogue, is_loose, opens, reports_with, role_of, unopened}
 use Rattle.trace_explain.specs.Patterns.{Found, NoRow, ReadsAs, BadRow, all_of, bytes_in, is_digits, reads}
 use Rattle.trace_explain.specs.Times.{behind_clock, behind_time}
-use Rattle.trace_explain.specs.Reports.{Report}
+use Rattle.trace_explain.specs.Reports.{Report, one_more}
 use Rattle.trace_explain.specs.Turns.{source_at}
 
 -- How the rows of a trace read a line, perhaps behind a time.
@@ -100,11 +101,14 @@ IsBadLine why reading line = MatchBool reading.is_unsigned
     (IsBadSigned why reading.form (are_digits line) (read_of reading line))
 
 -- The state of a trace between two lines: the opening since it began or the card was reset; whether
--- a character of either end was received; how its next lines are read.
+-- a character of either end was received; how its next lines are read. The number of the newest
+-- line in the trace, and in its file.
 pub record Position : Type 0 where
   pub opening : Opening
   pub has_characters : Bool
   pub reading : Reading
+  pub line : ℕ
+  pub number : ℕ
 
 -- The position before the first line.
 abbrev pub first_of_all : Reading → Position
@@ -112,6 +116,15 @@ first_of_all reading = record {
   opening = first_opening reading.first_edc;
   has_characters = false;
   reading = reading;
+  line = 0;
+  number = 0;
+}
+
+-- The position in the next line.
+abbrev pub entered : Position → Position
+entered at = record at {
+  line = one_more at.line;
+  number = number_at at.reading.files.parts.items (one_more at.line);
 }
 
 -- The reading after a line of characters of this source, whose sign decides the form.
@@ -121,10 +134,9 @@ read_on Turn reading = reading
 
 -- The position after a character of this end.
 abbrev pub after_character : Position → End → ℕ → Position
-after_character at from b = record {
-  opening = opens at.opening (role_of at.opening from b) b;
+after_character at from b = record at {
+  opening = opens at.opening (role_of at.opening from b) b at.number;
   has_characters = true;
-  reading = at.reading;
 }
 
 -- The events of a character of blocks: the reports of the commands that get their response with
@@ -133,11 +145,11 @@ abbrev pub block_events : List Report → List Event
 block_events [] = []
 block_events (t ∷ reports) = Reset ∷ Carried t ∷ block_events reports
 
--- The events of a character. A character of an opening has none.
-abbrev pub dialogue_events : Opening → End → ℕ → List Event
-dialogue_events o from b =
-    if is_dialogue (role_of o from b) then Passed (from, b) (is_loose o.stage) ∷ []
-    else block_events (reports_with (role_of o from b) (opens o (role_of o from b) b).blocks)
+-- The events of a character of a line with this number. A character of an opening has none.
+abbrev pub dialogue_events : Opening → ℕ → End → ℕ → List Event
+dialogue_events o line from b = if is_dialogue (role_of o from b)
+    then Passed (from, b) (record { is_loose = is_loose o.stage; line = line }) ∷ []
+    else block_events (reports_with (role_of o from b) (opens o (role_of o from b) b line).blocks)
 
 -- These events are whole dialogues and resets alone.
 pub record AreOver (events : List Event) : Type 0 where
@@ -162,7 +174,7 @@ pub record AnswersAgain (so_far : List Event) (at : Position) (from : End) (b : 
 -- The events of a character after these events, and the position after it.
 abbrev pub TakesCharacter : List Event → Position → End → ℕ → List Event → Position → Type 0
 TakesCharacter so_far at from b events after =
-    ((events ≡ dialogue_events at.opening from b) × (after ≡ after_character at from b))
+    ((events ≡ dialogue_events at.opening at.number from b) × (after ≡ after_character at from b))
     ⊎ AnswersAgain so_far at from b events after
 
 -- After these events a character is this end's, as a listener at their front knows.

@@ -1,6 +1,6 @@
 -- What a listener has heard and reported since its start.
-use Rattle.std.specs.Prelude.{◌≡◌, ◌⊎◌, ℕ, List, [], ◌∷◌, ◌++◌, Some, None, Bool, false, ◌==◌, ◌&&◌, ◌||◌, if◌then◌else◌, length, map, slice_index}
-use Rattle.std.specs.List.{AllByRecursion, flat_map}
+use Rattle.std.specs.Prelude.{◌≡◌, ◌⊎◌, ℕ, List, [], ◌∷◌, ◌++◌, Some, None, Bool, false, ◌==◌, ◌&&◌, if◌then◌else◌, length, map, slice_index}
+use Rattle.std.specs.List.{AllByRecursion, flat_map, fold}
 use Rattle.apdu_core.specs.StatusWord.{IsStatusWord, is_first_status}
 use Rattle.t0_core.specs.declared.direction.Direction.TheVariants.{ToCard}
 use Rattle.t0_core.specs.declared.end.End.{End}
@@ -17,19 +17,20 @@ use Rattle.t0_core.specs.TapHistory.{IsOverheard}
 use Rattle.trace_explain.specs.declared.follow.listener.Listener.{Listener}
 use Rattle.trace_explain.specs.declared.follow.listener.ListenerFault.{ListenerFault}
 use Rattle.trace_explain.specs.declared.follow.listener.ListenerFault.TheVariants.{NoDialogue, OutOfMemory}
-use Rattle.trace_explain.specs.Reports.{Report, report_of, Reports, ReportsFront}
+use Rattle.trace_explain.specs.declared.follow.tpdu.Mark.{Mark}
+use Rattle.trace_explain.specs.Reports.{Report, report_of, Reports, ReportsFront, both_marks, no_mark}
 
 -- An event of a trace: a reset, a character of a dialogue at T=0, or the report of a command that
 -- blocks carried at T=1. A character is loose if bytes right before it are part of no dialogue, and
--- neither a whole answer to reset nor PPS.
+-- neither a whole answer to reset nor PPS. Its mark also has its line.
 pub data Event : Type 0 where
-  Passed : (c : Character) (is_loose : Bool) → Event
+  Passed : (c : Character) (m : Mark) → Event
   Reset : Event
   Carried : (t : Report) → Event
 
 -- A command at T=1 is outside of each dialogue at T=0, as a reset is.
 abbrev pub on_line : Event → history.Event
-on_line (Passed c is_loose) = history.Passed c
+on_line (Passed c m) = history.Passed c
 on_line Reset = history.Reset
 on_line (Carried t) = history.Reset
 
@@ -38,12 +39,13 @@ carried_in [] = []
 carried_in (Carried t ∷ events) = t ∷ carried_in events
 carried_in (e ∷ events) = carried_in events
 
--- A header is loose if a character of its dialogue is.
-abbrev pub are_loose : List Event → Bool
-are_loose [] = false
-are_loose (Passed c is_loose ∷ events) = is_loose || are_loose events
-are_loose (Reset ∷ events) = are_loose events
-are_loose (Carried t ∷ events) = are_loose events
+-- The mark of a header, by the characters of its dialogue.
+abbrev pub with_event : Mark → Event → Mark
+with_event m (Passed c n) = both_marks m n
+with_event m other = m
+
+abbrev pub mark_of : List Event → Mark
+mark_of events = fold with_event no_mark events
 
 -- A whole dialogue, or what a reset cut off of one, and its events.
 abbrev pub Part : Type 0
@@ -53,9 +55,9 @@ abbrev pub events_in : List Part → List Event
 events_in parts = flat_map (λ (p : Part). p.1) parts
 
 -- The report of a dialogue that a reset cut off after these characters.
-abbrev pub ReportsPart : Report → Bool → List Character → Type 0
-ReportsPart t is_loose part =
-    (front : Front) × (part ≡ front_characters front) × ReportsFront t is_loose front
+abbrev pub ReportsPart : Report → Mark → List Character → Type 0
+ReportsPart t m part =
+    (front : Front) × (part ≡ front_characters front) × ReportsFront t m front
 
 -- The reports of these items in turn: whole dialogues, and what a reset cut off of one, if any; and
 -- commands at T=1.
@@ -64,12 +66,12 @@ ReportItems [] [] = Unit {0}
 ReportItems [] (t ∷ reports) = ⊥
 ReportItems ((Whole d, events) ∷ parts) [] = ⊥
 ReportItems ((Whole d, events) ∷ parts) (t ∷ reports) =
-    Reports t (are_loose events) d × ReportItems parts reports
+    Reports t (mark_of events) d × ReportItems parts reports
 ReportItems ((Cut_off [], events) ∷ parts) reports = (rest : List Report)
     × (reports ≡ carried_in events ++ rest) × ReportItems parts rest
 ReportItems ((Cut_off (c ∷ part), events) ∷ parts) [] = ⊥
 ReportItems ((Cut_off (c ∷ part), events) ∷ parts) (t ∷ reports) =
-    ReportsPart t (are_loose events) (c ∷ part) × (carried_in events ≡ [])
+    ReportsPart t (mark_of events) (c ∷ part) × (carried_in events ≡ [])
     × ReportItems parts reports
 
 -- A command without data, with P3 00, whose card repeats INS before its status, perhaps after
@@ -126,15 +128,15 @@ pub record HasNoted (events : List Event) (reports : List Report) (l : Listener)
   pub is_front : IsFront front
   pub is_at : TapStandsAt l.tap front
   pub are_reported : ReportItems parts reports
-  pub under_way : ReportsFront (report_of l.under_way) (are_loose last) front
+  pub under_way : ReportsFront (report_of l.under_way) (mark_of last) front
 
 -- After these events a listener has noted these characters of an end, and none ended a dialogue.
 -- Before each of them a listener was at its front.
-abbrev pub NotesRun : End → Bool → List ℕ → List Event → List Report → Listener → Type 0
-NotesRun from is_loose [] events reports l = HasNoted events reports l
-NotesRun from is_loose (b ∷ bytes) events reports l =
+abbrev pub NotesRun : End → Mark → List ℕ → List Event → List Report → Listener → Type 0
+NotesRun from m [] events reports l = HasNoted events reports l
+NotesRun from m (b ∷ bytes) events reports l =
     ((at : Listener) × HasNoted events reports at)
-    × NotesRun from is_loose bytes (events ++ Passed (from, b) is_loose ∷ []) reports l
+    × NotesRun from m bytes (events ++ Passed (from, b) m ∷ []) reports l
 
 -- No dialogue of a tap continues or ends with this character, and no bare command ended before it.
 pub record NoneContinues (l : Listener) (c : Character) : Type 0 where

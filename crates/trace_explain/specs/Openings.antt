@@ -182,9 +182,9 @@ after_answer (Some fault) = if is_short fault.reason then stage.Answer else stag
 abbrev pub is_full : List ℕ → Bool
 is_full bytes = length bytes == pps_end (slice_index bytes 1) + 1
 
--- an opening with one character more, which is this
-abbrev pub opens : Opening → Role → ℕ → Opening
-opens o (role.Ts turned) b = record {
+-- an opening with one character more, which is this, of a line with this number
+abbrev pub opens : Opening → Role → ℕ → ℕ → Opening
+opens o (role.Ts turned) b n = record {
   stage = stage.Answer;
   turned = turned;
   answer = as_sent turned b ∷ [];
@@ -192,7 +192,7 @@ opens o (role.Ts turned) b = record {
   response = [];
   blocks = None;
 }
-opens o role.Answer b = record {
+opens o role.Answer b n = record {
   stage = after_answer (first_fault (o.answer ++ as_sent o.turned b ∷ []));
   turned = o.turned;
   answer = o.answer ++ as_sent o.turned b ∷ [];
@@ -200,20 +200,21 @@ opens o role.Answer b = record {
   response = o.response;
   blocks = o.blocks;
 }
-opens o role.RequestPpss b = record o { stage = stage.Request; request = b ∷ []; response = [] }
-opens o role.Request b = record o {
+opens o role.RequestPpss b n = record o { stage = stage.Request; request = b ∷ []; response = [] }
+opens o role.Request b n = record o {
   stage = if is_full (o.request ++ b ∷ []) then stage.Asked else stage.Request;
   request = o.request ++ b ∷ [];
 }
-opens o role.ResponsePpss b = record o { stage = stage.Response; response = b ∷ [] }
-opens o role.Response b = record o {
+opens o role.ResponsePpss b n = record o { stage = stage.Response; response = b ∷ [] }
+opens o role.Response b n = record o {
   stage = if is_full (o.response ++ b ∷ []) then stage.Ready else stage.Response;
   response = o.response ++ b ∷ [];
 }
-opens o role.Stray b = record o { stage = stage.Astray }
-opens o role.Dialogue b = begun
-opens o (role.Block from) b = record (opening_at stage.Blocks) {
-  blocks = Some (overhears (unwrap_or o.blocks (silent (edc_of (has_crc o.answer)) false)) from b);
+opens o role.Stray b n = record o { stage = stage.Astray }
+opens o role.Dialogue b n = begun
+opens o (role.Block from) b n = record (opening_at stage.Blocks) {
+  blocks = Some (overhears (unwrap_or o.blocks (silent (edc_of (has_crc o.answer)) false)) from b
+      n);
 }
 
 -- A header that begins here is loose: the bytes before it are neither a whole answer nor PPS.

@@ -16,17 +16,19 @@ use Rattle.t1_core.specs.Reading.{fresh}
 use Rattle.trace_explain.specs.declared.follow.blocks.Blocks.{Blocks}
 use Rattle.trace_explain.specs.Noted.{are_status}
 use Rattle.trace_explain.specs.Pairs.{Command, beside, command_in, data_in, moved_of, status_in, way_of}
-use Rattle.trace_explain.specs.Reports.{Report, uncounted}
+use Rattle.trace_explain.specs.declared.follow.tpdu.Mark.{Mark}
+use Rattle.trace_explain.specs.Reports.{Report, first_line, uncounted}
 
 -- The tap, the newest command or response, and the whole command that waited for its response
--- before this byte, or no bytes. Whether its response is whole with this byte, and its header is
--- loose, as in a trace that begins among blocks. Who sends the next byte.
+-- before this byte, or no bytes. Whether its response is whole with this byte. Its mark: the header
+-- is loose in a trace that begins among blocks; and the command began in the line of the first byte
+-- since the last answered one. Who sends the next byte.
 pub record Overheard : Type 0 where
   pub ear : Ear
   pub gathered : Gathered
   pub command : List ℕ
   pub is_answered : Bool
-  pub is_loose : Bool
+  pub mark : Mark
   pub turn : End
 
 abbrev pub overheard_by : Blocks → Overheard
@@ -35,7 +37,7 @@ overheard_by b = record {
   gathered = b.gathered;
   command = b.command.items;
   is_answered = b.is_answered;
-  is_loose = b.is_loose;
+  mark = record { is_loose = b.is_loose; line = b.line };
   turn = b.turn;
 }
 
@@ -50,7 +52,7 @@ silent edc is_loose = record {
   gathered = newly Nothing Terminal;
   command = [];
   is_answered = false;
-  is_loose = is_loose;
+  mark = record { is_loose = is_loose; line = 0 };
   turn = end.Terminal;
 }
 
@@ -96,48 +98,52 @@ takes o from (Some i) =
       gathered = g;
       command = command;
       is_answered = answers g && not (length command == 0);
-      is_loose = o.is_loose;
+      mark = o.mark;
       turn = turn_after i.found from;
     }
 
--- A command that was answered with the byte before this one, of this end, waits no more.
-abbrev pub goes_on_from : Overheard → End → Overheard
-goes_on_from o from = record {
+-- A command that was answered with the byte before this one, of this end and line, waits no more.
+abbrev pub goes_on_from : Overheard → End → ℕ → Overheard
+goes_on_from o from line = record {
   ear = o.ear;
   gathered = o.gathered;
   command = if o.is_answered then [] else o.command;
   is_answered = false;
-  is_loose = o.is_loose && not o.is_answered;
+  mark = record {
+    is_loose = o.mark.is_loose && not o.is_answered;
+    line = first_line (if o.is_answered then 0 else o.mark.line) line;
+  };
   turn = from;
 }
 
--- One more byte.
-abbrev pub overhears : Overheard → End → ℕ → Overheard
-overhears o from b =
+-- One more byte, of a line with this number.
+abbrev pub overhears : Overheard → End → ℕ → ℕ → Overheard
+overhears o from b line =
     let ear : Ear = hears o.ear (as_t1 from) b in
-    takes (record (goes_on_from o from) { ear = ear }) from (item_of ear)
+    takes (record (goes_on_from o from line) { ear = ear }) from (item_of ear)
 
 -- the report of a command with its response, as of a pair in a log; none if they are no TPDU
-abbrev pub pair_report : Bool → Command → List ℕ → Report
-pair_report is_loose c answer = record {
+abbrev pub pair_report : Mark → Command → List ℕ → Report
+pair_report m c answer = record {
   header = c.header;
   tally = uncounted;
   way = way_of c.sent (data_in answer);
   moved = moved_of c.sent (data_in answer);
   status = status_in answer;
   answer = beside c.sent (data_in answer);
-  is_loose = is_loose;
+  is_loose = m.is_loose;
+  line = m.line;
 }
 
-abbrev pub reports_in : Bool → Option Command → List ℕ → List Report
-reports_in is_loose None answer = []
-reports_in is_loose (Some c) answer =
-    if are_status (status_in answer) then pair_report is_loose c answer ∷ [] else []
+abbrev pub reports_in : Mark → Option Command → List ℕ → List Report
+reports_in m None answer = []
+reports_in m (Some c) answer =
+    if are_status (status_in answer) then pair_report m c answer ∷ [] else []
 
-abbrev pub exchanged : Bool → List ℕ → List ℕ → List Report
-exchanged is_loose command answer = reports_in is_loose (command_in command) answer
+abbrev pub exchanged : Mark → List ℕ → List ℕ → List Report
+exchanged m command answer = reports_in m (command_in command) answer
 
 -- the reports of the commands that get their response with this byte
 abbrev pub answered : Overheard → List Report
 answered o =
-    if o.is_answered then exchanged o.is_loose o.command o.gathered.bytes else []
+    if o.is_answered then exchanged o.mark o.command o.gathered.bytes else []

@@ -1,5 +1,5 @@
 -- The report of a TPDU: its view, and the dialogue that it describes.
-use Rattle.std.specs.Prelude.{◌≡◌, ℕ, ◌+◌, ◌-◌, ◌^◌, min, List, [], ◌∷◌, ◌++◌, get_or, Option, Some, None, Bool, true, false, not, ◌||◌, ◌==◌, length, fold}
+use Rattle.std.specs.Prelude.{◌≡◌, ℕ, ◌+◌, ◌-◌, ◌^◌, min, List, [], ◌∷◌, ◌++◌, get_or, Option, Some, None, Bool, true, false, not, ◌||◌, ◌==◌, if◌then◌else◌, length, fold}
 use Rattle.apdu_core.specs.HeaderBytes.{header_bytes}
 use Rattle.apdu_core.specs.declared.header.Header.{Header}
 use Rattle.t0_core.specs.declared.direction.Direction.{Direction}
@@ -13,10 +13,12 @@ use Rattle.t0_core.specs.Dialogue.{Body, Dialogue}
 use Rattle.t0_core.specs.Front.{Front, In_header, In_body, After_first}
 use Rattle.t0_core.specs.TapSide.{Shows}
 use Rattle.trace_explain.specs.declared.follow.tally.Tally.{Tally}
+use Rattle.trace_explain.specs.declared.follow.tpdu.Mark.{Mark}
 use Rattle.trace_explain.specs.declared.follow.tpdu.Tpdu.{Tpdu}
 
 -- The header's characters, the number of procedure bytes, which way data moved, data, and status;
--- what the card returned beside data of the terminal; and whether the header is loose.
+-- what the card returned beside data of the terminal. Whether the header is loose, and the number
+-- in its file of the line where it began.
 pub record Report : Type 0 where
   pub header : List ℕ
   pub tally : Tally
@@ -25,6 +27,7 @@ pub record Report : Type 0 where
   pub status : List ℕ
   pub answer : List ℕ
   pub is_loose : Bool
+  pub line : ℕ
 
 abbrev pub report_of : Tpdu → Report
 report_of t = record {
@@ -35,6 +38,7 @@ report_of t = record {
   status = t.status.items;
   answer = t.answer.items;
   is_loose = t.is_loose;
+  line = t.line;
 }
 
 abbrev pub reports_of : Option Tpdu → List Report
@@ -66,43 +70,54 @@ no_report = record {
   status = [];
   answer = [];
   is_loose = false;
+  line = 0;
 }
+
+-- A header is loose if one of its TPDU's characters is. It began in the line of the first of them.
+-- Lines count from 1; 0 means that no character was received.
+abbrev pub no_mark : Mark
+no_mark = record { is_loose = false; line = 0 }
+
+abbrev pub first_line : ℕ → ℕ → ℕ
+first_line first line = if first == 0 then line else first
+
+abbrev pub both_marks : Mark → Mark → Mark
+both_marks m n = record { is_loose = m.is_loose || n.is_loose; line = first_line m.line n.line }
 
 -- The report of a header, segments, data and the characters of a status, if data showed this way.
 -- In characters one end alone sends data.
-abbrev pub reported_body : Option Direction → Bool → Body → List ℕ → Report
-reported_body way is_loose b status = record {
+abbrev pub reported_body : Option Direction → Mark → Body → List ℕ → Report
+reported_body way m b status = record {
   header = header_bytes b.header ++ b.p3 ∷ [];
   tally = tally_of b.segments;
   way = way;
   moved = b.moved;
   status = status;
   answer = [];
-  is_loose = is_loose;
+  is_loose = m.is_loose;
+  line = m.line;
 }
 
 -- The report of the first characters of a dialogue.
-abbrev pub reported : Option Direction → Bool → Front → Report
-reported way is_loose (In_header bytes) =
-    record no_report { header = bytes; way = way; is_loose = is_loose }
-reported way is_loose (In_body b) = reported_body way is_loose b []
-reported way is_loose (After_first b sw1) = reported_body way is_loose b (sw1 ∷ [])
+abbrev pub reported : Option Direction → Mark → Front → Report
+reported way m (In_header bytes) =
+    record no_report { header = bytes; way = way; is_loose = m.is_loose; line = m.line }
+reported way m (In_body b) = reported_body way m b []
+reported way m (After_first b sw1) = reported_body way m b (sw1 ∷ [])
 
-abbrev pub ReportsFront : Report → Bool → Front → Type 0
-ReportsFront t is_loose front = t ≡ reported t.way is_loose front
+abbrev pub ReportsFront : Report → Mark → Front → Type 0
+ReportsFront t m front = t ≡ reported t.way m front
 
 -- The report of a whole dialogue.
-abbrev pub reported_whole : Option Direction → Bool → Dialogue → Report
-reported_whole way is_loose d =
-    reported_body way is_loose d.body (d.status.0 ∷ d.status.1 ∷ [])
+abbrev pub reported_whole : Option Direction → Mark → Dialogue → Report
+reported_whole way m d = reported_body way m d.body (d.status.0 ∷ d.status.1 ∷ [])
 
-abbrev pub Reports : Report → Bool → Dialogue → Type 0
-Reports t is_loose d =
-    (t ≡ reported_whole t.way is_loose d) × Shows t.way d.body.direction d.body.moved
+abbrev pub Reports : Report → Mark → Dialogue → Type 0
+Reports t m d = (t ≡ reported_whole t.way m d) × Shows t.way d.body.direction d.body.moved
 
--- The same report if its header is loose, or also if this holds.
-abbrev pub loosened : Bool → Report → Report
-loosened is t = record t { is_loose = t.is_loose || is }
+-- The same report with the mark of one more character.
+abbrev pub marked : Mark → Report → Report
+marked m t = record t { is_loose = t.is_loose || m.is_loose; line = first_line t.line m.line }
 
 -- The same report with a loose header.
 abbrev pub loose : Report → Report

@@ -8,7 +8,7 @@ use Rattle.trace_explain.specs.declared.follow.listener.Listener.{Listener}
 use Rattle.trace_explain.specs.declared.read.reading.Reading.{Reading}
 use Rattle.trace_explain.specs.Account.{HasWritten, Out}
 use Rattle.trace_explain.specs.Explained.{HasExplained, StopsRightly, line_of, next_line, position_of}
-use Rattle.trace_explain.specs.Lines.{LineLeads, Position, first_of_all}
+use Rattle.trace_explain.specs.Lines.{LineLeads, Position, entered, first_of_all}
 use Rattle.trace_explain.specs.Noted.{Event, HasNoted, ended_by}
 use Rattle.trace_explain.specs.Reports.{Report, report_of}
 
@@ -32,7 +32,7 @@ lines_of bytes = lines_from [] bytes
 abbrev pub SayInTurn : List Event → Position → List (List ℕ) → List Event → Position → Type 0
 SayInTurn so_far at [] events after = (events ≡ []) × (after ≡ at)
 SayInTurn so_far at (line ∷ others) events after = (first rest : List Event) × (next : Position)
-    × LineLeads so_far at line first next
+    × LineLeads so_far (entered at) line first next
     × (events ≡ first ++ rest) × SayInTurn (so_far ++ first) next others rest after
 
 -- These are all lines so far.
@@ -84,7 +84,7 @@ abbrev pub StopsInLine
     : (List Report → Report → Type 0) → Reading → List (List ℕ) → ExplainFault → Option ℕ → Type 0
 StopsInLine IsShown reading all f None = Unit {0}
 StopsInLine IsShown reading all f (Some number) = (reached : IsReached reading all number)
-    × StopsRightly IsShown f reached.at reached.line reached.events reached.reports
+    × StopsRightly IsShown f (entered reached.at) reached.line reached.events reached.reports
     (report_of reached.listener.under_way)
 
 abbrev pub StopsIn

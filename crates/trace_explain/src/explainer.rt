@@ -4,7 +4,7 @@ ghost use Rattle.std.specs.Prelude.{◌≡◌, ◌∷◌, ◌==◌, ◌&&◌, Li
 ghost use Rattle.t0_core.specs.TapSide.{due_at};
 ghost use Rattle.trace_explain.specs.Account.{AddsBoxes, HasWritten, first_out};
 ghost use Rattle.trace_explain.specs.Explained.{HasExplained, ExplainsCharacters, ExplainsLine, ExplainsMore, Leaves, StopsAmong, StopsAtLine, TakesOrStops, is_astray, next_line, refused, position_of};
-ghost use Rattle.trace_explain.specs.Lines.{Says, first_of_all};
+ghost use Rattle.trace_explain.specs.Lines.{Says, entered, first_of_all};
 ghost use Rattle.trace_explain.specs.Noted.{Event, Reset, ended_by};
 ghost use Rattle.trace_explain.specs.Openings.{begins_answer, opening_of, unopened};
 ghost use Rattle.trace_explain.specs.Reports.{Report, report_of};
@@ -18,6 +18,7 @@ use crate::follow::listener::Listener;
 use crate::follow::opening::begins_answer;
 use crate::follow::pair::are_characters;
 use crate::follow::preface::Preface;
+use crate::follow::tpdu::Mark;
 use crate::follow::turn::{TurnFault, turn_before, turn_within};
 use crate::read::entry::{Entry, Source};
 use crate::read::log::Log;
@@ -39,7 +40,10 @@ pub struct Explainer {
     /// What `--resume` passes over.
     resuming: Resuming,
     has_characters: bool,
+    /// The number of the current line.
     line: u64,
+    /// Its number in its file.
+    number: u64,
     preface: Preface,
     listener: Listener,
     log: Log,
@@ -73,6 +77,7 @@ impl Explainer {
             resuming: Resuming::new(resumes),
             has_characters: false,
             line: 0,
+            number: 0,
             preface: Preface::new(alloc, first_edc),
             listener: Listener::new(alloc),
             log: Log::new(alloc),
@@ -98,17 +103,18 @@ impl Explainer {
     /// - `OutOfMemory`: a part of the line may have been explained.
     pub fn line(&mut self, line: &[u8]) -> Result<(), ExplainFault>
         ensures explained { (events : List Event) (before : List Report) →
-            HasExplained events before self.old →
-            OnOk result (ExplainsLine line.now events before self.old self.new) }
+            HasExplained events before self.old → OnOk result (ExplainsLine
+            (entered (position_of self.old)) line.now events before self.old self.new) }
         ensures stops { (events : List Event) (before : List Report) →
             HasExplained events before self.old →
             IfErr result (λ fault. StopsAtLine (Leaves before self.old.teller self.new) fault
-            (next_line self.old) line.now (position_of self.old) events before
+            (next_line self.old) line.now (entered (position_of self.old)) events before
             (report_of self.old.listener.under_way)) }
         ensures counts { OnOk result (self.new.line ≡ next_line self.old) }
         ensures of_lines { IfErr result IsOfLines }
     {
         self.line = self.line.saturating_add(1);
+        self.number = self.reading.files.number(self.line);
         let (time, rest) = cut_time(line);
         let counted = self.reading.counted(time, rest);
         self.teller.pass(self.line, &self.reading.files, counted)?;
@@ -125,7 +131,8 @@ impl Explainer {
     fn take(&mut self, entry: Entry, line: &[u8]) -> Result<(), ExplainFault>
         ensures explained { (events : List Event) (before : List Report) →
             Says self.old.reading line.now entry → HasExplained events before self.old →
-            OnOk result (ExplainsLine line.now events before self.old self.new) }
+            OnOk result (ExplainsLine (position_of self.old) line.now events before self.old
+            self.new) }
         ensures stops { (events : List Event) (before : List Report) →
             Says self.old.reading line.now entry → HasExplained events before self.old →
             IfErr result (λ fault. StopsAtLine (Leaves before self.old.teller self.new) fault
@@ -203,9 +210,13 @@ impl Explainer {
             return Ok(0);
         }
         let from = self.reading.sender(of);
+        let mark = Mark {
+            is_loose: false,
+            line: self.number,
+        };
         let count = self
             .teller
-            .hear_run(&mut self.listener, from, bytes, false)?;
+            .hear_run(&mut self.listener, from, bytes, mark)?;
         Ok(count)
     }
 
@@ -271,26 +282,28 @@ impl Explainer {
         ensures counts { OnOk result (self.new.line ≡ self.old.line) }
     {
         self.has_characters = true;
+        let line = self.number;
         let role = self.preface.role_of(from, byte);
         if role.is_block() {
             let (preface, listener) = (&mut self.preface, &mut self.listener);
-            self.teller.hear_block(preface, listener, role, byte)?;
+            self.teller.hear_block(preface, listener, role, byte, line)?;
             return Ok(false);
         }
         let begun = self.preface.stage.has_begun();
         let is_loose = self.preface.stage.is_loose();
-        let opens = self.teller.open(&mut self.preface, from, byte, rest)?;
+        let opens = self.teller.open(&mut self.preface, from, byte, line, rest)?;
         if opens {
             return Ok(false);
         }
-        let continues = self.teller.hear(&mut self.listener, from, byte, is_loose)?;
+        let mark = Mark { is_loose, line };
+        let continues = self.teller.hear(&mut self.listener, from, byte, mark)?;
         if continues {
             return Ok(false);
         }
         if self.answers_again(begun, from, byte) {
             self.listener.reset();
             self.teller
-                .answer_again(&mut self.preface, from, byte, rest)?;
+                .answer_again(&mut self.preface, from, byte, line, rest)?;
             return Ok(false);
         }
         Ok(true)
@@ -341,7 +354,7 @@ impl Explainer {
         self.resuming.first = Some(self.resuming.first.unwrap_or(complaint));
         if self.may_begin(source, bytes) {
             self.teller.begin_if(true);
-            self.listener.hear_header(bytes)
+            self.listener.hear_header(bytes, self.number)
         } else {
             self.resuming.pass(complaint.line, complaint.place);
             Ok(())

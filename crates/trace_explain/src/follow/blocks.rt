@@ -4,6 +4,7 @@ ghost use Rattle.t1_core.specs.Items.{seen};
 ghost use Rattle.trace_explain.specs.Overheard.{answers, as_t1, commanded, edc_of, goes_on_from, is_answer, is_command, is_response, overheard_by, overhears, silent, turn_after};
 
 use crate::follow::block_row::{BlockRow, BlockRows};
+use crate::follow::tpdu::first_line;
 use crate::read::reading::other_end;
 use std::alloc::{AllocError, Global};
 use std::mem;
@@ -30,7 +31,7 @@ pub struct Blocks {
     pub newest: Option<BlockRow>,
     /// A tap for CRC that has heard the item before this byte, if its LRC is wrong.
     with_crc: Option<Tap>,
-    /// The line, counted from 1, in which the first of them began.
+    /// The number, in its file, of the line where the first of them began; 0 before it.
     pub line: u64,
     /// The items since the last command that was answered.
     pub rows: BlockRows,
@@ -58,12 +59,13 @@ impl Blocks {
         }
     }
 
-    /// Hears a byte. Returns `AllocError` if memory ran out: drop it.
-    pub fn hear(&mut self, from: End, byte: u8) -> Result<(), AllocError>
+    /// Hears a byte of the line with this number in its file. Returns `AllocError` if memory ran
+    /// out: drop it.
+    pub fn hear(&mut self, from: End, byte: u8, line: u64) -> Result<(), AllocError>
         ensures { OnOk result
-            (overheard_by self.new ≡ overhears (overheard_by self.old) from byte) }
+            (overheard_by self.new ≡ overhears (overheard_by self.old) from byte line) }
     {
-        self.go_on(from);
+        self.go_on(from, line);
         self.try_crc(byte);
         self.tap.hear(as_t1(from), byte);
         if let Some(item) = self.tap.item() {
@@ -78,15 +80,18 @@ impl Blocks {
         Ok(())
     }
 
-    /// Forgets the command that was answered with the byte before the next one, of this end.
-    fn go_on(&mut self, from: End)
-        ensures { overheard_by self.new ≡ goes_on_from (overheard_by self.old) from }
+    /// Forgets the command that was answered with the byte before the next one, of this end and
+    /// line.
+    fn go_on(&mut self, from: End, line: u64)
+        ensures { overheard_by self.new ≡ goes_on_from (overheard_by self.old) from line }
     {
         if self.is_answered {
             self.command.clear();
             self.is_answered = false;
             self.is_loose = false;
+            self.line = 0;
         }
+        self.line = first_line(self.line, line);
         self.part = self.part.saturating_add(1);
         self.newest = None;
         self.turn = from;

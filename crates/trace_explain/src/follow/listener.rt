@@ -2,10 +2,10 @@
 ghost use Rattle.std.specs.Prelude.{◌≡◌, ◌++◌, ◌∷◌, [], List, take, true, IfOk, IfErr, OnOk};
 ghost use Rattle.t0_core.specs.declared.end.End.TheVariants.{Terminal};
 ghost use Rattle.t0_core.specs.TapSide.{due_at};
-ghost use Rattle.trace_explain.specs.Reports.{Report, ends_next, loosened, noted, report_of, reports_of, no_report, is_last};
+ghost use Rattle.trace_explain.specs.Reports.{Report, ends_next, marked, noted, report_of, reports_of, no_report, is_last};
 ghost use Rattle.trace_explain.specs.Noted.{AreStatus, Event, HasNoted, IsRefused, NotesRun, Passed, Reset, as_ended, ended_by, is_bare};
 
-use crate::follow::tpdu::Tpdu;
+use crate::follow::tpdu::{Mark, Tpdu, first_line};
 use std::alloc::{AllocError, Global};
 use std::mem;
 use t0_core::{Due, End, Heard, Tap, TapFault};
@@ -59,33 +59,28 @@ impl Listener {
         self.tap.due()
     }
 
-    /// Hears a character, and returns the TPDU that ends with it or has ended before it. If it
-    /// `is_loose`, so is the header of its TPDU: bytes that no dialogue explains precede it.
+    /// Hears a character, and returns the TPDU that ends with it or has ended before it. If its
+    /// mark is loose, so is the header of its TPDU: bytes that no dialogue explains precede it.
     ///
     /// # Errors
     ///
     /// - `NoDialogue`: no dialogue continues with the character. Nothing has changed.
     /// - `OutOfMemory`: don't use the listener any more.
-    pub fn hear(
-        &mut self,
-        from: End,
-        byte: u8,
-        is_loose: bool,
-    ) -> Result<Option<Tpdu>, ListenerFault>
+    pub fn hear(&mut self, from: End, byte: u8, mark: Mark) -> Result<Option<Tpdu>, ListenerFault>
         ensures noted { (events : List Event) (before : List Report) →
             HasNoted events before self.old → IfOk result (λ tpdu. HasNoted
-            (events ++ Passed (from, byte) is_loose ∷ []) (before ++ reports_of tpdu) self.new) }
+            (events ++ Passed (from, byte) mark ∷ []) (before ++ reports_of tpdu) self.new) }
         ensures refused { IfErr result (λ fault.
             IsRefused fault self.old (from, byte) self.new) }
     {
         if from == End::Terminal && self.under_way.is_bare() {
-            return self.hear_behind_bare(byte, is_loose);
+            return self.hear_behind_bare(byte, mark);
         }
         let heard = match self.tap.hear(from, byte) {
             Ok(heard) => heard,
             Err(fault) => return Err(ListenerFault::NoDialogue(fault)),
         };
-        self.note(&heard, byte, is_loose)?;
+        self.note(&heard, byte, mark)?;
         if is_last(&heard) {
             return Ok(Some(self.cut()));
         }
@@ -95,10 +90,10 @@ impl Listener {
     /// Hears the first of these characters of one end, up to one that ends a TPDU or that no
     /// dialogue continues with, and none after a bare status. Returns how many it has heard, or
     /// `AllocError` if memory ran out: don't use the listener any more.
-    pub fn hear_run(&mut self, from: End, bytes: &[u8], is_loose: bool) -> Result<usize, AllocError>
+    pub fn hear_run(&mut self, from: End, bytes: &[u8], mark: Mark) -> Result<usize, AllocError>
         ensures { (events : List Event) (before : List Report) →
             HasNoted events before self.old → IfOk result (λ count.
-            NotesRun from is_loose (take count bytes.now) events before self.new) }
+            NotesRun from mark (take count bytes.now) events before self.new) }
     {
         if from == End::Terminal && self.under_way.is_bare() {
             return Ok(0);
@@ -108,7 +103,7 @@ impl Listener {
                 return Ok(place);
             }
             match self.tap.hear(from, bytes[place]) {
-                Ok(heard) => self.note(&heard, bytes[place], is_loose)?,
+                Ok(heard) => self.note(&heard, bytes[place], mark)?,
                 Err(_) => return Ok(place),
             }
         }
@@ -117,12 +112,12 @@ impl Listener {
 
     /// Hears a character of the terminal after a bare status: the card has repeated INS of a
     /// command without data, and sent its status. The character begins the next header.
-    fn hear_behind_bare(&mut self, byte: u8, is_loose: bool) -> Result<Option<Tpdu>, ListenerFault>
+    fn hear_behind_bare(&mut self, byte: u8, mark: Mark) -> Result<Option<Tpdu>, ListenerFault>
         requires bare { is_bare (report_of self.old.under_way) ≡ true }
         requires status { AreStatus self.old.under_way.moved.items }
         ensures noted { (events : List Event) (before : List Report) →
             HasNoted events before self.old → IfOk result (λ tpdu. HasNoted
-            (events ++ Passed (Terminal, byte) is_loose ∷ []) (before ++ reports_of tpdu)
+            (events ++ Passed (Terminal, byte) mark ∷ []) (before ++ reports_of tpdu)
             self.new) }
         ensures wants { IfErr result (λ fault. fault ≡ ListenerFault.OutOfMemory) }
     {
@@ -130,7 +125,7 @@ impl Listener {
         let whole = self.cut().bared();
         match self.tap.hear(End::Terminal, byte) {
             Ok(heard) => {
-                self.note(&heard, byte, is_loose)?;
+                self.note(&heard, byte, mark)?;
                 Ok(Some(whole))
             }
             Err(fault) => Err(ListenerFault::NoDialogue(fault)),
@@ -138,21 +133,24 @@ impl Listener {
     }
 
     /// Notes a character of the current TPDU. Returns `AllocError` if memory ran out.
-    fn note(&mut self, heard: &Heard, byte: u8, is_loose: bool) -> Result<(), AllocError>
+    fn note(&mut self, heard: &Heard, byte: u8, mark: Mark) -> Result<(), AllocError>
         ensures noted { OnOk result (report_of self.new.under_way
-            ≡ loosened is_loose (noted (report_of self.old.under_way) heard.now byte)) }
+            ≡ marked mark (noted (report_of self.old.under_way) heard.now byte)) }
         ensures tap { self.new.tap ≡ self.old.tap }
     {
         self.under_way.note(heard, byte)?;
-        self.under_way.is_loose |= is_loose;
+        self.under_way.is_loose |= mark.is_loose;
+        self.under_way.line = first_line(self.under_way.line, mark.line);
         Ok(())
     }
 
-    /// Hears the five characters of a loose header. No dialogue may be in progress.
+    /// Hears the five characters of a loose header, in this line. No dialogue may be in progress.
     /// Returns `AllocError` if memory ran out, or if no dialogue continues with a character.
-    pub fn hear_header(&mut self, bytes: &[u8]) -> Result<(), AllocError> {
+    pub fn hear_header(&mut self, bytes: &[u8], line: u64) -> Result<(), AllocError> {
+        let is_loose = true;
         for &byte in bytes {
-            if self.hear(End::Terminal, byte, true).is_err() {
+            let mark = Mark { is_loose, line };
+            if self.hear(End::Terminal, byte, mark).is_err() {
                 return Err(AllocError);
             }
         }

@@ -170,6 +170,7 @@ fn whole(
         le,
         answer: copied(alloc, answer)?,
         is_loose: false,
+        line: 0,
         blocks: BlockRows::new(alloc),
     })
 }

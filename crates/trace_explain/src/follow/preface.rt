@@ -103,11 +103,12 @@ impl Preface {
             && protocol_after(self.answer.as_slice(), self.response.as_slice()) == 1
     }
 
-    /// Takes a character of this line, in this role. TS of an answer, and each character of the
-    /// dialogue, clear the characters before it. Returns `AllocError` if memory ran out: the
-    /// character is missing; drop the preface.
-    pub fn take(&mut self, role: Role, byte: u8, line: u64) -> Result<(), AllocError>
-        ensures { OnOk result (opening_of self.new ≡ opens (opening_of self.old) role byte) }
+    /// Takes a character of this line, which has this number in its file, in this role. TS of an
+    /// answer, and each character of the dialogue, clear the characters before it. Returns
+    /// `AllocError` if memory ran out: the character is missing; drop the preface.
+    pub fn take(&mut self, role: Role, byte: u8, line: u64, number: u64) -> Result<(), AllocError>
+        ensures { OnOk result
+            (opening_of self.new ≡ opens (opening_of self.old) role byte number) }
     {
         match role {
             Role::Ts(turned) => {
@@ -151,18 +152,18 @@ impl Preface {
                 self.begin(Stage::Begun);
                 Ok(())
             }
-            Role::Block(from) => self.take_block(from, byte),
+            Role::Block(from) => self.take_block(from, byte, number),
         }
     }
 
     /// Takes a byte of a block. Returns `AllocError` if memory ran out: drop the preface.
-    fn take_block(&mut self, from: End, byte: u8) -> Result<(), AllocError>
+    fn take_block(&mut self, from: End, byte: u8, number: u64) -> Result<(), AllocError>
         ensures { OnOk result
-            (opening_of self.new ≡ opens (opening_of self.old) (Block from) byte) }
+            (opening_of self.new ≡ opens (opening_of self.old) (Block from) byte number) }
     {
         let edc = edc_of(has_crc(self.answer.as_slice()));
         let mut blocks = begun(self.alloc, edc, self.blocks.take());
-        blocks.hear(from, byte)?;
+        blocks.hear(from, byte, number)?;
         self.begin(Stage::Blocks);
         self.blocks = Some(blocks);
         Ok(())

@@ -1,6 +1,6 @@
 //! What was heard of one TPDU.
 ghost use Rattle.std.specs.Prelude.{◌≡◌, ◌==◌, length, true, OnOk};
-ghost use Rattle.trace_explain.specs.Reports.{is_doubtful, report_of, no_report, noted};
+ghost use Rattle.trace_explain.specs.Reports.{first_line, is_doubtful, report_of, no_report, noted};
 ghost use Rattle.trace_explain.specs.Noted.{AreStatus, are_status, as_ended, bared, is_bare};
 
 use crate::follow::block_row::BlockRows;
@@ -9,6 +9,15 @@ use apdu_core::Status;
 use std::alloc::{AllocError, Global};
 use std::mem;
 use t0_core::{Direction, Heard};
+
+/// What a character says of the header of its TPDU.
+#[derive(Clone, Copy)]
+pub struct Mark {
+    /// Whether bytes that no dialogue explains precede the character.
+    pub is_loose: bool,
+    /// The number of its line in its file, counted from 1.
+    pub line: u64,
+}
 
 /// What was heard of a TPDU: all of it, or its first characters.
 #[derive(Drop)]
@@ -30,6 +39,8 @@ pub struct Tpdu {
     /// Whether its header is loose: bytes that no dialogue explains precede it, or follow in the
     /// TPDU. A mask hides it.
     pub is_loose: bool,
+    /// The number, in its file, of the line where it began; 0 before its first character.
+    pub line: u64,
     /// Its blocks, if it was carried at T=1.
     pub blocks: BlockRows,
 }
@@ -48,6 +59,7 @@ impl Tpdu {
             le: None,
             answer: Vec::new(alloc),
             is_loose: false,
+            line: 0,
             blocks: BlockRows::new(alloc),
         }
     }
@@ -129,6 +141,13 @@ impl Tpdu {
     {
         self.header.is_empty()
     }
+}
+
+/// Returns the first of two lines that is not 0.
+pub fn first_line(first: u64, line: u64) -> u64
+    ensures { result ≡ first_line first line }
+{
+    if first == 0 { line } else { first }
 }
 
 /// Whether these are the two bytes of a status.

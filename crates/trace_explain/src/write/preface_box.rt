@@ -49,7 +49,7 @@ fn tell_blocks(mask: &Mask, preface: &Preface, page: &mut Page) {
     if blocks.is_empty() {
         return;
     }
-    page.open(Kind::CutOff, Anchor::None, Topic::Blocks, blocks.line);
+    page.open(Kind::CutOff, Anchor::None, Topic::Blocks, page.began);
     push_blocks(&mut page.lines, &blocks.rows);
     if let Some(part) = blocks.part() {
         push_row(&mut page.lines, part);

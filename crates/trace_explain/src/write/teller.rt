@@ -21,7 +21,7 @@ use crate::follow::opening::{Role, Stage};
 use crate::follow::pair::{PairFault, tpdu_of_command, tpdu_of_pair};
 use crate::follow::preface::Preface;
 use crate::follow::story::Story;
-use crate::follow::tpdu::Tpdu;
+use crate::follow::tpdu::{Mark, Tpdu};
 use crate::read::digits::has_bytes;
 use crate::read::entry::Entry;
 use crate::read::files::FileList;
@@ -47,7 +47,7 @@ pub struct Teller {
     pub mask: Mask,
     /// The current line.
     line: u64,
-    /// The line of its file where the current TPDU began.
+    /// The line of its file where the current TPDU of a log began.
     began: u64,
     /// The last line whose characters were shown as before a header.
     strays: u64,
@@ -122,19 +122,21 @@ impl Teller {
         self.clock.pass(time)
     }
 
-    /// Takes a character, and writes the parts of an opening that end before or with it. `rest` is
-    /// the line from that character. Returns false if the character is part of the dialogue: the
-    /// opening has then ended, and the character is still to be heard. Returns `AllocError` if
-    /// memory ran out: use neither the teller nor the preface any more.
+    /// Takes a character, and writes the parts of an opening that end before or with it. `number`
+    /// is that of its line in its file, `rest` the line from that character. Returns false if the
+    /// character is part of the dialogue: the opening has then ended, and the character is still to
+    /// be heard. Returns `AllocError` if memory ran out: use neither the teller nor the preface any
+    /// more.
     pub fn open(
         &mut self,
         preface: &mut Preface,
         from: End,
         byte: u8,
+        number: u64,
         rest: &[u8],
     ) -> Result<bool, AllocError>
         ensures opens { OnOk result (opening_of preface.new ≡ opens (opening_of preface.old)
-            (role_of (opening_of preface.old) from byte) byte) }
+            (role_of (opening_of preface.old) from byte) byte number) }
         ensures dialogue { IfOk result (λ is_of.
             is_dialogue (role_of (opening_of preface.old) from byte) ≡ not is_of) }
         ensures boxes { OnOk result (AddsBoxes [] self.old self.new) }
@@ -145,7 +147,7 @@ impl Teller {
         }
         let role = preface.role_of(from, byte);
         self.tell_before(role, preface, rest);
-        preface.take(role, byte, self.line)?;
+        preface.take(role, byte, self.line, number)?;
         if role.is_dialogue() {
             return Ok(false);
         }
@@ -178,15 +180,16 @@ impl Teller {
         preface: &mut Preface,
         from: End,
         byte: u8,
+        number: u64,
         rest: &[u8],
     ) -> Result<bool, AllocError>
         ensures opened { OnOk result
-            (opening_of preface.new ≡ opens unopened (role_of unopened from byte) byte) }
+            (opening_of preface.new ≡ opens unopened (role_of unopened from byte) byte number) }
         ensures boxes { OnOk result (AddsBoxes [] self.old self.new) }
     {
         self.tell_reset("reset, as the card's answer shows (no line says so)");
         preface.reset();
-        self.open(preface, from, byte, rest)
+        self.open(preface, from, byte, number, rest)
     }
 
     /// Writes the note of a reset, and whether it drops a chain.
@@ -208,15 +211,15 @@ impl Teller {
         listener: &mut Listener,
         from: End,
         byte: u8,
-        is_loose: bool,
+        mark: Mark,
     ) -> Result<bool, AllocError>
         ensures { (events : List Event) (before : List Report) →
             HasNoted events before listener.old → IfOk result (λ continues.
-            Hears continues (from, byte) is_loose events before listener.old listener.new
+            Hears continues (from, byte) mark events before listener.old listener.new
             self.old self.new) }
     {
         self.begin_if(from == End::Terminal && listener.under_way.is_empty());
-        match listener.hear(from, byte, is_loose) {
+        match listener.hear(from, byte, mark) {
             Ok(None) => Ok(true),
             Ok(Some(tpdu)) => {
                 self.tell_whole(&tpdu, !listener.under_way.is_empty())?;
@@ -235,37 +238,39 @@ impl Teller {
         listener: &mut Listener,
         from: End,
         bytes: &[u8],
-        is_loose: bool,
+        mark: Mark,
     ) -> Result<usize, AllocError>
         ensures noted { (events : List Event) (before : List Report) →
             HasNoted events before listener.old → IfOk result (λ count.
-            NotesRun from is_loose (take count bytes.now) events before listener.new) }
+            NotesRun from mark (take count bytes.now) events before listener.new) }
         ensures boxes { OnOk result (AddsBoxes [] self.old self.new) }
     {
         self.clock.count(from == End::Card);
         self.begin_if(from == End::Terminal && listener.under_way.is_empty());
-        listener.hear_run(from, bytes, is_loose)
+        listener.hear_run(from, bytes, mark)
     }
 
-    /// Hears a byte of a block, which has this role, and writes the command that gets its
-    /// response with it. Returns `AllocError` if memory ran out: drop the teller.
+    /// Hears a byte of a block, which has this role and is in the line with this number in its
+    /// file, and writes the command that gets its response with it. Returns `AllocError` if memory
+    /// ran out: drop the teller.
     pub fn hear_block(
         &mut self,
         preface: &mut Preface,
         listener: &mut Listener,
         role: Role,
         byte: u8,
+        number: u64,
     ) -> Result<(), AllocError>
         requires block { is_block role ≡ true }
         ensures opened { OnOk result
-            (opening_of preface.new ≡ opens (opening_of preface.old) role byte) }
+            (opening_of preface.new ≡ opens (opening_of preface.old) role byte number) }
         ensures heard { (events : List Event) (before : List Report) →
             HasNoted events before listener.old → OnOk result (CarriesAll
             (reports_with role (opening_of preface.new).blocks) events before listener.new
             self.old self.new) }
     {
         self.lead_to_blocks(preface, role == Role::Block(End::Card));
-        preface.take(role, byte, self.line)?;
+        preface.take(role, byte, self.line, number)?;
         match &mut preface.blocks {
             Some(blocks) => self.tell_blocks(blocks, listener),
             None => self.output.outcome(),
@@ -307,10 +312,7 @@ impl Teller {
         ensures stays { StaysWritten self.old self.new }
         ensures same { overheard_by blocks.new ≡ overheard_by blocks.old }
     {
-        if blocks.begins() {
-            blocks.line = self.line;
-            self.begin_if(true);
-        }
+        self.begin_if(blocks.begins());
         if let Some(row) = blocks.newest {
             self.counts.take_block(row);
         }
@@ -325,13 +327,14 @@ impl Teller {
         ensures same { overheard_by blocks.new ≡ overheard_by blocks.old }
         ensures heard { (events : List Event) (before : List Report) →
             HasNoted events before listener.old → OnOk result (CarriesAll
-            (exchanged (overheard_by blocks.old).is_loose (overheard_by blocks.old).command
+            (exchanged (overheard_by blocks.old).mark (overheard_by blocks.old).command
             (overheard_by blocks.old).gathered.bytes) events before listener.new
             self.old self.new) }
     {
         match tpdu_of_pair(self.alloc, blocks.command(), blocks.gathered()) {
             Ok(mut tpdu) => {
                 tpdu.is_loose = blocks.is_loose;
+                tpdu.line = blocks.line;
                 tpdu.blocks = blocks.take_rows();
                 self.tell_exchange(&tpdu, listener)
             }
@@ -402,8 +405,8 @@ impl Teller {
         is_hidden: bool,
     ) -> Result<(), AllocError>
         requires asker { HasAsker tpdu.now.header.items links }
-        ensures { OnOk result (AddsBox links.number self.old.began (report_of tpdu.now)
-            (account_of self.old) (account_of self.new)) }
+        ensures { OnOk result (AddsBox links.number (report_of tpdu.now) (account_of self.old)
+            (account_of self.new)) }
     {
         let joins = self.command.continues_with(links.link);
         let links = Links { joins, ..links };
@@ -416,8 +419,8 @@ impl Teller {
     /// Writes the box of a TPDU, or keeps the TPDU with its box.
     fn tell(&mut self, tpdu: &Tpdu, links: Links) -> Result<(), AllocError>
         requires asker { HasAsker tpdu.now.header.items links }
-        ensures { OnOk result (AddsBox links.number self.old.began (report_of tpdu.now)
-            (account_of self.old) (account_of self.new)) }
+        ensures { OnOk result (AddsBox links.number (report_of tpdu.now) (account_of self.old)
+            (account_of self.new)) }
     {
         if self.keeping.is_on {
             let empty = Output::new(self.alloc, self.output.sheet.layout());
@@ -426,19 +429,19 @@ impl Teller {
         }
         let (clock, story, mask) = (&self.clock, &self.story, &self.mask);
         let output = &mut self.output;
-        tell_box(tpdu, links, self.began, clock, story, mask, output);
+        tell_box(tpdu, links, clock, story, mask, output);
         Ok(())
     }
 
     /// A TPDU with its box alone.
     fn kept_of(&self, tpdu: &Tpdu, links: Links, empty: Output) -> Result<Kept, AllocError>
         requires asker { HasAsker tpdu.now.header.items links }
-        ensures { IfOk result (λ kept. HasBox self.now.mask links.number self.now.began
+        ensures { IfOk result (λ kept. HasBox self.now.mask links.number
             (report_of tpdu.now) empty.sheet (string_bytes kept.text)) }
     {
         let mut output = empty;
         let (clock, story, mask) = (&self.clock, &self.story, &self.mask);
-        tell_box(tpdu, links, self.began, clock, story, mask, &mut output);
+        tell_box(tpdu, links, clock, story, mask, &mut output);
         let text = output.sheet.into_text()?;
         let tpdu = tpdu.copied()?;
         Ok(Kept { tpdu, text })
@@ -601,6 +604,7 @@ impl Teller {
     /// Writes a TPDU of a log, and notes whether the log has its answer.
     fn tell_pair(&mut self, mut tpdu: Tpdu, is_answered: bool) -> Result<(), AllocError> {
         tpdu.is_loose = mem::replace(&mut self.is_loose, false);
+        tpdu.line = self.began;
         self.tell_one(&tpdu)?;
         if !is_answered {
             self.lose_some();

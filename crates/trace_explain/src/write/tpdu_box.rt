@@ -29,12 +29,11 @@ use crate::write::tree_row::push_tree;
 use apdu_core::count;
 use t0_core::Direction;
 
-/// Adds the box of a TPDU; nothing for a summary. `began` is the line where it began. `links` and
-/// `story` link it to earlier TPDUs; `links` must be what `story` returned for this one.
+/// Adds the box of a TPDU; nothing for a summary. `links` and `story` link it to earlier TPDUs;
+/// `links` must be what `story` returned for this one.
 pub fn tell_box(
     tpdu: &Tpdu,
     links: Links,
-    began: u64,
     clock: &Clock,
     story: &Story,
     mask: &Mask,
@@ -43,7 +42,7 @@ pub fn tell_box(
     requires asker { HasAsker tpdu.now.header.items links }
     ensures layout { output.new.sheet.layout ≡ output.old.sheet.layout }
     ensures puts { output.old.sheet.layout.is_summary ≡ false →
-        PutsBox mask.now links.number began (report_of tpdu.now) output.old.sheet
+        PutsBox mask.now links.number (report_of tpdu.now) output.old.sheet
         output.new.sheet }
 {
     if output.sheet.layout().is_summary {
@@ -53,10 +52,10 @@ pub fn tell_box(
     let is_hidden = mask.hides_header(tpdu.is_doubtful());
     let outline = Outline::of(tpdu, is_hidden);
     let status = tpdu.status.as_slice();
-    tell_title(&outline, name_of(tpdu), status, links, began, output);
+    tell_title(&outline, name_of(tpdu), status, links, tpdu.line, output);
     tell_beside(tpdu, links, mask, output);
     tell_bar(clock, output);
-    push_line(&mut output.sheet, began);
+    push_line(&mut output.sheet, tpdu.line);
     tell_fields(tpdu, &outline, links, clock, mask, output);
     output.page.push_file();
     output.row(Side::Nobody, "file");

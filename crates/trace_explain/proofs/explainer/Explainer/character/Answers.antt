@@ -1,7 +1,9 @@
 use Rattle.std.proofs.Common.{◌≡◌, ◌∙◌, ◌==◌, ◌&&◌, [], ◌∷◌, Bool, false, true, not, ap, length, subst, sym, if◌then◌else◌, inl, inr, refl, List}
 use Rattle.trace_explain.specs.declared.follow.listener.Listener.{Listener}
+use Rattle.trace_explain.specs.declared.follow.tpdu.Mark.{Mark}
 use Rattle.trace_explain.specs.Noted.{Event, HasNoted, Passed, Reset}
 use Rattle.trace_explain.specs.Openings.{Opening, begins_answer, is_block, is_loose, opening_of, opens}
+use Rattle.trace_explain.specs.Explained.{position_of}
 use Rattle.trace_explain.specs.Lines.{Position}
 use Rattle.trace_explain.specs.Reports.{report_of}
 use Rattle.trace_explain.proofs.AccountLemmas.{boxes_both}
@@ -14,17 +16,17 @@ pub returns-then-is_block-clause-takes : goal.returns-then-is_block-clause-takes
 returns-then-is_block-clause-takes c = λ events before h.
     let hears = c.in_ok-hear_block.ensures in
     let o = opening_of c.args.self.now.preface in
+    let line = c.args.self.now.number in
     let block = sym c.is_block.ensures ∙ c.if-is_block.true in
-    let place : Opening → Position = λ x. record {
+    let place : Opening → Position = λ x. record (position_of c.args.self.now) {
       opening = x;
       has_characters = true;
-      reading = c.args.self.now.reading;
     } in
     let carries = hears.heard events before h.0 in (
       _,
       inl (
-        block_takes o c.args.from c.args.byte _ _ c.role_of-role.ensures block hears.opened,
-        ap place (hears.opened ∙ ap (λ r. opens o r c.args.byte) c.role_of-role.ensures),
+        block_takes o line c.args.from c.args.byte _ _ c.role_of-role.ensures block hears.opened,
+        ap place (hears.opened ∙ ap (λ r. opens o r c.args.byte line) c.role_of-role.ensures),
       ),
       record {
         reports = carries.reports;
@@ -38,15 +40,14 @@ returns-then-opens-clause-takes c = λ events before h.
     let opened = c.in_ok-opens.ensures in
     let is = opened.dialogue ∙ ap not c.if-opens.true in
     let o = opening_of c.args.self.now.preface in
-    let place : Opening → Position = λ x. record {
+    let place : Opening → Position = λ x. record (position_of c.args.self.now) {
       opening = x;
       has_characters = true;
-      reading = c.args.self.now.reading;
     } in
     let no = sym (ap is_block c.role_of-role.ensures) ∙ sym c.is_block.ensures
     ∙ c.if-is_block.false in (
       [],
-      inl (none_opens o c.args.from c.args.byte is no, ap place opened.opens),
+      inl (none_opens o _ c.args.from c.args.byte is no, ap place opened.opens),
       explains_nothing events before _ h opened.boxes,
     )
 
@@ -55,16 +56,16 @@ returns-then-continues-clause-takes c = λ events before h.
     let opened = c.in_ok-opens.ensures in
     let is = opened.dialogue ∙ ap not c.if-opens.false in
     let o = opening_of c.args.self.now.preface in
-    let loose = is_loose o.stage in
-    let place : Opening → Position = λ x. record {
+    let mark : Mark =
+    record { is_loose = is_loose o.stage; line = c.args.self.now.number } in
+    let place : Opening → Position = λ x. record (position_of c.args.self.now) {
       opening = x;
       has_characters = true;
-      reading = c.args.self.now.reading;
     } in
     let (reports, noted, boxes) = rw (c.if-continues.true, c.is_loose-is_loose.ensures) at
     (c.in_ok-continues.ensures events before h.0) in (
-      Passed (c.args.from, c.args.byte) loose ∷ [],
-      inl (one_passes o c.args.from c.args.byte is, ap place opened.opens),
+      Passed (c.args.from, c.args.byte) mark ∷ [],
+      inl (one_passes o _ c.args.from c.args.byte is, ap place opened.opens),
       record {
         reports = reports;
         explained = (noted, h.1);

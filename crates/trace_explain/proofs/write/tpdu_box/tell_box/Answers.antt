@@ -12,7 +12,6 @@ use Rattle.trace_explain.proofs.write.tpdu_box.tell_box.Goals as goal
 pub returns-clause-puts : goal.returns-clause-puts
 returns-clause-puts c = λ whole.
     let number = c.args.links.number in
-    let line = c.args.began in
     let mask = c.args.mask.now in
     let t = report_of c.args.tpdu.now in
     let s = status_side t.header t.status in
@@ -25,12 +24,12 @@ returns-clause-puts c = λ whole.
     c.tell_answer.new.output.sheet c.tell_status.new.output.sheet in
     let S : Side → Type 0 = λ x. Puts (IsStatus x t.status)
     c.tell_answer.new.output.sheet c.tell_status.new.output.sheet in
-    (put_first IsWords c.join.ensures (put_first (IsBox mask number line t)
+    (put_first IsWords c.join.ensures (put_first (IsBox mask number t)
     (put_first (IsTitle number t.status)
     (subst T c.as_slice-status.ensures.value c.tell_title.ensures)
     (put_first (IsBeside mask t.is_loose t.way t.header t.moved) c.tell_beside.ensures
     (put_first IsBar c.tell_bar.ensures
-    (put_first (λ m text. text ≡ line_text m line) (_, refl, c.push_line.ensures)
+    (put_first (λ m text. text ≡ line_text m t.line) (_, refl, c.push_line.ensures)
     (put_first IsFields c.tell_fields.ensures
     (put_first (IsRow Nobody (codes "file")) c.row.ensures
     (put_first (IsRow Nobody (codes "time")) c.row-2.ensures

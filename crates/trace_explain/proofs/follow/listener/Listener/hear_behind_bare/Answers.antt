@@ -8,7 +8,7 @@ use Rattle.trace_explain.proofs.follow.listener.Listener.hear_behind_bare.Goals 
 pub returns-in_ok-note-in-Ok-clause-noted : goal.returns-in_ok-note-in-Ok-clause-noted
 returns-in_ok-note-in-Ok-clause-noted c = λ events before n.
     hears_behind events before c.bared-whole.result c.args.self.now c.cut.new.self _ c.in-Ok.heard
-    c.args.byte c.args.is_loose n c.requires.bare c.requires.status
+    c.args.byte c.args.mark n c.requires.bare c.requires.status
     (c.cut.ensures.tap ∙ c.reset.ensures.afresh)
     c.cut.ensures.left
     (c.bared-whole.ensures ∙ ap (λ t. bared (report_of t)) c.cut.ensures.cut)

@@ -7,4 +7,4 @@ use Rattle.trace_explain.proofs.follow.listener.Listener.hear_run.Given as goal
 abbrev pub invariant-loop-place : goal.invariant-loop-place
 invariant-loop-place l = (events : List Event) (before : List Report)
     → HasNoted events before l.initial.self
-    → NotesRun l.from l.is_loose (take l.place l.bytes) events before l.self
+    → NotesRun l.from l.mark (take l.place l.bytes) events before l.self

@@ -15,6 +15,7 @@ returns c =
     ∙ ap has_crc c.as_slice.ensures.value) in
     let begun = c.begun-blocks.ensures ∙ ap (λ b. so_far b c.edc_of-edc.result) c.take.ensures.value
     ∙ ap (λ e. so_far c.args.self.now.blocks e) edc in
-    let heard = c.in_ok-hear.ensures ∙ ap (λ o. overhears o c.args.from c.args.byte) begun in
+    let heard = c.in_ok-hear.ensures
+    ∙ ap (λ o. overhears o c.args.from c.args.byte c.args.number) begun in
     ap (λ (o : Opening). record o { blocks = Some (overheard_by c.hear.new.self) }) c.begin.ensures
     ∙ ap (λ o. record (opening_at stage.Blocks) { blocks = Some o }) heard

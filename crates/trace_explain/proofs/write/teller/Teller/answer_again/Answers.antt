@@ -7,7 +7,7 @@ use Rattle.trace_explain.proofs.write.teller.Teller.answer_again.Goals as goal
 pub returns-clause-opened : goal.returns-clause-opened
 returns-clause-opened c =
     let P : Opening → Type 0 = λ o. OnOk c.open.result (opening_of c.open.new.preface
-    ≡ opens o (role_of o c.args.from c.args.byte) c.args.byte) in
+    ≡ opens o (role_of o c.args.from c.args.byte) c.args.byte c.args.number) in
     subst P c.reset.ensures c.open.ensures.opens
 
 pub returns-clause-boxes : goal.returns-clause-boxes

@@ -10,7 +10,7 @@ use Rattle.trace_explain.proofs.write.teller.Teller.hear.Goals as goal
 pub returns-in-Ok-None : goal.returns-in-Ok-None
 returns-in-Ok-None c = λ events before h.
     let Q : Option Tpdu → Type 0 = λ t.
-    HasNoted (events ++ Passed (c.args.from, c.args.byte) c.args.is_loose ∷ [])
+    HasNoted (events ++ Passed (c.args.from, c.args.byte) c.args.mark ∷ [])
     (before ++ reports_of t) c.hear.new.self in (
       [],
       subst Q c.in-Ok-None.field-0-is (c.in-Ok-None.ensures.noted events before h),
@@ -20,7 +20,7 @@ returns-in-Ok-None c = λ events before h.
 pub returns-in_ok-tell_whole-in-Ok-Some : goal.returns-in_ok-tell_whole-in-Ok-Some
 returns-in_ok-tell_whole-in-Ok-Some c = λ events before h.
     let Q : Option Tpdu → Type 0 = λ t.
-    HasNoted (events ++ Passed (c.args.from, c.args.byte) c.args.is_loose ∷ [])
+    HasNoted (events ++ Passed (c.args.from, c.args.byte) c.args.mark ∷ [])
     (before ++ reports_of t) c.hear.new.self in (
       report_of c.in-Ok-Some.tpdu ∷ [],
       subst Q c.in-Ok-Some.field-0-is (c.in-Ok-Some.ensures.noted events before h),

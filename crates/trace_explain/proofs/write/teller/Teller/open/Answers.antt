@@ -6,12 +6,14 @@ use Rattle.trace_explain.proofs.write.teller.Teller.open.Goals as goal
 pub returns-then-is_dialogue-clause-opens : goal.returns-then-is_dialogue-clause-opens
 returns-then-is_dialogue-clause-opens c =
     c.in_ok-take.ensures
-    ∙ ap (λ r. opens (opening_of c.args.preface.now) r c.args.byte) c.role_of-role.ensures
+    ∙ ap (λ r. opens (opening_of c.args.preface.now) r c.args.byte c.args.number)
+    c.role_of-role.ensures
 
 pub returns-clause-opens : goal.returns-clause-opens
 returns-clause-opens c =
     c.in_ok-take.ensures
-    ∙ ap (λ r. opens (opening_of c.args.preface.now) r c.args.byte) c.role_of-role.ensures
+    ∙ ap (λ r. opens (opening_of c.args.preface.now) r c.args.byte c.args.number)
+    c.role_of-role.ensures
 
 pub returns-then-is_dialogue-clause-dialogue : goal.returns-then-is_dialogue-clause-dialogue
 returns-then-is_dialogue-clause-dialogue c =

@@ -1,4 +1,5 @@
 use Rattle.std.proofs.Common.{◌≡◌, List, ℕ, refl, subst}
+use Rattle.trace_explain.specs.Overheard.{overheard_by}
 use Rattle.trace_explain.specs.Pairs.{IsBadPair, IsPair}
 use Rattle.trace_explain.proofs.AccountLemmas.{boxes_from, boxes_stay}
 use Rattle.trace_explain.proofs.CarriedLemmas.{carries_pair, carries_refused}
@@ -11,7 +12,8 @@ returns-in-Ok c =
     let Q : List ℕ → Type 0 = λ x. IsPair c.command.result.now x c.in-Ok.tpdu in
     record {
       same = c.take_rows.ensures;
-      heard = λ events before h. carries_pair c.tell_exchange.result c.args.blocks.now.is_loose
+      heard = λ events before h. carries_pair c.tell_exchange.result
+          (overheard_by c.args.blocks.now).mark
           c.args.blocks.now.command.items c.args.blocks.now.gathered.bytes c.in-Ok.tpdu
           events before c.tell_exchange.new.listener c.args.self.now c.tell_exchange.new.self
           (subst P c.command.ensures (subst Q c.gathered.ensures c.in-Ok.ensures.reports))
@@ -26,7 +28,7 @@ returns-in-Err c =
     record {
       same = c.tell_refused.ensures.same;
       heard = λ events before h. carries_refused c.tell_refused.result why
-          c.args.blocks.now.is_loose c.args.blocks.now.command.items
+          (overheard_by c.args.blocks.now).mark c.args.blocks.now.command.items
           c.args.blocks.now.gathered.bytes events before c.args.listener.now c.args.self.now
           c.tell_refused.new.self
           (subst P c.command.ensures (subst Q c.gathered.ensures c.in-Err.ensures.refused))

@@ -7,5 +7,5 @@ use Rattle.trace_explain.proofs.write.teller.Teller.tell_one.Goals as goal
 pub returns : goal.returns
 returns c = on_ok_too c.tell_in_command.result _ _ c.tell_in_command.ensures
     (λ h. boxes_one (report_of c.args.tpdu.now)
-    c.shown-links.result.number c.args.self.now.began c.tell.new.self.number c.tell.ensures.next
+    c.shown-links.result.number c.tell.new.self.number c.tell.ensures.next
     (c.shown-links.ensures.number ∙ c.in_ok-tell.ensures.number) h)

@@ -12,60 +12,70 @@ pub const VERSION: &str = "0.3.0";
 pub const FILE: &str = "Reads these files as one trace; `-` is standard input";
 
 pub const DIFF: &str =
-    "Compares the traces of two files, and shows the first TPDU that differs; not with \
-    `--json`, `--commands`, `--summary` or files";
+    "Compares the traces of two files up to a fault, or to the first TPDU that differs, and shows \
+    that; not with `--json`, `--commands`, `--summary` or files; no effect with `--list-names`";
 
 pub const HTML: &str =
-    "Writes one page of HTML, which needs no other file, in place of text; not with `--json`";
+    "Writes one page of HTML, which needs no other file, in place of text; not with `--json`; no \
+    effect with `--list-names`";
 
 pub const TITLE: &str = "Sets the title of the page; needs `--html`; no effect with `--json`";
 
 pub const JSON: &str =
-    "Writes one object of JSON in each line, in place of text; not with `--html` or `--diff`";
+    "Writes one object of JSON in each line, in place of text; not with `--html` or `--diff`; no \
+    effect with `--list-names`";
 
 pub const COMMANDS: &str =
-    "Joins TPDUs to commands: parts of a response, and pieces of a chain; no effect with \
-    `--summary`; not with `--diff`";
+    "Joins TPDUs to commands: repeats, parts of a response, and pieces of a chain; not with \
+    `--diff`; no effect with `--summary` or `--list-names`";
 
-pub const MASK: &str = "Shows `**` for reference data, and for objects with tags such as `5A,57`; \
-    files precede it, without TAGS";
+pub const MASK: &str =
+    "Hides reference data, and objects with tags such as `5A,57`, as `**`, or in JSON as `null`; \
+    the next word is TAGS, unless it is an option";
 
-pub const RESUME: &str = "Continues after an unexpected byte; not with `--tpdu` or a log's form";
+pub const RESUME: &str =
+    "Continues after an unexpected byte, at the next header or `reset`, with `--mask` or \
+    `--unsigned` only at `reset`; not with `--tpdu` or a log's form";
 
-pub const FORM: &str = "Sets the form of the lines; not with `--form-file` or `--unsigned`";
+pub const FORM: &str =
+    "Sets the form of the lines; not with `--form-file` or `--unsigned`, nor a log's form with \
+    `--resume`";
 
 pub const FORM_FILE: &str =
-    "Reads lines by the first form in this file; not with `--form` or `--unsigned`";
+    "Reads lines by the first form in this file; not with `--form` or `--unsigned`, nor a log's \
+    form with `--resume`";
 
-pub const NAMES_FILE: &str = "Adds the names in this file to those of the program";
+pub const NAMES_FILE: &str = "Adds the names in this file, which come before those of the program";
 
 pub const LIST_NAMES: &str = "Lists the names of tags, application identifiers and bits, and reads \
     no trace; only `--names-file` adds to that";
 
 pub const SWAP: &str =
-    "Takes each sign for that of the other end, if TX is the card's; not with `--unsigned`";
+    "Takes each sign for that of the other end, as for a log in which TX is the card's; not with \
+    `--unsigned`";
 
 pub const UNSIGNED: &str =
-    "Reads lines without signs: the dialogue shows who sent each character; not with `--form`, \
-    `--form-file`, `--swap` or `--tpdu`";
+    "Reads lines without signs, as far as the dialogue shows who sent each character; not with \
+    `--form`, `--form-file`, `--swap` or `--tpdu`";
 
 pub const TO_CARD: &str =
-    "Lists instructions whose data go to the card, as `5A,F0`; needs `--unsigned`; no effect \
-    with an option that excludes that";
+    "Says of instructions, as `5A,F0`, that their data go to the card; needs `--unsigned`; no \
+    effect with an option that excludes `--unsigned`";
 
 pub const FROM_CARD: &str =
-    "Lists instructions whose data come from the card; needs `--unsigned`; no effect with an \
-    option that excludes that";
+    "Says of instructions, as `CA,F2`, that their data come from the card; needs `--unsigned`; no \
+    effect with an option that excludes `--unsigned`";
 
 pub const SUMMARY: &str =
-    "Writes the last block alone, which contains the counts; not with `--diff`";
+    "Writes the last block alone, which contains the counts; not with `--diff`; no effect with \
+    `--list-names`";
 
 pub const PROTOCOL: &str =
     "Reads a trace that begins among blocks of T=1; not with `--tpdu`; no effect on a log";
 
 pub const EDC: &str =
-    "Sets the error detection code of these blocks, LRC without it; needs `--protocol`; no \
-    effect with `--tpdu`";
+    "Sets the error detection code of the blocks of `--protocol`, LRC without it; needs \
+    `--protocol`; no effect with `--tpdu` or on a log";
 
 pub const TPDU: &str =
     "Reads a log of whole TPDUs or APDUs, as programs of PC/SC write them; not with `--resume`, \

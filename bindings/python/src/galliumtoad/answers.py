@@ -76,8 +76,8 @@ def objects(data: Bytes) -> list[Object]:
     """Returns all objects of a list, a template before the objects in it (EMV Book 3, Annex B).
 
     Padding, 00 before, between and after objects, is skipped. Beside a copy and the result, the
-    call takes 40 bytes of memory for each byte. Raises `ObjectsError` if the bytes are not a list,
-    with the first fault and the place of the innermost object at fault.
+    call takes 40 bytes of memory for each byte. Raises `ObjectsError` if the bytes are not a list
+    of at most 16 levels, with the first fault and the place of the innermost object at fault.
 
     >>> import galliumtoad
     >>> [(hex(it.tag), it.level, it.value.hex()) for it in
@@ -191,8 +191,9 @@ class AtrT1(NamedTuple):
 @dataclass(frozen=True, init=False)
 class Atr:
     """What an answer to reset says (ISO/IEC 7816-3, clause 8): the fields of `gt_atr` in the
-    header. For a missing character the standard's default holds. A reserved code gives 0.
-    `protocols` are in the order offered. `historical` has the bytes, not their place.
+    header. For a missing character the standard's default holds. A reserved code of Fi, Di, WI or
+    the classes gives 0 for these. `protocols` are in the order offered. `historical` has the bytes,
+    not their place.
 
     Raises `AtrError` with the place of the first fault if the bytes are not an answer to reset.
 

@@ -63,9 +63,10 @@ class Holder(Lasting):
         `steps` are its procedure bytes: `n` (NULL), `o` (one byte), `a` (all bytes). If no bytes
         are left, `o` and `a` are skipped. After the last letter all bytes that are left move. If
         the card refuses the header, none do. `cut`, 1 to 256, is the most bytes that a status 61XX
-        announces. Without a plan the card answers as with "" and 256.
+        announces. Without a plan the card answers as with "" and 256. `steps` end at a character 0.
 
-        A session's next operation drops the plans that it leaves. Plans are not for `Card.apdu`.
+        The next operation that a session carries out drops the plans that it leaves. Plans are not
+        for `Card.apdu`.
 
         Errors, after which nothing has changed:
         - CallError, GT_ARGUMENT: another letter, or a cut of 0 or above 256.
@@ -123,8 +124,9 @@ class Card(Holder):
         """Carries out a whole command, as a card at T=1, under no plan. Returns at most Le bytes of
         data, none without Le, and SW1 SW2; 61XX announces the rest.
 
-        The card answers 6700, and nothing changes, to bytes whose lengths fit no case of a command.
-        It does so to SELECT and PUT DATA in case 2, and to GET DATA and GET RESPONSE in any other.
+        The card answers 6700, and nothing changes, to four bytes or more whose lengths fit no case
+        of a command. It does so to SELECT and PUT DATA in case 2, and to GET DATA and GET RESPONSE
+        in any other, whatever CLA is.
 
         Errors, after which nothing has changed:
         - CallError, GT_STATE: a TPDU is in progress by characters.
@@ -163,7 +165,7 @@ class Session(Holder):
     The card's own handle is empty from then on: `end` returns a new one. Errors, after which there
     is no session, and the card is as before:
     - TypeError: it is not a `Card`.
-    - CallError, GT_EMPTY: the card is closed, or in a session.
+    - CallError, GT_EMPTY: the card is closed, or a session took it before.
     - RuntimeError: another thread is in a call of the card.
 
     >>> from galliumtoad import Card, Get, Select, Session

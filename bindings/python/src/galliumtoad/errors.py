@@ -33,8 +33,7 @@ class Error(Exception):
     """The library refused a call, or could not end it. The text is the library's, and the place.
 
     `code` is a `Code`, and `name` its name in `galliumtoad.h`. `place` is the index of the faulty
-    byte, from 0, or None if the call has no such place. For data objects it is the first byte of
-    the innermost object at fault.
+    byte, from 0, in `ObjectsError`, `AtrError` and `LineError`, which say more. Others have None.
 
     >>> import galliumtoad
     >>> try:
@@ -81,7 +80,8 @@ class LineError(Error):
 
 
 class ObjectsError(Error):
-    """The bytes are not a list of data objects."""
+    """The bytes are not a list of data objects of at most 16 levels. `place` is the first byte of
+    the innermost object at fault."""
 
 
 class CommandError(Error):
@@ -90,7 +90,8 @@ class CommandError(Error):
 
 class TransportError(Error):
     """A whole TPDU, or the answer to a TPDU or command, does not fit. Nothing has changed, except
-    that GT_WANTS_DATA and GT_SENDS_DATA reset the card, and `Terminal.run` the terminal."""
+    as `Terminal.run` says, and after GT_WANTS_DATA and GT_SENDS_DATA. These reset the card, with an
+    application of your own, and use up the plan."""
 
 
 class AtrError(Error):
@@ -98,7 +99,7 @@ class AtrError(Error):
     byte comes last.
 
     `place` counts from 0 for TS. If a byte is missing, it is the number of bytes, and it is 33 with
-    GT_ATR_TOO_LONG. After GT_ATR_CUT or GT_ATR_CHECK_MISSING one more byte may mend them.
+    GT_ATR_TOO_LONG. After GT_ATR_CUT or GT_ATR_CHECK_MISSING more bytes may mend them.
     """
 
 
@@ -107,7 +108,8 @@ class PpsError(Error):
 
 
 class BlockError(Error):
-    """A terminal's end at T=1 gave up. `outcome` is an `Outcome`."""
+    """A terminal's end at T=1 gave up, and `code` says why: GT_TRIES_SPENT, GT_EXTENSIONS_SPENT,
+    GT_ABORTED or GT_TOO_LONG. `outcome` is an `Outcome`."""
 
     def __init__(self, code: int, outcome: Optional[int] = None) -> None:
         super().__init__(code)

@@ -60,8 +60,10 @@ class Handle:
     """A context manager over a handle of the library. `close` or the collector frees it.
 
     One thread at a time may use it. Errors of each call, after which nothing has changed:
-    - RuntimeError: another thread is in a call of this handle.
-    - CallError, GT_EMPTY: the handle is closed, its card is in a session, or its session has ended.
+    - RuntimeError: another call of this handle is in progress: in another thread, or in this one if
+      an `OwnCard`'s application calls its card.
+    - CallError, GT_EMPTY, except from `close`: the handle is closed, a session has taken its card,
+      or its session has ended.
     - TypeError: an argument that should be bytes is not bytes-like.
     """
 

@@ -36,8 +36,9 @@ class Application(ABC):
         """Carries out a command, once, and returns its status and up to 4,096 bytes of data. The
         status is 6XXX or 9XXX, but not 60XX, nor 61XX or 6CXX, which are the card's own.
 
-        Of more than the terminal asks for the card keeps the rest for GET RESPONSE, and the status
-        follows the last byte. Of fewer, but not none, a TPDU first gets the number, as 6CXX."""
+        Of more than the terminal asks for the card keeps the rest for GET RESPONSE, until another
+        command or a reset, and the status follows the last byte. Of fewer, but not none, a TPDU
+        first gets the number, as 6CXX."""
 
     def settle(self) -> None:
         """The last command takes effect, with SW2 of its TPDU, also if that is 61XX or 6CXX. A
@@ -51,7 +52,8 @@ class OwnCard(Lasting):
     """A card of an `Application` of your own: you write what a command does. It goes over T=0, by
     characters, as whole TPDUs and as whole commands, and over T=1. A command is carried out at most
     once, by `send_bytes`, `tpdu`, `apdu` or `block`. The card itself answers GET RESPONSE, the same
-    header with the P3 that 6CXX names, and INS 6X and 9X, for which `apdu` raises `CommandError`.
+    header with the P3 that 6CXX names, and INS 6X and 9X. `apdu` raises `CommandError` for these,
+    if the lengths fit.
 
     An exception once the application is asked resets the card and the application, and is raised
     again: one of its own, OutOfMemory, or for what no application may return `CallError`,
@@ -74,9 +76,9 @@ class OwnCard(Lasting):
         super().__init__("card", ("own", ffi.NULL))
 
     def reset(self) -> None:
-        """Resets the card, at any time, and then the application. The card drops the TPDU, command
-        or block in progress, and a response that waits. It listens for a header at T=0, also after
-        `begin_t1`. Plans that wait stay."""
+        """Resets the card, and then the application. The card drops the TPDU, command or block in
+        progress, and a response that waits. It listens for a header at T=0, also after `begin_t1`.
+        Plans that wait stay."""
         with self._alone():
             self._reset()
 
@@ -92,7 +94,8 @@ class OwnCard(Lasting):
 
     def send_bytes(self, room: int = 1024) -> bytes:
         """Returns the card's next characters, as that of `Card`, but with no limit beside `room`.
-        It carries a command out when all its data have arrived. Errors as `OwnCard` says."""
+        It carries a command out when all its data have arrived, if `room` is not 0. Errors as
+        `OwnCard` says."""
         (made, count), copies = writable(within(room, 0, 1 << 30, "the room")), b""
 
         def send(*_: object) -> int:
@@ -113,18 +116,18 @@ class OwnCard(Lasting):
         """Carries out a whole command, which then settles. Returns at most Le bytes, none without
         Le, and SW1 SW2; 61XX announces the rest.
 
-        The card answers 6700 to bytes whose lengths fit no case of a command, to data where the
-        application takes none, and to Le without data where it takes some. GET RESPONSE fetches,
-        with any Le.
+        The card answers 6700 to four bytes or more whose lengths fit no case of a command, to data
+        where the application takes none, and to Le without data where it takes some. GET RESPONSE
+        fetches, with any Le.
 
         Errors, beside the exceptions that `OwnCard` names: as of `Card`.
         """
         return self._whole(lib.gt_card_apdu, command)
 
     def begin_t1(self) -> None:
-        """Lets the card speak T=1 until the next `reset`. Until then `receive_bytes`,
-        `send_bytes`, `tpdu`, `apdu` and `plan` raise `CallError`, GT_STATE: use `block`. So does
-        this if the card speaks T=1 already, or if a TPDU is in progress."""
+        """Lets the card speak T=1 until the next reset, also one by an exception. Until then
+        `receive_bytes`, `send_bytes`, `tpdu`, `apdu` and `plan` raise `CallError`, GT_STATE: use
+        `block`. So does this if the card speaks T=1 already, or if a TPDU is in progress."""
         self._call("t1_begin")
 
     def block(self, came: Bytes) -> bytes:
@@ -134,7 +137,8 @@ class OwnCard(Lasting):
 
         Errors, beside the exceptions that `OwnCard` names:
         - CallError, GT_STATE: the card speaks T=0; nothing has changed.
-        - OutOfMemory: memory ran out, and there is no answer. The terminal asks again."""
+        - OutOfMemory, before the application is asked: there is no answer. The terminal asks again.
+        """
         if self._call("t1_receive_bytes", *readable(came), ffi.new("size_t *")) != lib.GT_SENDS:
             self._call("t1_missed")
         sent, count = writable(room := lib.GT_BLOCK_LIMIT)

@@ -21,7 +21,7 @@ class Level(enum.IntEnum):
 
 class Transport(Protocol):
     """Carries bytes to a card, at its `level`, and returns the card's data and SW1 SW2. If it
-    raises, `Terminal.run` ends with that, and sends nothing again."""
+    raises, `Terminal.run` ends with that, and sends nothing more."""
 
     @property
     def level(self) -> Level: ...
@@ -30,7 +30,7 @@ class Transport(Protocol):
 
 
 class Function(Protocol):
-    """A function or a method, as a transport of whole TPDUs."""
+    """A function or a method without a `level`, as a transport of whole TPDUs."""
 
     __name__: str
 
@@ -38,7 +38,7 @@ class Function(Protocol):
 
 
 class Operation:
-    """What a terminal carries out: a `Select`, `Get`, `Put` or `Send`."""
+    """What a terminal carries out: a `Select`, `Get`, `Put` or `Send`, not of a derived class."""
 
 
 @dataclass(frozen=True)
@@ -58,8 +58,8 @@ class Get(Operation):
 
 @dataclass(frozen=True)
 class Put(Operation):
-    """Stores a value under a tag, in a chain of commands of at most 255 bytes of data each. It
-    stops at the first status other than 9000."""
+    """Stores a value under a tag, in one command or a chain of them, of at most 255 bytes of data
+    each. It stops at the first status other than 9000."""
 
     tag: int
     value: Bytes = field(repr=False)
@@ -149,7 +149,7 @@ class Machine(Handle):
         ended or failed.
 
         Errors, after which nothing has changed:
-        - CallError, GT_STATE: no operation has begun, or it is at the level of characters.
+        - CallError, GT_STATE: no operation has begun, or it is at the other level.
         - OutOfMemory: memory ran out for this level.
         """
         return self._due("apdu")
@@ -166,9 +166,9 @@ class Machine(Handle):
 
     def data_sent(self) -> Optional[bool]:
         """Returns whether all data of the commands so far have left the terminal. False if they
-        have not: this comes first, and stays if a card ended a piece of a put before that. None is
-        not known: a TPDU or a command went as a whole, also without data, or GT_BAD_PROCEDURE or
-        GT_TOO_LONG has ended the last TPDU.
+        have not: this comes first by characters and TPDUs, and stays if a card ended a piece of a
+        put before that. None is not known: a TPDU or a command went as a whole, also without data,
+        or GT_BAD_PROCEDURE or GT_TOO_LONG has ended the last TPDU.
 
         A card may end a TPDU with any status before it takes the data: then a status 61XX, 62XX,
         63XX or 9XXX is no success.
@@ -226,8 +226,9 @@ class Terminal(Machine, Lasting):
     - ValueError: `limit` is below 0 or above 2^63.
     - OutOfMemory: memory ran out.
 
-    No chain may be pending at the card when an operation begins. One may be after a fault: a put
-    under the same tag would continue it. So reset the card after a fault.
+    No chain may be pending at the card when an operation begins, unless a `Send` continues it. One
+    may be after a fault: a put under the same tag would continue it. So reset the card after a
+    fault.
 
     >>> from galliumtoad import Card, Get, Select, Terminal
     >>> aid = bytes.fromhex("A0000000031010")
@@ -260,12 +261,12 @@ class Terminal(Machine, Lasting):
         """Carries out an operation over a transport, and returns the card's answer.
 
         Errors:
-        - TypeError: the transport is neither a function nor a callable with a `level`; nothing was
-          sent.
-        - as `begin`: nothing was sent.
-        - what the transport raises, TypeError if it returns something other than bytes, or as
-          `answered` and `apdu`: the terminal is reset. What the card has done is unknown, so reset
-          it too.
+        - TypeError: the transport is neither a function nor a callable whose `level` is a `Level`;
+          nothing was sent.
+        - as `begin`: nothing was sent, and nothing has changed.
+        - once the operation has begun: what the transport raises, TypeError if it returns something
+          other than bytes, or as `answered` and `apdu`. The terminal is reset. What the card has
+          done is unknown, so reset it too.
         """
         level = getattr(transport, "level", Level.TPDU if hasattr(transport, "__name__") else None)
         if not (callable(transport) and isinstance(level, Level)):
@@ -295,8 +296,10 @@ class T1(Lasting):
     - OutOfMemory: memory ran out.
 
     It gives up after more than 4 fruitless receptions since the last progress, or more than 1,000
-    requests of the card in one command. A granted request is not fruitless. It also gives up after
-    S(ABORT request), and if a response exceeds 258 bytes, which short commands never do.
+    S(WTX request) and S(IFS request) in one command. A granted one is not fruitless. It also gives
+    up after S(ABORT request), and if a response exceeds 258 bytes, as none to a short command does.
+    Before the first command, also after `reset`, it sends S(IFS request). If 5 receptions bring no
+    response to that, it does not give up: it sends the command, with all its tries.
 
     The line is a callable with two arguments. It sends the bytes of the first, if there are any,
     and returns the bytes received since. It returns no bytes if none came in time: within BWT times
@@ -327,8 +330,9 @@ class T1(Lasting):
         Errors:
         - BlockError: the end gave up. Reset the card and this end.
         - what the line raises, or TypeError if it returns something other than bytes: the command
-          is still in progress. Reset the card and this end.
-        - CallError, GT_STATE: the end gave up or was left so before, and was not reset.
+          is still in progress. Reset the card and this end. What is false, as None, counts as no
+          bytes.
+        - CallError, GT_STATE: a command is still in progress, or the end gave up and was not reset.
         - OutOfMemory: memory ran out. Reset the card and this end.
         """
         self._call("begin", *readable(command))

@@ -341,7 +341,7 @@ def test_the_application_has_the_card_alone(where):
 
         card.application.settle = settle
         assert talked(card, "00B0000505") == made(5) + b"\x90\x00"
-        assert found == ["another thread is in a call of this handle"] * 3
+        assert found == ["another call of this handle is in progress"] * 3
 
 
 def test_what_shows():

@@ -16,7 +16,7 @@ pub const RESPONSE_LIMIT: usize = 16_384;
 pub enum DataSent {
     /// Neither of the others: they have all left it, or it has no data to send.
     All,
-    /// Not all have. This comes first.
+    /// Not all have. By characters and TPDUs this comes first.
     NotAll,
     /// It is not known: a TPDU or a command went as a whole, also one without data, or
     /// [`Error::BadProcedure`] or [`Error::TooLong`] has ended it.

@@ -166,7 +166,7 @@ class Session(Holder):
     is no session, and the card is as before:
     - TypeError: it is not a `Card`.
     - CallError, GT_EMPTY: the card is closed, or a session took it before.
-    - RuntimeError: another thread is in a call of the card.
+    - RuntimeError: another call of the card is in progress.
 
     >>> from galliumtoad import Card, Get, Select, Session
     >>> aid = bytes.fromhex("A0000000031010")

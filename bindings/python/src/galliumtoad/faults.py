@@ -133,7 +133,7 @@ class Faults:
     counts, before one that begins with the bytes `since`, as far as they are known.
 
     `command N` counts commands from 1, without GET RESPONSE and a repetition after 6CXX: these are
-    of the same command. What changes data waits for the response that has some."""
+    of the same command. What changes data waits while a response without data is 61XX or 6CXX."""
 
     def __init__(self, found: Iterable[Fault] = (), seed: int = 0,
                  tell: Callable[[str], None] = print, since: bytes = b"") -> None:

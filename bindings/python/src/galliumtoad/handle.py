@@ -102,7 +102,7 @@ class Handle:
         try:
             return self._free.pop()
         except IndexError:
-            raise RuntimeError("another thread is in a call of this handle") from None
+            raise RuntimeError("another call of this handle is in progress") from None
 
     def _alone(self) -> contextlib.ExitStack:
         """Holds the handle for this thread, until the end of `with`."""

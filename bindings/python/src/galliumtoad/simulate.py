@@ -33,9 +33,10 @@ TURNED = bytes(int(f"{byte:08b}"[::-1], 2) ^ 0xFF for byte in range(256))  # inv
 
 class Simulator(contextlib.ExitStack):
     """A card with an answer to reset and faults. In this process it is a transport for a
-    `Terminal`: of whole TPDUs if it is a `Card` and the answer to reset offers T=0 first, and of
-    whole commands otherwise. It raises `Gone` if the card is mute or has no power. `carried_out`
-    gets each TPDU or command that the card has carried out. The end of `with` frees the card.
+    `Terminal`: of whole commands if it is an `OwnCard`, or if the answer to reset offers another
+    protocol than T=0 first, and of whole TPDUs otherwise. It raises `Gone` if the card is mute or
+    has no power. `carried_out` gets each TPDU or command that reaches the card, once also with the
+    fault `twice`. The end of `with` frees the card.
 
     >>> with Simulator(Card({bytes(5): {}}), faults=Faults(read("p 1, status 6A82"))) as reader:
     ...     reader(bytes.fromhex("00A40400050000000000")).hex()

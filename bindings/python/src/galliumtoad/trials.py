@@ -40,7 +40,8 @@ serial line. Its exit status is 0 if all of that succeeded."""
 @dataclass
 class Trial:
     """A fault of the list: its lines, its clause and what a good terminal does. If `is_unseen`, no
-    terminal can see it, and no verdict counts. The rest is what a terminal made of it."""
+    terminal can see it, and no verdict counts. The rest is what a terminal made of it: `unmet` if
+    the fault did not strike, and nothing worse happened."""
 
     name: str
     faults: str

@@ -499,8 +499,8 @@ typedef struct gt_atr_t1 {
 } gt_atr_t1;
 
 /* What an answer to reset says, by its characters. For a missing one the standard's default holds
- * (ISO/IEC 7816-3, 8.2, 8.3, 10.2 for WI, and clause 11 for T=1). A reserved code of Fi, Di, WI, the
- * classes or T=1 gives 0. */
+ * (ISO/IEC 7816-3, 8.2, 8.3, 10.2 for WI, and clause 11 for T=1). A reserved code of Fi, Di, WI,
+ * the classes or T=1 gives 0. */
 typedef struct gt_atr {
     size_t length;              /* the number of its bytes, TS and TCK included: 2 to
                                  * GT_ATR_LIMIT */

@@ -173,9 +173,9 @@ pub struct T1Waits {
 }
 
 /// What an answer to reset says. For a missing character the default of ISO/IEC 7816-3 holds (8.2,
-/// 8.3, 10.2 for WI, and clause 11 for T=1). A reserved code gives `None`, but `rate_code` keeps it,
-/// and [`Category`] names it. The values for T=1 are by the first TA, TB and TC for T=1 from TA3,
-/// TB3 and TC3 on.
+/// 8.3, 10.2 for WI, and clause 11 for T=1). A reserved code gives `None`, but `rate_code` keeps
+/// it, and [`Category`] names it. The values for T=1 are by the first TA, TB and TC for T=1 from
+/// TA3, TB3 and TC3 on.
 ///
 /// ```
 /// use galliumtoad::{Atr, AtrReason};

@@ -6,7 +6,6 @@ pub mod CardT1Lemmas
 pub mod CardTpduLemmas
 pub mod CodeLemmas
 pub mod FindLemmas
-pub mod HandleLemmas
 pub mod HeldExchangeKind
 pub mod HeldKind
 pub mod HeldSend

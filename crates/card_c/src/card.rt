@@ -1,19 +1,20 @@
 //! The exports of a card: C builds it, and then passes it characters.
 ghost use Rattle.std.specs.Prelude.{◌≡◌, true, None, MatchOption};
 ghost use Rattle.t0_core.specs.CardSide.{listens};
+ghost use Rattle.card_c.specs.declared.card_side.CardSide.TheVariants.{Building};
 ghost use Rattle.card_c.specs.Handles.{held_by, OnHandle, OnHandleOr};
 ghost use Rattle.card_c.specs.CardT1Calls.{at_t0};
 ghost use Rattle.card_c.specs.CardCalls.{Begins, AddsApplication, AddsObject, Finishes, TakesOne, HandsOutCharacter, Turns, TurnsEnd, Resets};
 
 use crate::card_side::CardSide;
 use crate::card_t1::leave;
-use crate::handle::{Handle, on, with};
+use crate::handle::{Handle, on};
 use crate::held_card::CardHandle;
 use crate::tag_number::tag_of;
 use crate::{code, own};
+use core::mem::replace_with;
 use object_card::{Aid, CardBuilder, ObjectCard};
 use std::alloc::Global;
-use std::mem;
 use t0_core::{CardEnd, LineFault, PlanQueue, Turn};
 
 /// Starts to build a card, which has no applications yet.
@@ -46,18 +47,22 @@ pub extern "C" fn galliumtoad_card_free(alloc: Global, card: &mut CardHandle)
 pub extern "C" fn galliumtoad_card_app(alloc: Global, card: &mut CardHandle, aid: &[u8]) -> i32
     ensures { OnHandle (AddsApplication aid.now) (held_by card.old) result (held_by card.new) }
 {
-    with(alloc, card, |side| {
-        let CardSide::Building(builder) = side else {
-            return code::STATE;
-        };
-        let Some(aid) = Aid::new(aid) else {
-            return code::ARGUMENT;
-        };
-        match builder.app(aid) {
-            Ok(()) => code::OK,
-            Err(fault) => code::of_builder(fault),
-        }
-    })
+    on!(alloc, card, side => add_application(&mut side, aid))
+}
+
+fn add_application(side: &mut CardSide, aid: &[u8]) -> i32
+    ensures { AddsApplication aid.now side.old result side.new }
+{
+    let CardSide::Building(builder) = side else {
+        return code::STATE;
+    };
+    let Some(aid) = Aid::new(aid) else {
+        return code::ARGUMENT;
+    };
+    match builder.app(aid) {
+        Ok(()) => code::OK,
+        Err(fault) => code::of_builder(fault),
+    }
 }
 
 /// Adds a data object to the last application, or replaces the one under this tag.
@@ -72,7 +77,7 @@ pub extern "C" fn galliumtoad_card_object(
     ensures { OnHandle (AddsObject tag value.now locked)
         (held_by card.old) result (held_by card.new) }
 {
-    with(alloc, card, |side| add_object(side, tag, value, locked))
+    on!(alloc, card, side => add_object(&mut side, tag, value, locked))
 }
 
 fn add_object(side: &mut CardSide, number: u32, value: &[u8], locked: bool) -> i32
@@ -100,24 +105,35 @@ fn add_object(side: &mut CardSide, number: u32, value: &[u8], locked: bool) -> i
 pub extern "C" fn galliumtoad_card_finish(alloc: Global, card: &mut CardHandle) -> i32
     ensures { OnHandle Finishes (held_by card.old) result (held_by card.new) }
 {
-    with(alloc, card, |side| {
-        // An empty builder takes no memory. It fills the place until the function writes it.
-        let before = mem::replace(side, CardSide::Building(CardBuilder::new(alloc)));
-        let CardSide::Building(builder) = before else {
-            *side = before;
-            return code::STATE;
-        };
-        match builder.try_finish() {
-            Ok(card) => {
-                *side = CardSide::Standing(CardEnd::new(card), PlanQueue::new(alloc));
-                code::OK
-            }
-            Err(builder) => {
-                *side = CardSide::Building(builder);
-                code::MEMORY
-            }
-        }
-    })
+    on!(alloc, card, side => finish(alloc, &mut side))
+}
+
+fn finish(alloc: Global, side: &mut CardSide) -> i32
+    ensures { Finishes side.old result side.new }
+{
+    replace_with(side, alloc, finished)
+}
+
+fn finished(side: CardSide, alloc: Global) -> (CardSide, i32)
+    ensures { Finishes side result.1 result.0 }
+{
+    match side {
+        CardSide::Building(builder) => built(alloc, builder),
+        other => (other, code::STATE),
+    }
+}
+
+/// Returns the card that the builder makes, or the builder if memory ran out, and the code of that.
+fn built(alloc: Global, builder: CardBuilder) -> (CardSide, i32)
+    ensures { Finishes (Building builder) result.1 result.0 }
+{
+    match builder.try_finish() {
+        Ok(card) => (
+            CardSide::Standing(CardEnd::new(card), PlanQueue::new(alloc)),
+            code::OK,
+        ),
+        Err(builder) => (CardSide::Building(builder), code::MEMORY),
+    }
 }
 
 /// Takes a character of the terminal.
@@ -125,7 +141,7 @@ pub extern "C" fn galliumtoad_card_finish(alloc: Global, card: &mut CardHandle) 
 pub extern "C" fn galliumtoad_card_take(alloc: Global, card: &mut CardHandle, byte: u8) -> i32
     ensures { OnHandle (TakesOne byte) (held_by card.old) result (held_by card.new) }
 {
-    with(alloc, card, |side| take(side, byte))
+    on!(alloc, card, side => take(&mut side, byte))
 }
 
 fn take(side: &mut CardSide, byte: u8) -> i32
@@ -196,13 +212,13 @@ pub(crate) fn next_of(end: &mut CardEnd<ObjectCard>, plans: &mut PlanQueue) -> O
 pub extern "C" fn galliumtoad_card_reset(alloc: Global, card: &mut CardHandle) -> i32
     ensures { OnHandle Resets (held_by card.old) result (held_by card.new) }
 {
-    with(alloc, card, |side| reset(alloc, side))
+    on!(alloc, card, side => reset(&mut side))
 }
 
-fn reset(alloc: Global, side: &mut CardSide) -> i32
+fn reset(side: &mut CardSide) -> i32
     ensures { Resets side.old result side.new }
 {
-    leave(alloc, side);
+    leave(side);
     reset_at_t0(side)
 }
 

@@ -8,12 +8,11 @@ ghost use Rattle.card_c.specs.OwnT1.{HearsOwn, MissesOwn, SendsOwn};
 use crate::card_side::{CardSide, CardT1Side};
 use crate::code;
 use crate::copied::copied;
-use crate::handle::{Handle, on, with};
+use crate::handle::{Handle, on};
 use crate::held_card::CardHandle;
 use crate::own_t1::{back_at_t0, is_idle, misses_own, own_begun, receive_own, send_own};
-use object_card::CardBuilder;
+use core::mem::replace_with;
 use std::alloc::Global;
-use std::mem;
 use t1_core::spelling::write;
 use t1_core::{BlockCard, Receiver};
 use t1_terminal::DataApplet;
@@ -23,7 +22,7 @@ use t1_terminal::DataApplet;
 pub extern "C" fn galliumtoad_card_t1_begin(alloc: Global, card: &mut CardHandle) -> i32
     ensures { OnHandle BeginsT1 (held_by card.old) result (held_by card.new) }
 {
-    with(alloc, card, |side| begin(alloc, side))
+    on!(alloc, card, side => begin(alloc, &mut side))
 }
 
 fn begin(alloc: Global, side: &mut CardSide) -> i32
@@ -33,11 +32,7 @@ fn begin(alloc: Global, side: &mut CardSide) -> i32
     if !may_begin(side) {
         return code::STATE;
     }
-    // An empty builder takes no memory. It fills the place until the function writes it.
-    *side = begun(
-        alloc,
-        mem::replace(side, CardSide::Building(CardBuilder::new(alloc))),
-    );
+    replace_with(side, alloc, begun);
     code::OK
 }
 
@@ -53,11 +48,11 @@ fn may_begin(side: &CardSide) -> bool
     }
 }
 
-fn begun(alloc: Global, side: CardSide) -> CardSide
+fn begun(side: CardSide, alloc: Global) -> (CardSide, ())
     requires { may_begin side ≡ true }
-    ensures { result ≡ at_t1 side }
+    ensures { result.0 ≡ at_t1 side }
 {
-    match side {
+    let begun = match side {
         CardSide::Standing(end, plans) => CardSide::AtT1(CardT1Side {
             end: BlockCard::new(alloc, DataApplet::new(alloc, end)),
             block: Receiver::new(),
@@ -66,35 +61,35 @@ fn begun(alloc: Global, side: CardSide) -> CardSide
         }),
         CardSide::Own(own) => CardSide::OwnAtT1(own_begun(alloc, own)),
         other => other,
-    }
+    };
+    (begun, ())
 }
 
 /// Lets a card at T=1 speak T=0 again: the block and the answer are dropped, the rest stays. Any
 /// other card is unchanged.
-pub(crate) fn leave(alloc: Global, side: &mut CardSide)
+pub(crate) fn leave(side: &mut CardSide)
     ensures { side.new ≡ at_t0 side.old }
 {
     // A card at T=0 stays in its place: a move would leave a copy of its bytes on the stack.
     match side {
-        CardSide::AtT1(_) | CardSide::OwnAtT1(_) => {
-            *side = back(mem::replace(side, CardSide::Building(CardBuilder::new(alloc))));
-        }
+        CardSide::AtT1(_) | CardSide::OwnAtT1(_) => replace_with(side, (), back),
         CardSide::Building(_) | CardSide::Standing(..) => {}
         CardSide::Joined(_) | CardSide::Own(_) => {}
     }
 }
 
-fn back(side: CardSide) -> CardSide
-    ensures { result ≡ at_t0 side }
+fn back(side: CardSide, _: ()) -> (CardSide, ())
+    ensures { result.0 ≡ at_t0 side }
 {
-    match side {
+    let back = match side {
         CardSide::AtT1(at) => {
             let CardT1Side { end, plans, .. } = at;
             CardSide::Standing(end.into_applet().into_end(), plans)
         }
         CardSide::OwnAtT1(at) => CardSide::Own(back_at_t0(at)),
         other => other,
-    }
+    };
+    (back, ())
 }
 
 /// Writes the next block to `bytes`, and its length to `count`.
@@ -194,7 +189,7 @@ pub extern "C" fn galliumtoad_card_t1_missed(alloc: Global, card: &mut CardHandl
     ensures { OnHandle (OnLine (Misses reason.Other) (MissesOwn reason.Other) ⊤)
         (held_by card.old) result (held_by card.new) }
 {
-    with(alloc, card, |side| misses(side, false))
+    on!(alloc, card, side => misses(&mut side, false))
 }
 
 /// Reports that a character of the terminal's block had a wrong parity. The answer asks for the
@@ -204,7 +199,7 @@ pub extern "C" fn galliumtoad_card_t1_damaged(alloc: Global, card: &mut CardHand
     ensures { OnHandle (OnLine (Misses reason.Edc) (MissesOwn reason.Edc) ⊤)
         (held_by card.old) result (held_by card.new) }
 {
-    with(alloc, card, |side| misses(side, true))
+    on!(alloc, card, side => misses(&mut side, true))
 }
 
 fn misses(side: &mut CardSide, is_damaged: bool) -> i32

@@ -8,7 +8,7 @@ use crate::apdu_side::ApduSide;
 use crate::code;
 use crate::copied::copied;
 use crate::exchange_side::ExchangeSide;
-use crate::handle::{Handle, on, with};
+use crate::handle::{Handle, on};
 use crate::held_exchange::ExchangeHandle;
 use crate::whole_apdu::ended;
 use apdu_core::Command;
@@ -116,12 +116,16 @@ pub extern "C" fn galliumtoad_exchange_take(
     ensures { OnHandle (ByTpdus ⊤ (TakesByte byte))
         (exchange_in exchange.old) result (exchange_in exchange.new) }
 {
-    with(alloc, exchange, |side| {
-        if side.apdus.leads {
-            return code::STATE;
-        }
-        code::of_taking(side.exchange.take(byte))
-    })
+    on!(alloc, exchange, side => take(&mut side, byte))
+}
+
+fn take(side: &mut ExchangeSide, byte: u8) -> i32
+    ensures { ByTpdus ⊤ (TakesByte byte) side.old result side.new }
+{
+    if side.apdus.leads {
+        return code::STATE;
+    }
+    code::of_taking(side.exchange.take(byte))
 }
 
 /// Writes the status and the data of an exchange that has ended. The exchange keeps them.

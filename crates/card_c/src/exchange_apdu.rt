@@ -7,7 +7,7 @@ ghost use Rattle.card_c.specs.ExchangeCalls.{ByApdus, IsUnsentOf};
 
 use crate::code;
 use crate::exchange_side::ExchangeSide;
-use crate::handle::{Handle, on, with};
+use crate::handle::{Handle, on};
 use crate::held_exchange::ExchangeHandle;
 use crate::whole_apdu::{opened, responded, responded_first, told};
 use card_terminal::{OwnedExchange, Unsent};
@@ -55,12 +55,16 @@ pub extern "C" fn galliumtoad_exchange_responded(
     ensures { OnHandle (ByApdus (TakesResponse response.now))
         (exchange_in exchange.old) result (exchange_in exchange.new) }
 {
-    with(alloc, exchange, |side| {
-        if side.apdus.leads {
-            return responded(&mut side.apdus, response);
-        }
-        responded_first(&mut side.apdus, unsent_of(&side.exchange), response)
-    })
+    on!(alloc, exchange, side => take_response(&mut side, response))
+}
+
+fn take_response(side: &mut ExchangeSide, response: &[u8]) -> i32
+    ensures { ByApdus (TakesResponse response.now) side.old result side.new }
+{
+    if side.apdus.leads {
+        return responded(&mut side.apdus, response);
+    }
+    responded_first(&mut side.apdus, unsent_of(&side.exchange), response)
 }
 
 /// Returns what an exchange has to send. `None` if a character or an answer of it has passed.

@@ -8,7 +8,7 @@ ghost use Rattle.card_c.specs.TpduCalls.{TellsTpdu, IsAnswered};
 
 use crate::code;
 use crate::exchange_side::ExchangeSide;
-use crate::handle::{Handle, on, with};
+use crate::handle::{Handle, on};
 use crate::held_exchange::ExchangeHandle;
 use crate::whole_tpdu::{answer_of, told};
 use std::alloc::Global;
@@ -51,13 +51,17 @@ pub extern "C" fn galliumtoad_exchange_answered(
     ensures { OnHandle (ByTpdus ⊤ (IsAnswered answer.now))
         (exchange_in exchange.old) result (exchange_in exchange.new) }
 {
-    with(alloc, exchange, |side| {
-        if side.apdus.leads {
-            return code::STATE;
-        }
-        let Some((bytes, status)) = answer_of(answer) else {
-            return code::NO_STATUS;
-        };
-        code::of_answer(side.exchange.answered(bytes, status))
-    })
+    on!(alloc, exchange, side => take_answer(&mut side, answer))
+}
+
+fn take_answer(side: &mut ExchangeSide, answer: &[u8]) -> i32
+    ensures { ByTpdus ⊤ (IsAnswered answer.now) side.old result side.new }
+{
+    if side.apdus.leads {
+        return code::STATE;
+    }
+    let Some((bytes, status)) = answer_of(answer) else {
+        return code::NO_STATUS;
+    };
+    code::of_answer(side.exchange.answered(bytes, status))
 }

@@ -1,10 +1,7 @@
 //! What all handles of C have in common: each holds one value in a box, or nothing.
 ghost use Rattle.std.specs.Prelude.{◌≡◌, Option, Some, None, is_some};
-ghost use Rattle.std.specs.Fn.{FnOnceReturnsAtMut};
 ghost use Rattle.std.specs.Option.{option_map};
-ghost use Rattle.card_c.specs.Handles.{OnHandle};
 
-use crate::code;
 use std::alloc::Global;
 
 /// A handle of C. It is not generic, since only a struct without type parameters goes to C.
@@ -31,7 +28,8 @@ pub trait Handle {
 }
 
 /// Evaluates an expression on what a handle holds, under the name `side`, and returns its code. The
-/// expression may write to what the caller was lent.
+/// expression may write to what the caller was lent. A function that took a closure would cost the
+/// prover two more functions for each export.
 macro_rules! on {
     ($alloc:ident, $handle:ident, $side:ident => $call:expr) => {{
         let Some(mut $side) = $handle.take_out($alloc) else {
@@ -44,14 +42,3 @@ macro_rules! on {
 }
 
 pub(crate) use on;
-
-/// Calls `f` on what a handle holds, and returns its code.
-pub fn with<H: Handle, F>(alloc: Global, handle: &mut H, f: F) -> i32
-where
-    F: FnOnce(&mut H::Content) -> i32,
-    requires { F.IsAlwaysCallable f }
-    ensures { OnHandle (λ old code new. FnOnceReturnsAtMut F.FnOnce f old code new)
-        (H.content handle.old) result (H.content handle.new) }
-{
-    on!(alloc, handle, side => f(&mut side))
-}

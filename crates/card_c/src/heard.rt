@@ -6,7 +6,7 @@ ghost use Rattle.card_c.specs.HeardCalls.{Listens, IsHeard, TellsHeard, characte
 use crate::card_side::CardSide;
 use crate::character_record::CharacterRecord;
 use crate::code;
-use crate::handle::{Handle, on, with};
+use crate::handle::{Handle, on};
 use crate::held_card::CardHandle;
 use crate::listener::Listener;
 use crate::session_side::SessionSide;
@@ -18,7 +18,7 @@ use t0_core::End;
 pub extern "C" fn galliumtoad_session_listen(alloc: Global, session: &mut CardHandle) -> i32
     ensures { OnHandle Listens (held_by session.old) result (held_by session.new) }
 {
-    with(alloc, session, |side| listen(alloc, side))
+    on!(alloc, session, side => listen(alloc, &mut side))
 }
 
 fn listen(alloc: Global, side: &mut CardSide) -> i32

@@ -6,7 +6,7 @@ ghost use Rattle.card_c.specs.OwnCalls.{BeginsOwn, Decides, DecidesAt, GivesOne,
 use crate::card_side::CardSide;
 use crate::code;
 use crate::command_record::CommandRecord;
-use crate::handle::{Handle, on, with};
+use crate::handle::{Handle, on};
 use crate::held_card::CardHandle;
 use crate::own_side::{OwnSide, Whole};
 use crate::own_t1::wanted_at_t1;
@@ -118,7 +118,7 @@ pub extern "C" fn galliumtoad_card_direction(
 ) -> i32
     ensures { OnHandle (Decides to_card) (held_by card.old) result (held_by card.new) }
 {
-    with(alloc, card, |side| direction(side, to_card))
+    on!(alloc, card, side => direction(&mut side, to_card))
 }
 
 fn direction(side: &mut CardSide, to_card: bool) -> i32
@@ -164,7 +164,7 @@ pub extern "C" fn galliumtoad_card_respond(
     ensures { OnHandle (RespondsOwn bytes.now status) (held_by card.old) result
         (held_by card.new) }
 {
-    with(alloc, card, |side| respond(side, bytes, status))
+    on!(alloc, card, side => respond(&mut side, bytes, status))
 }
 
 fn respond(side: &mut CardSide, bytes: &[u8], status: u16) -> i32

@@ -9,7 +9,7 @@ ghost use Rattle.card_c.specs.OwnT1.{AsksTime, AsksTimeOne, DropsGiven, HasComma
 use crate::card_side::CardSide;
 use crate::code;
 use crate::copied::copied;
-use crate::handle::{Handle, with};
+use crate::handle::{Handle, on};
 use crate::held_card::CardHandle;
 use crate::own_side::{OwnSide, OwnT1Side, Whole};
 use crate::own_whole::wanted_in;
@@ -194,7 +194,7 @@ pub extern "C" fn galliumtoad_card_more_time(
 ) -> i32
     ensures { OnHandle (AsksTime multiple) (held_by card.old) result (held_by card.new) }
 {
-    with(alloc, card, |side| more_time(side, multiple))
+    on!(alloc, card, side => more_time(&mut side, multiple))
 }
 
 fn more_time(side: &mut CardSide, multiple: u8) -> i32

@@ -5,7 +5,7 @@ ghost use Rattle.card_c.specs.PlanCalls.{IsButPlans, Queues, QueuesAtCard, Queue
 
 use crate::card_side::CardSide;
 use crate::code;
-use crate::handle::with;
+use crate::handle::{Handle, on};
 use crate::held_card::CardHandle;
 use crate::plan_letters::plan_of;
 use crate::session_side::SessionSide;
@@ -22,7 +22,7 @@ pub extern "C" fn galliumtoad_card_plan(
 ) -> i32
     ensures { OnHandle (QueuesAtCard steps.now cut) (held_by card.old) result (held_by card.new) }
 {
-    with(alloc, card, |side| queue_at_card(alloc, side, steps, cut))
+    on!(alloc, card, side => queue_at_card(alloc, &mut side, steps, cut))
 }
 
 fn queue_at_card(alloc: Global, side: &mut CardSide, steps: &[u8], cut: u16) -> i32
@@ -60,11 +60,7 @@ pub extern "C" fn galliumtoad_session_plan(
     ensures { OnHandle (QueuesInSession steps.now cut)
         (held_by session.old) result (held_by session.new) }
 {
-    with(
-        alloc,
-        session,
-        |side| queue_in_session(alloc, side, steps, cut),
-    )
+    on!(alloc, session, side => queue_in_session(alloc, &mut side, steps, cut))
 }
 
 fn queue_in_session(alloc: Global, side: &mut CardSide, steps: &[u8], cut: u16) -> i32

@@ -6,7 +6,7 @@ ghost use Rattle.card_c.specs.SendCalls.{SendsAgreed, SendsBytes};
 
 use crate::card_side::CardSide;
 use crate::code;
-use crate::handle::with;
+use crate::handle::{Handle, on};
 use crate::held_card::CardHandle;
 use crate::listener::Listener;
 use crate::session_side::{SessionSide, room_for_next};
@@ -25,7 +25,7 @@ pub extern "C" fn galliumtoad_session_send(
     ensures { OnHandle (SendsBytes command.now) (held_by session.old) result
         (held_by session.new) }
 {
-    with(alloc, session, |side| send(alloc, side, command))
+    on!(alloc, session, side => send(alloc, &mut side, command))
 }
 
 fn send(alloc: Global, side: &mut CardSide, bytes: &[u8]) -> i32

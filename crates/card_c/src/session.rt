@@ -8,15 +8,15 @@ ghost use Rattle.card_c.specs.SessionCalls.{Starts, Finishes, Joins, Parts, Perf
 use crate::card_side::CardSide;
 use crate::code;
 use crate::copied::copied;
-use crate::handle::{Handle, on, with};
+use crate::handle::{Handle, on};
 use crate::held_card::CardHandle;
 use crate::listener::Listener;
 use crate::session_side::{SessionSide, room_for_next};
 use crate::tag_number::tag_of;
 use card_terminal::{Bytes, Op, Session};
-use object_card::{Aid, CardBuilder};
+use core::mem::replace_with;
+use object_card::Aid;
 use std::alloc::Global;
-use std::mem;
 use t0_core::{PlanQueue, Plans};
 use tlv_core::ObjectTag;
 
@@ -48,20 +48,27 @@ pub extern "C" fn galliumtoad_session_start(
 fn join(alloc: Global, side: &mut CardSide) -> bool
     ensures { Joins side.old result side.new }
 {
-    // An empty builder takes no memory. It fills the place until the function writes it.
-    let before = mem::replace(side, CardSide::Building(CardBuilder::new(alloc)));
-    let CardSide::Standing(end, _) = before else {
-        *side = before;
-        return false;
-    };
-    *side = CardSide::Joined(SessionSide {
-        session: Session::new(end),
-        plans: Vec::new(alloc),
-        answer: None,
-        listens: false,
-        heard: Listener::new(alloc, false),
-    });
-    true
+    replace_with(side, alloc, joined)
+}
+
+/// Makes a session with a card at T=0, and drops the card's plans. Returns whether it has.
+fn joined(side: CardSide, alloc: Global) -> (CardSide, bool)
+    ensures { Joins side result.1 result.0 }
+{
+    match side {
+        CardSide::Standing(end, plans) => {
+            drop(plans);
+            let session = SessionSide {
+                session: Session::new(end),
+                plans: Vec::new(alloc),
+                answer: None,
+                listens: false,
+                heard: Listener::new(alloc, false),
+            };
+            (CardSide::Joined(session), true)
+        }
+        other => (other, false),
+    }
 }
 
 /// Ends a session, and puts its card, reset, into `card`. `session` is empty then.
@@ -92,13 +99,21 @@ pub extern "C" fn galliumtoad_session_end(
 fn part(alloc: Global, side: &mut CardSide) -> bool
     ensures { Parts side.old result side.new }
 {
-    let before = mem::replace(side, CardSide::Building(CardBuilder::new(alloc)));
-    let CardSide::Joined(SessionSide { session, .. }) = before else {
-        *side = before;
-        return false;
-    };
-    *side = CardSide::Standing(session.into_end(), PlanQueue::new(alloc));
-    true
+    replace_with(side, alloc, parted)
+}
+
+/// Ends a session. Its card, reset, has no plans. Returns whether it has.
+fn parted(side: CardSide, alloc: Global) -> (CardSide, bool)
+    ensures { Parts side result.1 result.0 }
+{
+    match side {
+        CardSide::Joined(joined) => {
+            let SessionSide { session, .. } = joined;
+            let end = session.into_end();
+            (CardSide::Standing(end, PlanQueue::new(alloc)), true)
+        }
+        other => (other, false),
+    }
 }
 
 /// Frees the memory of a session and of its card. The handle is empty then.
@@ -114,7 +129,7 @@ pub extern "C" fn galliumtoad_session_free(alloc: Global, session: &mut CardHand
 pub extern "C" fn galliumtoad_session_reset(alloc: Global, session: &mut CardHandle) -> i32
     ensures { OnHandle ResetsSession (held_by session.old) result (held_by session.new) }
 {
-    with(alloc, session, |side| reset(side))
+    on!(alloc, session, side => reset(&mut side))
 }
 
 fn reset(side: &mut CardSide) -> i32
@@ -142,7 +157,7 @@ pub extern "C" fn galliumtoad_session_select(
 ) -> i32
     ensures { OnHandle (Selects aid.now) (held_by session.old) result (held_by session.new) }
 {
-    with(alloc, session, |side| select(alloc, side, aid))
+    on!(alloc, session, side => select(alloc, &mut side, aid))
 }
 
 fn select(alloc: Global, side: &mut CardSide, aid: &[u8]) -> i32
@@ -162,7 +177,7 @@ fn select(alloc: Global, side: &mut CardSide, aid: &[u8]) -> i32
 pub extern "C" fn galliumtoad_session_get(alloc: Global, session: &mut CardHandle, tag: u32) -> i32
     ensures { OnHandle (Gets tag) (held_by session.old) result (held_by session.new) }
 {
-    with(alloc, session, |side| get(alloc, side, tag))
+    on!(alloc, session, side => get(alloc, &mut side, tag))
 }
 
 fn get(alloc: Global, side: &mut CardSide, number: u32) -> i32
@@ -188,7 +203,7 @@ pub extern "C" fn galliumtoad_session_put(
 ) -> i32
     ensures { OnHandle (Puts tag value.now) (held_by session.old) result (held_by session.new) }
 {
-    with(alloc, session, |side| put(alloc, side, tag, value))
+    on!(alloc, session, side => put(alloc, &mut side, tag, value))
 }
 
 fn put(alloc: Global, side: &mut CardSide, number: u32, value: &[u8]) -> i32
@@ -253,12 +268,16 @@ fn tell(side: &CardSide, status: &mut u16, content: &mut [u8], len: &mut usize) 
 pub extern "C" fn galliumtoad_session_idle(alloc: Global, session: &mut CardHandle) -> i32
     ensures { OnLook ⊤ TellsIdle (held_by session.old) result (held_by session.new) }
 {
-    with(alloc, session, |side| {
-        let CardSide::Joined(joined) = side else {
-            return code::STATE;
-        };
-        if joined.session.is_idle() { 1 } else { 0 }
-    })
+    on!(alloc, session, side => idle(&side))
+}
+
+fn idle(side: &CardSide) -> i32
+    ensures { TellsIdle side.now result }
+{
+    let CardSide::Joined(joined) = side else {
+        return code::STATE;
+    };
+    if joined.session.is_idle() { 1 } else { 0 }
 }
 
 /// Carries out one operation, and drops the plans that are left. With `BUSY` or `MEMORY` nothing is

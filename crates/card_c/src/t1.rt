@@ -8,7 +8,7 @@ ghost use Rattle.card_c.specs.T1Calls.{HasBegun, IsTaken, HasSettings, Begins, M
 
 use crate::code;
 use crate::copied::copied;
-use crate::handle::{Handle, on, with};
+use crate::handle::{Handle, on};
 use crate::held_t1::T1Handle;
 use crate::t1_side::T1Side;
 use std::alloc::Global;
@@ -72,10 +72,16 @@ pub extern "C" fn galliumtoad_t1_free(alloc: Global, t1: &mut T1Handle)
 pub extern "C" fn galliumtoad_t1_begin(alloc: Global, t1: &mut T1Handle, apdu: &[u8]) -> i32
     ensures { OnHandle (Begins apdu.now) (t1_in t1.old) result (t1_in t1.new) }
 {
-    with(alloc, t1, |side| match side.end.begin(apdu) {
+    on!(alloc, t1, side => begin(&mut side, apdu))
+}
+
+fn begin(held: &mut T1Side, apdu: &[u8]) -> i32
+    ensures { Begins apdu.now held.old result held.new }
+{
+    match held.end.begin(apdu) {
         Ok(()) => code::OK,
         Err(fault) => code::of_t1_begin(fault),
-    })
+    }
 }
 
 /// Reports that no valid block of the card arrived. Its received part is dropped.
@@ -83,7 +89,7 @@ pub extern "C" fn galliumtoad_t1_begin(alloc: Global, t1: &mut T1Handle, apdu: &
 pub extern "C" fn galliumtoad_t1_missed(alloc: Global, t1: &mut T1Handle) -> i32
     ensures { OnHandle (Misses reason.Other) (t1_in t1.old) result (t1_in t1.new) }
 {
-    with(alloc, t1, |side| misses(side, false))
+    on!(alloc, t1, side => misses(&mut side, false))
 }
 
 /// Reports that a character of the block had a wrong parity. Its received part is dropped.
@@ -91,7 +97,7 @@ pub extern "C" fn galliumtoad_t1_missed(alloc: Global, t1: &mut T1Handle) -> i32
 pub extern "C" fn galliumtoad_t1_damaged(alloc: Global, t1: &mut T1Handle) -> i32
     ensures { OnHandle (Misses reason.Edc) (t1_in t1.old) result (t1_in t1.new) }
 {
-    with(alloc, t1, |side| misses(side, true))
+    on!(alloc, t1, side => misses(&mut side, true))
 }
 
 fn misses(held: &mut T1Side, is_damaged: bool) -> i32
@@ -114,12 +120,16 @@ fn misses(held: &mut T1Side, is_damaged: bool) -> i32
 pub extern "C" fn galliumtoad_t1_reset(alloc: Global, t1: &mut T1Handle) -> i32
     ensures { OnHandle Resets (t1_in t1.old) result (t1_in t1.new) }
 {
-    with(alloc, t1, |side| {
-        side.end.reset();
-        // Overwrites the bytes of the block.
-        side.block = Receiver::new();
-        code::OK
-    })
+    on!(alloc, t1, side => reset(&mut side))
+}
+
+fn reset(held: &mut T1Side) -> i32
+    ensures { Resets held.old result held.new }
+{
+    held.end.reset();
+    // Overwrites the bytes of the block.
+    held.block = Receiver::new();
+    code::OK
 }
 
 /// Writes the response to the last command: data, then the status.

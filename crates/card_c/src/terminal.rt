@@ -12,7 +12,7 @@ ghost use Rattle.card_c.specs.TerminalCalls.{HasBegun, KeepsRoom, OnBegin, OnTpd
 use crate::apdu_side::ApduSide;
 use crate::code;
 use crate::copied::copied;
-use crate::handle::{Handle, on, with};
+use crate::handle::{Handle, on};
 use crate::held_terminal::TerminalHandle;
 use crate::tag_number::tag_of;
 use crate::terminal_side::TerminalSide;
@@ -84,25 +84,27 @@ pub extern "C" fn galliumtoad_terminal_free(alloc: Global, terminal: &mut Termin
 pub extern "C" fn galliumtoad_terminal_reset(alloc: Global, terminal: &mut TerminalHandle) -> i32
     ensures { OnHandle Resets (terminal_in terminal.old) result (terminal_in terminal.new) }
 {
-    with(alloc, terminal, |side| {
-        side.terminal.reset();
-        side.apdus.terminal.reset();
-        side.apdus.leads = false;
-        code::OK
-    })
+    on!(alloc, terminal, side => reset(&mut side))
+}
+
+fn reset(side: &mut TerminalSide) -> i32
+    ensures { Resets side.old result side.new }
+{
+    side.terminal.reset();
+    side.apdus.terminal.reset();
+    side.apdus.leads = false;
+    code::OK
 }
 
 /// Begins an operation by a call on the terminal, unless one goes by whole commands.
 macro_rules! begin {
-    ($alloc:ident, $terminal:ident, $side:ident => $call:expr) => {
-        with($alloc, $terminal, |$side| {
-            if $side.is_led() {
-                return code::STATE;
-            }
-            let answer = $call;
-            $side.began(answer)
-        })
-    };
+    ($side:ident => $call:expr) => {{
+        if $side.is_led() {
+            return code::STATE;
+        }
+        let answer = $call;
+        $side.began(answer)
+    }};
 }
 
 /// Begins SELECT of the application with this identifier, and drops the last answer.
@@ -115,7 +117,13 @@ pub extern "C" fn galliumtoad_terminal_select(
     ensures { OnHandle (OnBegin (BeginsSelect aid.now))
         (terminal_in terminal.old) result (terminal_in terminal.new) }
 {
-    begin!(alloc, terminal, side => select(&mut side.terminal, aid))
+    on!(alloc, terminal, side => begin_select(&mut side, aid))
+}
+
+fn begin_select(side: &mut TerminalSide, aid: &[u8]) -> i32
+    ensures { OnBegin (BeginsSelect aid.now) side.old result side.new }
+{
+    begin!(side => select(&mut side.terminal, aid))
 }
 
 fn select(terminal: &mut Terminal, aid: &[u8]) -> i32
@@ -138,7 +146,13 @@ pub extern "C" fn galliumtoad_terminal_get(
     ensures { OnHandle (OnBegin (BeginsGet tag))
         (terminal_in terminal.old) result (terminal_in terminal.new) }
 {
-    begin!(alloc, terminal, side => get(&mut side.terminal, tag))
+    on!(alloc, terminal, side => begin_get(&mut side, tag))
+}
+
+fn begin_get(side: &mut TerminalSide, tag: u32) -> i32
+    ensures { OnBegin (BeginsGet tag) side.old result side.new }
+{
+    begin!(side => get(&mut side.terminal, tag))
 }
 
 fn get(terminal: &mut Terminal, number: u32) -> i32
@@ -162,7 +176,13 @@ pub extern "C" fn galliumtoad_terminal_put(
     ensures { OnHandle (OnBegin (BeginsPut tag value.now))
         (terminal_in terminal.old) result (terminal_in terminal.new) }
 {
-    begin!(alloc, terminal, side => put(&mut side.terminal, tag, value))
+    on!(alloc, terminal, side => begin_put(&mut side, tag, value))
+}
+
+fn begin_put(side: &mut TerminalSide, tag: u32, value: &[u8]) -> i32
+    ensures { OnBegin (BeginsPut tag value.now) side.old result side.new }
+{
+    begin!(side => put(&mut side.terminal, tag, value))
 }
 
 fn put(terminal: &mut Terminal, number: u32, value: &[u8]) -> i32
@@ -186,7 +206,13 @@ pub extern "C" fn galliumtoad_terminal_send(
     ensures { OnHandle (OnBegin (BeginsSend command.now))
         (terminal_in terminal.old) result (terminal_in terminal.new) }
 {
-    begin!(alloc, terminal, side => send(&mut side.terminal, command))
+    on!(alloc, terminal, side => begin_send(&mut side, command))
+}
+
+fn begin_send(side: &mut TerminalSide, command: &[u8]) -> i32
+    ensures { OnBegin (BeginsSend command.now) side.old result side.new }
+{
+    begin!(side => send(&mut side.terminal, command))
 }
 
 fn send(terminal: &mut Terminal, bytes: &[u8]) -> i32
@@ -274,12 +300,16 @@ pub extern "C" fn galliumtoad_terminal_take(
     ensures { OnHandle (OnTpdus ⊤ (TakesCharacter byte))
         (terminal_in terminal.old) result (terminal_in terminal.new) }
 {
-    with(alloc, terminal, |side| {
-        if side.apdus.leads {
-            return code::STATE;
-        }
-        code::of_taking(side.terminal.take(byte))
-    })
+    on!(alloc, terminal, side => take(&mut side, byte))
+}
+
+fn take(side: &mut TerminalSide, byte: u8) -> i32
+    ensures { OnTpdus ⊤ (TakesCharacter byte) side.old result side.new }
+{
+    if side.apdus.leads {
+        return code::STATE;
+    }
+    code::of_taking(side.terminal.take(byte))
 }
 
 /// Writes the next whole TPDU, its length, and the most data bytes of its answer, 0 to 256.
@@ -317,15 +347,19 @@ pub extern "C" fn galliumtoad_terminal_answered(
     ensures { OnHandle (OnTpdus ⊤ (TakesAnswer answer.now))
         (terminal_in terminal.old) result (terminal_in terminal.new) }
 {
-    with(alloc, terminal, |side| {
-        if side.apdus.leads {
-            return code::STATE;
-        }
-        let Some((bytes, status)) = answer_of(answer) else {
-            return code::NO_STATUS;
-        };
-        code::of_answer(side.terminal.answered(bytes, status))
-    })
+    on!(alloc, terminal, side => take_answer(&mut side, answer))
+}
+
+fn take_answer(side: &mut TerminalSide, answer: &[u8]) -> i32
+    ensures { OnTpdus ⊤ (TakesAnswer answer.now) side.old result side.new }
+{
+    if side.apdus.leads {
+        return code::STATE;
+    }
+    let Some((bytes, status)) = answer_of(answer) else {
+        return code::NO_STATUS;
+    };
+    code::of_answer(side.terminal.answered(bytes, status))
 }
 
 /// Writes the status and the data of the last command of an operation that has ended.

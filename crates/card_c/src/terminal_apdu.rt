@@ -8,7 +8,7 @@ ghost use Rattle.card_c.specs.ApduCalls.{TellsDue, TakesResponse, Opens};
 ghost use Rattle.card_c.specs.TerminalCalls.{LooksAtApdus, TakesByApdus};
 
 use crate::code;
-use crate::handle::{Handle, on, with};
+use crate::handle::{Handle, on};
 use crate::held_terminal::TerminalHandle;
 use crate::terminal_side::TerminalSide;
 use crate::whole_apdu::{opened, responded, responded_first, told};
@@ -56,13 +56,17 @@ pub extern "C" fn galliumtoad_terminal_responded(
     ensures { OnHandle (TakesByApdus (TakesResponse response.now))
         (terminal_in terminal.old) result (terminal_in terminal.new) }
 {
-    with(alloc, terminal, |side| {
-        let answer = passed_on(side, response);
-        if side.apdus.leads {
-            side.terminal.rest();
-        }
-        answer
-    })
+    on!(alloc, terminal, side => take_response(&mut side, response))
+}
+
+fn take_response(side: &mut TerminalSide, response: &[u8]) -> i32
+    ensures { TakesByApdus (TakesResponse response.now) side.old result side.new }
+{
+    let answer = passed_on(side, response);
+    if side.apdus.leads {
+        side.terminal.rest();
+    }
+    answer
 }
 
 fn passed_on(side: &mut TerminalSide, response: &[u8]) -> i32

@@ -96,10 +96,11 @@ extern "C" {
 /* ---- Codes ----------------------------------------------------------------------------------- */
 
 enum {
-    GT_OK = 0,              /* success; of a turn (.._next, .._turn): the end listens */
-    GT_SENDS = 1,           /* of a turn: a character to send; of .._send_bytes: the buffer is
-                             * full, or has a NULL alone; at T=1: the received block is whole, or
-                             * dropped */
+    GT_OK = 0,              /* success; of a turn (.._next, .._turn, and .._send_bytes except at
+                             * T=1): the end listens */
+    GT_SENDS = 1,           /* of .._next and .._turn: a character to send; of .._send_bytes: the
+                             * buffer is full, or has a NULL alone; at T=1: the received block is
+                             * whole, or dropped */
     GT_DONE = 2,            /* of a turn: the exchange or operation has ended, and has an answer;
                              * at T=1: there is no block to send */
     GT_COMMAND = 3,         /* of a card of your own: a command waits for its response */
@@ -107,16 +108,17 @@ enum {
 
     GT_ALL_SENT = 10,       /* all data to the card have left the terminal, or it has none to
                              * send */
-    GT_NOT_ALL_SENT = 11,   /* not all have */
-    GT_SENT_UNKNOWN = 12,   /* it is not known: see `gt_exchange_data_sent` */
+    GT_NOT_ALL_SENT = 11,   /* not all data to the card have left the terminal */
+    GT_SENT_UNKNOWN = 12,   /* whether they have is unknown: see `gt_exchange_data_sent` */
 
     GT_NULL = -1,           /* a pointer is NULL that must not be */
     GT_EMPTY = -2,          /* the handle holds nothing */
-    GT_STATE = -3,          /* not now: the handle's state does not allow the call */
+    GT_STATE = -3,          /* the handle's state, or its kind of card, does not allow the call */
     GT_MEMORY = -4,         /* memory ran out */
     GT_ARGUMENT = -5,       /* an argument is invalid */
-    GT_BUFFER = -6,         /* too little room for the output; the buffer is unchanged, except by
-                             * gt_objects, which fills it as far as it goes */
+    GT_BUFFER = -6,         /* too little room for the output, or of gt_card_tpdu and gt_card_apdu
+                             * for what it may be; the buffer is unchanged, except by gt_objects,
+                             * which fills it as far as it goes */
     GT_BUSY = -7,           /* a chain is pending at the card */
     GT_NOT_FOUND = -8,      /* what was asked for is not there */
     GT_FAILED = -9,         /* of a turn: the exchange or operation has failed for good; at T=1:
@@ -415,9 +417,9 @@ enum {
     GT_ENTRIES_LIMIT = 64,      /* the most data objects of an application */
     GT_LEVELS_LIMIT = 16,       /* the deepest level of an object */
     GT_TPDU_LIMIT = 260,        /* the most bytes of a whole TPDU: header, P3 and 255 of data */
-    GT_APDU_LIMIT = 261,        /* of a command: header, Lc, 255 of data and Le */
+    GT_APDU_LIMIT = 261,        /* of a short command: header, Lc, 255 of data and Le */
     GT_ANSWER_LIMIT = 258,      /* of the answer to either: 256 of data, and the status */
-    GT_DATA_LIMIT = 255,        /* of the data of a command */
+    GT_DATA_LIMIT = 255,        /* of the data of a short command */
     GT_OWN_LIMIT = 4096,        /* of a response of your own card, without the status */
     GT_ATR_LIMIT = 33,          /* of an answer to reset */
     GT_PROTOCOLS_LIMIT = 15,    /* the most protocols that it offers: T=0 to T=14 */

@@ -120,8 +120,8 @@ def pps():
         ("T=1", "FF11957B"),
         ("a reserved bit", "FF807F"),
     ):
-        yield Case(f"PPS with {title}", f"< {offers} > {request} ", offers, mute=True,
-                   fault=NO_PPS)
+        yield Case(f"PPS with {title}", f"< {offers} > {request} ", offers, ["-v"], mute=True,
+                   output=f"reset\n< {offers}\npps > {request}\n", fault=NO_PPS)
     yield Case("a card's line of a reset, at a pseudo terminal", f"< {offers} {ASK_WORDS}", offers,
                ["--reset", "cts"])
     yield Case("FF that is no PPS", f"< {offers} {ASK_WORDS} > FFCA5F2000 < 6E00 {ASK_WORDS}",

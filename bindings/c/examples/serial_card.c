@@ -220,7 +220,8 @@ static const char *answer_pps(struct socket *socket, FILE *trace)
         socket->protocol = request[1] & PROTOCOL;
     line->trace = trace;
     line_note_pps(line, LINE_TERMINAL, request, n);
-    line_note_pps(line, LINE_CARD, response, count);
+    if (what == NULL)
+        line_note_pps(line, LINE_CARD, response, count);
     line->trace = NULL;
     return what == NULL && is_of_card ? set_rate(socket, true) : what;
 }

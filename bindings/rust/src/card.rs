@@ -31,7 +31,7 @@ pub const PLANS_LIMIT: usize = 1_048_576;
 
 /// A data object that a card holds.
 ///
-/// The value is the caller's: this crate wipes no copy of it. `Debug` shows how many bytes it has.
+/// The value is the caller's to wipe. `Debug` shows how many bytes it has.
 #[derive(Clone, PartialEq, Eq, Hash)]
 #[non_exhaustive]
 pub struct Entry {
@@ -61,8 +61,8 @@ pub struct CardBuilder(Handle);
 ///
 /// It keeps each value until another is stored under its tag, and the bytes of a TPDU until its
 /// second status byte. It keeps those of a chain until it is stored, refused or dropped. One of
-/// your own keeps a response until all of it is sent, or the next command drops it. A drop wipes
-/// and frees all.
+/// your own keeps a response until all of it is sent, or the next command or a reset drops it. A
+/// drop wipes and frees all.
 ///
 /// ```
 /// use galliumtoad::{CardBuilder, Exchange, Turn};

@@ -38,7 +38,8 @@ use crate::t1::Received;
 pub struct CardT1<A = ()>(Card<A>);
 
 impl<A: Application> CardT1<A> {
-    /// Resets the card, and begins T=1. Data objects and plans stay; T=1 uses no plans.
+    /// Resets the card, and begins T=1. Data objects and plans stay; T=1 uses no plans. An
+    /// application of your own is reset too.
     ///
     /// # Errors
     ///
@@ -94,10 +95,11 @@ impl<A: Application> CardT1<A> {
     }
 
     /// Copies the block to send now to the front of `room`, and returns its length, 4 to
-    /// [`BLOCK_LIMIT`](crate::BLOCK_LIMIT). Returns `None` if the terminal sent no block, or if
-    /// [`receive`](CardT1::receive) ran out of memory at its last one. Each further call gives the
-    /// same block, until the next one of the terminal, or a call of [`missed`](CardT1::missed) or
-    /// [`damaged`](CardT1::damaged).
+    /// [`BLOCK_LIMIT`](crate::BLOCK_LIMIT). Returns `None` before the terminal's first block,
+    /// [`missed`](CardT1::missed) or [`damaged`](CardT1::damaged), or if
+    /// [`receive`](CardT1::receive) ran out of memory at the last block. Each further call gives
+    /// the same block, until the terminal's next one, `missed`, `damaged` or
+    /// [`reset`](CardT1::reset).
     ///
     /// # Errors
     ///
@@ -105,8 +107,8 @@ impl<A: Application> CardT1<A> {
     /// - [`Error::Buffer`]: `room` is too short. The block stays; a card of your own may have
     ///   carried out its command.
     /// - Those of an application of your own, see [`OwnCard`](crate::OwnCard): they reset the card,
-    ///   as does a panic of the application. Until [`reset`](CardT1::reset) begins T=1 again, a
-    ///   block is [`Error::State`].
+    ///   as does a panic of the application. Until [`reset`](CardT1::reset) begins T=1 again,
+    ///   this, [`receive`](CardT1::receive), `missed` and `damaged` are [`Error::State`].
     pub fn block_into(&mut self, room: &mut [u8]) -> Result<Option<usize>, Error> {
         let n = room.len();
         let mut count = 0;
@@ -136,7 +138,8 @@ impl<A: Application> CardT1<A> {
         &self.0
     }
 
-    /// Resets the card, ends T=1, and returns the card, at T=0. Data objects and plans stay.
+    /// Resets the card, ends T=1, and returns the card, at T=0. Data objects and plans stay. An
+    /// application of your own is reset too.
     ///
     /// # Errors
     ///

@@ -91,7 +91,7 @@ codes! {
         TooLong = -32, "response too long";
         /// A GET RESPONSE of the exchange's own brought nothing, and the card announces more.
         Stalled = -33, "stalled";
-        /// The exchange has ended or failed, or no operation has begun.
+        /// The exchange or operation has ended or failed, or no operation has begun.
         AfterEnd = -34, "after the end";
         /// There are fewer than four bytes.
         TooShort = -50, "command too short";

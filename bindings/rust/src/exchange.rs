@@ -57,7 +57,7 @@ impl fmt::Debug for Turn {
 
 /// A card's answer to a command: a status word, and data.
 ///
-/// The data are the caller's: this crate wipes no copy of them. `Debug` shows their number.
+/// The data are the caller's to wipe. `Debug` shows their number.
 ///
 /// An `Err` is about the call, a status about the card: a put that the card refuses is `Ok` with a
 /// status such as `6982`. The rest is about a card of data objects of this crate. After all except
@@ -200,10 +200,9 @@ pub(crate) fn answer(handle: &Handle, copies: Copies) -> Result<Answer, Error> {
 ///
 /// An exchange may be several TPDUs. If the card answers `6CXX` to one that asks for data, it sends
 /// that again with XX, once, unless XX is more than it still wants. If the card answers `61XX`, and
-/// it wants more, it sends GET RESPONSE. Any other status ends the exchange, and so does `61XX` if
-/// it wants no more. With Le `00` it wants all there is, with another Le at most that many bytes,
-/// without Le none: a SELECT without Le ends at `61XX`, with no data. So end a command with `00`
-/// for a whole answer.
+/// it wants more, it sends GET RESPONSE. Any other answer ends the exchange. With Le `00` it wants
+/// all there is, with another Le at most that many bytes, without Le none: a SELECT without Le ends
+/// at `61XX`, with no data. So end a command with `00` for a whole answer.
 ///
 /// It keeps a copy of the command, and room for the response. A drop frees both, and wipes them.
 ///

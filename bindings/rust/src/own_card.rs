@@ -144,7 +144,7 @@ impl<A: Application> Drop for Resets<'_, A> {
 
 impl<A: Application> Card<A> {
     /// Makes a card of an application of your own. It listens for a header at T=0. The application
-    /// `()` answers each command with `6F00`.
+    /// `()` answers each command that reaches it with `6F00`.
     ///
     /// # Errors
     ///

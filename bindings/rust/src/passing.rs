@@ -16,10 +16,12 @@ macro_rules! passes {
         apdu: $apdu:ident, responded: $responded:ident, answer: $answer:ident,
     }) => {
         impl $end {
-            /// Returns what the terminal does now. A character that it returns counts as sent: the
-            /// next call returns the next one. Any other result changes nothing.
+            /// Returns what the terminal does now. A character that it returns counts as sent, and
+            /// does not come again. Any other result changes nothing.
             ///
             /// # Errors
+            ///
+            /// The first that holds.
             ///
             /// - [`Error::State`]: it goes by whole commands, see [`apdu`](Self::apdu), or a
             ///   terminal has begun no operation.
@@ -34,12 +36,14 @@ macro_rules! passes {
             ///
             /// # Errors
             ///
+            /// The first that holds. Only [`Error::BadProcedure`], [`Error::TooLong`] and
+            /// [`Error::Stalled`] change anything.
+            ///
+            /// - [`Error::State`]: it goes by whole commands.
+            /// - [`Error::AfterEnd`]: it has ended or failed, or a terminal has begun no operation.
+            /// - [`Error::NotListening`]: it has characters to send.
             /// - [`Error::BadProcedure`], [`Error::TooLong`], [`Error::Stalled`]: with this
             ///   character it has failed for good. Reset the card.
-            /// - [`Error::NotListening`]: it has characters to send. Nothing has changed.
-            /// - [`Error::AfterEnd`]: it has ended or failed, or a terminal has begun no operation.
-            ///   Nothing has changed.
-            /// - [`Error::State`]: it goes by whole commands. Nothing has changed.
             #[inline]
             pub fn take(&mut self, byte: u8) -> Result<(), Error> {
                 // SAFETY: a handle of this end's kind.
@@ -76,7 +80,8 @@ macro_rules! passes {
             ///
             /// # Errors
             ///
-            /// - [`Error::State`]: it goes by whole commands. Nothing has changed.
+            /// - [`Error::State`]: it goes by whole commands, also if it has ended or failed.
+            ///   Nothing has changed.
             /// - [`Error::Memory`]: it ran out. Nothing has changed.
             pub fn tpdu(&self) -> Result<Option<Pdu>, Error> {
                 whole::pdu(&self.0, raw::$tpdu)
@@ -86,7 +91,7 @@ macro_rules! passes {
             ///
             /// # Errors
             ///
-            /// - [`Error::State`]: it goes by whole commands. Nothing has changed.
+            /// - [`Error::State`]: as [`tpdu`](Self::tpdu).
             /// - [`Error::Buffer`]: `room` is too short. [`TPDU_LIMIT`](crate::TPDU_LIMIT) bytes
             ///   are always enough.
             pub fn tpdu_into(&self, room: &mut [u8]) -> Result<Option<Due>, Error> {
@@ -99,7 +104,8 @@ macro_rules! passes {
             ///
             /// # Errors
             ///
-            /// After all but the last two nothing has changed.
+            /// The first that holds. After all but [`Error::TooLong`] and [`Error::Stalled`]
+            /// nothing has changed.
             ///
             /// - [`Error::State`]: it goes by whole commands.
             /// - [`Error::NoStatus`]: the bytes don't end in a status word.
@@ -122,8 +128,8 @@ macro_rules! passes {
             ///
             /// # Errors
             ///
-            /// - [`Error::State`]: it goes by characters and TPDUs, or a terminal has begun no
-            ///   operation. Nothing has changed.
+            /// - [`Error::State`]: it goes by characters and TPDUs, also if it has ended or failed,
+            ///   or a terminal has begun no operation. Nothing has changed.
             /// - [`Error::Memory`]: it ran out, also for this level, which takes its memory by the
             ///   first of these calls. Nothing has changed.
             pub fn apdu(&self) -> Result<Option<Pdu>, Error> {

@@ -63,7 +63,8 @@ impl Session {
     }
 
     /// Whether an operation other than [`send`](Session::send) can start: no chain is pending. The
-    /// last piece of a chain, a refused command or a [`reset`](Session::reset) ends it.
+    /// last piece of a chain, a command that the card refuses or a [`reset`](Session::reset) ends
+    /// it.
     ///
     /// # Errors
     ///
@@ -137,8 +138,8 @@ impl Session {
         self.run(Operation::Get(tag))
     }
 
-    /// Stores a value of the selected application, in as many chained commands of up to 255 bytes
-    /// as it takes. Returns the card's status: `9000`, or why the value is not stored.
+    /// Stores a value of the selected application, in as many chained commands of up to 255 data
+    /// bytes as it takes. Returns the card's status: `9000`, or why the value is not stored.
     ///
     /// # Errors
     ///
@@ -199,7 +200,7 @@ impl Session {
 
     /// Returns the characters of the last operation that was carried out, each with the end that
     /// sent it. The list is empty before the first one after [`listen`](Session::listen). One that
-    /// was not carried out leaves it unchanged. It is the caller's: this crate wipes no copy of it.
+    /// was not carried out leaves it unchanged. It is the caller's to wipe.
     ///
     /// # Errors
     ///

@@ -162,7 +162,7 @@ impl T1 {
     /// Copies the block to send now to the front of `room`. Returns `None` if no command is in
     /// progress: the last one has its response, or none has started. Each further call gives the
     /// same block, until [`receive`](T1::receive) has taken a whole block or a call of
-    /// [`missed`](T1::missed) or [`damaged`](T1::damaged).
+    /// [`missed`](T1::missed), [`damaged`](T1::damaged) or [`reset`](T1::reset).
     ///
     /// # Errors
     ///

@@ -15,8 +15,8 @@ pub enum Operation<'a> {
     /// Reads the data object with this tag. The data should be its tag, length and value, but some
     /// cards send the value alone: [`Answer::object`](crate::Answer::object) tells.
     Get(u32),
-    /// Stores a value under a tag, in as many chained commands of up to 255 bytes as it takes. It
-    /// stops at the first status other than `9000`.
+    /// Stores a value under a tag, in as many chained commands of up to 255 data bytes as it takes.
+    /// It stops at the first status other than `9000`.
     Put(u32, &'a [u8]),
     /// Sends any one command, and fetches as much of the data as its Le asks for: all with `00`,
     /// see [`Exchange`](crate::Exchange).
@@ -61,7 +61,7 @@ pub(crate) use calls;
 ///
 /// No chain may be pending at the card when an operation begins, except one that
 /// [`Operation::Send`] began and continues. One may be after a fault: a put under the same tag
-/// would continue it, and the card refuses any other with `6883`. So reset the card after a fault.
+/// would continue it, and the card may refuse any other with `6883`. So reset the card then.
 ///
 /// The memory of an operation, room for a response and a copy of the data that go to the card, is
 /// kept for the next. It keeps sent and received bytes, secrets included, until a later operation
@@ -135,9 +135,9 @@ impl Terminal {
     }
 
     /// Returns whether all data of the operation's commands so far have left the terminal, as
-    /// [`Exchange::data_sent`](crate::Exchange::data_sent). `None` if no operation has begun. If
-    /// the card ends a piece of a put before it takes the piece, [`DataSent::NotAll`] stays for the
-    /// rest of the operation.
+    /// [`Exchange::data_sent`](crate::Exchange::data_sent). `None` if no operation has begun. By
+    /// characters, if the card ends a piece of a put before it takes the piece,
+    /// [`DataSent::NotAll`] stays for the rest of the operation.
     #[must_use]
     pub fn data_sent(&self) -> Option<DataSent> {
         // SAFETY: a terminal's handle.

@@ -47,8 +47,8 @@ pub trait Transport {
     /// Why the transport failed: of a closure, its own error.
     type Error;
 
-    /// What it carries: whole TPDUs by default. [`Terminal::run`] asks once, before it sends
-    /// anything.
+    /// What it carries: whole TPDUs by default. [`Terminal::run`] asks at most once, before it
+    /// sends anything.
     fn level(&self) -> Level {
         Level::Tpdu
     }
@@ -60,7 +60,7 @@ pub trait Transport {
     ///
     /// # Errors
     ///
-    /// Whatever the reader says. [`Terminal::run`] ends with it, and sends nothing again.
+    /// Whatever the reader says. [`Terminal::run`] ends with it, and sends nothing more.
     fn transmit(&mut self, sent: &[u8], answer: &mut [u8]) -> Result<usize, Self::Error>;
 }
 
@@ -126,15 +126,14 @@ where
     }
 }
 
-/// Why [`Terminal::run`] returned no answer. After [`Error::Buffer`] the operation was carried out,
-/// and the terminal keeps its answer. Text and source are those of the error in it.
+/// Why [`Terminal::run`] returned no answer. Text and source are those of the error in it.
 #[derive(Clone, Copy, Debug, PartialEq, Eq, Hash)]
 #[non_exhaustive]
 pub enum RunError<E> {
     /// Nothing was sent. Or a reader's answer does not fit ([`Error::NoStatus`],
     /// [`Error::NotAsked`], [`Error::TooMany`]). Or the card has brought too much, or nothing that
     /// it announced ([`Error::TooLong`], [`Error::Stalled`]). Or there is no memory for the data of
-    /// the answer ([`Error::Buffer`]).
+    /// the answer ([`Error::Buffer`]): the terminal keeps the answer.
     Terminal(Error),
     /// The transport failed.
     Transport(E),
@@ -163,10 +162,11 @@ impl Terminal {
     /// # Errors
     ///
     /// - [`RunError::Terminal`] of [`Terminal::begin`]: nothing was sent, and nothing has changed.
-    /// - [`Error::Memory`] after that, at [`Level::Apdu`]: nothing was sent, and the terminal is
-    ///   reset. The two look alike.
-    /// - [`Error::Buffer`]: the operation was carried out, and there is no memory for the data. The
-    ///   terminal keeps the answer: ask for [`answer`](Terminal::answer).
+    /// - [`RunError::Terminal`] of [`Error::Memory`] after that, at [`Level::Apdu`]: nothing was
+    ///   sent, and the terminal is reset. The two look alike.
+    /// - [`RunError::Terminal`] of [`Error::Buffer`]: the operation was carried out, and there is
+    ///   no memory for the data. The terminal keeps the answer: ask for
+    ///   [`answer`](Terminal::answer).
     /// - Any other: the terminal is reset, and the next operation may begin. What the card has done
     ///   is unknown: reset it. Nothing was sent after the error.
     ///

@@ -91,7 +91,7 @@ type Carries = unsafe extern "C" fn(*mut Held, *const u8, usize, *mut u8, usize,
 
 impl<A: Application> Card<A> {
     /// Carries out a whole TPDU, as the firmware of a reader does, under the next of the plans. Its
-    /// answer is data, and then SW1 SW2. It is the caller's: this crate wipes no copy of it.
+    /// answer is data, and then SW1 SW2. It is the caller's to wipe.
     ///
     /// # Errors
     ///
@@ -118,7 +118,7 @@ impl<A: Application> Card<A> {
     }
 
     /// Carries out a whole command, as a card at T=1 or without contacts does. The response is
-    /// data, and then SW1 SW2. It is the caller's: this crate wipes no copy of it.
+    /// data, and then SW1 SW2. It is the caller's to wipe.
     ///
     /// A card of data objects carries the command out as TPDUs, to a terminal that wants Le bytes
     /// (`00`: 256). After `6CXX` it goes once more, with XX. In case 4 GET RESPONSE fetches. What
@@ -130,7 +130,8 @@ impl<A: Application> Card<A> {
     ///
     /// A card of your own carries the command out at once, and it settles. At most Le bytes come
     /// back, none without Le, and `61XX` announces the rest. The card answers `6700` to data where
-    /// none go to the card, and to Le without data where some do.
+    /// the application takes none, and to Le without data where it takes some. GET RESPONSE does
+    /// not reach the application, and may have data.
     ///
     /// # Errors
     ///

@@ -894,10 +894,9 @@ GT_MUST_CHECK int gt_version_fits(void) {
  *
  * An exchange may be several TPDUs. If the card answers 6CXX to one that asks for data, the
  * terminal sends it again with XX, once, unless XX is more than it still wants. If the card answers
- * 61XX, and the terminal wants more, it sends GET RESPONSE. Any other status ends the exchange, and
- * so does 61XX if it wants no more. With Le 00 it wants all there is, with another Le at most that
- * many bytes, without Le none: a SELECT without Le ends at 61XX, with no data. So end a command
- * with 00 for a whole answer.
+ * 61XX, and the terminal wants more, it sends GET RESPONSE. Any other answer ends the exchange.
+ * With Le 00 it wants all there is, with another Le at most that many bytes, without Le none: a
+ * SELECT without Le ends at 61XX, with no data. So end a command with 00 for a whole answer.
  *
  * Over T=0 no header says which way data move: both ends must know it from INS. `gt_session_send`
  * names the commands that the card takes the other way. With one of these the card may get
@@ -937,7 +936,7 @@ GT_MUST_CHECK int32_t gt_exchange_start_within(gt_exchange *e, const uint8_t *co
  * - GT_DONE: the exchange has ended, and has its answer.
  * - GT_FAILED: it has failed for good.
  *
- * Only GT_SENDS changes `byte` and the exchange: the next call hands out the next character. */
+ * Only GT_SENDS changes `byte` and the exchange: the character does not come again. */
 GT_MUST_CHECK int32_t gt_exchange_next(gt_exchange *e, uint8_t *byte) {
     if (!e || !byte) return GT_NULL;
     return galliumtoad_exchange_next(e, byte);
@@ -1039,8 +1038,8 @@ GT_MUST_CHECK int32_t gt_exchange_answered(gt_exchange *e, const uint8_t *answer
  * `gt_exchange_start` GET RESPONSE follows 61XX, and a command of case 2 is sent again after 6CXX.
  *
  * The first character sent, or the first answer that is taken or fails the exchange, sets the
- * level: characters and TPDUs, or commands. From then on calls of the other level return GT_STATE,
- * and change nothing.
+ * level: characters and TPDUs, or commands. From then on, also once the exchange has ended or
+ * failed, calls of the other level return GT_STATE, and change nothing.
  *
  * Copies the command to send now to the front of `apdu`. `n` gets its length, 4 to GT_APDU_LIMIT
  * bytes, and `most` how many bytes of data may come back, 0 to 256.
@@ -1090,12 +1089,13 @@ GT_FUNCTION void gt_exchange_free(gt_exchange *e) {
 /* ---- A terminal, for the objects of a card over any line -------------------------------------
  *
  * An operation may be several commands and many TPDUs. A terminal sends them one after another; the
- * caller carries its characters, or its whole TPDUs, to a card and back. `gt_terminal_select`,
- * `_get`, `_put` and `_send` start one. `gt_terminal_next` says when it has ended.
- * `gt_terminal_answer` gives its answer, the status and the data of its last command.
+ * caller carries its characters, its whole TPDUs or its commands to a card and back.
+ * `gt_terminal_select`, `_get`, `_put` and `_send` start one. GT_DONE of `gt_terminal_next` says
+ * that it has ended, or by whole commands GT_NOT_DUE of `gt_terminal_apdu`. `gt_terminal_answer`
+ * gives its answer, the status and the data of its last command.
  *
  * No chain may be pending at the card when an operation starts, unless `gt_terminal_send` continues
- * it. One may be after a fault: a put under the same tag would continue it, and the card refuses
+ * it. One may be after a fault: a put under the same tag would continue it, and the card may refuse
  * any other with 6883. So reset the card after a fault.
  *
  * A terminal keeps the memory of an operation for the next: room for a response, and a copy of the
@@ -1251,8 +1251,9 @@ GT_MUST_CHECK int32_t gt_terminal_answer(gt_terminal *t, uint16_t *status,
 }
 
 /* Returns whether all data of the operation's commands so far have left the terminal, as
- * `gt_exchange_data_sent`. If the card ends a piece of a put before it takes the piece,
- * GT_NOT_ALL_SENT stays for the rest of the operation. GT_STATE: no operation has started. */
+ * `gt_exchange_data_sent`. By characters, if the card ends a piece of a put before it takes the
+ * piece, GT_NOT_ALL_SENT stays for the rest of the operation. GT_STATE: no operation has
+ * started. */
 GT_MUST_CHECK int32_t gt_terminal_data_sent(gt_terminal *t) {
     if (!t) return GT_NULL;
     return galliumtoad_terminal_data_sent(t);
@@ -1334,7 +1335,7 @@ GT_MUST_CHECK int32_t gt_t1_begin(gt_t1 *t, const uint8_t *apdu, size_t n) {
 /* Copies the block to send now to `bytes`. `n` gets its length, 4 to GT_BLOCK_LIMIT. `waits` gets
  * how many times BWT the card has for its answer: 1, or as many as it asked for (0 counts as 1).
  * Each further call gives the same block, until `gt_t1_receive_bytes` returns GT_SENDS, or a call
- * of `gt_t1_missed` or `gt_t1_damaged`.
+ * of `gt_t1_missed`, `gt_t1_damaged` or `gt_t1_reset`.
  *
  * - GT_OK.
  * - GT_DONE: no command is in progress. The last one has its response, or none has started.
@@ -1375,9 +1376,9 @@ GT_MUST_CHECK int32_t gt_t1_missed(gt_t1 *t) {
     return galliumtoad_t1_missed(t);
 }
 
-/* Reports that a character of the card's block had a wrong parity: as `gt_t1_missed`, but the
- * R-block says so. The other bytes of the block still come: before this call, drop all until none
- * comes for CWT.
+/* Reports that a character of the card's block had a wrong parity: as `gt_t1_missed`, but if
+ * an R-block follows, it says so. The other bytes of the block still come: before this call, drop
+ * all until none comes for CWT.
  *
  * - GT_OK: `gt_t1_send_bytes` has the next block, or the end gave up.
  * - GT_STATE: no block is awaited. */
@@ -1653,10 +1654,11 @@ GT_MUST_CHECK int32_t gt_card_t1_begin(gt_card *c) {
 
 /* Copies the block to send now to `bytes`, and sets `n` to its length, 4 to GT_BLOCK_LIMIT. It
  * stays the same block until one of the next three calls returns GT_SENDS or GT_MEMORY, or
- * gt_card_more_time GT_OK.
+ * gt_card_more_time or gt_card_reset GT_OK.
  *
  * - GT_OK.
- * - GT_DONE: there is no block, because the terminal sent none or memory ran out at its last one.
+ * - GT_DONE: there is no block: none of the next three calls has returned GT_SENDS yet, or the last
+ *   returned GT_MEMORY.
  * - GT_COMMAND, GT_HEADER: it waits, at a card of your own alone. See there.
  * - GT_STATE: the card does not speak T=1.
  * - GT_MEMORY: call again.
@@ -1825,7 +1827,8 @@ GT_FUNCTION void gt_card_free(gt_card *c) {
  * A whole command reaches you as T=0 shows it, so answers are alike: without Le if data go to the
  * card, even none, and else with Le and without data. That Le is 256 if the command has none. At
  * most Le bytes come back, none without Le, and 61XX announces the rest; there is no 6CXX. The card
- * answers 6700 alone to data where none go to the card, and to Le without data where some do.
+ * answers 6700 alone to data where none go to the card, and to Le without data where some do. GET
+ * RESPONSE may have data, which the card drops.
  *
  * Misuse gets these codes, and changes nothing:
  *
@@ -1871,7 +1874,8 @@ GT_MUST_CHECK int32_t gt_card_own(gt_card *c, const uint8_t directions[32]) {
 /* Copies the command that waits. Of a header that waits it gives CLA to P2; `le` and `size` are 0.
  *
  * - GT_OK: the next call gives the same.
- * - GT_STATE: nothing waits, or the card is not of your own. `command` is unchanged. */
+ * - GT_STATE: nothing waits, the NULL or S(WTX request) of gt_card_more_time is in progress,
+ *   or the card is not of your own. `command` is unchanged. */
 GT_MUST_CHECK int32_t gt_card_command(gt_card *c, gt_command *command) {
     if (!c || !command) return GT_NULL;
     return galliumtoad_card_command(c, command);
@@ -1891,7 +1895,8 @@ GT_MUST_CHECK int32_t gt_card_direction(gt_card *c, int to_card) {
  * is this response. If you can't carry the command out, answer 6581 or another status.
  *
  * - GT_OK: it is taken. Call again what returned GT_COMMAND: a whole TPDU or command with NULL, 0.
- * - GT_STATE: no command waits, or the card is not of your own.
+ * - GT_STATE: no command waits, the NULL or S(WTX request) of gt_card_more_time is in progress, or
+ *   the card is not of your own.
  * - GT_ARGUMENT: `n` is above GT_OWN_LIMIT, or `status` is 61XX or 6CXX, which are the card's own,
  *   or no status word (6X except 60, or 9X, and any byte). The command still waits.
  * - GT_MEMORY: the command still waits. */
@@ -1987,8 +1992,8 @@ GT_MUST_CHECK int32_t gt_session_start(gt_session *s, gt_card *c) {
 }
 
 /* Returns whether an operation other than `gt_session_send` can start: 1, or 0 while a chain that
- * it started is pending at the card. Its last piece, a refused command or `gt_session_reset` ends
- * it. Compare with == 1: GT_EMPTY is not 0 either. */
+ * it started is pending at the card. Its last piece, a command that the card refuses or
+ * `gt_session_reset` ends it. Compare with == 1: GT_EMPTY is not 0 either. */
 GT_MUST_CHECK int32_t gt_session_idle(gt_session *s) {
     if (!s) return GT_NULL;
     return galliumtoad_session_idle(s);
@@ -2050,9 +2055,10 @@ GT_MUST_CHECK int32_t gt_session_get(gt_session *s, uint32_t tag, uint16_t *stat
     return galliumtoad_session_answer(s, status, data ? data : &none, room, len);
 }
 
-/* Stores a value under a tag of the selected application (PUT DATA), in a chain of commands of up
- * to 255 bytes each. `status` gets the card's answer: 0x9000, or why the value is not stored, as
- * 0x6982 (locked) or 0x6700 (above 8,192 bytes). There are no data, and no chain is pending then.
+/* Stores a value under a tag of the selected application (PUT DATA), in a chain of commands with up
+ * to 255 bytes of it each. `status` gets the card's answer: 0x9000, or why the value is not stored,
+ * as 0x6982 (locked) or 0x6700 (above 8,192 bytes). There are no data, and no chain is pending
+ * then.
  *
  * - GT_OK: it was carried out.
  * - GT_ARGUMENT: PUT DATA can't name the tag (see `gt_card_object`). Nothing was sent.

@@ -769,8 +769,8 @@ GT_INLINE int32_t gt_pass_(int32_t (*carry_out)(gt_card *, const uint8_t *, size
  * for 16 levels.
  *
  * - GT_OK: all of them are in `objects`, from its front, or room is 0. `count` is set here too.
- * - GT_BUFFER: there are more than `room`; `count` is their number, and the first `room` of them
- *   are in `objects`.
+ * - GT_BUFFER: the bytes are a list of more than `room` objects; `count` is their number, and the
+ *   first `room` of them are in `objects`.
  * - GT_TAG_CUT to GT_TOO_DEEP: the bytes are not a list of objects. This is their first fault, and
  *   `place` gets the place of the innermost object at fault. Nothing else changes `place`, and
  *   `count` is unchanged. */

@@ -61,8 +61,8 @@ pub struct CardBuilder(Handle);
 ///
 /// It keeps each value until another is stored under its tag, and the bytes of a TPDU until its
 /// second status byte. It keeps those of a chain until it is stored, refused or dropped. One of
-/// your own keeps a response until all of it is sent, or the next command or a reset drops it. A
-/// drop wipes and frees all.
+/// your own keeps a response until all of it is sent, or the next command drops it. A reset drops
+/// all except the values. A drop wipes and frees all.
 ///
 /// ```
 /// use galliumtoad::{CardBuilder, Exchange, Turn};
@@ -147,7 +147,7 @@ impl CardBuilder {
         self.add(tag, value, false)
     }
 
-    /// As [`object`](CardBuilder::object), for an object that no command changes.
+    /// As [`object`](CardBuilder::object), but the object is locked: no command changes it.
     ///
     /// # Errors
     ///

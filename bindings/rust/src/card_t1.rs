@@ -7,10 +7,10 @@ use crate::raw;
 use crate::t1::Received;
 
 /// A card's end of a line at T=1, of data objects or of an application of your own
-/// ([`OwnCard`](crate::OwnCard)). It answers each block of a terminal with one block, and carries
-/// out each command as [`Card::apdu`]. The response to other bytes than a short command is `6700`,
-/// and to an invalid INS `6D00` (profile). The caller keeps the times of the line, which are in
-/// [`Atr`](crate::Atr).
+/// ([`OwnCard`](crate::OwnCard)). Except after an error it answers each block of a terminal with
+/// one block, and carries out each command as [`Card::apdu`]. The response to other bytes than a
+/// short command is `6700`, and to an invalid INS `6D00` (profile). The caller keeps the times of
+/// the line, which are in [`Atr`](crate::Atr).
 ///
 /// ```
 /// use galliumtoad::{CardBuilder, CardT1, Edc, Error, T1Limits, BLOCK_LIMIT, T1};

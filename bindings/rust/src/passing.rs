@@ -52,7 +52,7 @@ macro_rules! passes {
 
             /// Hands out what the terminal sends now, as [`turn`](Self::turn) one at a time, up to
             /// the end of `room`. An empty `room` gives [`Stop::Full`](crate::Stop::Full), also if
-            /// it has ended or failed.
+            /// it has ended or failed, but never instead of [`Error::State`].
             ///
             /// # Errors
             ///

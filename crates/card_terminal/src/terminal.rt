@@ -316,8 +316,8 @@ impl<A: Allocator + Copy> Terminal<A> {
     }
 
     /// Whether all data of the operation's commands so far have left the terminal, as
-    /// `Exchange::data_sent`; `None` if no operation has begun. If the card ends a piece of a put
-    /// before it takes the piece, `NotAll` stays for the rest of the operation.
+    /// `Exchange::data_sent`; `None` if no operation has begun. By characters, `NotAll` stays for
+    /// the rest of the operation if the card ends a piece of a put before it takes the piece.
     pub fn data_sent(&self) -> Option<DataSent>
         ensures { TellsTerminalSent self.now.operation result }
     {

@@ -344,23 +344,23 @@ def parser() -> argparse.ArgumentParser:
     card("--application", metavar="MODULE:CLASS", dest="own", type=application,
          help="a class of Python, of a module in this folder or of an installed one")
     card("--program", metavar="COMMAND", dest="own", type=Program, help="by lines, in any language")
-    card("--replay", metavar="FILE", help="a capture, or trace_explain's --json --commands of it")
+    card("--replay", metavar="FILE", help="a capture, or its trace_explain --json --commands")
     place("--vpcd", nargs="?", const=VPCD, metavar="HOST:PORT", help=f"vsmartcard's reader; {VPCD}")
     place("--pty", action="store_true", help="prints a pseudo terminal's name; each opening resets")
     place("--tty", metavar="PATH", help="a serial line")
     add("--atr", type=bytes.fromhex, metavar="HEX",
         help="the answer to reset; without it that of the card, else 3B00")
     add("--faults", metavar="FILE", help="lines WHEN, WHAT, as `command 2, cut 1`")
-    add("--seed", type=int, default=0, help="the seed of faults `p CHANCE`; 0 without it")
+    add("--seed", type=int, default=0, help="the seed of faults `p CHANCE`; without it 0")
     add("-v", action="store_true", help="prints the dialogue for trace_explain (vpcd: --tpdu)")
-    add("--no-echo", action="store_true", help="with --pty: the terminal gets no echo")
+    add("--no-echo", action="store_true", help="with --pty: no echo; without it there is one")
     add("--baud", type=int, default=9600, choices=[9600, 19200, 38400, 57600, 115200],
-        help="with --tty: its rate at a reset; 9600")
+        help="with --tty: its rate at a reset; without it 9600")
     add("--reset", choices=SIGNALS, default="", help="with --tty: the line that holds the card in "
         "reset while it is on; without it the only reset is the start")
     add("--unknown", metavar="SW", type=status_of, default="6D00",
-        help="with --replay: the status of a command that the capture lacks; 6D00")
-    add("--strict", action="store_true", help="--replay ends at a command that is not the next")
+        help="with --replay: the status of a command that it lacks; without it 6D00")
+    add("--strict", action="store_true", help="with --replay: ends at another command")
     return it
 
 

@@ -139,13 +139,13 @@ def as_html(results: list[Trial]) -> str:
 def parser() -> argparse.ArgumentParser:
     it = argparse.ArgumentParser("galliumtoad.trials", epilog=USAGE,
                                  description="Lets a terminal do a job with cards that misbehave.")
-    it.add_argument("--vpcd", default=VPCD, metavar="HOST:PORT", help=f"vpcd of {{reader}}; {VPCD}")
-    it.add_argument("--reader", default="Virtual PCD 00 00", help="the {reader}; %(default)s")
-    it.add_argument("--protocol", type=int, choices=[0, 1], default=0, help="T, if both can be; 0")
+    it.add_argument("--vpcd", default=VPCD, metavar="HOST:PORT", help=f"for {{reader}}; {VPCD}")
+    it.add_argument("--reader", default="Virtual PCD 00 00", help="{reader}; it is %(default)s")
+    it.add_argument("--protocol", type=int, choices=[0, 1], default=0, help="T if both fit; 0")
     it.add_argument("--limit", type=float, default=60, metavar="S",
-                    help="seconds for a job, 0.1 to 86400; 60")
-    it.add_argument("--only", metavar="WORD", default="", help="runs those with it in their names")
-    it.add_argument("--list", action="store_true", help="prints all trials, and runs none")
+                    help="seconds for a job, 0.1 to 86400; without it 60")
+    it.add_argument("--only", metavar="WORD", default="", help="runs those with WORD in their name")
+    it.add_argument("--list", action="store_true", help="prints all trials, runs none")
     it.add_argument("--json", metavar="FILE", help="writes the results there too")
     it.add_argument("--html", metavar="FILE", help="writes them there too, as a page")
     it.add_argument("terminal", nargs="*", metavar="TERMINAL ..", help="a command line, after --")

@@ -1677,11 +1677,12 @@ GT_MUST_CHECK int32_t gt_card_t1_send_bytes(gt_card *c, uint8_t *bytes, size_t r
  * objects carries a command out with the last byte of its last block.
  *
  * - GT_OK: all are taken, and the block is not whole yet.
- * - GT_SENDS: the block is whole, valid or not, and `gt_card_t1_send_bytes` has the answer.
+ * - GT_SENDS: the block is whole, valid or not. `gt_card_t1_send_bytes` has the answer, or says
+ *   what waits at a card of your own.
  * - GT_STATE: the card does not speak T=1. Nothing changes.
- * - GT_MEMORY: the block is dropped, no command is carried out, and there is no answer. `taken` is
- *   set. The terminal asks again. A card of your own keeps the block: gt_card_t1_send_bytes returns
- *   this code. */
+ * - GT_MEMORY: the block and the response before it are dropped, no command is carried out, and
+ *   there is no answer. `taken` is set. The terminal asks again. A card of your own keeps the
+ *   block: gt_card_t1_send_bytes returns this code. */
 GT_MUST_CHECK int32_t gt_card_t1_receive_bytes(gt_card *c, const uint8_t *bytes, size_t n,
                                                size_t *taken) {
     if (!c || (!bytes && n) || !taken) return GT_NULL;

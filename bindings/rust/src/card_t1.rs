@@ -56,9 +56,9 @@ impl<A: Application> CardT1<A> {
     ///
     /// # Errors
     ///
-    /// - [`Error::Memory`]: memory ran out. The block is dropped, no command is carried out, and
-    ///   there is no answer. The terminal asks again. At a card of your own this error comes from
-    ///   [`block_into`](CardT1::block_into).
+    /// - [`Error::Memory`]: memory ran out. The block and the response before it are dropped, no
+    ///   command is carried out, and there is no answer. The terminal asks again. At a card of your
+    ///   own this error comes from [`block_into`](CardT1::block_into).
     /// - [`Error::State`]: see [`block_into`](CardT1::block_into).
     pub fn receive(&mut self, bytes: &[u8]) -> Result<Received, Error> {
         let (at, n) = (self.0 .0.at(), bytes.len());

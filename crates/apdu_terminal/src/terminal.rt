@@ -26,8 +26,9 @@ use tlv_core::ObjectTag;
 /// status and the data, or `None` if the operation has failed. The next operation may begin after
 /// this one has ended or failed, or after `reset` has dropped it.
 ///
-/// The next operation uses the same memory. Sent and received bytes, secrets included, stay there
-/// until they are overwritten, or until `reset` or a drop frees the memory.
+/// The next operation uses the same memory, and takes more only for longer data than any before.
+/// Sent and received bytes, secrets included, stay there until they are overwritten, or until such
+/// an operation, `reset` or a drop frees the memory.
 #[derive(Drop)]
 pub struct ApduTerminal<A: Allocator + Copy = Global> {
     alloc: A,

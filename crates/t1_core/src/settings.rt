@@ -4,7 +4,7 @@ ghost use Rattle.std.specs.Result.{result_err};
 ghost use Rattle.t1_core.specs.Settings.{fault_of};
 
 /// The default number of fruitless receptions since the last progress that a terminal survives: the
-/// fifth is a fault (profile). EMV has 2.
+/// fifth is a fault, except in `Phase::Opening` (profile). EMV has 2.
 pub const TRIES: u8 = 4;
 
 /// The default number of S(WTX request) and S(IFS request) that a terminal grants per command

@@ -72,6 +72,7 @@ fn carry_out<D: Files, R: Read, W: Write, F: Write>(
     };
     match diff_files(alloc, asked, names, files, paths, output) {
         Ok(alike) => u8::from(!alike),
+        Err(DiffFault::Forms(fault)) => refused(fault, faults),
         Err(fault) => print_fault(&fault, faults),
     }
 }
@@ -274,6 +275,9 @@ fn diff_files<D: Files, W: Write>(
         reading(alloc, &options, files)?,
         reading(alloc, &options, files)?,
     );
+    if readings.0.of_tpdus && asked.resumes {
+        return Err(DiffFault::Forms(FormsFault::Resume));
+    }
     let title = asked.title.unwrap_or("Two traces, compared");
     let (mask, readers) = (asked.mask.with(names), (&mut a, &mut b));
     diff(

@@ -359,7 +359,7 @@ def parser() -> argparse.ArgumentParser:
     add("--reset", choices=SIGNALS, default="", help="with --tty: the line that holds the card in "
         "reset while it is on; without it the only reset is the start")
     add("--unknown", metavar="SW", type=status_of, default="6D00",
-        help="with --replay: the status of a command that it lacks; without it 6D00")
+        help="with --replay: the status of a command that it lacks and the application gets; 6D00")
     add("--strict", action="store_true", help="with --replay: ends at another command")
     return it
 

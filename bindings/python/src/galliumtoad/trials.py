@@ -140,7 +140,7 @@ def parser() -> argparse.ArgumentParser:
     it = argparse.ArgumentParser("galliumtoad.trials", epilog=USAGE,
                                  description="Lets a terminal do a job with cards that misbehave.")
     it.add_argument("--vpcd", default=VPCD, metavar="HOST:PORT", help=f"for {{reader}}; {VPCD}")
-    it.add_argument("--reader", default="Virtual PCD 00 00", help="{reader}; it is %(default)s")
+    it.add_argument("--reader", default="Virtual PCD 00 00", help="{reader}; else %(default)s")
     it.add_argument("--protocol", type=int, choices=[0, 1], default=0, help="T if both fit; 0")
     it.add_argument("--limit", type=float, default=60, metavar="S",
                     help="seconds for a job, 0.1 to 86400; without it 60")

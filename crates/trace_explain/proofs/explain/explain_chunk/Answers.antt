@@ -1,5 +1,5 @@
 use Rattle.std.proofs.Common.{◌++◌, ◌∙◌, ◌<◌, ℕ, List, sym, ap, subst, drop, length, refl, arith, rules}
-use Rattle.std.proofs.lemmas.List.{nil_from_length}
+use Rattle.std.proofs.lemmas.List.{nil_from_length, take_rest}
 use Rattle.std.specs.Str.Lines.{strip_carriage_return}
 use Rattle.trace_explain.specs.Trace.{AreOfLine, HasReceived}
 use Rattle.trace_explain.proofs.TraceLemmas.{chunk_cut, ends_line, fed_stops, line_fed, run_more, too_long}
@@ -15,7 +15,7 @@ returns-then-is_too_long-clause-stops c = λ front reading all left come.
     (chunk_cut rest run others left c.line_len.result c.split_at.ensures.front
     c.split_at.ensures.back)
     (subst AreOfLine (sym c.split_at.ensures.front) c.line_len.ensures.runs)
-    (omega (arith, c.is_too_long.ensures c.if-is_too_long.true, c.len.ensures, c.len-2.ensures))
+    (omega (arith, c.is_too_long.ensures c.if-is_too_long.true, c.len.ensures))
     c.next_line.ensures
 
 pub returns-in_err-line-clause-stops : goal.returns-in_err-line-clause-stops
@@ -30,8 +30,8 @@ returns-in_err-line-clause-stops c = λ front reading all left come.
     (chunk_cut rest run others left n c.split_at.ensures.front c.split_at.ensures.back)
     (subst AreOfLine (sym c.split_at.ensures.front) c.line_len.ensures.runs)
     c.in_ok-append.ensures in
-    fed_stops c.from_residual.result c.in_err-line.field-0.0 c.without_return.result.now
-    (drop 1 others ++ left) 10 c.line.new.self c.from_residual.ensures.1
+    fed_stops c.from_residual-in_err-line.result c.in_err-line.field-0.0 c.without_return.result.now
+    (drop 1 others ++ left) 10 c.line.new.self c.from_residual-in_err-line.ensures.1
     c.in_err-line.ensures.of_lines received
     (ends_line rest others left n c.split_at.ensures.back some c.line_len.ensures.ends) refl
     (c.without_return.ensures ∙ ap strip_carriage_return c.as_slice.ensures.value)
@@ -51,11 +51,12 @@ lines-preserved c = λ front reading all left come.
     c.in_ok-append.ensures in
     let P : List ℕ → Type 0 = λ line.
     HasReceived front reading all line (drop 1 others ++ left) c.line.new.self in
-    subst P (sym c.clear.ensures.items) (line_fed c.without_return.result.now
-    (drop 1 others ++ left) 10 c.line.new.self received c.in_ok-line.ensures.counts
+    rw (take_rest others 1) (subst P (sym c.clear.ensures.items)
+    (line_fed c.without_return.result.now (drop 1 others ++ left) 10 c.line.new.self received
+    c.in_ok-line.ensures.counts
     (ends_line rest others left n c.split_at.ensures.back some c.line_len.ensures.ends) refl
     (c.without_return.ensures ∙ ap strip_carriage_return c.as_slice.ensures.value)
-    c.in_ok-line.ensures.explained)
+    c.in_ok-line.ensures.explained))
 
 pub returns-then-is_empty-clause-explained : goal.returns-then-is_empty-clause-explained
 returns-then-is_empty-clause-explained c = λ front reading all left come.
